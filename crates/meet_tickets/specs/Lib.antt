@@ -1,0 +1,5 @@
+pub mod Agreement
+pub mod ByLists
+pub mod BySeat
+pub mod Meeting
+pub mod Refusals

@@ -1,0 +1,46 @@
+-- Whom a request meets. Both tellings of the rules speak of a place's line in these words.
+use Rattle.std.specs.Prelude.{◌≡◌, ℕ, ◌-◌, ◌<◌, Bool, not, ⊤, Option, Some, None, is_some, is_none, List, [], ◌∷◌, length, slice_get, count_by, MatchOption, if◌then◌else◌}
+use Rattle.meet_tickets.specs.declared.lines.Entry.{Entry}
+use Rattle.meet_tickets.specs.declared.places.Side.{Side}
+use Rattle.meet_tickets.specs.declared.places.Side.TheVariants.{Giver, Taker}
+use Rattle.meet_tickets.specs.declared.places.Order.{Order}
+use Rattle.meet_tickets.specs.declared.places.Order.TheVariants.{Fair, Unfair, Transfer}
+use Rattle.meet_tickets.specs.declared.places.Kind.{Kind}
+
+-- whether an entry stands on this side: a giver presents an item, a taker none
+abbrev pub is_on : {X : Type 0} → Side → Entry X → Bool
+is_on Giver e = is_some e.item
+is_on Taker e = is_none e.item
+
+-- which entry is met: the first (SynchronousQueue in fair mode, LinkedTransferQueue), or the last
+-- (SynchronousQueue in its default mode; that it is exactly last in, first out is our choice)
+abbrev pub met : {X : Type 0} → Order → List (Entry X) → Option (Entry X)
+met Fair line = slice_get line 0
+met Unfair line = slice_get line (length line - 1)
+met Transfer line = slice_get line 0
+
+-- the partner of a request: nobody where the line is empty or holds the request's own side (Scherer and Scott 2004);
+-- a line has one side, so its first entry tells
+abbrev pub partner : {X : Type 0} → Order → List (Entry X) → Side → Option (Entry X)
+partner order [] side = None
+partner order (e ∷ line) side = if is_on side e then None else met order (e ∷ line)
+
+-- a request of this side has no partner
+abbrev pub Alone : {X : Type 0} → Kind → List (Entry X) → Side → Type 0
+Alone k line side = partner k.order line side ≡ None
+
+-- the partner has this ticket and presents this item
+abbrev pub Finds : {X : Type 0} → Kind → List (Entry X) → Side → ℕ → Option X → Type 0
+Finds {X} k line side ticket item = (e : Entry X) × (partner k.order line side ≡ Some e) × (e.ticket ≡ ticket) × (e.item ≡ item)
+
+-- how many entries wait: their tickets are open
+abbrev pub waiting_count : {X : Type 0} → List (Entry X) → ℕ
+waiting_count line = count_by (λ e. e.waits) line
+
+-- how many items are kept: their givers went on
+abbrev pub kept_count : {X : Type 0} → List (Entry X) → ℕ
+kept_count line = count_by (λ e. not e.waits) line
+
+-- an item may be kept in a transfer queue that isn't full (LinkedTransferQueue.put; the bound is our choice)
+abbrev pub MayKeep : {X : Type 0} → Kind → List (Entry X) → Type 0
+MayKeep k line = (k.order ≡ Transfer) × MatchOption k.bound ⊤ (λ most. kept_count line < most)

@@ -1,0 +1,42 @@
+-- The number and the name of each refusal (our choice).
+use Rattle.std.specs.Prelude.{ℕ, List, codes}
+use Rattle.meet_tickets.specs.declared.refusals.Refusal.{Refusal}
+use Rattle.meet_tickets.specs.declared.refusals.Refusal.TheVariants.{Memory, HistoryFull, TicketsSpent, SeatOpen, NoSuchSeat, NotOpen, Differs, SeatMissing, Contended, Worn, BadSizes, PolicyNeedsBuffer, NoThread, BadLine, BadTrace, ReadFault, WriteFault}
+
+abbrev pub number_of : Refusal → ℕ
+number_of Memory = 1
+number_of HistoryFull = 2
+number_of TicketsSpent = 3
+number_of SeatOpen = 4
+number_of NoSuchSeat = 5
+number_of NotOpen = 6
+number_of Differs = 7
+number_of SeatMissing = 8
+number_of Contended = 9
+number_of Worn = 10
+number_of BadSizes = 11
+number_of PolicyNeedsBuffer = 12
+number_of NoThread = 13
+number_of BadLine = 14
+number_of BadTrace = 15
+number_of ReadFault = 16
+number_of WriteFault = 17
+
+abbrev pub name_of : Refusal → List ℕ
+name_of Memory = codes "Memory"
+name_of HistoryFull = codes "HistoryFull"
+name_of TicketsSpent = codes "TicketsSpent"
+name_of SeatOpen = codes "SeatOpen"
+name_of NoSuchSeat = codes "NoSuchSeat"
+name_of NotOpen = codes "NotOpen"
+name_of Differs = codes "Differs"
+name_of SeatMissing = codes "SeatMissing"
+name_of Contended = codes "Contended"
+name_of Worn = codes "Worn"
+name_of BadSizes = codes "BadSizes"
+name_of PolicyNeedsBuffer = codes "PolicyNeedsBuffer"
+name_of NoThread = codes "NoThread"
+name_of BadLine = codes "BadLine"
+name_of BadTrace = codes "BadTrace"
+name_of ReadFault = codes "ReadFault"
+name_of WriteFault = codes "WriteFault"

@@ -1,0 +1,22 @@
+//! The names that every meeting place shares, and the rules of a legal history.
+//!
+//! `specs/` has the rules: `Meeting` says whom a request meets, `ByLists` which histories are legal, `BySeat` the same
+//! as the code sees it.
+#![tactic(auto)]
+
+pub mod items;
+pub mod lines;
+pub mod names;
+pub mod places;
+pub mod records;
+pub mod refusals;
+
+pub use items::Marked;
+pub use lines::{Entry, Hold};
+pub use names::{SeatNo, Ticket};
+pub use places::{Kind, Order, Side};
+pub use records::{Cause, Deed, Record};
+pub use refusals::{Refusal, Refused};
+
+#[cfg(test)]
+mod tests;

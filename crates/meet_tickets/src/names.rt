@@ -1,0 +1,79 @@
+//! Tickets and seats: the two kinds of number by which a place's records name things.
+
+ghost use Rattle.std.specs.Prelude.{◌≡◌, ℕ, ◌^◌, ◌<◌, SomeIff};
+
+use std::marker::Model;
+
+/// The number of a request, 1 to 2^63 - 1; 0 names no ticket.
+#[derive(Clone, Copy, PartialEq, Eq, PartialOrd, Ord, Hash, Debug)]
+pub struct Ticket {
+    number: u64,
+}
+
+impl Model for Ticket {
+    ghost Value = { ℕ };
+
+    ghost view = { λ ticket. ticket.number };
+
+    ghost invariant = { λ ticket. ticket.number < 2 ^ 63 };
+
+    ghost inverse = { λ number. record { number = number } };
+}
+
+impl Ticket {
+    /// The ticket of this number, or none where the number is 2^63 or more.
+    pub fn new(number: u64) -> Option<Self>
+        ensures { SomeIff result (number < 2 ^ 63) number }
+    {
+        if number < 1 << 63 {
+            Some(Ticket { number })
+        } else {
+            None
+        }
+    }
+
+    /// The ticket's number.
+    pub fn number(&self) -> u64
+        ensures value { result ≡ self.now }
+        ensures in_range { self.now < 2 ^ 63 }
+    {
+        self.number
+    }
+}
+
+/// The number of a seat, 0 to 1,023.
+#[derive(Clone, Copy, PartialEq, Eq, PartialOrd, Ord, Hash, Debug)]
+pub struct SeatNo {
+    number: u64,
+}
+
+impl Model for SeatNo {
+    ghost Value = { ℕ };
+
+    ghost view = { λ seat. seat.number };
+
+    ghost invariant = { λ seat. seat.number < 1024 };
+
+    ghost inverse = { λ number. record { number = number } };
+}
+
+impl SeatNo {
+    /// The seat of this number, or none where the number is 1,024 or more.
+    pub fn new(number: u64) -> Option<Self>
+        ensures { SomeIff result (number < 1024) number }
+    {
+        if number < 1024 {
+            Some(SeatNo { number })
+        } else {
+            None
+        }
+    }
+
+    /// The seat's number.
+    pub fn number(&self) -> u64
+        ensures value { result ≡ self.now }
+        ensures in_range { self.now < 1024 }
+    {
+        self.number
+    }
+}

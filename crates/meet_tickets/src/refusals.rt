@@ -1,0 +1,102 @@
+//! Why a call is refused.
+
+ghost use Rattle.std.specs.Prelude.{◌≡◌};
+ghost use Rattle.meet_tickets.specs.Refusals.{number_of, name_of};
+
+/// Each reason for which a call of this workspace is refused.
+#[derive(Clone, Copy, PartialEq, Eq, Hash, Debug)]
+pub enum Refusal {
+    /// Memory was wanted and not there.
+    Memory,
+    /// The record that this call and the open tickets need would not fit.
+    HistoryFull,
+    /// No ticket is left.
+    TicketsSpent,
+    /// The seat has an open ticket.
+    SeatOpen,
+    /// The place has no such seat.
+    NoSuchSeat,
+    /// The ticket isn't the open one of that seat.
+    NotOpen,
+    /// A seat's list differs from the book.
+    Differs,
+    /// Not every seat was given back.
+    SeatMissing,
+    /// Another seat was at work on the slot.
+    Contended,
+    /// The slot has no round left.
+    Worn,
+    /// The sizes don't fit together.
+    BadSizes,
+    /// The policy needs a queue that keeps jobs.
+    PolicyNeedsBuffer,
+    /// A thread could not be started.
+    NoThread,
+    /// A line of a script can't be read.
+    BadLine,
+    /// A line of a trace can't be read.
+    BadTrace,
+    /// A read failed.
+    ReadFault,
+    /// A write failed.
+    WriteFault,
+}
+
+impl Refusal {
+    /// The refusal's number, 1 to 17.
+    pub fn number(&self) -> u64
+        ensures { result ≡ number_of self.now }
+    {
+        match self {
+            Refusal::Memory => 1,
+            Refusal::HistoryFull => 2,
+            Refusal::TicketsSpent => 3,
+            Refusal::SeatOpen => 4,
+            Refusal::NoSuchSeat => 5,
+            Refusal::NotOpen => 6,
+            Refusal::Differs => 7,
+            Refusal::SeatMissing => 8,
+            Refusal::Contended => 9,
+            Refusal::Worn => 10,
+            Refusal::BadSizes => 11,
+            Refusal::PolicyNeedsBuffer => 12,
+            Refusal::NoThread => 13,
+            Refusal::BadLine => 14,
+            Refusal::BadTrace => 15,
+            Refusal::ReadFault => 16,
+            Refusal::WriteFault => 17,
+        }
+    }
+
+    /// The refusal's name, as programs print it.
+    pub fn name(&self) -> &'static str
+        ensures { result.now ≡ name_of self.now }
+    {
+        match self {
+            Refusal::Memory => "Memory",
+            Refusal::HistoryFull => "HistoryFull",
+            Refusal::TicketsSpent => "TicketsSpent",
+            Refusal::SeatOpen => "SeatOpen",
+            Refusal::NoSuchSeat => "NoSuchSeat",
+            Refusal::NotOpen => "NotOpen",
+            Refusal::Differs => "Differs",
+            Refusal::SeatMissing => "SeatMissing",
+            Refusal::Contended => "Contended",
+            Refusal::Worn => "Worn",
+            Refusal::BadSizes => "BadSizes",
+            Refusal::PolicyNeedsBuffer => "PolicyNeedsBuffer",
+            Refusal::NoThread => "NoThread",
+            Refusal::BadLine => "BadLine",
+            Refusal::BadTrace => "BadTrace",
+            Refusal::ReadFault => "ReadFault",
+            Refusal::WriteFault => "WriteFault",
+        }
+    }
+}
+
+/// A refusal, with what was handed in.
+#[derive(Drop, Debug)]
+pub struct Refused<I> {
+    pub why: Refusal,
+    pub back: I,
+}
