@@ -1,12 +1,12 @@
 -- The law that the two tellings of the rules are one: they allow the same histories, which leave the same in both.
-use Rattle.std.specs.Prelude.{◌≡◌, ℕ, ◌↔◌, IsTrue, Option, List, Contains}
+use Rattle.std.specs.Prelude.{◌≡◌, ℕ, ◌↔◌, IsTrue, List, Contains}
 use Rattle.meet_tickets.specs.declared.lines.Hold.{Hold}
 use Rattle.meet_tickets.specs.declared.lines.Hold.TheVariants.{Free, Waiting, Handed, Served, Cut}
 use Rattle.meet_tickets.specs.declared.places.Kind.{Kind}
 use Rattle.meet_tickets.specs.declared.records.Record.{Record}
 use Rattle.meet_tickets.specs.declared.records.Deed.{Deed}
 use Rattle.meet_tickets.specs.ByLists.{State, empty, IsOpen, IsInLine, IsStep, IsLegal, run}
-use Rattle.meet_tickets.specs.BySeat.{Seats, Moment, beginning, Fits, IsLegalBySeat, moment_of}
+use Rattle.meet_tickets.specs.BySeat.{Moment, beginning, Fits, IsLegalBySeat, moment_of}
 
 -- the ticket is open, and no other of that seat is
 pub record IsOnly (s : State) (seat ticket : ℕ) : Type 0 where

@@ -3,13 +3,11 @@
 --
 -- A waiting call is split into its request and its follow-up (Scherer and Scott 2004), with givers that wait too
 -- (Scherer, Lea and Scott 2006).
-use Rattle.std.specs.Prelude.{◌≡◌, ℕ, zero, suc, ◌<◌, ◌==◌, Bool, not, true, false, Option, Some, None, List, [], ◌∷◌, ◌++◌, filter, Contains}
+use Rattle.std.specs.Prelude.{◌≡◌, ℕ, zero, suc, ◌<◌, ◌==◌, not, true, false, Some, None, List, [], ◌∷◌, ◌++◌, filter, Contains}
 use Rattle.meet_tickets.specs.declared.lines.Entry.{Entry}
-use Rattle.meet_tickets.specs.declared.places.Side.{Side}
 use Rattle.meet_tickets.specs.declared.places.Side.TheVariants.{Giver, Taker}
 use Rattle.meet_tickets.specs.declared.places.Kind.{Kind}
 use Rattle.meet_tickets.specs.declared.records.Record.{Record}
-use Rattle.meet_tickets.specs.declared.records.Cause.{Cause}
 use Rattle.meet_tickets.specs.declared.records.Cause.TheVariants.{Cancelled, Expired, Interrupted}
 use Rattle.meet_tickets.specs.declared.records.Deed.{Deed}
 use Rattle.meet_tickets.specs.declared.records.Deed.TheVariants.{GiveWaits, GiveMeets, GiveFails, GiveKept, TakeWaits, TakeMeets, TakeFails, EntryInterrupted, Done, Got, Withdrawn, Interrupt}

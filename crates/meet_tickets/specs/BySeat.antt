@@ -1,6 +1,7 @@
 -- The same rules told by seat, as the code sees them. A seat has at most one open ticket, so what it has open is one
 -- value. The rules are generic in the item: the item itself in the contracts of the queues, its mark in histories.
-use Rattle.std.specs.Prelude.{◌≡◌, ℕ, zero, suc, ◌-◌, ◌<◌, ◌==◌, Bool, not, true, false, Option, Some, None, is_some, IsSome, List, [], ◌∷◌, ◌++◌, take, drop, length, find, if◌then◌else◌}
+use Rattle.std.specs.Prelude.{◌≡◌, ℕ, ◌-◌, ◌<◌, ◌==◌, Bool, true, false, Option, Some, None, is_some, IsSome, List, [], ◌∷◌, ◌++◌, take, drop, length, find, count_by, if◌then◌else◌}
+use Rattle.std.specs.List.{range_with_len}
 use Rattle.std.specs.Option.{option_map_or}
 use Rattle.meet_tickets.specs.declared.lines.Entry.{Entry}
 use Rattle.meet_tickets.specs.declared.lines.Hold.{Hold}
@@ -11,7 +12,6 @@ use Rattle.meet_tickets.specs.declared.places.Order.{Order}
 use Rattle.meet_tickets.specs.declared.places.Order.TheVariants.{Fair, Unfair, Transfer}
 use Rattle.meet_tickets.specs.declared.places.Kind.{Kind}
 use Rattle.meet_tickets.specs.declared.records.Record.{Record}
-use Rattle.meet_tickets.specs.declared.records.Cause.{Cause}
 use Rattle.meet_tickets.specs.declared.records.Cause.TheVariants.{Cancelled, Expired, Interrupted}
 use Rattle.meet_tickets.specs.declared.records.Deed.{Deed}
 use Rattle.meet_tickets.specs.declared.records.Deed.TheVariants.{GiveWaits, GiveMeets, GiveFails, GiveKept, TakeWaits, TakeMeets, TakeFails, EntryInterrupted, Done, Got, Withdrawn, Interrupt}
@@ -49,6 +49,10 @@ is_settled (Waiting t) = false
 is_settled (Handed t u mark) = true
 is_settled (Served t u item) = true
 is_settled (Cut t item) = true
+
+-- how many of the first `count` seats have an open ticket
+abbrev pub owed_of : {X : Type 0} → (count : ℕ) → (ℕ → Hold X) → ℕ
+owed_of count holds = count_by (λ seat. is_open (holds seat)) (range_with_len 0 count)
 
 -- the entry of what a seat holds, where it stands in the line
 abbrev pub entry_of : {X : Type 0} → List (Entry X) → Hold X → Option (Entry X)

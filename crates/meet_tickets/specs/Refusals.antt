@@ -1,5 +1,6 @@
--- The number and the name of each refusal (our choice).
-use Rattle.std.specs.Prelude.{ℕ, List, codes}
+-- The number and the name of each refusal, and which one a request gets (our choice).
+use Rattle.std.specs.Prelude.{ℕ, ◌^◌, nat_le, Option, Some, None, List, codes, if◌then◌else◌}
+use Rattle.meet_tickets.specs.BySeat.{Seats, is_open}
 use Rattle.meet_tickets.specs.declared.refusals.Refusal.{Refusal}
 use Rattle.meet_tickets.specs.declared.refusals.Refusal.TheVariants.{Memory, HistoryFull, TicketsSpent, SeatOpen, NoSuchSeat, NotOpen, Differs, SeatMissing, Contended, Worn, BadSizes, PolicyNeedsBuffer, NoThread, BadLine, BadTrace, ReadFault, WriteFault}
 
@@ -40,3 +41,8 @@ name_of BadLine = codes "BadLine"
 name_of BadTrace = codes "BadTrace"
 name_of ReadFault = codes "ReadFault"
 name_of WriteFault = codes "WriteFault"
+
+-- why a place with this many seats, whose next ticket is `next`, refuses a request of this seat: the first that applies
+abbrev pub refusal_of : {X : Type 0} → (count next : ℕ) → Seats X → (seat : ℕ) → Option Refusal
+refusal_of count next s seat =
+    if nat_le count seat then Some NoSuchSeat else (if is_open (s.holds seat) then Some SeatOpen else (if nat_le (2 ^ 63) next then Some TicketsSpent else None))

@@ -5,6 +5,7 @@
 #![tactic(auto)]
 
 pub mod items;
+pub mod laws;
 pub mod lines;
 pub mod names;
 pub mod places;
@@ -12,6 +13,7 @@ pub mod records;
 pub mod refusals;
 
 pub use items::Marked;
+pub use laws::tellings_agree;
 pub use lines::{Entry, Hold};
 pub use names::{SeatNo, Ticket};
 pub use places::{Kind, Order, Side};

@@ -1,0 +1,5 @@
+pub mod Admitted
+pub mod Counts
+pub mod Following
+pub mod Sound
+pub mod Uses

@@ -1,0 +1,4 @@
+pub mod Answers
+pub mod Queue
+pub mod Steps
+pub mod Table

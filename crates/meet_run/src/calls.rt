@@ -1,0 +1,45 @@
+//! The calls of a script.
+
+use meet_tickets::SeatNo;
+
+/// A call: which seat makes it, and what it asks.
+#[derive(Clone, Copy, PartialEq, Eq, Debug)]
+pub struct Call {
+    pub seat: SeatNo,
+    pub verb: Verb,
+}
+
+/// What a call asks. Items are numbers, and their own marks.
+#[derive(Clone, Copy, PartialEq, Eq, Debug)]
+pub enum Verb {
+    /// `SynchronousQueue.put` waits for a taker; `LinkedTransferQueue.put` keeps the item.
+    Put(u64),
+    /// `SynchronousQueue.offer` is immediate; `LinkedTransferQueue.offer` keeps the item.
+    Offer(u64),
+    /// `BlockingQueue.take`.
+    Take,
+    /// `BlockingQueue.poll`.
+    Poll,
+    /// `LinkedTransferQueue.transfer`.
+    Transfer(u64),
+    /// `LinkedTransferQueue.tryTransfer`.
+    Try(u64),
+    /// The follow-up of the seat's open ticket.
+    Follow,
+    /// The seat takes its open ticket back.
+    Cancel,
+    /// The time of the seat's open ticket ran out.
+    Expire,
+    /// `Thread.interrupt` of this seat.
+    Interrupt(SeatNo),
+    /// `BlockingQueue.drainTo` with this many items at most.
+    Drain(u64),
+    /// `Collection.size`.
+    Size,
+    /// `BlockingQueue.remainingCapacity`.
+    Room,
+    /// `Queue.peek`.
+    Peek,
+    /// `LinkedTransferQueue.getWaitingConsumerCount`.
+    Consumers,
+}

@@ -1,0 +1,10 @@
+//! Scripts: one thread's calls on a meeting place, and their replies as text.
+#![tactic(auto)]
+
+pub mod calls;
+pub mod replies;
+pub mod setups;
+
+pub use calls::{Call, Verb};
+pub use replies::{Answer, Outcome, Reply};
+pub use setups::Setup;
