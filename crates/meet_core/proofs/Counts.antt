@@ -1,12 +1,14 @@
 -- How many seats of a table have an open ticket.
-use Rattle.std.proofs.Common.{◌≡◌, ℕ, zero, suc, ◌+◌, Bool, false, cond, refl, sym, ◌∙◌, ap, List, [], ◌∷◌, length, get_or, replicate, arith}
+use Rattle.std.proofs.Common.{◌≡◌, ℕ, zero, suc, ◌+◌, ◌<◌, Bool, true, false, not, IsTrue, cond, refl, sym, ◌∙◌, ap, List, [], ◌∷◌, length, get_or, replicate, arith}
 use Rattle.std.proofs.Math.Path.{fun_ext, ap₂}
 use Rattle.std.proofs.lemmas.List.Sums.{sum_by-cons}
-use Rattle.std.specs.Prelude.{count_by}
+use Rattle.std.specs.Prelude.{count_by, All}
 use Rattle.std.specs.List.{range_with_len}
+use Rattle.meet_tickets.specs.declared.lines.Entry.{Entry}
 use Rattle.meet_tickets.specs.declared.lines.Hold.{Hold}
 use Rattle.meet_tickets.specs.declared.lines.Hold.TheVariants.{Free}
 use Rattle.meet_tickets.specs.BySeat.{is_open}
+use Rattle.meet_tickets.specs.Meeting.{kept_count}
 use Rattle.meet_core.specs.Table.{hold_at, flag_at}
 
 -- of seats that hold nothing, none has
@@ -45,3 +47,11 @@ flag_at-replicate n = fun_ext (clear_at n)
     clear_at zero k = refl
     clear_at (suc n) zero = refl
     clear_at (suc n) (suc k) = clear_at n k
+
+-- where all wait, nothing is kept
+pub kept_count-waits : {T : Type 0} (line : List (Entry T)) → All (λ e. IsTrue e.waits) line → kept_count line ≡ 0
+kept_count-waits [] all = refl
+kept_count-waits (e ∷ line) all =
+    let here : e.waits ≡ true = all 0 e (omega arith) in
+    let rest : All (λ f. IsTrue f.waits) line = λ k d below. all (suc k) d (omega arith) in
+    sum_by-cons (λ f. cond (not f.waits) 1 0) e line ∙ ap₂ ◌+◌ (ap (λ b. cond (not b) 1 0) here) (kept_count-waits line rest)

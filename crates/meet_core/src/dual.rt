@@ -1,7 +1,7 @@
 //! The dual queue: givers and takers that meet in order of request.
 
 ghost use Rattle.std.specs.Prelude.{◌≡◌, ◌^◌, ◌≤◌, ◌<◌, ◌↔◌, Some, None, IsOk, IfOk, IfErr, MatchOption, count_by};
-ghost use Rattle.meet_tickets.specs.Meeting.{waiting_count};
+ghost use Rattle.meet_tickets.specs.Meeting.{waiting_count, kept_count};
 ghost use Rattle.meet_tickets.specs.BySeat.{nobody, open_ticket, owed_of, is_settled};
 ghost use Rattle.std.specs.List.{range_with_len};
 ghost use Rattle.meet_tickets.specs.Refusals.{refusal_of};
@@ -188,14 +188,16 @@ impl<T: Marked> Dual<T> {
 
     /// How many tickets are open.
     pub fn owed(&self) -> u64
-        ensures { result ≡ owed_of (count_of self.now) (seats_of self.now).holds }
+        ensures value { result ≡ owed_of (count_of self.now) (seats_of self.now).holds }
+        ensures few { result ≤ 1024 }
     {
         self.seats.owed()
     }
 
     /// How many open tickets stand in the line. It looks at the whole line.
     pub fn waiting(&self) -> u64
-        ensures { result ≡ waiting_count self.now.line }
+        ensures value { result ≡ waiting_count self.now.line }
+        ensures nothing_kept { kept_count self.now.line ≡ 0 }
     {
         self.line.iter().filter(|entry| entry.waits).count() as u64
     }

@@ -60,7 +60,8 @@ impl<T> SeatTable<T> {
 
     /// How many seats have an open ticket.
     pub fn owed(&self) -> u64
-        ensures { result ≡ count_by is_open self.now.holds }
+        ensures value { result ≡ count_by is_open self.now.holds }
+        ensures few { result ≤ 1024 }
     {
         self.owed
     }

@@ -1,1 +1,4 @@
 pub mod OneThread
+pub mod Said
+pub mod Served
+pub mod Stepping

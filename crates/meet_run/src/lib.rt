@@ -4,7 +4,10 @@
 pub mod calls;
 pub mod replies;
 pub mod setups;
+pub mod stepper;
+pub mod steps;
 
 pub use calls::{Call, Verb};
 pub use replies::{Answer, Outcome, Reply};
 pub use setups::Setup;
+pub use stepper::Stepper;

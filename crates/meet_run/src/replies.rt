@@ -1,5 +1,8 @@
 //! The replies to a script's calls.
 
+ghost use Rattle.std.specs.Prelude.{◌≡◌, ◌<◌, [], ◌∷◌, ◌++◌, vec_len};
+ghost use Rattle.std.specs.Vec.{vec_capacity};
+
 use meet_tickets::{Cause, Refusal, SeatNo, Ticket};
 
 /// A reply, to the seat that made the call.
@@ -47,4 +50,14 @@ pub enum Answer {
     Done,
     /// The ticket was withdrawn, or refused at entry; a giver's item comes back.
     Withdrawn(Cause, Option<u64>),
+}
+
+/// Puts a reply behind others, where there is room.
+pub(crate) fn push_reserved(replies: &mut Vec<Reply>, reply: Reply)
+    requires { vec_len replies.old < vec_capacity replies.old }
+    ensures { replies.new.items ≡ replies.old.items ++ reply ∷ [] }
+{
+    // Named in parts: as a whole, the checker doesn't find the types inside it.
+    let Reply { seat, outcome } = reply;
+    replies.push_reserved(Reply { seat, outcome });
 }
