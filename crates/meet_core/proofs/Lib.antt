@@ -1,4 +1,3 @@
-pub mod Admitted
 pub mod Counts
 pub mod Following
 pub mod Sound

@@ -10,6 +10,7 @@ use Rattle.meet_tickets.specs.declared.lines.Hold.TheVariants.{Free, Waiting}
 use Rattle.meet_tickets.specs.declared.places.Side.{Side}
 use Rattle.meet_tickets.specs.declared.places.Order.TheVariants.{Fair}
 use Rattle.meet_tickets.specs.Meeting.{is_on, partner}
+use Rattle.meet_tickets.proofs.Partners.{partner-first}
 use Rattle.meet_core.specs.Table.{hold_at}
 use Rattle.meet_core.specs.Queue.{IsSound}
 
@@ -23,15 +24,6 @@ All-first : {X : Type 0} (P : X → Type 0) (xs : List X) (x : X) → All P xs �
 All-first P xs x all e =
     let f : (0 < length xs) × (get_or xs 0 x ≡ x) = first_is xs x x e in
     subst P f.1 (all 0 x f.0)
-
--- the partner in fair order is the first of the line, and stands on the other side
-partner-cons : {T : Type 0} (side : Side) (x : Entry T) (line : List (Entry T)) (e : Entry T) (own : Bool) → is_on side x ≡ own → cond own None (Some x) ≡ Some e → (slice_get (x ∷ line) 0 ≡ Some e) × (is_on side e ≡ false)
-partner-cons side x line e true on same = cc
-partner-cons side x line e false on same = let is : x ≡ e = cc in (same, ap (is_on side) (sym is) ∙ on)
-
-pub partner-first : {T : Type 0} (line : List (Entry T)) (side : Side) (e : Entry T) → partner Fair line side ≡ Some e → (slice_get line 0 ≡ Some e) × (is_on side e ≡ false)
-partner-first [] side e found = cc
-partner-first (x ∷ line) side e found = partner-cons side x line e (is_on side x) refl found
 
 -- what holds of one is true of a list of it alone
 All-one : {X : Type 0} (P : X → Type 0) (x : X) → P x → All P (x ∷ [])

@@ -10,6 +10,7 @@ use Rattle.meet_tickets.specs.declared.places.Order.TheVariants.{Fair}
 use Rattle.meet_tickets.specs.declared.places.Side.TheVariants.{Giver}
 use Rattle.meet_tickets.specs.Meeting.{is_on}
 use Rattle.meet_tickets.specs.BySeat.{Seats, put_at, nobody, queued, paired, paired_hold, flagged, released}
+use Rattle.meet_tickets.proofs.Partners.{none-from}
 use Rattle.meet_core.specs.Table.{hold_at, flag_at}
 use Rattle.meet_core.specs.Queue.{Queue, seats_of}
 use Rattle.meet_core.proofs.Sound.{IsWaiting}
@@ -29,11 +30,6 @@ put_at-set xs i value d there = fun_ext λ k. put_at-set_here xs i k value d the
 -- seats are equal where their parts are
 same_seats : {T : Type 0} {line line' : List (Entry T)} {holds holds' : ℕ → Hold T} {flags flags' : ℕ → Bool} → line ≡ line' → holds ≡ holds' → flags ≡ flags' → let a : Seats T = record { line = line; holds = holds; flags = flags } in let b : Seats T = record { line = line'; holds = holds'; flags = flags' } in a ≡ b
 same_seats p q r = λ i. record { line = p i; holds = q i; flags = r i }
-
--- what isn't there is none
-none-from : {X : Type 0} (o : Option X) → is_some o ≡ false → o ≡ None
-none-from None e = refl
-none-from (Some x) e = cc
 
 -- a taker that was met has the item that came
 pub paired_hold-taker : {T : Type 0} (mark : T → ℕ) (e : Entry T) (t : ℕ) (item : T) → is_on Giver e ≡ false → Served e.ticket t item ≡ paired_hold mark e.ticket e.item t (Some item)

@@ -6,8 +6,9 @@ use Rattle.meet_tickets.specs.Meeting.{partner}
 use Rattle.meet_tickets.specs.BySeat.{paired_hold}
 use Rattle.meet_core.specs.Table.{HasNoItem}
 use Rattle.meet_core.specs.Queue.{Queue, seats_of}
-use Rattle.meet_core.proofs.Admitted.{IsAdmitted, IsAdmitted-from}
-use Rattle.meet_core.proofs.Sound.{IsSound-met, IsSound-used, IsSound-queued, IsWaiting-partner, partner-first}
+use Rattle.meet_tickets.proofs.Admitted.{IsAdmitted, IsAdmitted-from}
+use Rattle.meet_core.proofs.Sound.{IsSound-met, IsSound-used, IsSound-queued, IsWaiting-partner}
+use Rattle.meet_tickets.proofs.Partners.{partner-first}
 use Rattle.meet_core.proofs.Uses.{paired_hold-taker, Uses-paired, Uses-queued, Uses-flagged}
 use Rattle.meet_core.proofs.dual.Dual.give.Goals as goal
 

@@ -6,7 +6,7 @@ use Rattle.meet_tickets.specs.Meeting.{partner}
 use Rattle.meet_tickets.specs.BySeat.{paired_hold}
 use Rattle.meet_core.specs.Table.{HasNoItem}
 use Rattle.meet_core.specs.Queue.{Queue, seats_of}
-use Rattle.meet_core.proofs.Admitted.{IsAdmitted, IsAdmitted-from}
+use Rattle.meet_tickets.proofs.Admitted.{IsAdmitted, IsAdmitted-from}
 use Rattle.meet_core.proofs.Sound.{IsSound-met, IsSound-used, IsSound-queued, IsWaiting-partner}
 use Rattle.meet_core.proofs.Uses.{paired_hold-giver, Uses-paired, Uses-queued, Uses-flagged}
 use Rattle.meet_core.proofs.dual.Dual.take.Goals as goal

@@ -1,0 +1,2 @@
+pub mod LegalTurns
+pub mod ManyTurns
