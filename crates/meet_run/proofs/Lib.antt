@@ -1,2 +1,11 @@
+pub mod CallLemmas
 pub mod LegalTurns
+pub mod LineLemmas
 pub mod ManyTurns
+pub mod Reached
+pub mod RecordCounts
+pub mod RunLemmas
+pub mod ScriptLemmas
+pub mod SetupLemmas
+pub mod WordLemmas
+pub mod WritingLemmas

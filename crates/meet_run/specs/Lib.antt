@@ -1,4 +1,13 @@
+pub mod Faults
+pub mod Grammar
 pub mod OneThread
+pub mod Reading
+pub mod Running
 pub mod Said
+pub mod Script
 pub mod Served
+pub mod Spelling
 pub mod Stepping
+pub mod Wording
+pub mod Words
+pub mod Writing

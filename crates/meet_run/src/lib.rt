@@ -3,13 +3,27 @@
 
 pub mod all_calls;
 pub mod calls;
+pub mod faults;
+pub mod first_line;
+pub mod grammar;
+pub mod output;
+pub mod reading;
 pub mod replies;
+pub mod run;
+pub mod scripts;
 pub mod setups;
+pub mod spellings;
 pub mod stepper;
 pub mod steps;
+pub mod wording;
+pub mod words;
 
 pub use all_calls::run_all;
 pub use calls::{Call, Verb};
+pub use faults::{Report, RunFault, report_of};
 pub use replies::{Answer, Outcome, Reply};
 pub use setups::Setup;
 pub use stepper::Stepper;
+
+#[cfg(test)]
+mod tests;

@@ -1,0 +1,23 @@
+//! The words of the command line.
+
+use std::alloc::Global;
+
+use clap::{Command, Error};
+
+/// What a command line asks for.
+#[derive(Clone, Copy, PartialEq, Eq, Debug)]
+pub enum Task {
+    /// A script on standard input, its replies on standard output.
+    Run,
+}
+
+/// Reads the words of a command line, the program's name first: none or `run`. The error has the text to show; a request
+/// for help is one.
+pub fn task_of(alloc: Global, words: &[String]) -> Result<Task, Error> {
+    let run = Command::new(alloc, "run").about("Runs the script on standard input (the default)");
+    let command = Command::new(alloc, "meet")
+        .about("Runs calls on a meeting place of java.util.concurrent")
+        .subcommand(run)?;
+    command.try_get_matches_from(words)?;
+    Ok(Task::Run)
+}

@@ -1,0 +1,57 @@
+//! The program `meet`: a script of calls on standard input, their replies on standard output.
+#![tactic(auto)]
+
+mod command_line;
+
+use std::alloc::AllocError;
+use std::io::{BufReader, Write};
+use std::process::ExitCode;
+use std::{env, io};
+
+use clap::ErrorKind;
+use meet_run::{RunFault, report_of, run_script};
+use meet_tickets::Refusal;
+
+use command_line::{Task, task_of};
+
+/// Want of memory outside any line.
+const MEMORY: RunFault = RunFault {
+    why: Refusal::Memory,
+    line: None,
+};
+
+/// The words of the command line, the program's name first.
+fn words(rt: &HostRuntime) -> io::Result<Vec<String>> {
+    let words = env::args(rt)?.collect(rt.alloc())?;
+    Ok(words)
+}
+
+/// Runs the script on standard input.
+fn run(rt: &HostRuntime) -> Result<bool, RunFault> {
+    let Ok(mut reader) = BufReader::new(rt.alloc(), rt.stdin()) else {
+        return Err(MEMORY);
+    };
+    run_script(rt.alloc(), &mut reader, &mut rt.stdout())
+}
+
+/// Says on standard error how a run failed, if it did, and gives the exit status.
+fn finish(rt: &HostRuntime, outcome: &Result<bool, RunFault>) -> ExitCode {
+    let report = report_of(outcome);
+    let _ = rt.stderr().write_all(report.line.as_slice());
+    ExitCode::from(report.status)
+}
+
+fn main(rt: HostRuntime) -> ExitCode {
+    let Ok(words) = words(&rt) else {
+        let _ = eprintln!(rt; "meet: the words of the command line can't be read");
+        return ExitCode::from(2);
+    };
+    match task_of(rt.alloc(), words.as_slice()) {
+        Ok(Task::Run) => finish(&rt, &run(&rt)),
+        Err(error) if error.kind() == ErrorKind::OutOfMemory => finish(&rt, &Err(MEMORY)),
+        Err(error) => {
+            let _ = eprint!(rt; "{error}");
+            ExitCode::from(2)
+        }
+    }
+}

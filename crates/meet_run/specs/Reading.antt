@@ -1,0 +1,60 @@
+-- The lines of a text, and what reading one of them takes.
+use Rattle.std.specs.Prelude.{◌≡◌, ℕ, ◌+◌, ◌<◌, ◌≤◌, ◌==◌, Option, Some, None, IfSome, ⊤, List, [], ◌∷◌, length, if◌then◌else◌}
+use Rattle.std.specs.Io.KnownBytes.{Consumes, IsAtEnd}
+use Rattle.meet_run.specs.declared.reading.ByteRead.{ByteRead}
+use Rattle.meet_run.specs.declared.reading.ByteRead.TheVariants.{Byte, End as EndOfBytes, Failed as ByteFailed}
+use Rattle.meet_run.specs.declared.reading.LineRead.{LineRead}
+use Rattle.meet_run.specs.declared.reading.LineRead.TheVariants.{Line, End, TooLong, Failed}
+
+-- a byte in front of the first line, or a line of its own where there is none
+abbrev pub with_front : ℕ → List (List ℕ) → List (List ℕ)
+with_front b [] = (b ∷ []) ∷ []
+with_front b (line ∷ lines) = (b ∷ line) ∷ lines
+
+-- the lines of a text, each ended by the byte 10; the last may lack it
+unfoldable pub lines_of : List ℕ → List (List ℕ)
+lines_of [] = []
+lines_of (b ∷ bs) = if b == 10 then [] ∷ lines_of bs else with_front b (lines_of bs)
+
+-- a fact of the known bytes before and after
+abbrev pub Both : (old new : Option (List ℕ)) → (List ℕ → List ℕ → Type 0) → Type 0
+Both None new P = ⊤
+Both (Some xs) None P = ⊥
+Both (Some xs) (Some ys) P = P xs ys
+
+-- the known bytes begin with a line, and lose it
+abbrev pub TakesLine : (old new : Option (List ℕ)) → (line : List ℕ) → Type 0
+TakesLine old new line = Both old new (λ xs ys. lines_of xs ≡ line ∷ lines_of ys)
+
+-- the known bytes begin with a line of more than 128 bytes
+abbrev pub BeginsTooLong : (old : Option (List ℕ)) → Type 0
+BeginsTooLong old =
+    IfSome old (λ xs. (line : List ℕ) × (lines : List (List ℕ)) × (lines_of xs ≡ line ∷ lines) × (128 < length line))
+
+-- known bytes were taken from the front, each at the cost of a turn
+abbrev pub UsesTurns : (old new : Option (List ℕ)) → (turns left : ℕ) → Type 0
+UsesTurns old new turns left = (seen : List ℕ) × Consumes old new seen × (length seen + left ≤ turns)
+
+-- what reading a byte did to the known bytes, and to the turns
+abbrev pub ReadsByte : ByteRead → (old new : Option (List ℕ)) → (turns left : ℕ) → Type 0
+ReadsByte (Byte b) old new turns left = Consumes old new (b ∷ []) × (left + 1 ≡ turns)
+ReadsByte EndOfBytes old new turns left = Consumes old new [] × IsAtEnd new × (left + 1 ≡ turns)
+ReadsByte ByteFailed old new turns left = Consumes old new [] × (left ≤ turns)
+
+-- what reading a line did to the known bytes: a line was taken; there was none; the first is too long; or a read failed
+abbrev pub ReadsLine : LineRead → (old new : Option (List ℕ)) → (turns left : ℕ) → (line : List ℕ) → Type 0
+ReadsLine Line old new turns left line = TakesLine old new line × (length line ≤ 128)
+ReadsLine End old new turns left line = Consumes old new [] × IsAtEnd new × (left + 1 ≤ turns)
+ReadsLine TooLong old new turns left line = BeginsTooLong old
+ReadsLine Failed old new turns left line = ⊤
+
+-- the known bytes ended within the turns: each byte cost one, and so did seeing the end
+abbrev pub EndsInTurns : (old : Option (List ℕ)) → (turns : ℕ) → Type 0
+EndsInTurns old turns = IfSome old (λ xs. length xs < turns)
+
+-- all that reading a line does but to fail costs a turn
+abbrev pub SpendsTurn : LineRead → (turns left : ℕ) → Type 0
+SpendsTurn Line turns left = left + 1 ≤ turns
+SpendsTurn End turns left = left + 1 ≤ turns
+SpendsTurn TooLong turns left = left + 1 ≤ turns
+SpendsTurn Failed turns left = left ≤ turns

@@ -1,0 +1,42 @@
+-- What came of a run, and of a line of it.
+use Rattle.std.specs.Prelude.{◌≡◌, ◌⊎◌, ℕ, ◌+◌, ◌≤◌, ⊤, Bool, true, Option, Some, None, IfSome, Result, Ok, Err, List, ◌∷◌, []}
+use Rattle.std.specs.Io.KnownBytes.{Appends, Consumes, IsAtEnd}
+use Rattle.meet_tickets.specs.declared.places.Order.{Order}
+use Rattle.meet_tickets.specs.declared.refusals.Refusal.{Refusal}
+use Rattle.meet_tickets.specs.declared.refusals.Refusal.TheVariants.{Memory, BadLine, ReadFault, WriteFault}
+use Rattle.meet_run.specs.declared.calls.Call.{Call}
+use Rattle.meet_run.specs.declared.setups.Setup.{Setup}
+use Rattle.meet_run.specs.declared.faults.RunFault.{RunFault}
+use Rattle.meet_run.specs.declared.run.Next.{Next}
+use Rattle.meet_run.specs.declared.run.Next.TheVariants.{Read, Ended, Faulty, Broken}
+use Rattle.meet_run.specs.Grammar.{call_of, setup_of}
+use Rattle.meet_run.specs.Reading.{lines_of, Both}
+use Rattle.meet_run.specs.Writing.{AppendsFront}
+
+-- what the next line is, by a reading of lines: one that reads as this; none; one that reads as nothing; or a failed read
+abbrev pub IsNext : {A : Type 0} → (List ℕ → Option A) → Next A → (old new : Option (List ℕ)) → (turns left : ℕ) → Type 0
+IsNext reading (Read a) old new turns left =
+    Both old new (λ xs ys. (line : List ℕ) × (lines_of xs ≡ line ∷ lines_of ys) × (reading line ≡ Some a)) × (left + 1 ≤ turns)
+IsNext reading Ended old new turns left =
+    IfSome old (λ xs. lines_of xs ≡ []) × IsAtEnd new × (left + 1 ≤ turns)
+IsNext reading Faulty old new turns left =
+    IfSome old (λ xs. (line : List ℕ) × (lines : List (List ℕ)) × (lines_of xs ≡ line ∷ lines) × (reading line ≡ None)) × (left + 1 ≤ turns)
+IsNext reading Broken old new turns left = left ≤ turns
+
+-- a run that was cut short: there was no memory, or a write failed
+abbrev pub IsCutShort : Refusal → Type 0
+IsCutShort why = (why ≡ Memory) ⊎ (why ≡ WriteFault)
+
+-- what a fault leaves of a text: at a faulty line the whole of what comes before it; of a run that broke off, a front,
+-- and no last line but where a write failed
+abbrev pub FaultEnds : (fault : Option ℕ) → (text output : List ℕ) → Refusal → Option ℕ → (old new : Option (List ℕ)) → Type 0
+FaultEnds fault text output BadLine (Some n) old new = (fault ≡ Some n) × Appends old new output
+FaultEnds fault text output Memory None old new = AppendsFront old new text
+FaultEnds fault text output ReadFault None old new = AppendsFront old new text
+FaultEnds fault text output WriteFault None old new = AppendsFront old new output
+FaultEnds fault text output _ _ old new = ⊥
+
+-- what came of a run over a text with this first faulty line, this text of the replies and this whole output
+abbrev pub RunEnds : (fault : Option ℕ) → (text output : List ℕ) → Result Bool RunFault → (old new : Option (List ℕ)) → Type 0
+RunEnds fault text output (Ok legal) old new = (legal ≡ true) × (fault ≡ None) × Appends old new output
+RunEnds fault text output (Err f) old new = FaultEnds fault text output f.why f.line old new

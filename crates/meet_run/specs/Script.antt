@@ -1,0 +1,115 @@
+-- What a whole script gives: its calls, its first faulty line, and its text.
+use Rattle.std.specs.Prelude.{◌≡◌, ℕ, ◌+◌, Option, Some, None, ⊤, List, [], ◌∷◌, ◌++◌, length}
+use Rattle.std.specs.Option.{option_map_or}
+use Rattle.std.specs.List.{flat_map}
+use Rattle.meet_tickets.specs.declared.places.Order.{Order}
+use Rattle.meet_run.specs.declared.calls.Call.{Call}
+use Rattle.meet_run.specs.declared.setups.Setup.{Setup}
+use Rattle.meet_run.specs.declared.replies.Reply.{Reply}
+use Rattle.meet_run.specs.OneThread.{Place, start, turns, replies, records, standing_of}
+use Rattle.meet_run.specs.Grammar.{call_of, setup_of}
+use Rattle.meet_run.specs.Wording.{text_of, last_line}
+use Rattle.meet_run.specs.Reading.{lines_of}
+
+-- the calls before the first faulty line, and the number of that line, if there is one
+pub record Calls : Type 0 where
+  pub calls : List Call
+  pub fault : Option ℕ
+
+-- no call is left
+abbrev pub no_more : Calls
+no_more = record { calls = []; fault = None }
+
+-- the line with this number is faulty
+abbrev pub faulty_at : (n : ℕ) → Calls
+faulty_at n = record { calls = []; fault = Some n }
+
+-- a call in front
+abbrev pub with_call : Call → Calls → Calls
+with_call call rest = record { calls = call ∷ rest.calls; fault = rest.fault }
+
+-- the calls of these lines, of which the first has this number
+unfoldable pub calls_from : Order → (n : ℕ) → (lines : List (List ℕ)) → Calls
+calls_from order n [] = no_more
+calls_from order n (line ∷ lines) =
+    option_map_or (λ call. with_call call (calls_from order (n + 1) lines)) (call_of order line) (faulty_at n)
+
+-- the text of these replies
+unfoldable pub replies_text : List Reply → List ℕ
+replies_text replies = flat_map text_of replies
+
+-- the text of the calls from here on
+unfoldable pub text_from : Setup → Place → List Call → List ℕ
+text_from setup place calls = replies_text (turns setup place calls).replies
+
+-- the last line, after the calls from here on
+unfoldable pub closing_from : Setup → Place → List Call → List ℕ
+closing_from setup place calls =
+    last_line (place.records + length (turns setup place calls).records) (standing_of setup (turns setup place calls).place)
+
+-- the same; after a fault there is none
+unfoldable pub ending_from : Setup → Place → Calls → List ℕ
+ending_from setup place rest = option_map_or (λ n. []) rest.fault (closing_from setup place rest.calls)
+
+-- all that is written from here on
+unfoldable pub output_from : Setup → Place → Calls → List ℕ
+output_from setup place rest = text_from setup place rest.calls ++ ending_from setup place rest
+
+-- the calls behind the first line
+abbrev pub calls_behind : Setup → (lines : List (List ℕ)) → Calls
+calls_behind setup lines = calls_from setup.kind.order 2 lines
+
+-- the number of the first faulty line; without a first line it is 1
+unfoldable pub fault_in : (lines : List (List ℕ)) → Option ℕ
+fault_in [] = Some 1
+fault_in (line ∷ lines) = option_map_or (λ setup. (calls_behind setup lines).fault) (setup_of line) (Some 1)
+
+-- the text of the calls before the first fault
+unfoldable pub text_in : (lines : List (List ℕ)) → List ℕ
+text_in [] = []
+text_in (line ∷ lines) =
+    option_map_or (λ setup. text_from setup (start setup) (calls_behind setup lines).calls) (setup_of line) []
+
+-- that text, and without a fault the last line
+unfoldable pub output_in : (lines : List (List ℕ)) → List ℕ
+output_in [] = []
+output_in (line ∷ lines) =
+    option_map_or (λ setup. output_from setup (start setup) (calls_behind setup lines)) (setup_of line) []
+
+-- the number of a script's first faulty line
+abbrev pub fault_of : (input : List ℕ) → Option ℕ
+fault_of input = fault_in (lines_of input)
+
+-- the text of its calls before the first fault
+abbrev pub text_before : (input : List ℕ) → List ℕ
+text_before input = text_in (lines_of input)
+
+-- all that it writes
+abbrev pub output_of : (input : List ℕ) → List ℕ
+output_of input = output_in (lines_of input)
+
+-- the lines behind the first are these calls
+abbrev pub AreCalls : Order → (lines : List (List ℕ)) → List Call → Type 0
+AreCalls order [] [] = ⊤
+AreCalls order [] (call ∷ calls) = ⊥
+AreCalls order (line ∷ lines) [] = ⊥
+AreCalls order (line ∷ lines) (call ∷ calls) = (call_of order line ≡ Some call) × AreCalls order lines calls
+
+-- the replies of one thread to its calls, as text
+abbrev pub text : Setup → List Call → List ℕ
+text setup calls = flat_map text_of (replies setup calls)
+
+-- the line at the end of one thread's calls: how many records they wrote, and what stands then
+abbrev pub closing : Setup → List Call → List ℕ
+closing setup calls =
+    last_line (length (records setup calls)) (standing_of setup (turns setup (start setup) calls).place)
+
+-- a script about a place, all of whose other lines are calls, has no fault; it writes their replies and the last line
+abbrev pub ScriptsAreAnswered : Type 0
+ScriptsAreAnswered =
+    (line : List ℕ) (lines : List (List ℕ)) (setup : Setup) (calls : List Call) → setup_of line ≡ Some setup → AreCalls setup.kind.order lines calls → (fault_in (line ∷ lines) ≡ None) × (output_in (line ∷ lines) ≡ text setup calls ++ closing setup calls)
+
+-- a script with a line that is no call has its fault there; it writes the replies to the calls before, whatever follows
+abbrev pub FaultsEndScripts : Type 0
+FaultsEndScripts =
+    (line : List ℕ) (lines : List (List ℕ)) (bad : List ℕ) (more : List (List ℕ)) (setup : Setup) (calls : List Call) → setup_of line ≡ Some setup → AreCalls setup.kind.order lines calls → call_of setup.kind.order bad ≡ None → (fault_in (line ∷ (lines ++ bad ∷ more)) ≡ Some (length lines + 2)) × (output_in (line ∷ (lines ++ bad ∷ more)) ≡ text setup calls)

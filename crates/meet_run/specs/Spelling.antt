@@ -1,0 +1,107 @@
+-- The one spelling of a call, and the spellings of a place.
+use Rattle.std.specs.Prelude.{◌≡◌, ◌↔◌, ℕ, ◌^◌, ◌<◌, ◌≤◌, IsTrue, Option, Some, None, ⊤, List, [], ◌∷◌, ◌++◌, codes, decimal}
+use Rattle.meet_tickets.specs.declared.places.Order.{Order}
+use Rattle.meet_tickets.specs.declared.places.Order.TheVariants.{Fair, Unfair, Transfer}
+use Rattle.meet_run.specs.declared.calls.Call.{Call}
+use Rattle.meet_run.specs.declared.calls.Verb.{Verb}
+use Rattle.meet_run.specs.declared.calls.Verb.TheVariants.{Put, Offer, Take, Poll, Transfer as TransferItem, Try, Follow, Cancel, Expire, Interrupt, Drain, Size, Room, Peek, Consumers}
+use Rattle.meet_run.specs.declared.first_line.Options.{Options}
+use Rattle.meet_run.specs.declared.setups.Setup.{Setup}
+use Rattle.meet_run.specs.Served.{serves_place, serves}
+use Rattle.meet_run.specs.Grammar.{setup_with, call_of, setup_of}
+
+-- a verb's word, and its number
+abbrev pub verb_text : Verb → List ℕ
+verb_text (Put n) = codes "put " ++ decimal n
+verb_text (Offer n) = codes "offer " ++ decimal n
+verb_text Take = codes "take"
+verb_text Poll = codes "poll"
+verb_text (TransferItem n) = codes "transfer " ++ decimal n
+verb_text (Try n) = codes "try " ++ decimal n
+verb_text Follow = codes "follow"
+verb_text Cancel = codes "cancel"
+verb_text Expire = codes "expire"
+verb_text (Interrupt target) = codes "interrupt " ++ decimal target
+verb_text (Drain most) = codes "drain " ++ decimal most
+verb_text Size = codes "size"
+verb_text Room = codes "room"
+verb_text Peek = codes "peek"
+verb_text Consumers = codes "consumers"
+
+-- the one spelling of a call: its seat and its verb
+abbrev pub spelling : Call → List ℕ
+spelling call = decimal call.seat ++ 32 ∷ verb_text call.verb
+
+-- a verb's number is in its limits
+abbrev pub FitsVerb : Verb → Type 0
+FitsVerb (Put n) = n < 2 ^ 64
+FitsVerb (Offer n) = n < 2 ^ 64
+FitsVerb Take = ⊤
+FitsVerb Poll = ⊤
+FitsVerb (TransferItem n) = n < 2 ^ 64
+FitsVerb (Try n) = n < 2 ^ 64
+FitsVerb Follow = ⊤
+FitsVerb Cancel = ⊤
+FitsVerb Expire = ⊤
+FitsVerb (Interrupt target) = target < 1024
+FitsVerb (Drain most) = most < 2 ^ 64
+FitsVerb Size = ⊤
+FitsVerb Room = ⊤
+FitsVerb Peek = ⊤
+FitsVerb Consumers = ⊤
+
+-- a call has its numbers in their limits, and the place serves its verb
+pub record FitsCall (order : Order) (call : Call) : Type 0 where
+  pub seat : call.seat < 1024
+  pub verb : FitsVerb call.verb
+  pub served : IsTrue (serves order call.verb)
+
+-- a line reads as a call exactly where it is that call's one spelling
+abbrev pub CallsHaveOneSpelling : Type 0
+CallsHaveOneSpelling =
+    (order : Order) (line : List ℕ) (call : Call) → (call_of order line ≡ Some call) ↔ ((line ≡ spelling call) × FitsCall order call)
+
+-- a place's word
+abbrev pub place_text : Order → List ℕ
+place_text Fair = codes "fair"
+place_text Unfair = codes "unfair"
+place_text Transfer = codes "transfer"
+
+-- an option that is spelled out, by its name with a space on either side; or nothing
+abbrev pub option_text : (name : List ℕ) → Option ℕ → List ℕ
+option_text name None = []
+option_text name (Some n) = name ++ decimal n
+
+-- the options that are spelled out, in their order
+abbrev pub written_text : Options → List ℕ
+written_text written =
+    option_text (codes " seats ") written.seats ++ (option_text (codes " cap ") written.cap ++ (option_text (codes " first ") written.first ++ option_text (codes " bound ") written.bound))
+
+-- a line spells a place: its word, and its options, where those at their default may be left out
+abbrev pub SpellsSetup : (line : List ℕ) → Setup → Type 0
+SpellsSetup line setup =
+    (written : Options) × (line ≡ place_text setup.kind.order ++ written_text written) × (setup ≡ setup_with setup.kind.order written)
+
+-- only a transfer queue has a bound, from 1 to 1,048,576
+abbrev pub FitsBound : Order → Option ℕ → Type 0
+FitsBound order None = ⊤
+FitsBound Fair (Some n) = ⊥
+FitsBound Unfair (Some n) = ⊥
+FitsBound Transfer (Some n) = (1 ≤ n) × (n ≤ 1048576)
+
+-- a place's numbers are in their limits
+pub record IsInLimits (setup : Setup) : Type 0 where
+  pub seats : (1 ≤ setup.seats) × (setup.seats ≤ 1024)
+  pub cap : (1 ≤ setup.cap) × (setup.cap ≤ 1048576)
+  pub first : (1 ≤ setup.first) × (setup.first < 2 ^ 63)
+  pub bound : FitsBound setup.kind.order setup.kind.bound
+
+-- a place has its numbers in their limits, and is served
+pub record FitsSetup (setup : Setup) : Type 0 where
+  pub limits : IsInLimits setup
+  pub served : IsTrue (serves_place setup.kind.order)
+
+-- a first line reads as a place exactly where it spells it
+abbrev pub SetupsAreSpelled : Type 0
+SetupsAreSpelled =
+    (line : List ℕ) (setup : Setup) → (setup_of line ≡ Some setup) ↔ (SpellsSetup line setup × FitsSetup setup)

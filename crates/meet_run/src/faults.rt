@@ -1,0 +1,109 @@
+//! How a run fails, and how a program says so. Nothing here takes memory.
+
+ghost use Rattle.std.specs.Prelude.{◌≡◌, ◌+◌, ◌≤◌, ◌++◌, length, decimal};
+ghost use Rattle.arrayvec.specs.ArrayVec.{array_vec_len};
+ghost use Rattle.meet_run.specs.Faults.{fault_status, status_of, place_of, fault_text, fault_line};
+
+use arrayvec::ArrayVec;
+use itoa::Buffer;
+use meet_tickets::Refusal;
+use std::fmt;
+use std::fmt::{Display, Formatter, Write};
+use thiserror::Error;
+
+/// Why a run ended early, and in which line of its text, from 1, if it was a line's fault.
+#[derive(Clone, Copy, PartialEq, Eq, Debug, Error)]
+#[error("meet: {}{}", InLine(*.line), .why.name())]
+pub struct RunFault {
+    pub why: Refusal,
+    pub line: Option<u64>,
+}
+
+/// The text of a fault's line number.
+#[derive(Clone, Copy)]
+struct InLine(Option<u64>);
+
+impl Display for InLine {
+    fn fmt<W: Write>(&self, f: &mut Formatter<W>) -> fmt::Result {
+        match self.0 {
+            None => Ok(()),
+            Some(number) => write!(f, "line {number}: "),
+        }
+    }
+}
+
+/// The most bytes of a line on standard error.
+const ROOM: usize = 64;
+
+/// How a program ends: its exit status, and its line on standard error, which is empty where it has none.
+#[derive(Drop, Debug)]
+pub struct Report {
+    pub status: u8,
+    pub line: ArrayVec<u8, ROOM>,
+}
+
+/// The exit status of a fault.
+#[tactic(auto, unfolding(crate::specs::Faults::fault_status))]
+fn status_for(why: Refusal) -> u8
+    ensures { result ≡ fault_status why }
+{
+    match why {
+        Refusal::BadLine | Refusal::BadTrace => 3,
+        Refusal::ReadFault | Refusal::WriteFault => 5,
+        _ => 4,
+    }
+}
+
+/// Appends a text for which there is room.
+fn push_text(line: &mut ArrayVec<u8, ROOM>, text: &[u8])
+    requires { array_vec_len line.old + length text.now ≤ ROOM }
+    ensures { line.new.items ≡ line.old.items ++ text.now }
+{
+    let _ = line.try_extend_from_slice(text);
+}
+
+/// Appends where a fault is.
+#[tactic(auto, unfolding(crate::specs::Faults::place_of))]
+fn push_place(line: &mut ArrayVec<u8, ROOM>, place: Option<u64>)
+    requires { array_vec_len line.old ≤ 6 }
+    ensures text { line.new.items ≡ line.old.items ++ place_of place }
+    ensures room { array_vec_len line.new ≤ 33 }
+{
+    if let Some(number) = place {
+        push_text(line, b"line ");
+        let mut buffer = Buffer::new();
+        push_text(line, buffer.format(number).as_bytes());
+        push_text(line, b": ");
+    }
+}
+
+/// A fault's line.
+#[tactic(auto, unfolding(crate::specs::Faults::fault_text))]
+fn line_for(fault: RunFault) -> ArrayVec<u8, ROOM>
+    ensures { result.items ≡ fault_text fault }
+{
+    let mut line = ArrayVec::new();
+    push_text(&mut line, b"meet: ");
+    push_place(&mut line, fault.line);
+    push_text(&mut line, fault.why.name().as_bytes());
+    push_text(&mut line, b"\n");
+    line
+}
+
+/// How a program ends after this run.
+#[tactic(auto, unfolding(crate::specs::Faults::status_of, crate::specs::Faults::fault_line))]
+pub fn report_of(outcome: &Result<bool, RunFault>) -> Report
+    ensures status { result.status ≡ status_of outcome.now }
+    ensures line { result.line.items ≡ fault_line outcome.now }
+{
+    match outcome {
+        Ok(legal) => Report {
+            status: if *legal { 0 } else { 1 },
+            line: ArrayVec::new(),
+        },
+        Err(fault) => Report {
+            status: status_for(fault.why),
+            line: line_for(*fault),
+        },
+    }
+}

@@ -1,0 +1,162 @@
+//! What the first line of a script says.
+
+ghost use Rattle.std.specs.Prelude.{◌≡◌, IfSome};
+ghost use Rattle.std.specs.Option.{option_map};
+ghost use Rattle.meet_run.specs.Served.{serves_place};
+ghost use Rattle.meet_run.specs.Words.{word_of, rest_of, behind};
+ghost use Rattle.meet_run.specs.Spelling.{FitsSetup};
+ghost use Rattle.meet_run.specs.Grammar.{order_of, option_value, option_in, written_in, may_have, setup_at_end, setup_in, setup_of};
+
+use crate::grammar::LONGEST_LINE;
+use crate::setups::Setup;
+use crate::words::{read_number, split_word};
+use meet_tickets::{Kind, Order};
+
+/// The most seats of a place.
+const MOST_SEATS: u64 = 1024;
+/// The most records of a place.
+const MOST_RECORDS: u64 = 1_048_576;
+/// The last ticket.
+const LAST_TICKET: u64 = 9_223_372_036_854_775_807;
+/// The most items that a bound may let a place keep.
+const MOST_KEPT: u64 = 1_048_576;
+
+/// The options that a first line spells out.
+#[derive(Clone, Copy, PartialEq, Eq, Debug)]
+pub struct Options {
+    pub seats: Option<u64>,
+    pub cap: Option<u64>,
+    pub first: Option<u64>,
+    pub bound: Option<u64>,
+}
+
+/// Whether places of this order are served.
+pub fn is_place_served(order: Order) -> bool
+    ensures { result ≡ serves_place order }
+{
+    match order {
+        Order::Fair => true,
+        Order::Unfair | Order::Transfer => false,
+    }
+}
+
+/// The order of a place by its word.
+#[tactic(auto, unfolding(crate::specs::Grammar::order_of))]
+fn read_order(word: &[u8]) -> Option<Order>
+    ensures { result ≡ order_of word.now }
+{
+    if word == b"fair".as_slice() {
+        Some(Order::Fair)
+    } else if word == b"unfair".as_slice() {
+        Some(Order::Unfair)
+    } else if word == b"transfer".as_slice() {
+        Some(Order::Transfer)
+    } else {
+        None
+    }
+}
+
+/// What stands behind a front, where a text begins with it.
+fn strip_front<'a>(front: &[u8], text: &'a [u8]) -> Option<&'a [u8]>
+    ensures { option_map (λ rest. rest.now) result ≡ behind front.now text.now }
+{
+    text.strip_prefix(front)
+}
+
+/// An option's number, from 1 to `most`, and the rest of its line.
+#[tactic(auto, unfolding(crate::specs::Grammar::option_value))]
+fn read_value(most: u64, text: &[u8]) -> Option<(Option<u64>, &[u8])>
+    ensures { option_map (λ found. (found.0, found.1.now)) result
+        ≡ option_value most (word_of text.now) (rest_of text.now) }
+{
+    let (word, rest) = split_word(text);
+    let number = read_number(word)?;
+    if 1 <= number && number <= most {
+        Some((Some(number), rest))
+    } else {
+        None
+    }
+}
+
+/// An option by its name with a space on either side: its number, if it stands there, and the rest of its line.
+#[tactic(auto, unfolding(crate::specs::Grammar::option_in))]
+fn read_option<'a>(name: &[u8], most: u64, rest: &'a [u8]) -> Option<(Option<u64>, &'a [u8])>
+    ensures { option_map (λ found. (found.0, found.1.now)) result ≡ option_in name.now most rest.now }
+{
+    match strip_front(name, rest) {
+        None => Some((None, rest)),
+        Some(text) => read_value(most, text),
+    }
+}
+
+/// The options of a first line, each at most once and in this order, and the rest of the line.
+#[tactic(auto, unfolding(crate::specs::Grammar::written_in))]
+fn read_options(rest: &[u8]) -> Option<(Options, &[u8])>
+    ensures { option_map (λ found. (found.0, found.1.now)) result ≡ written_in rest.now }
+{
+    let (seats, rest) = read_option(b" seats ", MOST_SEATS, rest)?;
+    let (cap, rest) = read_option(b" cap ", MOST_RECORDS, rest)?;
+    let (first, rest) = read_option(b" first ", LAST_TICKET, rest)?;
+    let (bound, rest) = read_option(b" bound ", MOST_KEPT, rest)?;
+    let options = Options {
+        seats,
+        cap,
+        first,
+        bound,
+    };
+    Some((options, rest))
+}
+
+/// Whether a place of this order may have this bound.
+fn may_have_bound(order: Order, bound: Option<u64>) -> bool
+    ensures { result ≡ may_have order bound }
+{
+    bound.is_none() || matches!(order, Order::Transfer)
+}
+
+/// The place, where nothing is left of the line, and it may have that bound.
+#[tactic(auto, unfolding(crate::specs::Grammar::setup_at_end))]
+fn finish_setup(order: Order, options: Options, rest: &[u8]) -> Option<Setup>
+    ensures { result ≡ setup_at_end order options rest.now }
+{
+    if !rest.is_empty() || !may_have_bound(order, options.bound) {
+        return None;
+    }
+    Some(Setup {
+        kind: Kind {
+            order,
+            bound: options.bound,
+        },
+        seats: options.seats.unwrap_or(64),
+        cap: options.cap.unwrap_or(MOST_RECORDS),
+        first: options.first.unwrap_or(1),
+    })
+}
+
+/// The place of a first line, whatever is served.
+#[tactic(auto, unfolding(crate::specs::Grammar::setup_in))]
+pub(crate) fn read_any_setup(line: &[u8]) -> Option<Setup>
+    ensures { result ≡ setup_in line.now }
+{
+    let (word, rest) = split_word(line);
+    let order = read_order(word)?;
+    let (options, rest) = read_options(rest)?;
+    finish_setup(order, options, rest)
+}
+
+/// The place of a script's first line, or none where the line is at fault.
+#[tactic(auto, unfolding(crate::specs::Grammar::setup_of, crate::specs::Grammar::served_setup))]
+pub fn read_setup(line: &[u8]) -> Option<Setup>
+    ensures read { result ≡ setup_of line.now }
+    ensures fits { IfSome result FitsSetup }
+{
+    if line.len() > LONGEST_LINE {
+        return None;
+    }
+    let setup = read_any_setup(line)?;
+    if is_place_served(setup.kind.order) {
+        Some(setup)
+    } else {
+        None
+    }
+}

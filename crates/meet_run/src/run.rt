@@ -1,0 +1,136 @@
+//! A script from a reader, its replies to a writer, line by line.
+
+ghost use Rattle.std.specs.Prelude.{◌≡◌, ◌+◌, ◌≤◌, ◌++◌, [], length, Some, Err, IfSome, IfErr, OnOk, OnErr, IsTrue};
+ghost use Rattle.std.specs.Io.KnownBytes.{Appends};
+ghost use Rattle.std.specs.Vec.{vec_capacity};
+ghost use Rattle.meet_tickets.specs.declared.refusals.Refusal.TheVariants.{Memory, WriteFault};
+ghost use Rattle.meet_run.specs.OneThread.{start, turn, standing_of};
+ghost use Rattle.meet_run.specs.Grammar.{call_of, setup_of};
+ghost use Rattle.meet_run.specs.Reading.{UsesTurns, EndsInTurns, lines_of};
+ghost use Rattle.meet_run.specs.Script.{fault_of, text_before, output_of, replies_text, calls_behind, text_from, output_from};
+ghost use Rattle.meet_run.specs.Stepping.{Takes, place_of, IsInLimits};
+ghost use Rattle.meet_run.specs.Served.{serves_place, serves};
+ghost use Rattle.meet_run.specs.Wording.{last_line};
+ghost use Rattle.meet_run.specs.Running.{IsNext, IsCutShort, RunEnds};
+ghost use Rattle.meet_run.specs.Writing.{AppendsFront};
+
+use crate::calls::Call;
+use crate::faults::RunFault;
+use crate::first_line::read_setup;
+use crate::grammar::{LONGEST_LINE, read_call};
+use crate::output::write_whole;
+use crate::reading::{LineRead, read_line};
+use crate::replies::Reply;
+use crate::setups::Setup;
+use crate::stepper::Stepper;
+use crate::wording::{push_last_line, push_reply};
+use meet_tickets::{Order, Refusal};
+use std::alloc::Global;
+use std::io::{Read, Write};
+
+/// What the next line is.
+#[derive(Clone, Copy, PartialEq, Eq, Debug)]
+pub enum Next<A> {
+    /// It reads as this.
+    Read(A),
+    /// There is none.
+    Ended,
+    /// It reads as nothing.
+    Faulty,
+    /// A read failed, or no turn was left for it.
+    Broken,
+}
+
+/// Reads the first line.
+fn next_setup<R: Read>(reader: &mut R, turns: &mut u64, line: &mut Vec<u8>) -> Next<Setup>
+    requires { LONGEST_LINE ≤ vec_capacity line.old }
+    ensures next { IsNext setup_of result (R.remaining reader.old) (R.remaining reader.new) turns.old turns.new }
+    ensures uses { UsesTurns (R.remaining reader.old) (R.remaining reader.new) turns.old turns.new }
+    ensures room { LONGEST_LINE ≤ vec_capacity line.new }
+{
+    match read_line(reader, turns, line) {
+        LineRead::Line => match read_setup(line.as_slice()) {
+            Some(setup) => Next::Read(setup),
+            None => Next::Faulty,
+        },
+        LineRead::End => Next::Ended,
+        LineRead::TooLong => Next::Faulty,
+        LineRead::Failed => Next::Broken,
+    }
+}
+
+/// Reads the line of a call.
+fn next_call<R: Read>(
+    reader: &mut R,
+    turns: &mut u64,
+    line: &mut Vec<u8>,
+    order: Order,
+) -> Next<Call>
+    requires { LONGEST_LINE ≤ vec_capacity line.old }
+    ensures next { IsNext (call_of order) result (R.remaining reader.old) (R.remaining reader.new) turns.old turns.new }
+    ensures uses { UsesTurns (R.remaining reader.old) (R.remaining reader.new) turns.old turns.new }
+    ensures room { LONGEST_LINE ≤ vec_capacity line.new }
+{
+    match read_line(reader, turns, line) {
+        LineRead::Line => match read_call(order, line.as_slice()) {
+            Some(call) => Next::Read(call),
+            None => Next::Faulty,
+        },
+        LineRead::End => Next::Ended,
+        LineRead::TooLong => Next::Faulty,
+        LineRead::Failed => Next::Broken,
+    }
+}
+
+/// Appends the lines of these replies.
+fn push_replies(out: &mut Vec<u8>, replies: &[Reply]) -> Result<(), Refusal>
+    ensures text { OnOk result (out.new.items ≡ out.old.items ++ replies_text replies.now) }
+    ensures memory { IfErr result (λ why. why ≡ Memory) }
+{
+    for reply in replies {
+        match push_reply(out, reply) {
+            Ok(()) => {}
+            Err(_) => return Err(Refusal::Memory),
+        }
+    }
+    Ok(())
+}
+
+/// Makes a call, and writes the lines of its replies.
+fn serve<W: Write>(
+    stepper: &mut Stepper,
+    call: Call,
+    replies: &mut Vec<Reply>,
+    out: &mut Vec<u8>,
+    writer: &mut W,
+) -> Result<(), Refusal>
+    requires served { IsTrue (serves stepper.old.setup.kind.order call.verb) }
+    ensures takes { OnOk result (Takes (turn stepper.old.setup (place_of stepper.old) call) stepper.old stepper.new) }
+    ensures written { OnOk result (Appends (W.contents writer.old) (W.contents writer.new) (replies_text (turn stepper.old.setup (place_of stepper.old) call).replies)) }
+    ensures front { AppendsFront (W.contents writer.old) (W.contents writer.new) (replies_text (turn stepper.old.setup (place_of stepper.old) call).replies) }
+    ensures why { IfErr result IsCutShort }
+{
+    replies.clear();
+    out.clear();
+    stepper.answer(call, replies)?;
+    push_replies(out, replies.as_slice())?;
+    write_whole(writer, out.as_slice())
+}
+
+/// Writes the last line.
+fn close<W: Write>(stepper: &Stepper, out: &mut Vec<u8>, writer: &mut W) -> Result<(), Refusal>
+    ensures written { OnOk result (Appends (W.contents writer.old) (W.contents writer.new) (last_line (place_of stepper.now).records (standing_of stepper.now.setup (place_of stepper.now)))) }
+    ensures front { AppendsFront (W.contents writer.old) (W.contents writer.new) (last_line (place_of stepper.now).records (standing_of stepper.now.setup (place_of stepper.now))) }
+    ensures memory { result ≡ Err Memory → AppendsFront (W.contents writer.old) (W.contents writer.new) [] }
+    ensures why { IfErr result IsCutShort }
+{
+    out.clear();
+    let records = stepper.count();
+    let waiting = stepper.waiting();
+    let uncollected = stepper.uncollected();
+    let kept = stepper.kept();
+    match push_last_line(out, records, waiting, uncollected, kept) {
+        Ok(()) => write_whole(writer, out.as_slice()),
+        Err(_) => Err(Refusal::Memory),
+    }
+}

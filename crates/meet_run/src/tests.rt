@@ -1,0 +1,6 @@
+mod calls;
+mod faults;
+mod first_lines;
+mod input;
+mod output;
+mod wording;
