@@ -2,6 +2,7 @@ pub mod CallLemmas
 pub mod LegalTurns
 pub mod LineLemmas
 pub mod ManyTurns
+pub mod Ran
 pub mod Reached
 pub mod RecordCounts
 pub mod RunLemmas

@@ -7,14 +7,8 @@ use Rattle.meet_run.specs.Grammar.{call_of, setup_of}
 use Rattle.meet_run.specs.Wording.{last_line}
 use Rattle.meet_run.specs.Reading.{lines_of}
 use Rattle.meet_run.specs.Writing.{IsFront}
-use Rattle.meet_run.specs.Script.{Calls, no_more, faulty_at, with_call, calls_from, replies_text, text_from, output_from, fault_in, text_in, output_in, fault_of, text_before, output_of}
+use Rattle.meet_run.specs.Script.{Reached, Calls, no_more, faulty_at, with_call, calls_from, replies_text, text_from, output_from, fault_in, text_in, output_in, fault_of, text_before, output_of}
 use Rattle.meet_run.proofs.ScriptLemmas.{calls-end, calls-more, calls-fault, text-end, text-more, output-more, output-end, output-fault, first-line, first-fault, no-line}
-
--- Of the input this rest is left, which begins with line n; the place is here, and this was written.
-pub record Reached (setup : Setup) (input rest : List ℕ) (n : ℕ) (place : Place) (written : List ℕ) : Type 0 where
-  pub fault : fault_of input ≡ (calls_from setup.kind.order n (lines_of rest)).fault
-  pub text : text_before input ≡ written ++ text_from setup place (calls_from setup.kind.order n (lines_of rest)).calls
-  pub output : output_of input ≡ written ++ output_from setup place (calls_from setup.kind.order n (lines_of rest))
 
 -- after the first line nothing is written
 pub reached-first : (setup : Setup) (input rest line : List ℕ) → lines_of input ≡ line ∷ lines_of rest → setup_of line ≡ Some setup → Reached setup input rest 2 (start setup) []

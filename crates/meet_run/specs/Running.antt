@@ -12,6 +12,8 @@ use Rattle.meet_run.specs.declared.run.Next.TheVariants.{Read, Ended, Faulty, Br
 use Rattle.meet_run.specs.Grammar.{call_of, setup_of}
 use Rattle.meet_run.specs.Reading.{lines_of, Both}
 use Rattle.meet_run.specs.Writing.{AppendsFront}
+use Rattle.meet_run.specs.OneThread.{start}
+use Rattle.meet_run.specs.Script.{Reached, fault_of, text_before, output_of}
 
 -- what the next line is, by a reading of lines: one that reads as this; none; one that reads as nothing; or a failed read
 abbrev pub IsNext : {A : Type 0} → (List ℕ → Option A) → Next A → (old new : Option (List ℕ)) → (turns left : ℕ) → Type 0
@@ -23,9 +25,24 @@ IsNext reading Faulty old new turns left =
     IfSome old (λ xs. (line : List ℕ) × (lines : List (List ℕ)) × (lines_of xs ≡ line ∷ lines) × (reading line ≡ None)) × (left + 1 ≤ turns)
 IsNext reading Broken old new turns left = left ≤ turns
 
+-- a fact of what the next line reads as
+abbrev pub IfRead : {A : Type 0} → Next A → (A → Type 0) → Type 0
+IfRead (Read a) P = P a
+IfRead Ended P = ⊤
+IfRead Faulty P = ⊤
+IfRead Broken P = ⊤
+
 -- a run that was cut short: there was no memory, or a write failed
 abbrev pub IsCutShort : Refusal → Type 0
 IsCutShort why = (why ≡ Memory) ⊎ (why ≡ WriteFault)
+
+-- a faulty line, or a run that broke off outside any line
+abbrev pub FaultIs : Refusal → Option ℕ → Type 0
+FaultIs BadLine (Some n) = ⊤
+FaultIs Memory None = ⊤
+FaultIs ReadFault None = ⊤
+FaultIs WriteFault None = ⊤
+FaultIs _ _ = ⊥
 
 -- what a fault leaves of a text: at a faulty line the whole of what comes before it; of a run that broke off, a front,
 -- and no last line but where a write failed
@@ -40,3 +57,12 @@ FaultEnds fault text output _ _ old new = ⊥
 abbrev pub RunEnds : (fault : Option ℕ) → (text output : List ℕ) → Result Bool RunFault → (old new : Option (List ℕ)) → Type 0
 RunEnds fault text output (Ok legal) old new = (legal ≡ true) × (fault ≡ None) × Appends old new output
 RunEnds fault text output (Err f) old new = FaultEnds fault text output f.why f.line old new
+
+-- the faults that end a run
+abbrev pub IsRunFault : RunFault → Type 0
+IsRunFault f = FaultIs f.why f.line
+
+-- what came of the calls behind a first line, wherever that line came from
+abbrev pub RunsOn : Setup → (rest : List ℕ) → Result Bool RunFault → (old new : Option (List ℕ)) → Type 0
+RunsOn setup rest result old new =
+    (input : List ℕ) → Reached setup input rest 2 (start setup) [] → RunEnds (fault_of input) (text_before input) (output_of input) result old new

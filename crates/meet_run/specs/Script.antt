@@ -113,3 +113,10 @@ ScriptsAreAnswered =
 abbrev pub FaultsEndScripts : Type 0
 FaultsEndScripts =
     (line : List ℕ) (lines : List (List ℕ)) (bad : List ℕ) (more : List (List ℕ)) (setup : Setup) (calls : List Call) → setup_of line ≡ Some setup → AreCalls setup.kind.order lines calls → call_of setup.kind.order bad ≡ None → (fault_in (line ∷ (lines ++ bad ∷ more)) ≡ Some (length lines + 2)) × (output_in (line ∷ (lines ++ bad ∷ more)) ≡ text setup calls)
+
+-- how far a run has come: of the input this rest is left, which begins with line n; the place is here, and this was
+-- written
+pub record Reached (setup : Setup) (input rest : List ℕ) (n : ℕ) (place : Place) (written : List ℕ) : Type 0 where
+  pub fault : fault_of input ≡ (calls_from setup.kind.order n (lines_of rest)).fault
+  pub text : text_before input ≡ written ++ text_from setup place (calls_from setup.kind.order n (lines_of rest)).calls
+  pub output : output_of input ≡ written ++ output_from setup place (calls_from setup.kind.order n (lines_of rest))

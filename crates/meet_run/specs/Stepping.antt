@@ -1,5 +1,5 @@
 -- What a stepper shows of itself, and what a call does to it.
-use Rattle.std.specs.Prelude.{◌≡◌, ℕ, ◌^◌, ◌<◌, ◌≤◌, List, [], ◌∷◌, ◌++◌, length}
+use Rattle.std.specs.Prelude.{◌≡◌, ℕ, List, [], ◌∷◌, ◌++◌, length}
 use Rattle.meet_tickets.specs.declared.records.Record.{Record}
 use Rattle.meet_tickets.specs.declared.records.Deed.{Deed}
 use Rattle.meet_core.specs.Queue.{Queue, seats_of}
@@ -16,15 +16,6 @@ pub record Stepping : Type 0 where
 -- where the place is
 abbrev pub place_of : Stepping → Place
 place_of s = record { next = s.queue.next; seats = seats_of s.queue; records = length s.records }
-
--- the numbers of a place are in their limits
-pub record IsInLimits (setup : Setup) : Type 0 where
-  pub seats_from : 1 ≤ setup.seats
-  pub seats_to : setup.seats ≤ 1024
-  pub cap_from : 1 ≤ setup.cap
-  pub cap_to : setup.cap ≤ 1048576
-  pub first_from : 1 ≤ setup.first
-  pub first_to : setup.first < 2 ^ 63
 
 -- a call did what this turn says
 pub record Takes (turn : Turn) (old new : Stepping) : Type 0 where

@@ -5,7 +5,7 @@ ghost use Rattle.meet_tickets.specs.ByLists.{IsLegal};
 ghost use Rattle.meet_tickets.specs.declared.refusals.Refusal.TheVariants.{Memory};
 ghost use Rattle.meet_run.specs.OneThread.{replies, records};
 ghost use Rattle.meet_run.specs.Served.{serves_place, serves};
-ghost use Rattle.meet_run.specs.Stepping.{IsInLimits};
+ghost use Rattle.meet_run.specs.Spelling.{IsInLimits};
 
 use crate::calls::Call;
 use crate::replies::Reply;

@@ -1,17 +1,18 @@
 //! A script from a reader, its replies to a writer, line by line.
 
-ghost use Rattle.std.specs.Prelude.{◌≡◌, ◌+◌, ◌≤◌, ◌++◌, [], length, Some, Err, IfSome, IfErr, OnOk, OnErr, IsTrue};
-ghost use Rattle.std.specs.Io.KnownBytes.{Appends};
+ghost use Rattle.std.specs.Prelude.{◌≡◌, ◌+◌, ◌^◌, ◌<◌, ◌≤◌, ◌++◌, [], length, Some, Err, IfSome, IfErr, OnOk, OnErr, IsTrue};
+ghost use Rattle.std.specs.Io.KnownBytes.{Appends, IsAtEnd};
 ghost use Rattle.std.specs.Vec.{vec_capacity};
 ghost use Rattle.meet_tickets.specs.declared.refusals.Refusal.TheVariants.{Memory, WriteFault};
 ghost use Rattle.meet_run.specs.OneThread.{start, turn, standing_of};
 ghost use Rattle.meet_run.specs.Grammar.{call_of, setup_of};
 ghost use Rattle.meet_run.specs.Reading.{UsesTurns, EndsInTurns, lines_of};
 ghost use Rattle.meet_run.specs.Script.{fault_of, text_before, output_of, replies_text, calls_behind, text_from, output_from};
-ghost use Rattle.meet_run.specs.Stepping.{Takes, place_of, IsInLimits};
+ghost use Rattle.meet_run.specs.Stepping.{Takes, place_of};
+ghost use Rattle.meet_run.specs.Spelling.{IsInLimits, FitsCall, FitsSetup};
 ghost use Rattle.meet_run.specs.Served.{serves_place, serves};
 ghost use Rattle.meet_run.specs.Wording.{last_line};
-ghost use Rattle.meet_run.specs.Running.{IsNext, IsCutShort, RunEnds};
+ghost use Rattle.meet_run.specs.Running.{IsNext, IfRead, IsCutShort, IsRunFault, RunsOn, RunEnds};
 ghost use Rattle.meet_run.specs.Writing.{AppendsFront};
 
 use crate::calls::Call;
@@ -44,6 +45,7 @@ pub enum Next<A> {
 /// Reads the first line.
 fn next_setup<R: Read>(reader: &mut R, turns: &mut u64, line: &mut Vec<u8>) -> Next<Setup>
     requires { LONGEST_LINE ≤ vec_capacity line.old }
+    ensures fits { IfRead result FitsSetup }
     ensures next { IsNext setup_of result (R.remaining reader.old) (R.remaining reader.new) turns.old turns.new }
     ensures uses { UsesTurns (R.remaining reader.old) (R.remaining reader.new) turns.old turns.new }
     ensures room { LONGEST_LINE ≤ vec_capacity line.new }
@@ -67,6 +69,7 @@ fn next_call<R: Read>(
     order: Order,
 ) -> Next<Call>
     requires { LONGEST_LINE ≤ vec_capacity line.old }
+    ensures fits { IfRead result (FitsCall order) }
     ensures next { IsNext (call_of order) result (R.remaining reader.old) (R.remaining reader.new) turns.old turns.new }
     ensures uses { UsesTurns (R.remaining reader.old) (R.remaining reader.new) turns.old turns.new }
     ensures room { LONGEST_LINE ≤ vec_capacity line.new }
@@ -132,5 +135,61 @@ fn close<W: Write>(stepper: &Stepper, out: &mut Vec<u8>, writer: &mut W) -> Resu
     match push_last_line(out, records, waiting, uncollected, kept) {
         Ok(()) => write_whole(writer, out.as_slice()),
         Err(_) => Err(Refusal::Memory),
+    }
+}
+
+/// A run that ends early, outside any line.
+fn cut_short(why: Refusal) -> RunFault
+    ensures { result ≡ record { why = why; line = None } }
+{
+    RunFault { why, line: None }
+}
+
+/// Runs the calls behind the first line.
+fn run_calls<R: Read, W: Write>(
+    alloc: Global,
+    reader: &mut R,
+    writer: &mut W,
+    turns: &mut u64,
+    line: &mut Vec<u8>,
+    setup: Setup,
+) -> Result<bool, RunFault>
+    requires served { IsTrue (serves_place setup.kind.order) }
+    requires limits { IsInLimits setup }
+    requires room { LONGEST_LINE ≤ vec_capacity line.old }
+    requires turns { turns.old + 1 < 2 ^ 64 }
+    ensures script { IfSome (R.remaining reader.old) (λ rest. RunsOn setup rest result (W.contents writer.old) (W.contents writer.new)) }
+    ensures uses { UsesTurns (R.remaining reader.old) (R.remaining reader.new) turns.old turns.new }
+    ensures ends { OnOk result (IsAtEnd (R.remaining reader.new) × (turns.new + 1 ≤ turns.old)) }
+    ensures faults { IfErr result IsRunFault }
+{
+    let mut stepper = match Stepper::new(alloc, setup) {
+        Ok(stepper) => stepper,
+        Err(why) => return Err(cut_short(why)),
+    };
+    let mut replies = Vec::new(alloc);
+    let mut out = Vec::new(alloc);
+    // How many lines were read.
+    let mut read = 1u64;
+    loop {
+        match next_call(reader, turns, line, setup.kind.order) {
+            Next::Read(call) => {
+                match serve(&mut stepper, call, &mut replies, &mut out, writer) {
+                    Ok(()) => read += 1,
+                    Err(why) => return Err(cut_short(why)),
+                }
+            }
+            Next::Ended => match close(&stepper, &mut out, writer) {
+                Ok(()) => return Ok(true),
+                Err(why) => return Err(cut_short(why)),
+            },
+            Next::Faulty => {
+                return Err(RunFault {
+                    why: Refusal::BadLine,
+                    line: Some(read + 1),
+                });
+            }
+            Next::Broken => return Err(cut_short(Refusal::ReadFault)),
+        }
     }
 }

@@ -47,7 +47,8 @@ fn refused(seat: SeatNo, why: Refusal) -> Reply
 impl Stepper {
     ghost use Rattle.meet_run.specs.OneThread.{start, turn, give, take, follow, waiting, answer_of, is_full, request_refusal, standing_of};
     ghost use Rattle.meet_run.specs.Served.{serves_place, serves};
-    ghost use Rattle.meet_run.specs.Stepping.{place_of, IsInLimits, Takes, TakesTurn};
+    ghost use Rattle.meet_run.specs.Stepping.{place_of, Takes, TakesTurn};
+    ghost use Rattle.meet_run.specs.Spelling.{IsInLimits};
 
     /// The place of this setup, before any call. The only refusal is Memory.
     pub fn new(alloc: Global, setup: Setup) -> Result<Self, Refusal>

@@ -22,5 +22,5 @@ returns-clause-legal c =
     let setup = c.args.setup in
     let all : c.into_records.result.items ≡ records setup c.args.calls.now = grind (arith, common_steps) in
     let fair : setup.kind.order ≡ Fair = fair-from setup.kind.order c.requires.served in
-    let legal : IsLegalBySeat setup.kind (records setup c.args.calls.now) = records_legal setup c.args.calls.now fair (served-from setup.kind.order c.args.calls.now fair c.requires.verbs) (omega (arith, c.requires.limits.first_from)) in
+    let legal : IsLegalBySeat setup.kind (records setup c.args.calls.now) = records_legal setup c.args.calls.now fair (served-from setup.kind.order c.args.calls.now fair c.requires.verbs) (omega (arith, c.requires.limits.first.0)) in
     (c.tellings_agree.ensures setup.kind c.into_records.result.items).legal.1 (subst (IsLegalBySeat setup.kind) (sym all) legal)

@@ -1,0 +1,146 @@
+-- A run of calls, line by line: what it wrote, and what is left.
+use Rattle.std.proofs.Common.{◌≡◌, ◌⊎◌, inl, inr, ℕ, ◌+◌, List, [], ◌∷◌, ◌++◌, Option, Some, None, Ok, Err, true, refl, sym, ap, ◌∙◌, subst, append_assoc, append-nil}
+use Rattle.std.specs.Prelude.{IfSome}
+use Rattle.std.specs.Io.KnownBytes.{Appends, Consumes, IsAtEnd}
+use Rattle.meet_tickets.specs.declared.refusals.Refusal.{Refusal}
+use Rattle.meet_tickets.specs.declared.refusals.Refusal.TheVariants.{Memory, WriteFault}
+use Rattle.meet_run.specs.declared.calls.Call.{Call}
+use Rattle.meet_run.specs.declared.faults.RunFault.{RunFault}
+use Rattle.meet_run.specs.declared.setups.Setup.{Setup}
+use Rattle.meet_run.specs.OneThread.{Place, start, turn, standing_of}
+use Rattle.meet_run.specs.Grammar.{call_of}
+use Rattle.meet_run.specs.Reading.{lines_of, Both}
+use Rattle.meet_run.specs.Running.{RunEnds, RunsOn}
+use Rattle.meet_run.specs.Script.{Reached, replies_text, fault_of, text_before, output_of}
+use Rattle.meet_run.specs.Wording.{last_line}
+use Rattle.meet_run.specs.Writing.{AppendsFront, IsFront}
+use Rattle.meet_run.proofs.WritingLemmas.{appends-more, front-of, front-more}
+use Rattle.meet_run.proofs.Reached.{Ended, EndedAtFault, reached-more, reached-front, replies-next, reached-end, reached-fault}
+
+-- whatever the first line was, the run has come this far
+abbrev pub CameFrom : Setup → (first rest : List ℕ) → (read : ℕ) → Place → (written : List ℕ) → Type 0
+CameFrom setup first rest read place written =
+    (input : List ℕ) → Reached setup input first 2 (start setup) [] → Reached setup input rest (read + 1) place written
+
+-- so many lines were read, and this was written
+pub record Ran (setup : Setup) (reader_old reader_new writer_old writer_new : Option (List ℕ)) (read : ℕ) (place : Place) : Type 0 where
+  pub written : List ℕ
+  pub wrote : Appends writer_old writer_new written
+  pub came : Both reader_old reader_new (λ first rest. CameFrom setup first rest read place written)
+
+-- nothing was read or written so far
+appends-nothing : (w : Option (List ℕ)) → Appends w w []
+appends-nothing None = tt
+appends-nothing (Some xs) = sym (append-nil xs)
+
+pub ran-none : (setup : Setup) (reader writer : Option (List ℕ)) (place : Place) → place ≡ start setup → Ran setup reader reader writer writer 1 place
+ran-none setup reader writer place is = record {
+  written = [];
+  wrote = appends-nothing writer;
+  came = same reader;
+}
+  where
+    same : (r : Option (List ℕ)) → Both r r (λ first rest. CameFrom setup first rest 1 place [])
+    same None = tt
+    same (Some xs) = λ input h. subst (λ p. Reached setup input xs 2 p []) (sym is) h
+
+module _ (setup : Setup) (old mid : Option (List ℕ)) (before now : Option (List ℕ)) (read : ℕ) (place : Place) (ran : Ran setup old mid before now read place) where
+  -- a call was read and its replies were written
+  pub ran-more : (new after : Option (List ℕ)) (call : Call) (later : Place) → Both mid new (λ xs ys. (line : List ℕ) × (lines_of xs ≡ line ∷ lines_of ys) × (call_of setup.kind.order line ≡ Some call)) → Appends now after (replies_text (turn setup place call).replies) → later ≡ (turn setup place call).place → Ran setup old new before after (read + 1) later
+  ran-more new after call later next wrote is = record {
+    written = ran.written ++ replies_text (turn setup place call).replies;
+    wrote = appends-more before now after ran.written (replies_text (turn setup place call).replies) ran.wrote wrote;
+    came = along old mid new ran.came next;
+  }
+    where
+      along : (o m n : Option (List ℕ)) → Both o m (λ first rest. CameFrom setup first rest read place ran.written) → Both m n (λ xs ys. (line : List ℕ) × (lines_of xs ≡ line ∷ lines_of ys) × (call_of setup.kind.order line ≡ Some call)) → Both o n (λ first rest. CameFrom setup first rest (read + 1) later (ran.written ++ replies_text (turn setup place call).replies))
+      along None m n came next = tt
+      along (Some xs) None n came next = absurd came
+      along (Some xs) (Some ys) None came next = absurd next
+      along (Some xs) (Some ys) (Some zs) came next = λ input h. subst (λ p. Reached setup input zs (read + 1 + 1) p (ran.written ++ replies_text (turn setup place call).replies)) (sym is) (reached-more setup input ys (read + 1) place ran.written next.0 zs call (came input h) next.1 next.2)
+
+  -- what is known of the whole, at a known rest
+  at_rest : (P : (input : List ℕ) → Type 0) (o m : Option (List ℕ)) → Both o m (λ first rest. CameFrom setup first rest read place ran.written) → IfSome m (λ rest. (input : List ℕ) → Reached setup input rest (read + 1) place ran.written → P input) → IfSome o (λ first. (input : List ℕ) → Reached setup input first 2 (start setup) [] → P input)
+  at_rest P None m came rest = tt
+  at_rest P (Some xs) None came rest = absurd came
+  at_rest P (Some xs) (Some ys) came rest = λ input h. rest input (came input h)
+
+  -- a read failed
+  pub ran-broken : IfSome old (λ first. (input : List ℕ) → Reached setup input first 2 (start setup) [] → AppendsFront before now (text_before input))
+  ran-broken = at_rest (λ input. AppendsFront before now (text_before input)) old mid ran.came (known mid)
+    where
+      known : (m : Option (List ℕ)) → IfSome m (λ rest. (input : List ℕ) → Reached setup input rest (read + 1) place ran.written → AppendsFront before now (text_before input))
+      known None = tt
+      known (Some ys) = λ input h. front-of before now ran.written (text_before input) ran.wrote (reached-front setup input ys (read + 1) place ran.written h).0
+
+  -- the next line is no call
+  pub ran-faulty : IfSome mid (λ xs. (line : List ℕ) × (lines : List (List ℕ)) × (lines_of xs ≡ line ∷ lines) × (call_of setup.kind.order line ≡ None)) → IfSome old (λ first. (input : List ℕ) → Reached setup input first 2 (start setup) [] → (fault_of input ≡ Some (read + 1)) × Appends before now (output_of input))
+  ran-faulty faulty = at_rest (λ input. (fault_of input ≡ Some (read + 1)) × Appends before now (output_of input)) old mid ran.came (known mid faulty)
+    where
+      known : (m : Option (List ℕ)) → IfSome m (λ xs. (line : List ℕ) × (lines : List (List ℕ)) × (lines_of xs ≡ line ∷ lines) × (call_of setup.kind.order line ≡ None)) → IfSome m (λ rest. (input : List ℕ) → Reached setup input rest (read + 1) place ran.written → (fault_of input ≡ Some (read + 1)) × Appends before now (output_of input))
+      known None faulty = tt
+      known (Some ys) faulty = λ input h. (let ended : EndedAtFault input (read + 1) ran.written = reached-fault setup input ys (read + 1) place ran.written faulty.0 faulty.1 h faulty.2 faulty.3 in (ended.fault, subst (λ t. Appends before now t) (sym ended.output) ran.wrote))
+
+  -- a call was read, and only a front of its replies was written
+  pub ran-cut : (new after : Option (List ℕ)) (call : Call) → Both mid new (λ xs ys. (line : List ℕ) × (lines_of xs ≡ line ∷ lines_of ys) × (call_of setup.kind.order line ≡ Some call)) → AppendsFront now after (replies_text (turn setup place call).replies) → IfSome old (λ first. (input : List ℕ) → Reached setup input first 2 (start setup) [] → AppendsFront before after (text_before input) × AppendsFront before after (output_of input))
+  ran-cut new after call next front = at_rest (λ input. AppendsFront before after (text_before input) × AppendsFront before after (output_of input)) old mid ran.came (known mid new next)
+    where
+      known : (m n : Option (List ℕ)) → Both m n (λ xs ys. (line : List ℕ) × (lines_of xs ≡ line ∷ lines_of ys) × (call_of setup.kind.order line ≡ Some call)) → IfSome m (λ rest. (input : List ℕ) → Reached setup input rest (read + 1) place ran.written → AppendsFront before after (text_before input) × AppendsFront before after (output_of input))
+      known None n next = tt
+      known (Some ys) None next = absurd next
+      known (Some ys) (Some zs) next = λ input h.
+          (let fronts : IsFront (ran.written ++ replies_text (turn setup place call).replies) (text_before input) × IsFront (ran.written ++ replies_text (turn setup place call).replies) (output_of input) = replies-next setup input ys (read + 1) place ran.written next.0 zs call h next.1 next.2 in
+          (front-more before now after ran.written (replies_text (turn setup place call).replies) (text_before input) ran.wrote front fronts.0, front-more before now after ran.written (replies_text (turn setup place call).replies) (output_of input) ran.wrote front fronts.1))
+
+  -- no line is left
+  pub ran-ended : (P : (input : List ℕ) → Type 0) → IfSome mid (λ xs. lines_of xs ≡ []) → ((input : List ℕ) → Ended setup input place ran.written → P input) → IfSome old (λ first. (input : List ℕ) → Reached setup input first 2 (start setup) [] → P input)
+  ran-ended P none ends = at_rest P old mid ran.came (known mid none)
+    where
+      known : (m : Option (List ℕ)) → IfSome m (λ xs. lines_of xs ≡ []) → IfSome m (λ rest. (input : List ℕ) → Reached setup input rest (read + 1) place ran.written → P input)
+      known None none = tt
+      known (Some ys) none = λ input h. ends input (reached-end setup input ys (read + 1) place ran.written h none)
+
+  -- and the last line was written
+  pub ran-closed : (after : Option (List ℕ)) → IfSome mid (λ xs. lines_of xs ≡ []) → Appends now after (last_line place.records (standing_of setup place)) → IfSome old (λ first. (input : List ℕ) → Reached setup input first 2 (start setup) [] → (fault_of input ≡ None) × Appends before after (output_of input))
+  ran-closed after none wrote = ran-ended (λ input. (fault_of input ≡ None) × Appends before after (output_of input)) none
+      (λ input ended. (ended.fault, subst (λ t. Appends before after t) (sym ended.output) (appends-more before now after ran.written (last_line place.records (standing_of setup place)) ran.wrote wrote)))
+
+  -- or only a front of it
+  pub ran-half_closed : (after : Option (List ℕ)) → IfSome mid (λ xs. lines_of xs ≡ []) → AppendsFront now after (last_line place.records (standing_of setup place)) → IfSome old (λ first. (input : List ℕ) → Reached setup input first 2 (start setup) [] → AppendsFront before after (output_of input))
+  ran-half_closed after none front = ran-ended (λ input. AppendsFront before after (output_of input)) none
+      (λ input ended. front-more before now after ran.written (last_line place.records (standing_of setup place)) (output_of input) ran.wrote front ([], ended.output ∙ sym (append-nil _)))
+
+  -- or none of it
+  pub ran-unclosed : (after : Option (List ℕ)) → IfSome mid (λ xs. lines_of xs ≡ []) → AppendsFront now after [] → IfSome old (λ first. (input : List ℕ) → Reached setup input first 2 (start setup) [] → AppendsFront before after (text_before input))
+  ran-unclosed after none front = ran-ended (λ input. AppendsFront before after (text_before input)) none
+      (λ input ended. front-more before now after ran.written [] (text_before input) ran.wrote front ([], ended.text ∙ sym (append-nil ran.written) ∙ sym (append-nil (ran.written ++ []))))
+
+-- a fact of a known value that follows from another
+follows : {X : Type 0} {P Q : X → Type 0} (o : Option X) → ((x : X) → P x → Q x) → IfSome o P → IfSome o Q
+follows None f h = tt
+follows (Some x) f h = f x h
+
+-- how a run that was cut short ends
+cut-ends : (f : RunFault) (why : Refusal) (fault : Option ℕ) (text output : List ℕ) (old new : Option (List ℕ)) → f ≡ record { why = why; line = None } → (why ≡ Memory) ⊎ (why ≡ WriteFault) → AppendsFront old new text × AppendsFront old new output → RunEnds fault text output (Err f) old new
+cut-ends f why fault text output old new is (inl memory) fronts =
+    subst (λ x. RunEnds fault text output (Err x) old new) (sym (is ∙ ap (λ w. let x : RunFault = record { why = w; line = None } in x) memory)) fronts.0
+cut-ends f why fault text output old new is (inr write) fronts =
+    subst (λ x. RunEnds fault text output (Err x) old new) (sym (is ∙ ap (λ w. let x : RunFault = record { why = w; line = None } in x) write)) fronts.1
+
+module _ (setup : Setup) (old mid : Option (List ℕ)) (before now : Option (List ℕ)) (read : ℕ) (place : Place) (ran : Ran setup old mid before now read place) where
+  -- a run whose call was answered and not written whole
+  pub runs-cut : (new after : Option (List ℕ)) (call : Call) (f : RunFault) (why : Refusal) → Both mid new (λ xs ys. (line : List ℕ) × (lines_of xs ≡ line ∷ lines_of ys) × (call_of setup.kind.order line ≡ Some call)) → AppendsFront now after (replies_text (turn setup place call).replies) → f ≡ record { why = why; line = None } → (why ≡ Memory) ⊎ (why ≡ WriteFault) → IfSome old (λ rest. RunsOn setup rest (Err f) before after)
+  runs-cut new after call f why next front is cut =
+      follows old (λ rest fronts input h. cut-ends f why (fault_of input) (text_before input) (output_of input) before after is cut (fronts input h)) (ran-cut setup old mid before now read place ran new after call next front)
+
+  -- a run whose last line was not written whole
+  pub runs-unclosed : (after : Option (List ℕ)) (f : RunFault) (why : Refusal) → IfSome mid (λ xs. lines_of xs ≡ []) → AppendsFront now after (last_line place.records (standing_of setup place)) → (why ≡ Memory → AppendsFront now after []) → f ≡ record { why = why; line = None } → (why ≡ Memory) ⊎ (why ≡ WriteFault) → IfSome old (λ rest. RunsOn setup rest (Err f) before after)
+  runs-unclosed after f why none front nothing is (inl memory) =
+      follows old (λ rest text input h. subst (λ x. RunEnds (fault_of input) (text_before input) (output_of input) (Err x) before after) (sym (is ∙ ap (λ w. let x : RunFault = record { why = w; line = None } in x) memory)) (text input h)) (ran-unclosed setup old mid before now read place ran after none (nothing memory))
+  runs-unclosed after f why none front nothing is (inr write) =
+      follows old (λ rest text input h. subst (λ x. RunEnds (fault_of input) (text_before input) (output_of input) (Err x) before after) (sym (is ∙ ap (λ w. let x : RunFault = record { why = w; line = None } in x) write)) (text input h)) (ran-half_closed setup old mid before now read place ran after none front)
+
+  -- a run that reached its end
+  pub runs-closed : (after : Option (List ℕ)) → IfSome mid (λ xs. lines_of xs ≡ []) → Appends now after (last_line place.records (standing_of setup place)) → IfSome old (λ rest. RunsOn setup rest (Ok true) before after)
+  runs-closed after none wrote =
+      follows old (λ rest ended input h. (refl, (ended input h).0, (ended input h).1)) (ran-closed setup old mid before now read place ran after none wrote)
