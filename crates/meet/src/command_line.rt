@@ -1,8 +1,7 @@
 //! The words of the command line.
 
-use std::alloc::Global;
-
 use clap::{Command, Error};
+use std::alloc::Global;
 
 /// What a command line asks for.
 #[derive(Clone, Copy, PartialEq, Eq, Debug)]

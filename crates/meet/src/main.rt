@@ -3,16 +3,14 @@
 
 mod command_line;
 
+use clap::ErrorKind;
+use command_line::{Task, task_of};
+use meet_run::{RunFault, report_of, run_script};
+use meet_tickets::Refusal;
 use std::alloc::AllocError;
 use std::io::{BufReader, Write};
 use std::process::ExitCode;
 use std::{env, io};
-
-use clap::ErrorKind;
-use meet_run::{RunFault, report_of, run_script};
-use meet_tickets::Refusal;
-
-use command_line::{Task, task_of};
 
 /// Want of memory outside any line.
 const MEMORY: RunFault = RunFault {

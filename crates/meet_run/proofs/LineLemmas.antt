@@ -118,3 +118,22 @@ pub no-lines : (new : Option (List ℕ)) → IsAtEnd new → IfSome new (λ xs. 
 unfolding lines_of
 no-lines None h = tt
 no-lines (Some xs) h = ap (λ (t : List ℕ). lines_of t) h
+
+-- where nothing more was taken and the end was seen, it was there already
+pub at-end-before : (old new : Option (List ℕ)) → Consumes old new [] → IsAtEnd new → IsAtEnd old
+at-end-before None new same end = tt
+at-end-before (Some xs) None same end = absurd same
+at-end-before (Some xs) (Some ys) same end = same ∙ end
+
+-- what ends in the turns that were left ends in all turns
+pub ends-more : (old mid : Option (List ℕ)) (turns left : ℕ) → UsesTurns old mid turns left → EndsInTurns mid left → EndsInTurns old turns
+ends-more None mid turns left h ends = tt
+ends-more (Some xs) None turns left h ends = absurd h.1
+ends-more (Some xs) (Some ys) turns left h ends =
+    let same : length xs ≡ length (h.0 ++ ys) = ap (λ (t : List ℕ). length t) h.1 in
+    omega (arith, length-append h.0 ys, h.2)
+
+-- where nothing was read no turn was used
+pub uses-none : (r : Option (List ℕ)) (turns left : ℕ) → left ≤ turns → UsesTurns r r turns left
+uses-none None turns left le = ([], tt, omega arith)
+uses-none (Some xs) turns left le = ([], refl, omega arith)

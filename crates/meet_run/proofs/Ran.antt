@@ -1,6 +1,6 @@
 -- A run of calls, line by line: what it wrote, and what is left.
-use Rattle.std.proofs.Common.{◌≡◌, ◌⊎◌, inl, inr, ℕ, ◌+◌, List, [], ◌∷◌, ◌++◌, Option, Some, None, Ok, Err, true, refl, sym, ap, ◌∙◌, subst, append_assoc, append-nil}
-use Rattle.std.specs.Prelude.{IfSome}
+use Rattle.std.proofs.Common.{◌≡◌, ◌⊎◌, inl, inr, ℕ, ◌+◌, List, [], ◌∷◌, ◌++◌, Option, Some, None, Ok, Err, Bool, true, refl, sym, ap, ◌∙◌, subst, append_assoc, append-nil}
+use Rattle.std.specs.Prelude.{IfSome, Result}
 use Rattle.std.specs.Io.KnownBytes.{Appends, Consumes, IsAtEnd}
 use Rattle.meet_tickets.specs.declared.refusals.Refusal.{Refusal}
 use Rattle.meet_tickets.specs.declared.refusals.Refusal.TheVariants.{Memory, WriteFault}
@@ -8,14 +8,14 @@ use Rattle.meet_run.specs.declared.calls.Call.{Call}
 use Rattle.meet_run.specs.declared.faults.RunFault.{RunFault}
 use Rattle.meet_run.specs.declared.setups.Setup.{Setup}
 use Rattle.meet_run.specs.OneThread.{Place, start, turn, standing_of}
-use Rattle.meet_run.specs.Grammar.{call_of}
+use Rattle.meet_run.specs.Grammar.{call_of, setup_of}
 use Rattle.meet_run.specs.Reading.{lines_of, Both}
 use Rattle.meet_run.specs.Running.{RunEnds, RunsOn}
 use Rattle.meet_run.specs.Script.{Reached, replies_text, fault_of, text_before, output_of}
 use Rattle.meet_run.specs.Wording.{last_line}
 use Rattle.meet_run.specs.Writing.{AppendsFront, IsFront}
 use Rattle.meet_run.proofs.WritingLemmas.{appends-more, front-of, front-more}
-use Rattle.meet_run.proofs.Reached.{Ended, EndedAtFault, reached-more, reached-front, replies-next, reached-end, reached-fault}
+use Rattle.meet_run.proofs.Reached.{Ended, EndedAtFault, reached-first, reached-more, reached-front, replies-next, reached-end, reached-fault, fault-at-first, fault-without-line}
 
 -- whatever the first line was, the run has come this far
 abbrev pub CameFrom : Setup → (first rest : List ℕ) → (read : ℕ) → Place → (written : List ℕ) → Type 0
@@ -144,3 +144,28 @@ module _ (setup : Setup) (old mid : Option (List ℕ)) (before now : Option (Lis
   pub runs-closed : (after : Option (List ℕ)) → IfSome mid (λ xs. lines_of xs ≡ []) → Appends now after (last_line place.records (standing_of setup place)) → IfSome old (λ rest. RunsOn setup rest (Ok true) before after)
   runs-closed after none wrote =
       follows old (λ rest ended input h. (refl, (ended input h).0, (ended input h).1)) (ran-closed setup old mid before now read place ran after none wrote)
+
+-- a run behind its first line
+pub runs-behind : (setup : Setup) (old mid : Option (List ℕ)) (result : Result Bool RunFault) (before after : Option (List ℕ)) → Both old mid (λ xs ys. (line : List ℕ) × (lines_of xs ≡ line ∷ lines_of ys) × (setup_of line ≡ Some setup)) → IfSome mid (λ rest. RunsOn setup rest result before after) → IfSome old (λ input. RunEnds (fault_of input) (text_before input) (output_of input) result before after)
+runs-behind setup None mid result before after first runs = tt
+runs-behind setup (Some xs) None result before after first runs = absurd first
+runs-behind setup (Some xs) (Some ys) result before after first runs =
+    runs xs (reached-first setup xs ys first.0 first.1 first.2)
+
+-- a run whose first line is at fault, or isn't there
+pub runs-faulty : (old writer : Option (List ℕ)) → IfSome old (λ xs. (line : List ℕ) × (lines : List (List ℕ)) × (lines_of xs ≡ line ∷ lines) × (setup_of line ≡ None)) → IfSome old (λ input. (fault_of input ≡ Some 1) × Appends writer writer (output_of input))
+runs-faulty None writer faulty = tt
+runs-faulty (Some xs) writer faulty =
+    let ended : EndedAtFault xs 1 [] = fault-at-first xs faulty.0 faulty.1 faulty.2 faulty.3 in
+    (ended.fault, subst (λ t. Appends writer writer t) (sym ended.output) (appends-nothing writer))
+
+pub runs-lineless : (old writer : Option (List ℕ)) → IfSome old (λ xs. lines_of xs ≡ []) → IfSome old (λ input. (fault_of input ≡ Some 1) × Appends writer writer (output_of input))
+runs-lineless None writer none = tt
+runs-lineless (Some xs) writer none =
+    let ended : EndedAtFault xs 1 [] = fault-without-line xs none in
+    (ended.fault, subst (λ t. Appends writer writer t) (sym ended.output) (appends-nothing writer))
+
+-- a run that broke off before its first line
+pub runs-unstarted : (old writer : Option (List ℕ)) → IfSome old (λ input. AppendsFront writer writer (text_before input))
+runs-unstarted None writer = tt
+runs-unstarted (Some xs) writer = ([], appends-nothing writer, (text_before xs, refl))

@@ -20,7 +20,7 @@ abbrev pub IsNext : {A : Type 0} → (List ℕ → Option A) → Next A → (old
 IsNext reading (Read a) old new turns left =
     Both old new (λ xs ys. (line : List ℕ) × (lines_of xs ≡ line ∷ lines_of ys) × (reading line ≡ Some a)) × (left + 1 ≤ turns)
 IsNext reading Ended old new turns left =
-    IfSome old (λ xs. lines_of xs ≡ []) × IsAtEnd new × (left + 1 ≤ turns)
+    IfSome old (λ xs. lines_of xs ≡ []) × Consumes old new [] × IsAtEnd new × (left + 1 ≤ turns)
 IsNext reading Faulty old new turns left =
     IfSome old (λ xs. (line : List ℕ) × (lines : List (List ℕ)) × (lines_of xs ≡ line ∷ lines) × (reading line ≡ None)) × (left + 1 ≤ turns)
 IsNext reading Broken old new turns left = left ≤ turns

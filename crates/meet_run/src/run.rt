@@ -160,7 +160,7 @@ fn run_calls<R: Read, W: Write>(
     requires turns { turns.old + 1 < 2 ^ 64 }
     ensures script { IfSome (R.remaining reader.old) (λ rest. RunsOn setup rest result (W.contents writer.old) (W.contents writer.new)) }
     ensures uses { UsesTurns (R.remaining reader.old) (R.remaining reader.new) turns.old turns.new }
-    ensures ends { OnOk result (IsAtEnd (R.remaining reader.new) × (turns.new + 1 ≤ turns.old)) }
+    ensures ends { OnOk result (EndsInTurns (R.remaining reader.old) turns.old) }
     ensures faults { IfErr result IsRunFault }
 {
     let mut stepper = match Stepper::new(alloc, setup) {
@@ -192,4 +192,59 @@ fn run_calls<R: Read, W: Write>(
             Next::Broken => return Err(cut_short(Refusal::ReadFault)),
         }
     }
+}
+
+/// Runs the script that this reader gives, and writes its replies: the first line names the place, each other line is a
+/// call. Each reply is written before the next line is read. A read of the reader takes one byte and costs a turn.
+///
+/// The answer is true. A line that can't be read ends the run with BadLine and its number, from 1, as soon as it is
+/// known; a text without a first line is a fault of line 1. A read that fails, or no turn left for it, is ReadFault; a
+/// write that fails or takes no byte is WriteFault; where memory is wanted and not there, it is Memory.
+pub fn run_script_within<R: Read, W: Write>(
+    alloc: Global,
+    reader: &mut R,
+    writer: &mut W,
+    turns: u64,
+) -> Result<bool, RunFault>
+    ensures script { IfSome (R.remaining reader.old) (λ input.
+        RunEnds (fault_of input) (text_before input) (output_of input) result (W.contents writer.old) (W.contents writer.new)) }
+    ensures uses { UsesTurns (R.remaining reader.old) (R.remaining reader.new) turns 0 }
+    ensures ends { OnOk result (EndsInTurns (R.remaining reader.old) turns) }
+    ensures faults { IfErr result IsRunFault }
+{
+    let mut left = turns;
+    let mut line = match Vec::with_capacity(alloc, LONGEST_LINE) {
+        Ok(line) => line,
+        Err(_) => return Err(cut_short(Refusal::Memory)),
+    };
+    match next_setup(reader, &mut left, &mut line) {
+        Next::Read(setup) => run_calls(alloc, reader, writer, &mut left, &mut line, setup),
+        Next::Ended => Err(RunFault {
+            why: Refusal::BadLine,
+            line: Some(1),
+        }),
+        Next::Faulty => Err(RunFault {
+            why: Refusal::BadLine,
+            line: Some(1),
+        }),
+        Next::Broken => Err(cut_short(Refusal::ReadFault)),
+    }
+}
+
+/// How many reads a script may take: 2^32.
+pub const MOST_READS: u64 = 1 << 32;
+
+/// Runs a script as `run_script_within` does, with 2^32 reads.
+pub fn run_script<R: Read, W: Write>(
+    alloc: Global,
+    reader: &mut R,
+    writer: &mut W,
+) -> Result<bool, RunFault>
+    ensures script { IfSome (R.remaining reader.old) (λ input.
+        RunEnds (fault_of input) (text_before input) (output_of input) result (W.contents writer.old) (W.contents writer.new)) }
+    ensures uses { UsesTurns (R.remaining reader.old) (R.remaining reader.new) (2 ^ 32) 0 }
+    ensures ends { OnOk result (EndsInTurns (R.remaining reader.old) (2 ^ 32)) }
+    ensures faults { IfErr result IsRunFault }
+{
+    run_script_within(alloc, reader, writer, MOST_READS)
 }

@@ -6,7 +6,7 @@ use Rattle.meet_run.specs.Wording.{last_line}
 use Rattle.meet_run.specs.Writing.{AppendsFront}
 use Rattle.meet_run.specs.Served.{serves}
 use Rattle.meet_run.specs.Stepping.{place_of}
-use Rattle.meet_run.proofs.LineLemmas.{uses-more}
+use Rattle.meet_run.proofs.LineLemmas.{uses-more, ends-in-turns, at-end-before}
 use Rattle.meet_run.proofs.Ran.{Ran, ran-more, runs-cut, runs-closed, runs-unclosed, ran-faulty}
 use Rattle.meet_run.proofs.run.run_calls.Goals as goal
 
@@ -68,3 +68,9 @@ returns-in-Broken-clause-uses g c =
 pub returns-in-Err-close-clause-uses : goal.returns-in-Err-close-clause-uses
 returns-in-Err-close-clause-uses g c =
     uses-more (g.R.Read.remaining c.args.reader.now) (g.R.Read.remaining c.loop-call.reader) (g.R.Read.remaining c.next_call.new.reader) c.args.turns.now c.loop-call.turns c.next_call.new.turns c.loop-call.invariant.uses c.next_call.ensures.uses
+
+pub returns-in-Ok-close-clause-ends : goal.returns-in-Ok-close-clause-ends
+returns-in-Ok-close-clause-ends g c =
+    ends-in-turns (g.R.Read.remaining c.args.reader.now) (g.R.Read.remaining c.loop-call.reader) c.args.turns.now c.loop-call.turns c.loop-call.invariant.uses
+    (at-end-before (g.R.Read.remaining c.loop-call.reader) (g.R.Read.remaining c.next_call.new.reader) c.in-Ended.ensures.next.1 c.in-Ended.ensures.next.2)
+    (omega (arith, c.in-Ended.ensures.next.3))
