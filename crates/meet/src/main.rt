@@ -3,7 +3,7 @@
 
 mod command_line;
 
-use clap::ErrorKind;
+use clap::error::ErrorKind;
 use command_line::{Task, task_of};
 use meet_run::{RunFault, report_of, run_script};
 use meet_tickets::Refusal;
