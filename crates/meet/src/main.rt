@@ -40,9 +40,15 @@ fn finish(rt: &HostRuntime, outcome: &Result<bool, RunFault>) -> ExitCode {
 }
 
 fn main(rt: HostRuntime) -> ExitCode {
-    let Ok(words) = words(&rt) else {
-        let _ = eprintln!(rt; "meet: the words of the command line can't be read");
-        return ExitCode::from(2);
+    let words = match words(&rt) {
+        Ok(words) => words,
+        Err(error) if error.kind() == io::ErrorKind::OutOfMemory => {
+            return finish(&rt, &Err(MEMORY));
+        }
+        Err(_) => {
+            let _ = eprintln!(rt; "meet: the words of the command line can't be read");
+            return ExitCode::from(2);
+        }
     };
     match task_of(rt.alloc(), words.as_slice()) {
         Ok(Task::Run) => finish(&rt, &run(&rt)),

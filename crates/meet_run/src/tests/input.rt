@@ -1,50 +1,6 @@
 use crate::reading::{LineRead, read_line};
-use std::io;
-use std::io::{ErrorKind, Read};
-use std::process::Abort;
+use crate::tests::doubles::feed_of;
 use std::test::Fail;
-
-/// A reader that gives one byte a read. Its text may go on without an end, and one of its reads may fail.
-#[derive(Drop)]
-struct Feed<'a> {
-    text: &'a [u8],
-    at: usize,
-    endless: bool,
-    reads: u64,
-    failed_read: u64,
-}
-
-impl Read for Feed<'_> {
-    fn read(&mut self, buf: &mut [u8]) -> io::Result<usize> {
-        self.reads = self.reads.wrapping_add(1);
-        if self.reads == self.failed_read {
-            return Err(ErrorKind::BrokenPipe.into());
-        }
-        if buf.is_empty() {
-            return Ok(0);
-        }
-        if self.at < self.text.len() {
-            buf[0] = self.text[self.at];
-            self.at += 1;
-            Ok(1)
-        } else if self.endless {
-            buf[0] = b'x';
-            Ok(1)
-        } else {
-            Ok(0)
-        }
-    }
-}
-
-fn feed_of(text: &[u8]) -> Feed<'_> {
-    Feed {
-        text,
-        at: 0,
-        endless: false,
-        reads: 0,
-        failed_read: 0,
-    }
-}
 
 #[test]
 fn lines(rt: HostRuntime) -> Result<(), Fail> {
@@ -112,7 +68,7 @@ fn long_lines(rt: HostRuntime) -> Result<(), Fail> {
     assert_eq!(rt; turns, 871);
     // The fault comes with byte 129, whatever follows it.
     let mut reader = feed_of(b"");
-    reader.endless = true;
+    reader.endless = Some(b'x');
     assert_eq!(rt;
         read_line(&mut reader, &mut turns, &mut line),
         LineRead::TooLong

@@ -1,51 +1,7 @@
 use crate::output::write_whole;
+use crate::tests::doubles::sink_by;
 use meet_tickets::Refusal;
-use std::alloc::Global;
-use std::io;
-use std::io::{ErrorKind, Write};
 use std::test::Fail;
-
-/// A writer that takes a few bytes a write. One of its writes may fail, or take no byte.
-#[derive(Drop)]
-struct Sink {
-    bytes: Vec<u8>,
-    step: usize,
-    writes: u64,
-    failed_write: u64,
-    gives_up: bool,
-}
-
-impl Write for Sink {
-    fn write(&mut self, buf: &[u8]) -> io::Result<usize> {
-        self.writes = self.writes.wrapping_add(1);
-        if self.writes == self.failed_write {
-            return if self.gives_up {
-                Ok(0)
-            } else {
-                Err(ErrorKind::BrokenPipe.into())
-            };
-        }
-        let taken = buf.len().min(self.step);
-        if self.bytes.extend_from_slice(&buf[..taken]).is_err() {
-            return Err(ErrorKind::OutOfMemory.into());
-        }
-        Ok(taken)
-    }
-
-    fn flush(&mut self) -> io::Result<()> {
-        Ok(())
-    }
-}
-
-fn sink_by(alloc: Global, step: usize) -> Sink {
-    Sink {
-        bytes: Vec::new(alloc),
-        step,
-        writes: 0,
-        failed_write: 0,
-        gives_up: false,
-    }
-}
 
 #[test]
 fn whole_texts(rt: HostRuntime) -> Result<(), Fail> {
