@@ -20,3 +20,30 @@ pub fn task_of(alloc: Global, words: &[String]) -> Result<Task, Error> {
     command.try_get_matches_from(words)?;
     Ok(Task::Run)
 }
+
+#[cfg(test)]
+mod tests {
+    use super::*;
+    use std::test::Fail;
+
+    /// What the program makes of these words behind its name.
+    fn is_run(alloc: Global, words: &[&str]) -> Result<bool, Fail> {
+        let mut all = Vec::new(alloc);
+        all.push(String::from_str(alloc, "meet")?)?;
+        for word in words {
+            all.push(String::from_str(alloc, word)?)?;
+        }
+        Ok(task_of(alloc, all.as_slice()).is_ok())
+    }
+
+    #[test]
+    fn command_lines(rt: HostRuntime) -> Result<(), Fail> {
+        assert!(rt; is_run(rt.alloc(), &[])?);
+        assert!(rt; is_run(rt.alloc(), &["run"])?);
+        assert!(rt; !is_run(rt.alloc(), &["walk"])?);
+        assert!(rt; !is_run(rt.alloc(), &["run", "twice"])?);
+        assert!(rt; !is_run(rt.alloc(), &["--help"])?);
+        assert!(rt; !is_run(rt.alloc(), &["help"])?);
+        Ok(())
+    }
+}

@@ -1,5 +1,5 @@
 -- How many seats of a table have an open ticket.
-use Rattle.std.proofs.Common.{◌≡◌, ℕ, zero, suc, ◌+◌, ◌<◌, Bool, true, false, not, IsTrue, cond, refl, sym, ◌∙◌, ap, List, [], ◌∷◌, length, get_or, replicate, arith}
+use Rattle.std.proofs.Common.{◌≡◌, ℕ, zero, suc, ◌+◌, Bool, true, false, not, IsTrue, cond, refl, sym, ◌∙◌, ap, List, [], ◌∷◌, length, get_or, replicate, arith}
 use Rattle.std.proofs.Math.Path.{fun_ext, ap₂}
 use Rattle.std.proofs.lemmas.List.Sums.{sum_by-cons}
 use Rattle.std.specs.Prelude.{count_by, All}

@@ -1,5 +1,5 @@
 -- A queue stays sound: each entry of its line waits and is what its seat holds, and no seat stands there twice.
-use Rattle.std.proofs.Common.{◌≡◌, ◌≢◌, ℕ, zero, suc, ◌+◌, ◌^◌, ◌<◌, refl, sym, ◌∙◌, ap, subst, List, [], ◌∷◌, ◌++◌, length, get_or, set, drop, arith, Option, Some, None, Bool, true, false, cond, IsTrue}
+use Rattle.std.proofs.Common.{◌≡◌, ◌≢◌, ℕ, zero, suc, ◌+◌, ◌^◌, ◌<◌, refl, sym, ◌∙◌, ap, subst, List, [], ◌∷◌, ◌++◌, length, get_or, set, drop, arith, Option, Some, true, IsTrue}
 use Rattle.std.specs.Prelude.{All, AllPairs, slice_get}
 use Rattle.std.proofs.lemmas.List.{get_or-set_other, get_or-set_same}
 use Rattle.std.proofs.lemmas.List.Elements.{All-append, All-drop}
@@ -9,7 +9,7 @@ use Rattle.meet_tickets.specs.declared.lines.Hold.{Hold}
 use Rattle.meet_tickets.specs.declared.lines.Hold.TheVariants.{Free, Waiting}
 use Rattle.meet_tickets.specs.declared.places.Side.{Side}
 use Rattle.meet_tickets.specs.declared.places.Order.TheVariants.{Fair}
-use Rattle.meet_tickets.specs.Meeting.{is_on, partner}
+use Rattle.meet_tickets.specs.Meeting.{partner}
 use Rattle.meet_tickets.proofs.Partners.{partner-first}
 use Rattle.meet_core.specs.Table.{hold_at}
 use Rattle.meet_core.specs.Queue.{IsSound}

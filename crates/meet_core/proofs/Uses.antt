@@ -1,5 +1,5 @@
 -- The steps of the table and the line are the moves of the rules.
-use Rattle.std.proofs.Common.{◌≡◌, ◌≢◌, ℕ, ◌+◌, ◌<◌, ◌⊎◌, inl, inr, refl, sym, ◌∙◌, ap, List, ◌∷◌, [], ◌++◌, length, get_or, set, drop, Bool, true, false, Option, Some, None, cond, eqb, is_some, replicate}
+use Rattle.std.proofs.Common.{◌≡◌, ◌≢◌, ℕ, ◌+◌, ◌<◌, ◌⊎◌, inl, inr, sym, ◌∙◌, ap, List, ◌∷◌, [], ◌++◌, length, get_or, set, drop, Bool, true, false, Option, Some, None, cond, eqb, replicate}
 use Rattle.std.proofs.Math.Path.{fun_ext}
 use Rattle.std.proofs.lemmas.List.{get_or-set_other, get_or-set_same, length-set}
 use Rattle.std.proofs.lemmas.Bool.Decides.{eqb_tells}

@@ -1,24 +1,20 @@
 -- The records that one thread's calls write are legal, told by seat.
-use Rattle.std.proofs.Common.{◌≡◌, ℕ, zero, suc, ◌+◌, ◌<◌, ◌≤◌, refl, sym, ap, ◌∙◌, subst, Bool, true, false, cond, not, ◌||◌, Option, Some, None, List, [], ◌∷◌, ◌++◌, arith}
-use Rattle.std.specs.Prelude.{nat_lt, nat_le, unwrap_or, is_some, All}
+use Rattle.std.proofs.Common.{◌≡◌, ℕ, suc, ◌+◌, ◌<◌, refl, sym, ap, ◌∙◌, subst, Bool, true, false, cond, not, Option, Some, None, List, [], ◌∷◌, ◌++◌, arith}
+use Rattle.std.specs.Prelude.{unwrap_or, is_some, All}
 use Rattle.std.specs.Option.{option_map_or}
-use Rattle.std.proofs.lemmas.Bool.Decides.{leb_tells}
-use Rattle.meet_tickets.specs.declared.lines.Entry.{Entry}
 use Rattle.meet_tickets.specs.declared.lines.Hold.{Hold}
 use Rattle.meet_tickets.specs.declared.lines.Hold.TheVariants.{Free, Waiting, Handed, Served, Cut}
-use Rattle.meet_tickets.specs.declared.places.Side.{Side}
 use Rattle.meet_tickets.specs.declared.places.Side.TheVariants.{Giver, Taker}
 use Rattle.meet_tickets.specs.declared.places.Order.{Order}
 use Rattle.meet_tickets.specs.declared.places.Order.TheVariants.{Fair, Unfair, Transfer}
 use Rattle.meet_tickets.specs.declared.places.Kind.{Kind}
 use Rattle.meet_tickets.specs.declared.records.Record.{Record}
-use Rattle.meet_tickets.specs.declared.records.Cause.{Cause}
-use Rattle.meet_tickets.specs.declared.records.Cause.TheVariants.{Cancelled, Expired, Interrupted}
+use Rattle.meet_tickets.specs.declared.records.Cause.TheVariants.{Interrupted}
 use Rattle.meet_tickets.specs.declared.records.Deed.{Deed}
-use Rattle.meet_tickets.specs.declared.records.Deed.TheVariants.{GiveWaits, GiveMeets, GiveFails, GiveKept, TakeWaits, TakeMeets, TakeFails, EntryInterrupted, Done, Got, Withdrawn, Interrupt}
+use Rattle.meet_tickets.specs.declared.records.Deed.TheVariants.{GiveWaits, GiveMeets, TakeWaits, TakeMeets, EntryInterrupted, Done, Got, Withdrawn}
 use Rattle.meet_tickets.specs.declared.refusals.Refusal.{Refusal}
-use Rattle.meet_tickets.specs.Meeting.{is_on, met, partner, Finds, Alone, MayKeep, kept_count}
-use Rattle.meet_tickets.specs.BySeat.{Seats, Moment, Fits, Allows, IsFree, beginning, entry_of, cut_ticket, is_request, is_open, moment_after, moment_of, IsLegalBySeatFrom, IsLegalBySeat, seats_after}
+use Rattle.meet_tickets.specs.Meeting.{partner, Alone}
+use Rattle.meet_tickets.specs.BySeat.{Moment, Fits, Allows, IsFree, is_request, moment_after, moment_of, IsLegalBySeatFrom, IsLegalBySeat}
 use Rattle.meet_tickets.specs.Refusals.{refusal_of}
 use Rattle.meet_tickets.proofs.Partners.{partner-first, none-from}
 use Rattle.meet_tickets.proofs.Admitted.{IsAdmitted, IsAdmitted-from}
@@ -29,7 +25,7 @@ use Rattle.meet_run.specs.declared.setups.Setup.{Setup}
 use Rattle.meet_run.specs.declared.replies.Outcome.{Outcome}
 use Rattle.meet_run.specs.declared.replies.Outcome.TheVariants.{Refused, Recorded}
 use Rattle.meet_run.specs.Served.{serves_fair, serves, serves_place}
-use Rattle.meet_run.specs.OneThread.{Place, Turn, start, silent, refused, written, joined, is_full, Form, waiting, immediate, keeping, may_keep, give_alone, give_deed, take_alone, take_deed, stepped, answer_of, request_refusal, request, give, take, follow, withdraw, interrupt_refusal, interrupt, polls, drain_refusal, drain, turn_of, turn, turns, records, put_form, offer_form}
+use Rattle.meet_run.specs.OneThread.{Place, Turn, start, silent, refused, written, joined, Form, waiting, immediate, keeping, give_alone, give_deed, take_alone, take_deed, stepped, answer_of, request_refusal, request, give, take, follow, turn_of, turn, turns, records, put_form}
 
 -- the forms of a request of a synchronous place
 abbrev Waits : Form → Type 0

@@ -10,3 +10,4 @@ pub mod ScriptLemmas
 pub mod SetupLemmas
 pub mod WordLemmas
 pub mod WritingLemmas
+pub mod WorkedScripts

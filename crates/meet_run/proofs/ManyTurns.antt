@@ -1,5 +1,5 @@
 -- The turns of a list of calls, one call at a time.
-use Rattle.std.proofs.Common.{◌≡◌, ℕ, ◌+◌, ◌<◌, refl, sym, ap, ◌∙◌, append_assoc, List, ◌∷◌, ◌++◌, length, get_or, drop}
+use Rattle.std.proofs.Common.{◌≡◌, ℕ, ◌+◌, ◌<◌, sym, ap, ◌∙◌, append_assoc, List, ◌∷◌, ◌++◌, length, get_or, drop}
 use Rattle.std.proofs.lemmas.List.{drop_more}
 use Rattle.meet_run.specs.declared.calls.Call.{Call}
 use Rattle.meet_run.specs.declared.setups.Setup.{Setup}

@@ -1,15 +1,12 @@
 -- What came of a run, and of a line of it.
 use Rattle.std.specs.Prelude.{◌≡◌, ◌⊎◌, ℕ, ◌+◌, ◌≤◌, ⊤, Bool, true, Option, Some, None, IfSome, Result, Ok, Err, List, ◌∷◌, []}
 use Rattle.std.specs.Io.KnownBytes.{Appends, Consumes, IsAtEnd}
-use Rattle.meet_tickets.specs.declared.places.Order.{Order}
 use Rattle.meet_tickets.specs.declared.refusals.Refusal.{Refusal}
 use Rattle.meet_tickets.specs.declared.refusals.Refusal.TheVariants.{Memory, BadLine, ReadFault, WriteFault}
-use Rattle.meet_run.specs.declared.calls.Call.{Call}
 use Rattle.meet_run.specs.declared.setups.Setup.{Setup}
 use Rattle.meet_run.specs.declared.faults.RunFault.{RunFault}
 use Rattle.meet_run.specs.declared.run.Next.{Next}
 use Rattle.meet_run.specs.declared.run.Next.TheVariants.{Read, Ended, Faulty, Broken}
-use Rattle.meet_run.specs.Grammar.{call_of, setup_of}
 use Rattle.meet_run.specs.Reading.{lines_of, Both}
 use Rattle.meet_run.specs.Writing.{AppendsFront}
 use Rattle.meet_run.specs.OneThread.{start}

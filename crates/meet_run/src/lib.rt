@@ -21,6 +21,7 @@ pub mod words;
 pub use all_calls::run_all;
 pub use calls::{Call, Verb};
 pub use faults::{Report, RunFault, report_of};
+pub use meet_tickets::{Deed, Kind, Record, Refusal, SeatNo, Ticket};
 pub use replies::{Answer, Outcome, Reply};
 pub use run::{MOST_READS, run_script, run_script_within};
 pub use setups::Setup;

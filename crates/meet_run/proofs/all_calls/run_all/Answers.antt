@@ -1,4 +1,4 @@
-use Rattle.std.proofs.Common.{◌≡◌, ◌∙◌, refl, ap, subst, sym, arith, rules}
+use Rattle.std.proofs.Common.{◌≡◌, ◌∙◌, refl, subst, sym, arith}
 use Rattle.std.proofs.lemmas.Grind.{common_steps}
 use Rattle.meet_tickets.specs.declared.places.Order.TheVariants.{Fair}
 use Rattle.meet_tickets.specs.BySeat.{IsLegalBySeat}

@@ -1,4 +1,3 @@
-use Rattle.std.proofs.Common.{◌≡◌}
 use Rattle.meet_run.specs.Grammar.{call_of}
 use Rattle.meet_run.proofs.RunLemmas.{ended-lines, too-long-line}
 use Rattle.meet_run.proofs.ScriptLemmas.{call-too_long}

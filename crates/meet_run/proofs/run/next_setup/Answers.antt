@@ -1,4 +1,3 @@
-use Rattle.std.proofs.Common.{◌≡◌}
 use Rattle.meet_run.specs.Grammar.{setup_of}
 use Rattle.meet_run.proofs.RunLemmas.{ended-lines, too-long-line}
 use Rattle.meet_run.proofs.ScriptLemmas.{setup-too_long}

@@ -1,4 +1,4 @@
-use Rattle.std.proofs.Common.{◌≡◌, ◌++◌, ◌∙◌, sym, ap, arith, append-nil, length}
+use Rattle.std.proofs.Common.{◌≡◌, ◌++◌, ◌∙◌, sym, ap, append-nil}
 use Rattle.std.proofs.lemmas.List.{take_all}
 use Rattle.meet_run.specs.Script.{replies_text}
 use Rattle.meet_run.specs.Wording.{text_of}

@@ -1,6 +1,6 @@
-use Rattle.std.proofs.Common.{◌≡◌, arith}
-use Rattle.meet_run.proofs.LineLemmas.{uses-more, uses-fewer, uses-none, ends-more}
-use Rattle.meet_run.proofs.Ran.{runs-behind, runs-faulty, runs-lineless, runs-unstarted}
+use Rattle.std.proofs.Common.{arith}
+use Rattle.meet_run.proofs.LineLemmas.{uses-more, uses-fewer}
+use Rattle.meet_run.proofs.Ran.{runs-behind, runs-faulty, runs-lineless}
 use Rattle.meet_run.proofs.run.run_script_within.Goals as goal
 
 pub returns-in-Read-clause-script : goal.returns-in-Read-clause-script
