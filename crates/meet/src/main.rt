@@ -1,6 +1,10 @@
 //! The program `meet`: a script of calls on standard input, their replies on standard output.
 #![tactic(auto)]
 
+ghost use Rattle.std.specs.Prelude.{◌≡◌};
+ghost use Rattle.std.specs.Process.{exit_status};
+ghost use Rattle.meet_run.specs.Faults.{status_of};
+
 mod command_line;
 
 use clap::error::ErrorKind;
@@ -33,7 +37,9 @@ fn run(rt: &HostRuntime) -> Result<bool, RunFault> {
 }
 
 /// Says on standard error how a run failed, if it did, and gives the exit status.
-fn finish(rt: &HostRuntime, outcome: &Result<bool, RunFault>) -> ExitCode {
+fn finish(rt: &HostRuntime, outcome: &Result<bool, RunFault>) -> ExitCode
+    ensures { exit_status result ≡ status_of outcome.now }
+{
     let report = report_of(outcome);
     let _ = rt.stderr().write_all(report.line.as_slice());
     ExitCode::from(report.status)

@@ -23,7 +23,13 @@ pub struct RunFault {
 #[derive(Clone, Copy)]
 struct InLine(Option<u64>);
 
+#[tactic(auto, unfolding(crate::specs::Faults::place_of))]
 impl Display for InLine {
+    ghost use Rattle.std.specs.Prelude.{Some};
+    ghost use Rattle.meet_run.specs.Faults.{place_of};
+
+    ghost output = { λ place. Some (place_of place.0) };
+
     fn fmt<W: Write>(&self, f: &mut Formatter<W>) -> fmt::Result {
         match self.0 {
             None => Ok(()),

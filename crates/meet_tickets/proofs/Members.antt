@@ -92,10 +92,10 @@ without_tail : (t : ℕ) (e : Entry ℕ) (line : List (Entry ℕ)) → e.ticket 
 without_tail t e line h = rw (ne_not_eqb e.ticket t h)
 
 -- the two ways to take a ticket out of the line are one
-pub without_first_is : (t : ℕ) (line : List (Entry ℕ)) → IsDistinct line → without_first t line ≡ without t line
+pub without_first_is : (t : ℕ) (line : List (Entry ℕ)) → IsDistinct line → without_first (λ e. e.ticket == t) line ≡ without t line
 without_first_is t [] d = refl
 without_first_is t (e ∷ line) d =
-    let rest : without_first t line ≡ without t line = without_first_is t line d.1 in
+    let rest : without_first (λ e. e.ticket == t) line ≡ without t line = without_first_is t line d.1 in
     ⊎_elim (λ y. rw y (sym (without_apart t line (subst (λ u. IsApart u line) (eqb-true e.ticket t y) d.0)))) (λ n. rw n (ap (λ l. e ∷ l) rest))
     (cases_Bool (e.ticket == t))
 

@@ -49,26 +49,37 @@ pub record IsNew (s : State) (seat ticket : ℕ) : Type 0 where
 
 -- which deed may come next
 abbrev pub IsStep : Kind → State → (seat ticket : ℕ) → Deed → Type 0
--- SynchronousQueue.put and LinkedTransferQueue.transfer, with nobody there; a flag stops only a request that would wait (our choice)
+-- SynchronousQueue.put and LinkedTransferQueue.transfer with no taker there; a flag stops only a request that would wait
+-- (our choice)
 IsStep k s i t (GiveWaits m) = IsNew s i t × Alone k s.line Giver × (Contains s.flags i → ⊥)
+-- put, offer, transfer and tryTransfer with a taker there (Scherer and Scott 2004: the item goes to a reservation)
 IsStep k s i t (GiveMeets m u) = IsNew s i t × Finds k s.line Giver u None
--- SynchronousQueue.offer, LinkedTransferQueue.tryTransfer
+-- SynchronousQueue.offer and LinkedTransferQueue.tryTransfer with no taker there; put and offer of a queue that is full
+-- (our choice)
 IsStep k s i t (GiveFails m) = IsNew s i t × Alone k s.line Giver
--- LinkedTransferQueue.put and offer
+-- LinkedTransferQueue.put and offer with no taker there
 IsStep k s i t (GiveKept m) = IsNew s i t × Alone k s.line Giver × MayKeep k s.line
+-- take of either queue with no giver there (Scherer and Scott 2004: a reservation); flags as of a giver
 IsStep k s i t TakeWaits = IsNew s i t × Alone k s.line Taker × (Contains s.flags i → ⊥)
+-- take and poll of either queue with a giver there
 IsStep k s i t (TakeMeets m u) = IsNew s i t × Finds k s.line Taker u (Some m)
--- SynchronousQueue.poll, LinkedTransferQueue.poll
+-- poll of either queue with no giver there
 IsStep k s i t TakeFails = IsNew s i t × Alone k s.line Taker
--- an InterruptedException at entry
+-- InterruptedException of put, transfer and take at their entry
 IsStep k s i t (EntryInterrupted side) = IsNew s i t × Alone k s.line side × Contains s.flags i
+-- the follow-up of a giver that waited (Scherer, Lea and Scott 2006): put or transfer returns
 IsStep k s i t Done = IsOpen s i t × ((p : Pair) × Contains s.pairs p × (p.giver ≡ t))
+-- the follow-up of a taker that waited (Scherer and Scott 2004): take returns the item
 IsStep k s i t (Got m u) = IsOpen s i t × Contains s.pairs (record { giver = u; taker = t; mark = m })
+-- a waiting ticket is taken back (our choice)
 IsStep k s i t (Withdrawn Cancelled) = IsOpen s i t × IsInLine s t
+-- timed offer, poll and tryTransfer whose time ran out
 IsStep k s i t (Withdrawn Expired) = IsOpen s i t × IsInLine s t
+-- InterruptedException of put, transfer and take while they wait, told at the follow-up
 IsStep k s i t (Withdrawn Interrupted) = IsOpen s i t × Contains s.cut t
--- 0 names no ticket: nothing of the target's stands in the line, so the target is flagged (our choice, after Thread.interrupt)
+-- Thread.interrupt of a seat that doesn't stand in the line: it is flagged; 0 names no ticket (our choice)
 IsStep k s i zero (Interrupt j) = (t : ℕ) → IsOpen s j t → IsInLine s t → ⊥
+-- Thread.interrupt of a seat that does: its ticket is cut
 IsStep k s i (suc t) (Interrupt j) = IsOpen s j (suc t) × IsInLine s (suc t)
 
 -- the moves that deeds are made of; `filter` is the only way to remove

@@ -63,15 +63,15 @@ entry_of line (Served t u item) = None
 entry_of line (Cut t item) = None
 
 -- the line without the entry that is met
-abbrev pub unmet : {X : Type 0} → Order → List (Entry X) → List (Entry X)
+abbrev pub unmet : {E : Type 0} → Order → List E → List E
 unmet Fair line = drop 1 line
 unmet Unfair line = take (length line - 1) line
 unmet Transfer line = drop 1 line
 
--- the line without the first entry of this ticket
-abbrev pub without_first : {X : Type 0} → ℕ → List (Entry X) → List (Entry X)
-without_first t [] = []
-without_first t (e ∷ line) = if e.ticket == t then line else e ∷ without_first t line
+-- the line without its first entry that passes
+abbrev pub without_first : {E : Type 0} → (E → Bool) → List E → List E
+without_first passes [] = []
+without_first passes (e ∷ line) = if passes e then line else e ∷ without_first passes line
 
 -- the moves that deeds are made of
 
@@ -110,11 +110,11 @@ flagged s i flag = record s { flags = put_at s.flags i flag }
 
 -- the seat's ticket leaves the line and ends
 abbrev pub left : {X : Type 0} → Seats X → (seat ticket : ℕ) → Seats X
-left s i t = record (released s i) { line = without_first t s.line }
+left s i t = record (released s i) { line = without_first (λ e. e.ticket == t) s.line }
 
 -- the target's entry leaves the line, and awaits its follow-up
 abbrev pub cut_off : {X : Type 0} → Seats X → (target : ℕ) → Entry X → Seats X
-cut_off s j e = record s { line = without_first e.ticket s.line; holds = put_at s.holds j (Cut e.ticket e.item) }
+cut_off s j e = record s { line = without_first (λ f. f.ticket == e.ticket) s.line; holds = put_at s.holds j (Cut e.ticket e.item) }
 
 -- an interrupt of the target cuts its ticket where it stands in the line, and else flags the target
 abbrev pub interrupted : {X : Type 0} → Seats X → ℕ → Seats X

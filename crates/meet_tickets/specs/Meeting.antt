@@ -14,7 +14,7 @@ is_on Taker e = is_none e.item
 
 -- which entry is met: the first (SynchronousQueue in fair mode, LinkedTransferQueue), or the last
 -- (SynchronousQueue in its default mode; that it is exactly last in, first out is our choice)
-abbrev pub met : {X : Type 0} → Order → List (Entry X) → Option (Entry X)
+abbrev pub met : {E : Type 0} → Order → List E → Option E
 met Fair line = slice_get line 0
 met Unfair line = slice_get line (length line - 1)
 met Transfer line = slice_get line 0
