@@ -1,57 +1,23 @@
--- How many seats of a table have an open ticket.
-use Rattle.std.proofs.Common.{◌≡◌, ℕ, zero, suc, ◌+◌, Bool, true, false, not, IsTrue, cond, refl, sym, ◌∙◌, ap, List, [], ◌∷◌, length, get_or, replicate, arith}
-use Rattle.std.proofs.Math.Path.{fun_ext, ap₂}
+-- Where all entries wait, they are counted by the line's length.
+use Rattle.std.proofs.Common.{◌≡◌, ℕ, ◌+◌, true, false, not, cond, refl, ap, ◌∙◌, sym, List, [], ◌∷◌, length, arith}
+use Rattle.std.proofs.Math.Path.{ap₂}
 use Rattle.std.proofs.lemmas.List.Sums.{sum_by-cons}
-use Rattle.std.specs.Prelude.{count_by, All}
-use Rattle.std.specs.List.{range_with_len}
+use Rattle.std.proofs.lemmas.List.Elements.{All-head, All-tail}
+use Rattle.std.specs.Prelude.{All}
 use Rattle.meet_tickets.specs.declared.lines.Entry.{Entry}
 use Rattle.meet_tickets.specs.declared.lines.Hold.{Hold}
-use Rattle.meet_tickets.specs.declared.lines.Hold.TheVariants.{Free}
-use Rattle.meet_tickets.specs.BySeat.{is_open}
-use Rattle.meet_tickets.specs.Meeting.{kept_count}
-use Rattle.meet_core.specs.Table.{hold_at, flag_at}
+use Rattle.meet_tickets.specs.Meeting.{waiting_count, kept_count}
+use Rattle.meet_core.specs.Queue.{Stands}
 
--- of seats that hold nothing, none has
-pub count_by-replicate_free : (X : Type 0) (n : ℕ) → count_by (is_open {X = X}) (replicate n Free) ≡ 0
-count_by-replicate_free X zero = refl
-count_by-replicate_free X (suc n) = count_by-replicate_free X n
+-- nothing is kept
+pub kept_count-standing : {T : Type 0} (holds : ℕ → Hold T) (next : ℕ) (line : List (Entry T)) → All (Stands holds next) line → kept_count line ≡ 0
+kept_count-standing holds next [] all = refl
+kept_count-standing holds next (e ∷ line) all =
+    sum_by-cons (λ f. cond (not f.waits) 1 0) e line ∙ ap₂ ◌+◌ (ap (λ b. cond (not b) 1 0) (All-head (Stands holds next) e line all).waits) (kept_count-standing holds next line (All-tail (Stands holds next) e line all))
 
--- counting the places of a list is counting the list
-count_by-places : {X : Type 0} (p : X → Bool) (d : X) (xs : List X) (g : ℕ → X) (a : ℕ) → ((k : ℕ) → g (a + k) ≡ get_or xs k d) → count_by (λ j. p (g j)) (range_with_len a (length xs)) ≡ count_by p xs
-count_by-places p d [] g a same = refl
-count_by-places p d (x ∷ xs) g a same =
-    let here : g a ≡ x = ap g (omega arith) ∙ same 0 in
-    let rest : (k : ℕ) → g (a + 1 + k) ≡ get_or xs k d = λ k. ap g (omega arith) ∙ same (suc k) in
-    sum_by-cons (λ j. cond (p (g j)) 1 0) a (range_with_len (a + 1) (length xs))
-    ∙ ap₂ ◌+◌ (ap (λ y. cond (p y) 1 0) here) (count_by-places p d xs g (a + 1) rest)
-    ∙ sym (sum_by-cons (λ y. cond (p y) 1 0) x xs)
-
--- so the seats may be counted by number
-pub count_by-holds : {T : Type 0} (p : Hold T → Bool) (holds : List (Hold T)) → count_by (λ seat. p (hold_at holds seat)) (range_with_len 0 (length holds)) ≡ count_by p holds
-count_by-holds p holds = count_by-places p Free holds (hold_at holds) 0 (λ k. ap (hold_at holds) (omega arith))
-
--- of seats that hold nothing, each holds nothing
-pub hold_at-replicate : (T : Type 0) (n : ℕ) → hold_at {T = T} (replicate n Free) ≡ (λ _. Free)
-hold_at-replicate T n = fun_ext (free_at T n)
-  where
-    free_at : (T : Type 0) (n k : ℕ) → hold_at {T = T} (replicate n Free) k ≡ Free
-    free_at T zero k = refl
-    free_at T (suc n) zero = refl
-    free_at T (suc n) (suc k) = free_at T n k
-
--- of seats that aren't flagged, none is
-pub flag_at-replicate : (n : ℕ) → flag_at (replicate n false) ≡ (λ _. false)
-flag_at-replicate n = fun_ext (clear_at n)
-  where
-    clear_at : (n k : ℕ) → flag_at (replicate n false) k ≡ false
-    clear_at zero k = refl
-    clear_at (suc n) zero = refl
-    clear_at (suc n) (suc k) = clear_at n k
-
--- where all wait, nothing is kept
-pub kept_count-waits : {T : Type 0} (line : List (Entry T)) → All (λ e. IsTrue e.waits) line → kept_count line ≡ 0
-kept_count-waits [] all = refl
-kept_count-waits (e ∷ line) all =
-    let here : e.waits ≡ true = all 0 e (omega arith) in
-    let rest : All (λ f. IsTrue f.waits) line = λ k d below. all (suc k) d (omega arith) in
-    sum_by-cons (λ f. cond (not f.waits) 1 0) e line ∙ ap₂ ◌+◌ (ap (λ b. cond (not b) 1 0) here) (kept_count-waits line rest)
+-- and all wait
+pub waiting_count-standing : {T : Type 0} (holds : ℕ → Hold T) (next : ℕ) (line : List (Entry T)) → All (Stands holds next) line → waiting_count line ≡ length line
+waiting_count-standing holds next [] all = refl
+waiting_count-standing holds next (e ∷ line) all =
+    let more : waiting_count line ≡ length line = waiting_count-standing holds next line (All-tail (Stands holds next) e line all) in
+    sum_by-cons (λ f. cond f.waits 1 0) e line ∙ ap₂ ◌+◌ (ap (λ b. cond b 1 0) (All-head (Stands holds next) e line all).waits) more ∙ omega arith

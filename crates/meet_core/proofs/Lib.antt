@@ -1,4 +1,5 @@
 pub mod Counts
 pub mod Following
+pub mod Moves
+pub mod Removed
 pub mod Sound
-pub mod Uses

@@ -1,4 +1,3 @@
 pub mod Answers
 pub mod Queue
 pub mod Steps
-pub mod Table

@@ -26,6 +26,24 @@ pub enum Took<T> {
     EntryInterrupted(Ticket),
 }
 
+/// The answer to an offer: the first ticket is its own.
+#[derive(Drop)]
+pub enum Offered<T> {
+    /// The item went to the taker with the second ticket.
+    Meets(Ticket, Ticket),
+    /// No taker was there: the item comes back.
+    Fails(Ticket, T),
+}
+
+/// The answer to a poll: the first ticket is its own.
+#[derive(Drop)]
+pub enum Polled<T> {
+    /// The item came from the giver with the second ticket.
+    Meets(Ticket, Ticket, T),
+    /// No giver was there.
+    Fails(Ticket),
+}
+
 /// The answer to a follow-up.
 #[derive(Drop)]
 pub enum Followed<T> {
@@ -37,6 +55,24 @@ pub enum Followed<T> {
     Interrupted(Option<T>),
     /// The ticket still stands in the line, and stays open.
     NotYet,
+}
+
+/// The answer to a cancel or an expiry.
+#[derive(Drop)]
+pub enum TakenBack<T> {
+    /// The ticket left the line and ended; a giver's item comes back.
+    Back(Option<T>),
+    /// The ticket was met or cut before, and stays open.
+    Late,
+}
+
+/// The answer to an interrupt.
+#[derive(Clone, Copy, PartialEq, Eq, Debug)]
+pub enum Interrupted {
+    /// This ticket of the target's left the line, and awaits its follow-up.
+    Cut(Ticket),
+    /// The target doesn't stand in the line: it is flagged.
+    Flagged,
 }
 
 impl<T> Followed<T> {

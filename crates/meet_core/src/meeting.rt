@@ -1,28 +1,25 @@
 //! How two tickets meet.
 
-ghost use Rattle.std.specs.Prelude.{◌≡◌, ◌<◌, is_some, None, Some, IsSome, IfNone, drop, length, slice_set, if◌then◌else◌};
-ghost use Rattle.std.specs.VecDeque.{deque_len, deque_capacity};
+ghost use Rattle.std.specs.Prelude.{◌≡◌, ◌+◌, ◌<◌, is_some, None, Some, IsSome, length, option_to_list, if◌then◌else◌};
 ghost use Rattle.meet_tickets.specs.Meeting.{partner};
+ghost use Rattle.meet_tickets.specs.BySeat.{unmet, put_at};
 ghost use Rattle.meet_tickets.specs.declared.lines.Hold.TheVariants.{Handed, Served};
-ghost use Rattle.meet_tickets.specs.declared.places.Order.TheVariants.{Fair};
-ghost use Rattle.meet_core.specs.Table.{hold_at, HasNoItem};
+ghost use Rattle.meet_line.specs.Table.{hold_at, HasNoItem};
 
-use crate::table::SeatTable;
+use meet_line::{Line, SeatTable};
 use meet_tickets::{Entry, Hold, Marked, Side, Ticket};
-use std::collections::VecDeque;
 
 /// Takes the partner of a request of this side out of the line.
-pub(crate) fn meet<T>(line: &mut VecDeque<Entry<T>>, side: Side) -> Option<Entry<T>>
-    ensures partner { result ≡ partner Fair line.old.items side }
-    ensures rest { line.new.items ≡ (if is_some result then drop 1 line.old.items else line.old.items) }
-    ensures room { IfNone result (deque_len line.new ≡ deque_len line.old) }
-    ensures capacity { deque_capacity line.new ≡ deque_capacity line.old }
+pub(crate) fn meet<T, L: Line<Entry<T>>>(line: &mut L, side: Side) -> Option<Entry<T>>
+    ensures partner { result ≡ partner L.order (L.entries line.old) side }
+    ensures rest { L.entries line.new ≡ (if is_some result then unmet L.order (L.entries line.old) else L.entries line.old) }
+    ensures room { L.spare line.new ≡ L.spare line.old + length (option_to_list result) }
 {
-    let own = match line.front() {
+    let own = match line.first() {
         None => return None,
         Some(first) => first.is_on(side),
     };
-    if own { None } else { line.pop_front() }
+    if own { None } else { line.meet() }
 }
 
 /// Leaves this giver's item with the seat of a taker that waited, and answers the taker's ticket.
@@ -31,7 +28,9 @@ pub(crate) fn serve<T>(seats: &mut SeatTable<T>, taker: Entry<T>, giver: Ticket,
     requires seat { taker.seat < length seats.old.holds }
     requires no_item { HasNoItem (hold_at seats.old.holds taker.seat) }
     ensures ticket { result ≡ taker.ticket }
-    ensures held { seats.new ≡ record seats.old { holds = slice_set seats.old.holds taker.seat (Served taker.ticket giver item) } }
+    ensures held { hold_at seats.new.holds ≡ put_at (hold_at seats.old.holds) taker.seat (Served taker.ticket giver item) }
+    ensures count { length seats.new.holds ≡ length seats.old.holds }
+    ensures flags { seats.new.flags ≡ seats.old.flags }
 {
     let Entry {
         ticket,
@@ -58,7 +57,9 @@ pub(crate) fn collect<T: Marked>(
     requires no_item { HasNoItem (hold_at seats.old.holds giver.seat) }
     ensures ticket { result.0 ≡ giver.ticket }
     ensures item { giver.item ≡ Some result.1 }
-    ensures held { seats.new ≡ record seats.old { holds = slice_set seats.old.holds giver.seat (Handed giver.ticket taker (T.mark_of result.1)) } }
+    ensures held { hold_at seats.new.holds ≡ put_at (hold_at seats.old.holds) giver.seat (Handed giver.ticket taker (T.mark_of result.1)) }
+    ensures count { length seats.new.holds ≡ length seats.old.holds }
+    ensures flags { seats.new.flags ≡ seats.old.flags }
 {
     let Entry {
         ticket,

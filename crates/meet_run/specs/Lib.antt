@@ -1,6 +1,7 @@
 pub mod Faults
 pub mod Grammar
 pub mod OneThread
+pub mod Queues
 pub mod Reading
 pub mod Running
 pub mod Said

@@ -1,7 +1,6 @@
 -- The replies of a place that one thread uses, whatever seats it speaks for.
 use Rattle.std.specs.Prelude.{ℕ, zero, suc, ◌+◌, ◌-◌, ◌^◌, nat_le, nat_lt, min, Bool, true, ◌||◌, Option, Some, None, unwrap_or, List, [], ◌∷◌, ◌++◌, slice_get, count_by, if◌then◌else◌}
 use Rattle.std.specs.Option.{option_map_or, option_and_then}
-use Rattle.std.specs.List.{range_with_len}
 use Rattle.meet_tickets.specs.declared.lines.Entry.{Entry}
 use Rattle.meet_tickets.specs.declared.lines.Hold.{Hold}
 use Rattle.meet_tickets.specs.declared.lines.Hold.TheVariants.{Free, Waiting, Handed, Served, Cut}
@@ -17,7 +16,7 @@ use Rattle.meet_tickets.specs.declared.records.Deed.TheVariants.{GiveWaits, Give
 use Rattle.meet_tickets.specs.declared.refusals.Refusal.{Refusal}
 use Rattle.meet_tickets.specs.declared.refusals.Refusal.TheVariants.{HistoryFull, TicketsSpent, SeatOpen, NoSuchSeat, NotOpen}
 use Rattle.meet_tickets.specs.Meeting.{is_on, partner, kept_count, waiting_count}
-use Rattle.meet_tickets.specs.BySeat.{Seats, nobody, is_open, is_settled, entry_of, cut_ticket, owed_of, is_request, seats_after}
+use Rattle.meet_tickets.specs.BySeat.{Seats, nobody, is_open, entry_of, cut_ticket, owed_of, settled_of, is_request, seats_after}
 use Rattle.meet_tickets.specs.Refusals.{refusal_of}
 use Rattle.meet_run.specs.declared.calls.Call.{Call}
 use Rattle.meet_run.specs.declared.calls.Verb.{Verb}
@@ -271,6 +270,6 @@ pub record Standing : Type 0 where
 abbrev pub standing_of : Setup → Place → Standing
 standing_of setup p = record {
   waiting = waiting_count p.seats.line;
-  uncollected = count_by (λ seat. is_settled (p.seats.holds seat)) (range_with_len 0 setup.seats);
+  uncollected = settled_of setup.seats p.seats.holds;
   kept = kept_count p.seats.line;
 }

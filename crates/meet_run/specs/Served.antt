@@ -8,29 +8,29 @@ use Rattle.meet_run.specs.declared.calls.Verb.TheVariants.{Put, Offer, Take, Pol
 -- the places that are served
 abbrev pub serves_place : Order → Bool
 serves_place Fair = true
-serves_place Unfair = false
+serves_place Unfair = true
 serves_place Transfer = false
 
--- the verbs that a fair place serves
-abbrev pub serves_fair : Verb → Bool
-serves_fair (Put n) = true
-serves_fair (Offer n) = false
-serves_fair Take = true
-serves_fair Poll = false
-serves_fair (TransferItem n) = false
-serves_fair (Try n) = false
-serves_fair Follow = true
-serves_fair Cancel = false
-serves_fair Expire = false
-serves_fair (Interrupt target) = false
-serves_fair (Drain most) = false
-serves_fair Size = false
-serves_fair Room = false
-serves_fair Peek = false
-serves_fair Consumers = false
+-- the verbs that a synchronous place serves, be it fair or unfair
+abbrev pub serves_synchronous : Verb → Bool
+serves_synchronous (Put n) = true
+serves_synchronous (Offer n) = true
+serves_synchronous Take = true
+serves_synchronous Poll = true
+serves_synchronous (TransferItem n) = false
+serves_synchronous (Try n) = false
+serves_synchronous Follow = true
+serves_synchronous Cancel = true
+serves_synchronous Expire = true
+serves_synchronous (Interrupt target) = true
+serves_synchronous (Drain most) = false
+serves_synchronous Size = false
+serves_synchronous Room = false
+serves_synchronous Peek = false
+serves_synchronous Consumers = false
 
 -- the verbs that a place serves
 abbrev pub serves : Order → Verb → Bool
-serves Fair verb = serves_fair verb
-serves Unfair verb = false
+serves Fair verb = serves_synchronous verb
+serves Unfair verb = serves_synchronous verb
 serves Transfer verb = false

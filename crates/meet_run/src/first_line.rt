@@ -35,8 +35,8 @@ pub fn is_place_served(order: Order) -> bool
     ensures { result ≡ serves_place order }
 {
     match order {
-        Order::Fair => true,
-        Order::Unfair | Order::Transfer => false,
+        Order::Fair | Order::Unfair => true,
+        Order::Transfer => false,
     }
 }
 

@@ -17,8 +17,18 @@ pub fn is_served(order: Order, verb: Verb) -> bool
     ensures { result ≡ serves order verb }
 {
     match order {
-        Order::Fair => matches!(verb, Verb::Put(_) | Verb::Take | Verb::Follow),
-        Order::Unfair | Order::Transfer => false,
+        Order::Fair | Order::Unfair => matches!(
+            verb,
+            Verb::Put(_)
+                | Verb::Offer(_)
+                | Verb::Take
+                | Verb::Poll
+                | Verb::Follow
+                | Verb::Cancel
+                | Verb::Expire
+                | Verb::Interrupt(_)
+        ),
+        Order::Transfer => false,
     }
 }
 

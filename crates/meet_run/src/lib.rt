@@ -7,6 +7,7 @@ pub mod faults;
 pub mod first_line;
 pub mod grammar;
 pub mod output;
+pub mod queues;
 pub mod reading;
 pub mod replies;
 pub mod run;

@@ -4,34 +4,36 @@ ghost use Rattle.std.specs.Prelude.{◌≡◌, ◌+◌, ◌-◌, ◌<◌, ◌≤
 ghost use Rattle.meet_tickets.specs.declared.refusals.Refusal.TheVariants.{Memory};
 
 use crate::calls::{Call, Verb};
+use crate::queues::AnyQueue;
 use crate::replies::{Outcome, Reply, push_reserved};
 use crate::setups::Setup;
 use crate::steps::Step;
-use meet_core::Dual;
-use meet_tickets::{Deed, Record, Refusal, SeatNo};
+use meet_tickets::{Deed, Record, Refusal, SeatNo, Ticket};
 use std::alloc::Global;
 use std::marker::Model;
+
+mod endings;
+mod requests;
 
 /// A place that one thread uses, whatever seats it speaks for. It keeps the records.
 #[derive(Drop)]
 pub struct Stepper {
     setup: Setup,
-    queue: Dual<u64>,
+    queue: AnyQueue,
     records: Vec<Record<Deed>>,
 }
 
 impl Model for Stepper {
     ghost use Rattle.std.specs.Prelude.{◌≡◌, ◌-◌, vec_len};
     ghost use Rattle.std.specs.Vec.{vec_capacity};
-    ghost use Rattle.meet_tickets.specs.declared.places.Order.TheVariants.{Fair};
     ghost use Rattle.meet_core.specs.Queue.{count_of};
     ghost use Rattle.meet_run.specs.Stepping.{Stepping};
 
     ghost Value = { Stepping };
 
-    ghost view = { λ s. record { setup = s.setup; queue = s.queue; records = s.records.items; room = vec_capacity s.records - vec_len s.records } };
+    ghost view = { λ s. record { setup = s.setup; queue = s.queue.queue; records = s.records.items; room = vec_capacity s.records - vec_len s.records } };
 
-    ghost invariant = { λ s. (s.setup.kind.order ≡ Fair) × (count_of s.queue ≡ s.setup.seats) };
+    ghost invariant = { λ s. (s.queue.order ≡ s.setup.kind.order) × (count_of s.queue.queue ≡ s.setup.seats) };
 }
 
 /// The reply to a call that was refused.
@@ -45,7 +47,7 @@ fn refused(seat: SeatNo, why: Refusal) -> Reply
 }
 
 impl Stepper {
-    ghost use Rattle.meet_run.specs.OneThread.{start, turn, give, take, follow, waiting, answer_of, is_full, request_refusal, standing_of};
+    ghost use Rattle.meet_run.specs.OneThread.{start, turn, answer_of, is_full, standing_of};
     ghost use Rattle.meet_run.specs.Served.{serves_place, serves};
     ghost use Rattle.meet_run.specs.Stepping.{place_of, Takes, TakesTurn};
     ghost use Rattle.meet_run.specs.Spelling.{IsInLimits};
@@ -59,7 +61,7 @@ impl Stepper {
         ensures records { IfOk result (λ stepper. stepper.records ≡ []) }
         ensures memory { IfErr result (λ why. why ≡ Memory) }
     {
-        let queue = Dual::new(alloc, setup.seats, setup.first)?;
+        let queue = AnyQueue::new(alloc, setup.kind.order, setup.seats, setup.first)?;
         Ok(Stepper {
             setup,
             queue,
@@ -76,20 +78,14 @@ impl Stepper {
         self.setup.cap < wanted
     }
 
-    /// Why a request of this seat is refused, Memory aside: the first that applies.
-    fn refusal(&self, seat: SeatNo) -> Option<Refusal>
-        ensures { result ≡ request_refusal self.now.setup (place_of self.now) seat }
+    /// Puts a record behind the others, where there is room, and answers its number.
+    fn append(&mut self, seat: SeatNo, ticket: Ticket, deed: Deed) -> u64
+        requires { 0 < self.old.room }
+        ensures number { result ≡ length self.old.records + 1 }
+        ensures records { self.new ≡ record self.old { records = self.old.records ++ record { seat = seat; ticket = ticket; deed = deed } ∷ []; room = self.old.room - 1 } }
     {
-        match self.queue.admit(seat) {
-            Err(why) => Some(why),
-            Ok(_) => {
-                if self.is_full(2) {
-                    Some(Refusal::HistoryFull)
-                } else {
-                    None
-                }
-            }
-        }
+        self.records.push_reserved(Record { seat, ticket, deed });
+        self.records.len() as u64
     }
 
     /// Writes the record of a step, for which there is room.
@@ -98,64 +94,10 @@ impl Stepper {
         ensures reply { result ≡ record { seat = seat; outcome = Outcome.Recorded (length self.old.records + 1) step.ticket (answer_of step.deed step.item) } }
         ensures records { self.new ≡ record self.old { records = self.old.records ++ record { seat = seat; ticket = step.ticket; deed = step.deed } ∷ []; room = self.old.room - 1 } }
     {
-        self.records.push_reserved(Record {
-            seat,
-            ticket: step.ticket,
-            deed: step.deed,
-        });
+        let number = self.append(seat, step.ticket, step.deed);
         Reply {
             seat,
-            outcome: Outcome::Recorded(self.records.len() as u64, step.ticket, step.answer()),
-        }
-    }
-
-    /// A give that waits for a taker.
-    fn put(&mut self, seat: SeatNo, mark: u64) -> Result<Reply, Refusal>
-        requires { 0 < self.old.room }
-        ensures turn { IfOk result (TakesTurn (give self.old.setup (place_of self.old) seat waiting mark) self.old self.new) }
-        ensures memory { IfErr result (λ why. why ≡ Memory) }
-    {
-        if let Some(why) = self.refusal(seat) {
-            return Ok(refused(seat, why));
-        }
-        match self.queue.give(seat, mark) {
-            Ok(gave) => Ok(self.write(seat, Step::of_give(gave, mark))),
-            Err(_) => Err(Refusal::Memory),
-        }
-    }
-
-    /// A take that waits for a giver.
-    fn take(&mut self, seat: SeatNo) -> Result<Reply, Refusal>
-        requires { 0 < self.old.room }
-        ensures turn { IfOk result (TakesTurn (take self.old.setup (place_of self.old) seat waiting) self.old self.new) }
-        ensures memory { IfErr result (λ why. why ≡ Memory) }
-    {
-        if let Some(why) = self.refusal(seat) {
-            return Ok(refused(seat, why));
-        }
-        match self.queue.take(seat) {
-            Ok(took) => Ok(self.write(seat, Step::of_take(took))),
-            Err(_) => Err(Refusal::Memory),
-        }
-    }
-
-    /// The follow-up of the seat's open ticket.
-    fn follow(&mut self, seat: SeatNo) -> Reply
-        requires { 0 < self.old.room }
-        ensures { TakesTurn (follow self.old.setup (place_of self.old) seat ((place_of self.old).seats.holds seat)) self.old self.new result }
-    {
-        let Some(ticket) = self.queue.open_ticket(seat) else {
-            return refused(seat, Refusal::NotOpen);
-        };
-        match self.queue.follow_up(seat, ticket) {
-            Err(why) => refused(seat, why),
-            Ok(followed) => match Step::of_follow(ticket, followed) {
-                Some(step) => self.write(seat, step),
-                None => Reply {
-                    seat,
-                    outcome: Outcome::NotYet,
-                },
-            },
+            outcome: Outcome::Recorded(number, step.ticket, step.answer()),
         }
     }
 
@@ -166,10 +108,16 @@ impl Stepper {
         ensures turn { IfOk result (TakesTurn (turn self.old.setup (place_of self.old) call) self.old self.new) }
         ensures memory { IfErr result (λ why. why ≡ Memory) }
     {
-        match call.verb {
-            Verb::Put(mark) => self.put(call.seat, mark),
-            Verb::Take => self.take(call.seat),
-            Verb::Follow => Ok(self.follow(call.seat)),
+        let Call { seat, verb } = call;
+        match verb {
+            Verb::Put(mark) => self.put(seat, mark),
+            Verb::Offer(mark) => Ok(self.offer(seat, mark)),
+            Verb::Take => self.take(seat),
+            Verb::Poll => Ok(self.poll(seat)),
+            Verb::Follow => Ok(self.follow(seat)),
+            Verb::Cancel => Ok(self.cancel(seat)),
+            Verb::Expire => Ok(self.expire(seat)),
+            Verb::Interrupt(target) => Ok(self.interrupt(seat, target)),
             _ => unreachable!(),
         }
     }
@@ -201,14 +149,14 @@ impl Stepper {
         self.records.len() as u64
     }
 
-    /// How many tickets wait in the line. It looks at the whole line.
+    /// How many tickets wait in the line.
     pub fn waiting(&self) -> u64
         ensures { result ≡ (standing_of self.now.setup (place_of self.now)).waiting }
     {
         self.queue.waiting()
     }
 
-    /// How many tickets were met or cut, and not collected. It looks at every seat.
+    /// How many tickets were met or cut, and not collected.
     pub fn uncollected(&self) -> u64
         ensures { result ≡ (standing_of self.now.setup (place_of self.now)).uncollected }
     {

@@ -5,4 +5,5 @@ mod first_lines;
 mod input;
 mod output;
 mod runs;
+mod synchronous;
 mod wording;

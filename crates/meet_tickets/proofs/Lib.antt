@@ -4,5 +4,6 @@ pub mod Histories
 pub mod Holding
 pub mod Members
 pub mod Partners
+pub mod Sides
 pub mod Steps
 pub mod Whereabouts

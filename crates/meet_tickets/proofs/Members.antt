@@ -1,5 +1,5 @@
 -- Members of lists, and lines without a ticket.
-use Rattle.std.proofs.Common.{◌≡◌, ◌≢◌, ◌⊎◌, ℕ, suc, zero, ◌-◌, ◌<◌, ◌==◌, Bool, true, false, not, cond, List, [], ◌∷◌, ◌++◌, length, get_or, take, filter, find, Contains, Some, None, slice_get, refl, sym, ap, ◌∙◌, subst, inl, inr, ⊎_elim, arith}
+use Rattle.std.proofs.Common.{◌≡◌, ◌≢◌, ◌⊎◌, ℕ, suc, zero, ◌-◌, ◌<◌, ◌==◌, Bool, true, false, not, cond, List, [], ◌∷◌, ◌++◌, length, get_or, take, filter, find, Contains, Some, slice_get, refl, sym, ap, ◌∙◌, subst, inl, inr, ⊎_elim, arith}
 use Rattle.std.proofs.lemmas.Bool.{cases_Bool, eqb-true, eqb-false, eq-eqb, ne_eqb, cond-true, cond-false, true≢false, false≢true, cond_both}
 use Rattle.std.proofs.lemmas.List.Elements.{Contains-push_cases, All-filter, All-contains_itself, All-contains, filter_passes}
 use Rattle.std.proofs.lemmas.Option.{slice_get_within, get_or_from_slice_get}
@@ -7,9 +7,10 @@ use Rattle.meet_tickets.specs.declared.lines.Entry.{Entry}
 use Rattle.meet_tickets.specs.declared.places.Side.{Side}
 use Rattle.meet_tickets.specs.declared.places.Order.{Order}
 use Rattle.meet_tickets.specs.declared.places.Order.TheVariants.{Fair, Unfair, Transfer}
-use Rattle.meet_tickets.specs.Meeting.{partner, met, is_on}
+use Rattle.meet_tickets.specs.Meeting.{partner, met}
 use Rattle.meet_tickets.specs.ByLists.{without}
 use Rattle.meet_tickets.specs.BySeat.{unmet, without_first}
+use Rattle.meet_tickets.proofs.Sides.{partner-met, partner-there}
 
 -- the first element is a member
 pub Contains-first : {X : Type 0} (x : X) (xs : List X) → Contains (x ∷ xs) x
@@ -126,31 +127,15 @@ met_leaves Unfair (x ∷ line) e d h =
     let front : suc (length line) - 1 ≡ length line = omega arith in
     rw front (without_last (length line) (x ∷ line) e refl d (rw front at h))
 
--- the partner is the entry that is met
-pub partner_is_met : (order : Order) (line : List (Entry ℕ)) (side : Side) (e : Entry ℕ) → partner order line side ≡ Some e →
-    met order line ≡ Some e
-partner_is_met order [] side e h = absurd (cc)
-partner_is_met order (x ∷ line) side e h =
-    let first = met order (x ∷ line) in
-    ⊎_elim (λ y. let nobody : None ≡ Some e = sym (cond-true (is_on side x) None first y) ∙ h in absurd (cc))
-    (λ n. sym (cond-false (is_on side x) None first n) ∙ h)
-    (cases_Bool (is_on side x))
-
--- the entry that is met stands in the line
-Contains-met : (order : Order) (line : List (Entry ℕ)) (e : Entry ℕ) → met order line ≡ Some e → Contains line e
-Contains-met Fair line e h = Contains-slice_get line 0 e h
-Contains-met Unfair line e h = Contains-slice_get line (length line - 1) e h
-Contains-met Transfer line e h = Contains-slice_get line 0 e h
-
 -- the partner stands in the line
 pub Contains-partner : (order : Order) (line : List (Entry ℕ)) (side : Side) (e : Entry ℕ) → partner order line side ≡ Some e →
     Contains line e
-Contains-partner order line side e h = Contains-met order line e (partner_is_met order line side e h)
+Contains-partner order line side e h = partner-there (Contains line) order line side e (All-contains_itself line) h
 
 -- the line without the partner, by its place and by its ticket
 pub partner_leaves : (order : Order) (line : List (Entry ℕ)) (side : Side) (e : Entry ℕ) → IsDistinct line →
     partner order line side ≡ Some e → unmet order line ≡ without e.ticket line
-partner_leaves order line side e d h = met_leaves order line e d (partner_is_met order line side e h)
+partner_leaves order line side e d h = met_leaves order line e d (partner-met order line side e h)
 
 -- the first entry of this ticket
 abbrev pub IsFirst : ℕ → List (Entry ℕ) → Entry ℕ → Type 0

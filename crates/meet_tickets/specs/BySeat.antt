@@ -54,6 +54,10 @@ is_settled (Cut t item) = true
 abbrev pub owed_of : {X : Type 0} → (count : ℕ) → (ℕ → Hold X) → ℕ
 owed_of count holds = count_by (λ seat. is_open (holds seat)) (range_with_len 0 count)
 
+-- how many of these tickets aren't in the line
+abbrev pub settled_of : {X : Type 0} → (count : ℕ) → (ℕ → Hold X) → ℕ
+settled_of count holds = count_by (λ seat. is_settled (holds seat)) (range_with_len 0 count)
+
 -- the entry of what a seat holds, where it stands in the line
 abbrev pub entry_of : {X : Type 0} → List (Entry X) → Hold X → Option (Entry X)
 entry_of line Free = None

@@ -42,14 +42,21 @@ fn verbs_that_stand_alone(rt: HostRuntime) {
 
 #[test]
 fn served_calls(rt: HostRuntime) {
-    assert_eq!(rt; read_call(Order::Fair, b"3 put 17"), call(3, Verb::Put(17)));
-    assert_eq!(rt; read_call(Order::Fair, b"3 take"), call(3, Verb::Take));
-    assert_eq!(rt; read_call(Order::Fair, b"3 follow"), call(3, Verb::Follow));
-    // These are no calls of such a place.
-    assert!(rt; read_call(Order::Fair, b"3 transfer 17").is_none());
-    assert!(rt; read_call(Order::Fair, b"3 try 17").is_none());
-    assert!(rt; read_call(Order::Fair, b"3 consumers").is_none());
-    assert!(rt; !is_served(Order::Fair, Verb::Consumers));
+    for order in [Order::Fair, Order::Unfair] {
+        assert_eq!(rt; read_call(order, b"3 put 17"), call(3, Verb::Put(17)));
+        assert_eq!(rt; read_call(order, b"0 offer 7"), call(0, Verb::Offer(7)));
+        assert_eq!(rt; read_call(order, b"3 take"), call(3, Verb::Take));
+        assert_eq!(rt; read_call(order, b"3 poll"), call(3, Verb::Poll));
+        assert_eq!(rt; read_call(order, b"3 follow"), call(3, Verb::Follow));
+        assert_eq!(rt; read_call(order, b"3 cancel"), call(3, Verb::Cancel));
+        assert_eq!(rt; read_call(order, b"3 expire"), call(3, Verb::Expire));
+        assert_eq!(rt; read_call(order, b"4 interrupt 1023"), interrupt(1023));
+        // These are no calls of such a place.
+        assert!(rt; read_call(order, b"3 transfer 17").is_none());
+        assert!(rt; read_call(order, b"3 try 17").is_none());
+        assert!(rt; read_call(order, b"3 consumers").is_none());
+        assert!(rt; !is_served(order, Verb::Consumers));
+    }
 }
 
 #[test]

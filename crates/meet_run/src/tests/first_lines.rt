@@ -104,13 +104,11 @@ fn bounds(rt: HostRuntime) {
 #[test]
 fn served_places(rt: HostRuntime) {
     assert!(rt; is_place_served(Order::Fair));
-    assert_eq!(rt;
-        read_setup(b"unfair").is_some(),
-        is_place_served(Order::Unfair)
-    );
+    assert_eq!(rt; read_setup(b"unfair"), plain(Order::Unfair, None));
     assert_eq!(rt;
         read_setup(b"transfer").is_some(),
         is_place_served(Order::Transfer)
     );
     assert!(rt; read_setup(b"fair bound 1").is_none());
+    assert!(rt; read_setup(b"unfair bound 1").is_none());
 }

@@ -13,7 +13,13 @@ const HANDOFF_TEXT: &[u8] =
     b"1 0 t1 waits\n2 1 t2 got 5 from t1\n3 0 t1 done\nlegal 3 waiting 0 uncollected 0 kept 0\n";
 
 /// Runs a script on a reader and a writer over memory, and expects this text and this end.
-fn expect(rt: &impl Abort, alloc: Global, script: &[u8], text: &[u8], end: Result<bool, RunFault>) {
+pub fn expect(
+    rt: &impl Abort,
+    alloc: Global,
+    script: &[u8],
+    text: &[u8],
+    end: Result<bool, RunFault>,
+) {
     let mut reader = script;
     let mut written = Vec::new(alloc);
     let outcome = run_script(alloc, &mut reader, &mut written);
@@ -101,11 +107,11 @@ fn faulty_lines(rt: HostRuntime) {
     expect(
         &rt,
         alloc,
-        b"fair\n0 put 5\n1 poll\n1 take\n",
+        b"fair\n0 put 5\n1 try 5\n1 take\n",
         b"1 0 t1 waits\n",
         bad_line(3),
     );
-    expect(&rt, alloc, b"unfair\n", b"", bad_line(1));
+    expect(&rt, alloc, b"transfer bound 0\n", b"", bad_line(1));
     expect(&rt, alloc, b"\nfair\n", b"", bad_line(1));
 }
 

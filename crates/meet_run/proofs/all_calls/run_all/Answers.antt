@@ -1,9 +1,8 @@
 use Rattle.std.proofs.Common.{◌≡◌, ◌∙◌, refl, subst, sym, arith}
 use Rattle.std.proofs.lemmas.Grind.{common_steps}
-use Rattle.meet_tickets.specs.declared.places.Order.TheVariants.{Fair}
 use Rattle.meet_tickets.specs.BySeat.{IsLegalBySeat}
 use Rattle.meet_run.specs.OneThread.{records}
-use Rattle.meet_run.proofs.LegalTurns.{records_legal, fair-from, served-from}
+use Rattle.meet_run.proofs.LegalTurns.{records_legal}
 use Rattle.meet_run.proofs.ManyTurns.{part-step}
 use Rattle.meet_run.proofs.all_calls.run_all.Goals as goal
 
@@ -21,6 +20,5 @@ pub returns-clause-legal : goal.returns-clause-legal
 returns-clause-legal c =
     let setup = c.args.setup in
     let all : c.into_records.result.items ≡ records setup c.args.calls.now = grind (arith, common_steps) in
-    let fair : setup.kind.order ≡ Fair = fair-from setup.kind.order c.requires.served in
-    let legal : IsLegalBySeat setup.kind (records setup c.args.calls.now) = records_legal setup c.args.calls.now fair (served-from setup.kind.order c.args.calls.now fair c.requires.verbs) (omega (arith, c.requires.limits.first.0)) in
+    let legal : IsLegalBySeat setup.kind (records setup c.args.calls.now) = records_legal setup c.args.calls.now (omega (arith, c.requires.limits.first.0)) in
     (c.tellings_agree.ensures setup.kind c.into_records.result.items).legal.1 (subst (IsLegalBySeat setup.kind) (sym all) legal)

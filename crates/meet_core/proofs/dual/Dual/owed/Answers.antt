@@ -1,7 +1,0 @@
-use Rattle.std.proofs.Common.{◌∙◌, sym}
-use Rattle.meet_tickets.specs.BySeat.{is_open}
-use Rattle.meet_core.proofs.Counts.{count_by-holds}
-use Rattle.meet_core.proofs.dual.Dual.owed.Goals as goal
-
-pub returns-clause-value : goal.returns-clause-value
-returns-clause-value g c = rw (← c.self.view_is) (c.owed.ensures.value ∙ sym (count_by-holds is_open c.self.inside.seats.holds))

@@ -1,0 +1,6 @@
+use Rattle.std.proofs.Common.{sym, subst}
+use Rattle.std.specs.Prelude.{All}
+use Rattle.meet_core.proofs.dual.Dual.take_admitted.Goals as goal
+
+pub wait-requires-clause-new : goal.wait-requires-clause-new
+wait-requires-clause-new g c = rw (c.in-None.ensures.unchanged, c.draw-ticket.ensures.next) c.draw-ticket.ensures.newest

@@ -1,0 +1,43 @@
+use Rattle.std.proofs.Common.{◌≡◌, ◌∙◌, ◌==◌, ◌+◌, sym, ap, refl, arith, length}
+use Rattle.meet_tickets.specs.declared.lines.Hold.TheVariants.{Free, Waiting}
+use Rattle.meet_tickets.proofs.Sides.{found-ticket}
+use Rattle.meet_tickets.specs.BySeat.{left, without_first}
+use Rattle.meet_line.specs.Table.{hold_at}
+use Rattle.meet_core.specs.Queue.{Queue, IsSound, seats_of}
+use Rattle.meet_core.specs.Steps.{Leaves}
+use Rattle.meet_core.proofs.Moves.{Leaves-from}
+use Rattle.meet_core.proofs.Removed.{removed-none, removed-some}
+use Rattle.meet_core.proofs.Sound.{IsSound-removed}
+use Rattle.meet_core.proofs.dual.Dual.withdraw.Goals as goal
+
+pub invariant_of-self : goal.invariant_of-self
+invariant_of-self g c =
+    rw (removed-none c.in-Waiting.ticket (g.L.Line.entries c.self.inside.line) _ c.in-None.ensures.entry c.in-None.ensures.entries) c.self.invariant
+
+pub invariant_of-self-in-Some : goal.invariant_of-self-in-Some
+invariant_of-self-in-Some g c =
+    rw (c.in-Some.ensures.entries, c.put.ensures.holds) (IsSound-removed c.args.seat c.in-Waiting.ticket c.in-Some.entry Free c.self.invariant (sym c.hold.ensures ∙ c.in-Waiting.is) (sym c.in-Some.ensures.entry))
+
+pub returns-in-None-clause-places : goal.returns-in-None-clause-places
+returns-in-None-clause-places g c =
+    let same = removed-none c.in-Waiting.ticket (g.L.Line.entries c.self.inside.line) (g.L.Line.entries c.remove.new.self) c.in-None.ensures.entry c.in-None.ensures.entries in
+    rw (← c.self.view_is, same) (omega (arith, c.in-None.ensures.room))
+
+pub returns-in-None-clause-unchanged : goal.returns-in-None-clause-unchanged
+returns-in-None-clause-unchanged g c =
+    let same = removed-none c.in-Waiting.ticket (g.L.Line.entries c.self.inside.line) (g.L.Line.entries c.remove.new.self) c.in-None.ensures.entry c.in-None.ensures.entries in
+    let room : g.L.Line.spare c.remove.new.self ≡ g.L.Line.spare c.self.inside.line = omega (arith, c.in-None.ensures.room) in
+    rw (← c.self.view_is) (λ i. record { line = same i; room = room i; table = c.self.inside.seats; next = c.self.inside.next })
+
+pub returns-in-Some-clause-left : goal.returns-in-Some-clause-left
+returns-in-Some-clause-left g c =
+    let old : Queue g.row.T.Denot = record { line = g.L.Line.entries c.self.inside.line; room = g.L.Line.spare c.self.inside.line; table = c.self.inside.seats; next = c.self.inside.next } in
+    let new : Queue g.row.T.Denot = record { line = g.L.Line.entries c.remove.new.self; room = g.L.Line.spare c.remove.new.self; table = c.put.new.self; next = c.self.inside.next } in
+    let ticket = found-ticket c.in-Waiting.ticket old.line c.in-Some.entry (sym c.in-Some.ensures.entry) in
+    let gone : Leaves old new (left (seats_of old) c.args.seat c.in-Waiting.ticket) = Leaves-from old new c.args.seat Free (without_first (λ e. e.ticket == c.in-Waiting.ticket) old.line) c.in-Some.ensures.entries (record { holds = c.put.ensures.holds; count = c.put.ensures.count; flags = c.put.ensures.flags; next = refl }) in
+    rw (← c.self.view_is, ticket) gone
+
+pub returns-in-Some-clause-places : goal.returns-in-Some-clause-places
+returns-in-Some-clause-places g c =
+    let less = removed-some c.in-Waiting.ticket (g.L.Line.entries c.self.inside.line) (g.L.Line.entries c.remove.new.self) c.in-Some.entry c.in-Some.ensures.entry c.in-Some.ensures.entries in
+    rw (← c.self.view_is) (omega (arith, less, c.in-Some.ensures.room))

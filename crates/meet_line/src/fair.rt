@@ -1,0 +1,88 @@
+//! The line of a fair place: who came first is met first.
+
+ghost use Rattle.std.specs.Prelude.{◌≡◌};
+ghost use Rattle.meet_tickets.specs.declared.places.Order.TheVariants.{Fair};
+
+use crate::line::{Line, Ticketed};
+use meet_tickets::{Refusal, Ticket};
+use std::alloc::Global;
+use std::collections::VecDeque;
+use std::marker::Model;
+
+/// A line whose first entry is met. Taking from the front moves nothing; a removal walks.
+#[derive(Drop)]
+pub struct FairLine<E: Ticketed> {
+    entries: VecDeque<E>,
+    room: usize,
+}
+
+impl<E: Ticketed> Model for FairLine<E> {
+    ghost use Rattle.std.specs.Prelude.{◌≡◌, ◌≢◌, ◌+◌, ◌≤◌, AllPairs};
+    ghost use Rattle.std.specs.VecDeque.{deque_len, deque_capacity};
+    ghost use Rattle.meet_line.specs.Lined.{Lined};
+
+    ghost Value = { Lined E };
+
+    ghost view = { λ line. record { entries = line.entries.items; room = line.room } };
+
+    ghost invariant = { λ line. (deque_len line.entries + line.room ≤ deque_capacity line.entries) × AllPairs (λ e f. E.ticket_of e ≢ E.ticket_of f) line.entries.items };
+}
+
+impl<E: Ticketed> Line<E> for FairLine<E> {
+    ghost entries = { λ line. line.entries };
+
+    ghost spare = { λ line. line.room };
+
+    ghost order = { Fair };
+
+    fn empty(alloc: Global) -> Self {
+        FairLine {
+            entries: VecDeque::new(alloc),
+            room: 0,
+        }
+    }
+
+    fn reserve(&mut self, count: u64) -> Result<(), Refusal> {
+        let count = count as usize;
+        if count > self.room {
+            if self.entries.reserve(count).is_err() {
+                return Err(Refusal::Memory);
+            }
+            self.room = count;
+        }
+        Ok(())
+    }
+
+    fn push_back(&mut self, entry: E) {
+        self.entries.push_back_reserved(entry);
+        self.room -= 1;
+    }
+
+    fn meet(&mut self) -> Option<E> {
+        let met = self.entries.pop_front()?;
+        self.room += 1;
+        Some(met)
+    }
+
+    fn remove(&mut self, ticket: Ticket) -> Option<E> {
+        let index = self
+            .entries
+            .iter()
+            .position(|entry| entry.ticket() == ticket)?;
+        let removed = self.entries.remove(index)?;
+        self.room += 1;
+        Some(removed)
+    }
+
+    fn first(&self) -> Option<&E> {
+        self.entries.front()
+    }
+
+    fn len(&self) -> u64 {
+        self.entries.len() as u64
+    }
+
+    fn room(&self) -> u64 {
+        self.room as u64
+    }
+}

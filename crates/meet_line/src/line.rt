@@ -1,0 +1,85 @@
+//! The line of a place's unmatched tickets, however it is kept.
+
+ghost use Rattle.std.specs.Prelude.{◌≡◌, ◌≢◌, ℕ, ◌+◌, ◌<◌, ◌≤◌, ◌==◌, List, [], ◌∷◌, ◌++◌, length, find, All, AllPairs, IfErr, OnOk, OnErr, option_to_list};
+ghost use Rattle.std.specs.Slice.{IsItemAt};
+ghost use Rattle.meet_tickets.specs.Meeting.{met};
+ghost use Rattle.meet_tickets.specs.BySeat.{unmet, without_first};
+ghost use Rattle.meet_tickets.specs.declared.places.Order.{Order};
+ghost use Rattle.meet_tickets.specs.declared.refusals.Refusal.TheVariants.{Memory};
+
+use meet_tickets::{Entry, Refusal, Ticket};
+use std::alloc::Global;
+
+/// What stands in a line. It is known by its ticket.
+pub trait Ticketed {
+    ghost ticket_of: { Self → ℕ };
+
+    /// Its ticket. It takes no memory.
+    fn ticket(&self) -> Ticket
+        ensures { result ≡ ticket_of self.now };
+}
+
+impl<T> Ticketed for Entry<T> {
+    ghost ticket_of = { λ entry. entry.ticket };
+
+    fn ticket(&self) -> Ticket {
+        self.ticket
+    }
+}
+
+/// A list of entries in order of arrival, no two of one ticket, with room for some more. `reserve` alone takes memory.
+pub trait Line<E: Ticketed> {
+    /// The entries, in order of arrival.
+    ghost entries: { Self → List E };
+
+    /// How many entries more may come without growth.
+    ghost spare: { Self → ℕ };
+
+    /// Which entry is met.
+    ghost order: { Order };
+
+    /// A line with nobody in it, and no room.
+    fn empty(alloc: Global) -> Self
+        ensures entries { entries result ≡ [] }
+        ensures room { spare result ≡ 0 };
+
+    /// Makes room for this many entries more. The only refusal is Memory.
+    fn reserve(&mut self, count: u64) -> Result<(), Refusal>
+        ensures entries { entries self.new ≡ entries self.old }
+        ensures room { OnOk result (count ≤ spare self.new) }
+        ensures more { spare self.old ≤ spare self.new }
+        ensures unchanged { OnErr result (spare self.new ≡ spare self.old) }
+        ensures memory { IfErr result (λ why. why ≡ Memory) };
+
+    /// An entry comes to the line's end.
+    fn push_back(&mut self, entry: E)
+        requires room { 0 < spare self.old }
+        requires fresh { All (λ e. E.ticket_of e ≢ E.ticket_of entry) (entries self.old) }
+        ensures entries { entries self.new ≡ entries self.old ++ entry ∷ [] }
+        ensures room { spare self.new + 1 ≡ spare self.old };
+
+    /// The entry that is met leaves the line, if anybody is there.
+    fn meet(&mut self) -> Option<E>
+        ensures entry { result ≡ met order (entries self.old) }
+        ensures entries { entries self.new ≡ unmet order (entries self.old) }
+        ensures room { spare self.new ≡ spare self.old + length (option_to_list result) };
+
+    /// The entry of this ticket leaves the line, if it is there; the others keep their order.
+    fn remove(&mut self, ticket: Ticket) -> Option<E>
+        ensures entry { result ≡ find (λ e. E.ticket_of e == ticket) (entries self.old) }
+        ensures entries { entries self.new ≡ without_first (λ e. E.ticket_of e == ticket) (entries self.old) }
+        ensures room { spare self.new ≡ spare self.old + length (option_to_list result) };
+
+    /// The entry that came first, if anybody is there.
+    fn first(&self) -> Option<&E>
+        ensures { IsItemAt (entries self.now) 0 result };
+
+    /// How many entries there are.
+    fn len(&self) -> u64
+        ensures count { result ≡ length (entries self.now) }
+        ensures distinct { AllPairs (λ e f. E.ticket_of e ≢ E.ticket_of f) (entries self.now) };
+
+    /// How many entries more may come without growth.
+    fn room(&self) -> u64
+        ensures { result ≡ spare self.now };
+}

@@ -1,0 +1,87 @@
+//! The line of an unfair place: who came last is met first.
+
+ghost use Rattle.std.specs.Prelude.{◌≡◌};
+ghost use Rattle.meet_tickets.specs.declared.places.Order.TheVariants.{Unfair};
+
+use crate::line::{Line, Ticketed};
+use meet_tickets::{Refusal, Ticket};
+use std::alloc::Global;
+use std::marker::Model;
+
+/// A line whose last entry is met. A removal walks.
+#[derive(Drop)]
+pub struct StackLine<E: Ticketed> {
+    entries: Vec<E>,
+    room: usize,
+}
+
+impl<E: Ticketed> Model for StackLine<E> {
+    ghost use Rattle.std.specs.Prelude.{◌≡◌, ◌≢◌, ◌+◌, ◌≤◌, AllPairs, vec_len};
+    ghost use Rattle.std.specs.Vec.{vec_capacity};
+    ghost use Rattle.meet_line.specs.Lined.{Lined};
+
+    ghost Value = { Lined E };
+
+    ghost view = { λ line. record { entries = line.entries.items; room = line.room } };
+
+    ghost invariant = { λ line. (vec_len line.entries + line.room ≤ vec_capacity line.entries) × AllPairs (λ e f. E.ticket_of e ≢ E.ticket_of f) line.entries.items };
+}
+
+impl<E: Ticketed> Line<E> for StackLine<E> {
+    ghost entries = { λ line. line.entries };
+
+    ghost spare = { λ line. line.room };
+
+    ghost order = { Unfair };
+
+    fn empty(alloc: Global) -> Self {
+        StackLine {
+            entries: Vec::new(alloc),
+            room: 0,
+        }
+    }
+
+    fn reserve(&mut self, count: u64) -> Result<(), Refusal> {
+        let count = count as usize;
+        if count > self.room {
+            if self.entries.reserve(count).is_err() {
+                return Err(Refusal::Memory);
+            }
+            self.room = count;
+        }
+        Ok(())
+    }
+
+    fn push_back(&mut self, entry: E) {
+        self.entries.push_reserved(entry);
+        self.room -= 1;
+    }
+
+    fn meet(&mut self) -> Option<E> {
+        let met = self.entries.pop()?;
+        self.room += 1;
+        Some(met)
+    }
+
+    fn remove(&mut self, ticket: Ticket) -> Option<E> {
+        let index = self
+            .entries
+            .iter()
+            .position(|entry| entry.ticket() == ticket)?;
+        let removed = self.entries.remove(index);
+        self.room += 1;
+        Some(removed)
+    }
+
+    fn first(&self) -> Option<&E> {
+        self.entries.first()
+    }
+
+    fn len(&self) -> u64 {
+        self.entries.len() as u64
+    }
+
+    fn room(&self) -> u64 {
+        self.room as u64
+    }
+}
