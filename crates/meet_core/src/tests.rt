@@ -351,7 +351,7 @@ fn room_is_kept_for_what_was_asked(rt: HostRuntime) -> Result<(), Fail> {
     let room = queue.room();
     assert!(rt; room >= 2);
     assert!(rt; queue.give(seat(0)?, numbered(1)).is_ok());
-    assert_eq!(rt; queue.room() + 1, room);
+    assert_eq!(rt; queue.room().wrapping_add(1), room);
     assert_eq!(rt;
         polled(queue.poll(seat(1)?).ok().ok_or("refused")?),
         (2, 1, 1)
