@@ -1,5 +1,5 @@
 -- An ending by what the seat holds.
-use Rattle.std.proofs.Common.{◌≡◌, ◌≢◌, ℕ, zero, suc, ◌<◌, List, [], ◌∷◌, length, arith, refl, sym, ap, subst, ◌∙◌, true, Option, Some, None}
+use Rattle.std.proofs.Common.{◌≡◌, ◌≢◌, ℕ, zero, suc, ◌<◌, List, [], ◌∷◌, length, arith, sym, ap, subst, ◌∙◌, true, Option, Some}
 use Rattle.meet_tickets.specs.declared.lines.Entry.{Entry}
 use Rattle.meet_tickets.specs.declared.lines.Hold.{Hold}
 use Rattle.meet_tickets.specs.declared.lines.Hold.TheVariants.{Free, Waiting, Handed, Served, Cut}
@@ -26,14 +26,6 @@ not_waiting (Waiting t) ticket settled same = cc
 not_waiting (Handed t u mark) ticket settled same = cc
 not_waiting (Served t u item) ticket settled same = cc
 not_waiting (Cut t item) ticket settled same = cc
-
--- and doesn't stand in the line
-pub entry_of-settled : {T : Type 0} (line : List (Entry T)) (hold : Hold T) → is_settled hold ≡ true → entry_of line hold ≡ None
-entry_of-settled line Free settled = refl
-entry_of-settled line (Waiting t) settled = cc
-entry_of-settled line (Handed t u mark) settled = refl
-entry_of-settled line (Served t u item) settled = refl
-entry_of-settled line (Cut t item) settled = refl
 
 -- whose entry stands in the line waits with that ticket
 entry_of-waits : {T : Type 0} (line : List (Entry T)) (hold : Hold T) (t : ℕ) (e : Entry T) → open_ticket hold ≡ Some t → Some e ≡ entry_of line hold → (hold ≡ Waiting t) × (entry_of line (Waiting t) ≡ Some e)

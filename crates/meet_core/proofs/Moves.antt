@@ -1,19 +1,18 @@
 -- The steps of the table and the line are the moves of the rules.
-use Rattle.std.proofs.Common.{◌≡◌, ℕ, zero, suc, ◌+◌, ◌<◌, ◌==◌, refl, sym, ◌∙◌, ap, List, ◌∷◌, [], ◌++◌, length, Bool, true, false, IsTrue, Option, Some, None, find, cond}
-use Rattle.std.specs.Prelude.{is_some}
+use Rattle.std.proofs.Common.{◌≡◌, ℕ, ◌==◌, refl, sym, ◌∙◌, ap, List, length, Bool, true, false, IsTrue, Option, Some, None, cond}
 use Rattle.std.proofs.Math.Path.{fun_ext}
 use Rattle.std.proofs.lemmas.Bool.{eq-eqb}
 use Rattle.meet_tickets.specs.declared.lines.Entry.{Entry}
 use Rattle.meet_tickets.specs.declared.lines.Hold.{Hold}
-use Rattle.meet_tickets.specs.declared.lines.Hold.TheVariants.{Free, Waiting, Handed, Served, Cut}
+use Rattle.meet_tickets.specs.declared.lines.Hold.TheVariants.{Free, Handed, Served, Cut}
 use Rattle.meet_tickets.specs.declared.places.Order.{Order}
-use Rattle.meet_tickets.specs.declared.places.Side.TheVariants.{Giver, Taker}
+use Rattle.meet_tickets.specs.declared.places.Side.TheVariants.{Giver}
 use Rattle.meet_tickets.specs.Meeting.{is_on}
-use Rattle.meet_tickets.specs.BySeat.{Seats, put_at, unmet, without_first, queued, paired, paired_hold, flagged, released, left, cut_off}
+use Rattle.meet_tickets.specs.BySeat.{Seats, put_at, unmet, paired, paired_hold, left, cut_off}
 use Rattle.meet_tickets.proofs.Partners.{none-from}
 use Rattle.meet_line.specs.Table.{hold_at, flag_at}
-use Rattle.meet_core.specs.Queue.{Queue, seats_of, count_of}
-use Rattle.meet_core.specs.Steps.{Uses, Leaves}
+use Rattle.meet_core.specs.Queue.{Queue, seats_of}
+use Rattle.meet_core.specs.Steps.{Leaves}
 
 -- seats are equal where their parts are
 same_seats : {T : Type 0} {line line' : List (Entry T)} {holds holds' : ℕ → Hold T} {flags flags' : ℕ → Bool} → line ≡ line' → holds ≡ holds' → flags ≡ flags' → let a : Seats T = record { line = line; holds = holds; flags = flags } in let b : Seats T = record { line = line'; holds = holds'; flags = flags' } in a ≡ b

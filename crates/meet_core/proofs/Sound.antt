@@ -1,6 +1,6 @@
 -- A queue stays sound.
-use Rattle.std.proofs.Common.{◌≡◌, ◌≢◌, ℕ, zero, suc, ◌+◌, ◌^◌, ◌<◌, ◌≤◌, ◌==◌, refl, sym, ◌∙◌, ap, List, [], ◌∷◌, ◌++◌, length, get_or, find, arith, Option, Some, None, Bool, true, false, is_some, is_none, cond}
-use Rattle.std.specs.Prelude.{All, AllPairs, MatchOption}
+use Rattle.std.proofs.Common.{◌≡◌, ◌≢◌, ℕ, zero, suc, ◌+◌, ◌^◌, ◌<◌, ◌==◌, refl, sym, ◌∙◌, ap, List, [], ◌∷◌, ◌++◌, length, get_or, find, arith, Option, Some, None, true, is_some, is_none, cond}
+use Rattle.std.specs.Prelude.{All, MatchOption}
 use Rattle.std.proofs.lemmas.List.Elements.{All-append, All-weaker}
 use Rattle.std.proofs.lemmas.List.Quantifiers.{all_pairs_push}
 use Rattle.meet_tickets.specs.declared.lines.Entry.{Entry}

@@ -1,5 +1,5 @@
 -- The steps of a queue's calls, by the cases of the answer. Each is a step of the rules, with the item itself.
-use Rattle.std.specs.Prelude.{◌≡◌, ℕ, ◌+◌, true, false, Option, Some, None}
+use Rattle.std.specs.Prelude.{◌≡◌, ℕ, ◌+◌, true, false, Some, None}
 use Rattle.meet_tickets.specs.declared.lines.Entry.{Entry}
 use Rattle.meet_tickets.specs.declared.lines.Hold.TheVariants.{Waiting, Handed, Served, Cut}
 use Rattle.meet_tickets.specs.declared.places.Order.{Order}
@@ -35,10 +35,10 @@ pub record Leaves {T : Type 0} (old new : Queue T) (seats : Seats T) : Type 0 wh
   pub count : count_of new ≡ count_of old
   pub left : seats_of new ≡ seats
 
--- the giver of ticket t met the taker of ticket u
+-- the giver of ticket t met the taker of ticket u, which brought nothing
 abbrev pub HandsTo : {T : Type 0} → (T → ℕ) → Order → Queue T → (item : T) → (t u : ℕ) → Queue T → Type 0
 HandsTo {T} mark order old item t u new =
-    (e : Entry T) × (partner order old.line Giver ≡ Some e) × (u ≡ e.ticket) × Uses old new t (paired mark order (seats_of old) t (Some item) e)
+    (e : Entry T) × (partner order old.line Giver ≡ Some e) × (u ≡ e.ticket) × (e.item ≡ None) × Uses old new t (paired mark order (seats_of old) t (Some item) e)
 
 -- the taker of ticket t met the giver of ticket u, and got the item that this one presented
 abbrev pub GetsFrom : {T : Type 0} → (T → ℕ) → Order → Queue T → (t u : ℕ) → (item : T) → Queue T → Type 0

@@ -1,13 +1,14 @@
 //! The dual queue: givers and takers that meet.
 
-ghost use Rattle.std.specs.Prelude.{◌≡◌, ◌^◌, ◌≤◌, ◌<◌, Some, None, IfOk, IfErr, OnOk, OnErr, MatchOption, length};
-ghost use Rattle.meet_tickets.specs.Meeting.{waiting_count, kept_count};
+ghost use Rattle.std.specs.Prelude.{◌≡◌, ◌^◌, ◌≤◌, ◌<◌, ◌-◌, Some, None, IsOk, IfOk, IfErr, OnOk, OnErr, MatchOption, length};
+ghost use Rattle.meet_tickets.specs.Meeting.{waiting_count, kept_count, count_on};
 ghost use Rattle.meet_tickets.specs.BySeat.{nobody, open_ticket, owed_of, settled_of};
 ghost use Rattle.meet_tickets.specs.Refusals.{refusal_of};
+ghost use Rattle.meet_tickets.specs.declared.places.Side.TheVariants.{Giver};
 
 use crate::answers::{Gave, Offered, Polled, Took};
 use meet_line::{Line, SeatTable};
-use meet_tickets::{Entry, Marked, Refusal, Refused, SeatNo, Ticket};
+use meet_tickets::{Entry, Marked, Refusal, Refused, SeatNo, Side, Ticket};
 use std::alloc::Global;
 use std::marker::Model;
 
@@ -34,7 +35,7 @@ impl<T: Marked, L: Line<Entry<T>>> Model for Dual<T, L> {
 }
 
 impl<T: Marked, L: Line<Entry<T>>> Dual<T, L> {
-    ghost use Rattle.meet_core.specs.Queue.{seats_of, count_of, places_of};
+    ghost use Rattle.meet_core.specs.Queue.{seats_of, count_of, places_of, IsSound};
     ghost use Rattle.meet_core.specs.Steps.{GiveStep, TakeStep, OfferStep, PollStep};
     ghost use Rattle.meet_tickets.specs.declared.refusals.Refusal.TheVariants.{Memory};
 
@@ -81,6 +82,7 @@ impl<T: Marked, L: Line<Entry<T>>> Dual<T, L> {
         ensures more { self.old.room ≤ self.new.room }
         ensures unchanged { OnErr result (self.new ≡ self.old) }
         ensures memory { IfErr result (λ why. why ≡ Memory) }
+        ensures enough { requests ≤ self.old.room → IsOk result }
     {
         self.line.reserve(requests)
     }
@@ -193,5 +195,35 @@ impl<T: Marked, L: Line<Entry<T>>> Dual<T, L> {
         ensures { result ≡ settled_of (count_of self.now) (seats_of self.now).holds }
     {
         self.seats.settled()
+    }
+
+    /// How many givers stand in the line.
+    pub fn givers(&self) -> u64
+        ensures { result ≡ count_on Giver self.now.line }
+    {
+        let first = match self.line.first() {
+            None => return 0,
+            Some(first) => first,
+        };
+        if first.is_on(Side::Giver) {
+            self.line.len()
+        } else {
+            0
+        }
+    }
+
+    /// How many tickets are left.
+    pub fn tickets_left(&self) -> u64
+        ensures { result ≡ 2 ^ 63 - self.now.next }
+    {
+        (1 << 63) - self.next
+    }
+
+    /// What is always true of a queue: each entry of its line waits and is what its seat holds, no two entries share seat
+    /// or ticket, and all have one side. It does nothing.
+    pub fn stays_sound(&self)
+        ensures { IsSound self.now.line (seats_of self.now).holds self.now.next }
+    {
+        let _ = &self.line;
     }
 }

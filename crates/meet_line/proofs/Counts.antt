@@ -1,14 +1,11 @@
 -- How many seats of a table have an open ticket.
-use Rattle.std.proofs.Common.{◌≡◌, ℕ, zero, suc, ◌+◌, Bool, true, false, not, IsTrue, cond, refl, sym, ◌∙◌, ap, List, [], ◌∷◌, length, get_or, replicate, arith}
+use Rattle.std.proofs.Common.{◌≡◌, ℕ, zero, suc, ◌+◌, Bool, false, cond, refl, sym, ◌∙◌, ap, List, [], ◌∷◌, length, get_or, replicate, arith}
 use Rattle.std.proofs.Math.Path.{fun_ext, ap₂}
 use Rattle.std.proofs.lemmas.List.Sums.{sum_by-cons}
-use Rattle.std.specs.Prelude.{count_by, All}
+use Rattle.std.specs.Prelude.{count_by}
 use Rattle.std.specs.List.{range_with_len}
-use Rattle.meet_tickets.specs.declared.lines.Entry.{Entry}
 use Rattle.meet_tickets.specs.declared.lines.Hold.{Hold}
 use Rattle.meet_tickets.specs.declared.lines.Hold.TheVariants.{Free}
-use Rattle.meet_tickets.specs.BySeat.{is_open}
-use Rattle.meet_tickets.specs.Meeting.{kept_count}
 use Rattle.meet_line.specs.Table.{hold_at, flag_at}
 
 -- of seats that hold nothing, none is counted

@@ -1,6 +1,6 @@
 //! The line of a place's unmatched tickets, however it is kept.
 
-ghost use Rattle.std.specs.Prelude.{◌≡◌, ◌≢◌, ℕ, ◌+◌, ◌<◌, ◌≤◌, ◌==◌, List, [], ◌∷◌, ◌++◌, length, find, All, AllPairs, IfErr, OnOk, OnErr, option_to_list};
+ghost use Rattle.std.specs.Prelude.{◌≡◌, ◌≢◌, ℕ, ◌+◌, ◌<◌, ◌≤◌, ◌==◌, List, [], ◌∷◌, ◌++◌, length, find, All, AllPairs, IsOk, IfErr, OnOk, OnErr, option_to_list};
 ghost use Rattle.std.specs.Slice.{IsItemAt};
 ghost use Rattle.meet_tickets.specs.Meeting.{met};
 ghost use Rattle.meet_tickets.specs.BySeat.{unmet, without_first};
@@ -49,7 +49,8 @@ pub trait Line<E: Ticketed> {
         ensures room { OnOk result (count ≤ spare self.new) }
         ensures more { spare self.old ≤ spare self.new }
         ensures unchanged { OnErr result (spare self.new ≡ spare self.old) }
-        ensures memory { IfErr result (λ why. why ≡ Memory) };
+        ensures memory { IfErr result (λ why. why ≡ Memory) }
+        ensures enough { count ≤ spare self.old → IsOk result };
 
     /// An entry comes to the line's end.
     fn push_back(&mut self, entry: E)

@@ -7,10 +7,10 @@ use Rattle.std.proofs.lemmas.Fmt.{length-decimal-le}
 use Rattle.std.proofs.lemmas.Option.{cond_some}
 use Rattle.std.proofs.lemmas.Slice.Eq.{bytes_eq-Decides}
 use Rattle.meet_tickets.specs.declared.places.Order.{Order}
-use Rattle.meet_run.specs.declared.calls.Call.{Call}
-use Rattle.meet_run.specs.declared.calls.Verb.{Verb}
-use Rattle.meet_run.specs.declared.calls.Verb.TheVariants.{Put, Offer, Take, Poll, Transfer as TransferItem, Try, Follow, Cancel, Expire, Interrupt, Drain, Size, Room, Peek, Consumers}
-use Rattle.meet_run.specs.Served.{serves}
+use Rattle.meet_history.specs.declared.calls.Call.{Call}
+use Rattle.meet_history.specs.declared.calls.Verb.{Verb}
+use Rattle.meet_history.specs.declared.calls.Verb.TheVariants.{Put, Offer, Take, Poll, Transfer as TransferItem, Try, Follow, Cancel, Expire, Interrupt, Drain, Size, Room, Peek, Consumers}
+use Rattle.meet_history.specs.Served.{serves}
 use Rattle.meet_run.specs.Words.{word_of, rest_of, number_of}
 use Rattle.meet_run.specs.Grammar.{◌>>=◌, seat_in, bare_verb_of, interrupt_of, numbered_verb_of, verb_of, verb_behind, seat_of, call_in, served_call, call_of}
 use Rattle.meet_run.specs.Spelling.{verb_text, spelling, FitsVerb, FitsCall, CallsHaveOneSpelling}

@@ -1,10 +1,7 @@
 pub mod CallLemmas
-pub mod LegalTurns
 pub mod LineLemmas
-pub mod ManyTurns
 pub mod Ran
 pub mod Reached
-pub mod RecordCounts
 pub mod RunLemmas
 pub mod ScriptLemmas
 pub mod SetupLemmas

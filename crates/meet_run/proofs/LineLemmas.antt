@@ -2,7 +2,7 @@
 use Rattle.std.proofs.Common.{◌≡◌, ℕ, ◌<◌, ◌≤◌, false, eqb, List, [], ◌∷◌, ◌++◌, length, Option, Some, None, refl, sym, ap, ◌∙◌, append_assoc, arith, rules, length-append}
 use Rattle.std.specs.Prelude.{⊤, IfSome}
 use Rattle.std.specs.Io.KnownBytes.{Consumes, IsAtEnd}
-use Rattle.meet_run.specs.Reading.{lines_of, Both, TakesLine, BeginsTooLong, UsesTurns, EndsInTurns}
+use Rattle.meet_run.specs.Reading.{lines_of, TakesLine, BeginsTooLong, UsesTurns, EndsInTurns}
 
 -- no byte ends a line
 abbrev pub HasNoEnd : List ℕ → Type 0
@@ -87,13 +87,6 @@ begins-too-long (Some a) (Some c) line b h e long k =
     (found.first, found.others, ap (λ (t : List ℕ). lines_of t) whole ∙ found.is, omega (arith, found.longer))
 
 -- ---- one read after another
-
--- a fact of before and after is one of the whole
-pub both-more : (old mid new : Option (List ℕ)) (P Q R : List ℕ → List ℕ → Type 0) → ((xs ys zs : List ℕ) → P xs ys → Q ys zs → R xs zs) → Both old mid P → Both mid new Q → Both old new R
-both-more None mid new P Q R f h k = tt
-both-more (Some xs) None new P Q R f h k = absurd h
-both-more (Some xs) (Some ys) None P Q R f h k = absurd k
-both-more (Some xs) (Some ys) (Some zs) P Q R f h k = f xs ys zs h k
 
 -- turns add up
 pub uses-more : (old mid new : Option (List ℕ)) (turns between left : ℕ) → UsesTurns old mid turns between → UsesTurns mid new between left → UsesTurns old new turns left

@@ -4,10 +4,10 @@ use Rattle.std.specs.Prelude.{IfSome, Result}
 use Rattle.std.specs.Io.KnownBytes.{Appends}
 use Rattle.meet_tickets.specs.declared.refusals.Refusal.{Refusal}
 use Rattle.meet_tickets.specs.declared.refusals.Refusal.TheVariants.{Memory, WriteFault}
-use Rattle.meet_run.specs.declared.calls.Call.{Call}
+use Rattle.meet_history.specs.declared.calls.Call.{Call}
 use Rattle.meet_run.specs.declared.faults.RunFault.{RunFault}
-use Rattle.meet_run.specs.declared.setups.Setup.{Setup}
-use Rattle.meet_run.specs.OneThread.{Place, start, turn, standing_of}
+use Rattle.meet_history.specs.declared.setups.Setup.{Setup}
+use Rattle.meet_history.specs.OneThread.{Place, start, turn, standing_of}
 use Rattle.meet_run.specs.Grammar.{call_of, setup_of}
 use Rattle.meet_run.specs.Reading.{lines_of, Both}
 use Rattle.meet_run.specs.Running.{RunEnds, RunsOn}

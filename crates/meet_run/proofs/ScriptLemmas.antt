@@ -3,14 +3,14 @@ use Rattle.std.proofs.Common.{◌≡◌, ℕ, ◌+◌, ◌<◌, List, [], ◌∷
 use Rattle.std.specs.Option.{option_map_or}
 use Rattle.std.proofs.lemmas.Bool.{lt-ltb}
 use Rattle.meet_tickets.specs.declared.places.Order.{Order}
-use Rattle.meet_run.specs.declared.calls.Call.{Call}
-use Rattle.meet_run.specs.declared.setups.Setup.{Setup}
-use Rattle.meet_run.specs.declared.replies.Reply.{Reply}
-use Rattle.meet_run.specs.OneThread.{Place, start, turn, turns, records, standing_of}
+use Rattle.meet_history.specs.declared.calls.Call.{Call}
+use Rattle.meet_history.specs.declared.setups.Setup.{Setup}
+use Rattle.meet_history.specs.declared.replies.Reply.{Reply}
+use Rattle.meet_history.specs.OneThread.{Place, start, turn, turns, records, standing_of}
 use Rattle.meet_run.specs.Grammar.{call_of, setup_of}
 use Rattle.meet_run.specs.Wording.{text_of, last_line}
 use Rattle.meet_run.specs.Script.{Calls, no_more, faulty_at, with_call, calls_from, replies_text, text_from, closing_from, ending_from, output_from, calls_behind, fault_in, text_in, output_in, text, closing, AreCalls, ScriptsAreAnswered, FaultsEndScripts}
-use Rattle.meet_run.proofs.RecordCounts.{turn-counted}
+use Rattle.meet_history.proofs.RecordCounts.{turn-counted}
 
 -- ---- lines that are too long
 

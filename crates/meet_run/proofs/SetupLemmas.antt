@@ -8,11 +8,12 @@ use Rattle.std.proofs.lemmas.Option.{cond_some}
 use Rattle.meet_tickets.specs.declared.places.Order.{Order}
 use Rattle.meet_tickets.specs.declared.places.Order.TheVariants.{Fair, Unfair, Transfer}
 use Rattle.meet_run.specs.declared.first_line.Options.{Options}
-use Rattle.meet_run.specs.declared.setups.Setup.{Setup}
-use Rattle.meet_run.specs.Served.{serves_place}
+use Rattle.meet_history.specs.declared.setups.Setup.{Setup}
+use Rattle.meet_history.specs.Served.{serves_place}
 use Rattle.meet_run.specs.Words.{word_of, rest_of, behind, number_of}
 use Rattle.meet_run.specs.Grammar.{◌>>=◌, provided, order_of, option_value, option_in, written_in, may_have, setup_with, setup_at_end, setup_in, served_setup, setup_of}
-use Rattle.meet_run.specs.Spelling.{place_text, option_text, written_text, SpellsSetup, FitsBound, IsInLimits, FitsSetup, SetupsAreSpelled}
+use Rattle.meet_history.specs.Limits.{FitsBound, IsInLimits}
+use Rattle.meet_run.specs.Spelling.{place_text, option_text, written_text, SpellsSetup, FitsSetup, SetupsAreSpelled}
 use Rattle.meet_run.proofs.WordLemmas.{HasNoSpace, number_of-is, number_of-decimal, behind-is, word-rest, IsTail, tail-none, tail-space, no_space-decimal}
 use Rattle.meet_run.proofs.CallLemmas.{bind-some, chosen, chosen-second}
 

@@ -4,12 +4,12 @@ use Rattle.std.specs.Option.{option_map_or}
 use Rattle.std.specs.Str.{bytes_eq}
 use Rattle.meet_tickets.specs.declared.places.Order.{Order}
 use Rattle.meet_tickets.specs.declared.places.Order.TheVariants.{Fair, Unfair, Transfer}
-use Rattle.meet_run.specs.declared.calls.Call.{Call}
-use Rattle.meet_run.specs.declared.calls.Verb.{Verb}
-use Rattle.meet_run.specs.declared.calls.Verb.TheVariants.{Put, Offer, Take, Poll, Transfer as TransferItem, Try, Follow, Cancel, Expire, Interrupt, Drain, Size, Room, Peek, Consumers}
+use Rattle.meet_history.specs.declared.calls.Call.{Call}
+use Rattle.meet_history.specs.declared.calls.Verb.{Verb}
+use Rattle.meet_history.specs.declared.calls.Verb.TheVariants.{Put, Offer, Take, Poll, Transfer as TransferItem, Try, Follow, Cancel, Expire, Interrupt, Drain, Size, Room, Peek, Consumers}
 use Rattle.meet_run.specs.declared.first_line.Options.{Options}
-use Rattle.meet_run.specs.declared.setups.Setup.{Setup}
-use Rattle.meet_run.specs.Served.{serves_place, serves}
+use Rattle.meet_history.specs.declared.setups.Setup.{Setup}
+use Rattle.meet_history.specs.Served.{serves_place, serves}
 use Rattle.meet_run.specs.Words.{word_of, rest_of, behind, number_of}
 
 -- one step after another, where each may fail

@@ -1,14 +1,9 @@
 pub mod Faults
 pub mod Grammar
-pub mod OneThread
-pub mod Queues
 pub mod Reading
 pub mod Running
-pub mod Said
 pub mod Script
-pub mod Served
 pub mod Spelling
-pub mod Stepping
 pub mod Wording
 pub mod Words
 pub mod Writing

@@ -3,13 +3,13 @@ use Rattle.std.specs.Prelude.{◌≡◌, ◌⊎◌, ℕ, ◌+◌, ◌≤◌, ⊤
 use Rattle.std.specs.Io.KnownBytes.{Appends, Consumes, IsAtEnd}
 use Rattle.meet_tickets.specs.declared.refusals.Refusal.{Refusal}
 use Rattle.meet_tickets.specs.declared.refusals.Refusal.TheVariants.{Memory, BadLine, ReadFault, WriteFault}
-use Rattle.meet_run.specs.declared.setups.Setup.{Setup}
+use Rattle.meet_history.specs.declared.setups.Setup.{Setup}
 use Rattle.meet_run.specs.declared.faults.RunFault.{RunFault}
 use Rattle.meet_run.specs.declared.run.Next.{Next}
 use Rattle.meet_run.specs.declared.run.Next.TheVariants.{Read, Ended, Faulty, Broken}
 use Rattle.meet_run.specs.Reading.{lines_of, Both}
 use Rattle.meet_run.specs.Writing.{AppendsFront}
-use Rattle.meet_run.specs.OneThread.{start}
+use Rattle.meet_history.specs.OneThread.{start}
 use Rattle.meet_run.specs.Script.{Reached, fault_of, text_before, output_of}
 
 -- what the next line is, by a reading of lines: one that reads as this; none; one that reads as nothing; or a failed read

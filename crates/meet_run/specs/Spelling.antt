@@ -1,13 +1,14 @@
 -- The one spelling of a call, and the spellings of a place.
-use Rattle.std.specs.Prelude.{◌≡◌, ◌↔◌, ℕ, ◌^◌, ◌<◌, ◌≤◌, IsTrue, Option, Some, None, ⊤, List, [], ◌∷◌, ◌++◌, codes, decimal}
+use Rattle.std.specs.Prelude.{◌≡◌, ◌↔◌, ℕ, ◌^◌, ◌<◌, IsTrue, Option, Some, None, ⊤, List, [], ◌∷◌, ◌++◌, codes, decimal}
 use Rattle.meet_tickets.specs.declared.places.Order.{Order}
 use Rattle.meet_tickets.specs.declared.places.Order.TheVariants.{Fair, Unfair, Transfer}
-use Rattle.meet_run.specs.declared.calls.Call.{Call}
-use Rattle.meet_run.specs.declared.calls.Verb.{Verb}
-use Rattle.meet_run.specs.declared.calls.Verb.TheVariants.{Put, Offer, Take, Poll, Transfer as TransferItem, Try, Follow, Cancel, Expire, Interrupt, Drain, Size, Room, Peek, Consumers}
+use Rattle.meet_history.specs.declared.calls.Call.{Call}
+use Rattle.meet_history.specs.declared.calls.Verb.{Verb}
+use Rattle.meet_history.specs.declared.calls.Verb.TheVariants.{Put, Offer, Take, Poll, Transfer as TransferItem, Try, Follow, Cancel, Expire, Interrupt, Drain, Size, Room, Peek, Consumers}
 use Rattle.meet_run.specs.declared.first_line.Options.{Options}
-use Rattle.meet_run.specs.declared.setups.Setup.{Setup}
-use Rattle.meet_run.specs.Served.{serves_place, serves}
+use Rattle.meet_history.specs.declared.setups.Setup.{Setup}
+use Rattle.meet_history.specs.Served.{serves_place, serves}
+use Rattle.meet_history.specs.Limits.{IsInLimits}
 use Rattle.meet_run.specs.Grammar.{setup_with, call_of, setup_of}
 
 -- a verb's word, and its number
@@ -81,20 +82,6 @@ written_text written =
 abbrev pub SpellsSetup : (line : List ℕ) → Setup → Type 0
 SpellsSetup line setup =
     (written : Options) × (line ≡ place_text setup.kind.order ++ written_text written) × (setup ≡ setup_with setup.kind.order written)
-
--- only a transfer queue has a bound, from 1 to 1,048,576
-abbrev pub FitsBound : Order → Option ℕ → Type 0
-FitsBound order None = ⊤
-FitsBound Fair (Some n) = ⊥
-FitsBound Unfair (Some n) = ⊥
-FitsBound Transfer (Some n) = (1 ≤ n) × (n ≤ 1048576)
-
--- a place's numbers are in their limits
-pub record IsInLimits (setup : Setup) : Type 0 where
-  pub seats : (1 ≤ setup.seats) × (setup.seats ≤ 1024)
-  pub cap : (1 ≤ setup.cap) × (setup.cap ≤ 1048576)
-  pub first : (1 ≤ setup.first) × (setup.first < 2 ^ 63)
-  pub bound : FitsBound setup.kind.order setup.kind.bound
 
 -- a place has its numbers in their limits, and is served
 pub record FitsSetup (setup : Setup) : Type 0 where

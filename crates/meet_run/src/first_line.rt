@@ -2,14 +2,14 @@
 
 ghost use Rattle.std.specs.Prelude.{◌≡◌, IfSome};
 ghost use Rattle.std.specs.Option.{option_map};
-ghost use Rattle.meet_run.specs.Served.{serves_place};
+ghost use Rattle.meet_history.specs.Served.{serves_place};
 ghost use Rattle.meet_run.specs.Words.{word_of, rest_of, behind};
 ghost use Rattle.meet_run.specs.Spelling.{FitsSetup};
 ghost use Rattle.meet_run.specs.Grammar.{order_of, option_value, option_in, written_in, may_have, setup_at_end, setup_in, setup_of};
 
 use crate::grammar::LONGEST_LINE;
-use crate::setups::Setup;
 use crate::words::{read_number, split_word};
+use meet_history::Setup;
 use meet_tickets::{Kind, Order};
 
 /// The most seats of a place.

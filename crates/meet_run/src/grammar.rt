@@ -1,12 +1,12 @@
 //! What the lines of a script say.
 
 ghost use Rattle.std.specs.Prelude.{◌≡◌, IfSome};
-ghost use Rattle.meet_run.specs.Served.{serves};
+ghost use Rattle.meet_history.specs.Served.{serves};
 ghost use Rattle.meet_run.specs.Spelling.{FitsCall};
 ghost use Rattle.meet_run.specs.Grammar.{seat_of, bare_verb_of, interrupt_of, numbered_verb_of, verb_of, verb_behind, call_in, served_call, call_of};
 
-use crate::calls::{Call, Verb};
 use crate::words::{read_number, split_word};
+use meet_history::{Call, Verb};
 use meet_tickets::{Order, SeatNo};
 
 /// The most bytes of a line.
@@ -27,6 +27,10 @@ pub fn is_served(order: Order, verb: Verb) -> bool
                 | Verb::Cancel
                 | Verb::Expire
                 | Verb::Interrupt(_)
+                | Verb::Drain(_)
+                | Verb::Size
+                | Verb::Room
+                | Verb::Peek
         ),
         Order::Transfer => false,
     }

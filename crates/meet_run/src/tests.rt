@@ -1,5 +1,6 @@
 mod calls;
 mod doubles;
+mod drains;
 mod faults;
 mod first_lines;
 mod input;

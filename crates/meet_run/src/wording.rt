@@ -1,11 +1,11 @@
 //! The text of the replies, one line each. Where memory runs out, nothing is said of what was appended.
 
 ghost use Rattle.std.specs.Prelude.{◌≡◌, ◌++◌, OnOk, codes, decimal};
-ghost use Rattle.meet_run.specs.OneThread.{Standing};
+ghost use Rattle.meet_history.specs.OneThread.{Standing};
 ghost use Rattle.meet_run.specs.Wording.{marked, cause_text, answer_text, cut_text, mark_text, outcome_text, text_of, last_line};
 
-use crate::replies::{Answer, Outcome, Reply};
 use itoa::Buffer;
+use meet_history::{Answer, Outcome, Reply};
 use meet_tickets::{Cause, SeatNo, Ticket};
 use std::alloc::AllocError;
 

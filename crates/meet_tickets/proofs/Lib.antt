@@ -1,4 +1,6 @@
 pub mod Admitted
+pub mod Continued
+pub mod Counted
 pub mod Deeds
 pub mod Histories
 pub mod Holding

@@ -66,7 +66,7 @@ met-there P Unfair line e all is = All-read P line (length line - 1) e all is
 met-there P Transfer line e all is = All-read P line 0 e all is
 
 -- in a line that isn't empty one is met
-met-some : {X : Type 0} (order : Order) (x : Entry X) (line : List (Entry X)) → met order (x ∷ line) ≡ None → ⊥
+pub met-some : {X : Type 0} (order : Order) (x : Entry X) (line : List (Entry X)) → met order (x ∷ line) ≡ None → ⊥
 met-some Fair x line none = cc
 met-some Unfair x line none =
     let last : slice_get (x ∷ line) (length (x ∷ line) - 1) ≡ Some (get_or (x ∷ line) (length (x ∷ line) - 1) x) = slice_get-get_or (x ∷ line) (length (x ∷ line) - 1) x (omega arith) in
@@ -109,7 +109,7 @@ same_item Taker e f same = not_same (is_some e.item) (is_some f.item) same
     not_same false false same = refl
 
 -- the entries of a line have its first's side
-first-side : {X : Type 0} (x : Entry X) (line : List (Entry X)) → HasOneSide (x ∷ line) → All (λ f. is_some x.item ≡ is_some f.item) (x ∷ line)
+pub first-side : {X : Type 0} (x : Entry X) (line : List (Entry X)) → HasOneSide (x ∷ line) → All (λ f. is_some x.item ≡ is_some f.item) (x ∷ line)
 first-side x line one = All-cons (λ f. is_some x.item ≡ is_some f.item) x line refl (AllPairs-head (λ e f. is_some e.item ≡ is_some f.item) x line one)
 
 -- the partner stands on the other side

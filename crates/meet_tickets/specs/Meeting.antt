@@ -45,6 +45,10 @@ waiting_count line = count_by (λ e. e.waits) line
 abbrev pub kept_count : {X : Type 0} → List (Entry X) → ℕ
 kept_count line = count_by (λ e. not e.waits) line
 
+-- how many entries stand on this side: givers, kept or waiting, or takers
+abbrev pub count_on : {X : Type 0} → Side → List (Entry X) → ℕ
+count_on side line = count_by (is_on side) line
+
 -- an item may be kept in a transfer queue that isn't full (LinkedTransferQueue.put; the bound is our choice)
 abbrev pub MayKeep : {X : Type 0} → Kind → List (Entry X) → Type 0
 MayKeep k line = (k.order ≡ Transfer) × MatchOption k.bound ⊤ (λ most. kept_count line < most)

@@ -34,7 +34,7 @@ impl<T: Marked, L: Line<Entry<T>>> Dual<T, L> {
 
     /// Hands the item to the taker that is met, and answers its ticket; without one the item comes back.
     fn hand(&mut self, ticket: Ticket, item: T) -> Result<Ticket, T>
-        ensures met { IfOk result (λ with. (e : Entry T) × (partner L.order self.old.line Giver ≡ Some e) × (with ≡ e.ticket) × Leaves self.old self.new (paired T.mark_of L.order (seats_of self.old) ticket (Some item) e)) }
+        ensures met { IfOk result (λ with. (e : Entry T) × (partner L.order self.old.line Giver ≡ Some e) × (with ≡ e.ticket) × (e.item ≡ None) × Leaves self.old self.new (paired T.mark_of L.order (seats_of self.old) ticket (Some item) e)) }
         ensures places { IfOk result (λ _. places_of self.new ≡ places_of self.old) }
         ensures alone { IfErr result (λ _. partner L.order self.old.line Giver ≡ None) }
         ensures back { IfErr result (λ back. back ≡ item) }

@@ -1,6 +1,6 @@
-use crate::calls::{Call, Verb};
 use crate::grammar::{is_served, read_any_call, read_call};
 use crate::words::read_number;
+use meet_history::{Call, Verb};
 use meet_tickets::{Order, SeatNo};
 
 fn call(seat: u64, verb: Verb) -> Option<Call> {
@@ -51,6 +51,10 @@ fn served_calls(rt: HostRuntime) {
         assert_eq!(rt; read_call(order, b"3 cancel"), call(3, Verb::Cancel));
         assert_eq!(rt; read_call(order, b"3 expire"), call(3, Verb::Expire));
         assert_eq!(rt; read_call(order, b"4 interrupt 1023"), interrupt(1023));
+        assert_eq!(rt; read_call(order, b"3 drain 3"), call(3, Verb::Drain(3)));
+        assert_eq!(rt; read_call(order, b"3 size"), call(3, Verb::Size));
+        assert_eq!(rt; read_call(order, b"3 room"), call(3, Verb::Room));
+        assert_eq!(rt; read_call(order, b"3 peek"), call(3, Verb::Peek));
         // These are no calls of such a place.
         assert!(rt; read_call(order, b"3 transfer 17").is_none());
         assert!(rt; read_call(order, b"3 try 17").is_none());

@@ -1,5 +1,5 @@
 use crate::first_line::{is_place_served, read_any_setup, read_setup};
-use crate::setups::Setup;
+use meet_history::Setup;
 use meet_tickets::{Kind, Order};
 
 fn fair(seats: u64, cap: u64, first: u64) -> Option<Setup> {

@@ -27,7 +27,7 @@ pub fn expect(
     assert!(rt; written.as_slice() == text);
 }
 
-fn bad_line(line: u64) -> Result<bool, RunFault> {
+pub fn bad_line(line: u64) -> Result<bool, RunFault> {
     Err(RunFault {
         why: Refusal::BadLine,
         line: Some(line),

@@ -5,7 +5,7 @@ use std::alloc::Global;
 use std::process::Abort;
 
 /// Expects that a script is answered by this text, and ends well.
-fn answers(rt: &impl Abort, alloc: Global, script: &[u8], text: &[u8]) {
+pub fn answers(rt: &impl Abort, alloc: Global, script: &[u8], text: &[u8]) {
     expect(rt, alloc, script, text, Ok(true));
 }
 

@@ -1,5 +1,5 @@
-use crate::replies::{Answer, Outcome, Reply};
 use crate::wording::{push_last_line, push_reply};
+use meet_history::{Answer, Outcome, Reply};
 use meet_tickets::{Cause, Refusal, SeatNo, Ticket};
 use std::alloc::Global;
 use std::process::Abort;

@@ -1,11 +1,11 @@
 use Rattle.std.proofs.Common.{◌≡◌, subst, sym, ap, ◌∙◌, arith, true, Err}
 use Rattle.std.specs.Io.KnownBytes.{Appends}
-use Rattle.meet_run.specs.OneThread.{turn, standing_of}
+use Rattle.meet_history.specs.OneThread.{turn, standing_of}
 use Rattle.meet_run.specs.Script.{replies_text}
 use Rattle.meet_run.specs.Wording.{last_line}
 use Rattle.meet_run.specs.Writing.{AppendsFront}
-use Rattle.meet_run.specs.Served.{serves}
-use Rattle.meet_run.specs.Stepping.{place_of}
+use Rattle.meet_history.specs.Served.{serves}
+use Rattle.meet_history.specs.Stepping.{place_of}
 use Rattle.meet_run.proofs.LineLemmas.{uses-more, ends-in-turns, at-end-before}
 use Rattle.meet_run.proofs.Ran.{ran-more, runs-cut, runs-closed, runs-unclosed, ran-faulty}
 use Rattle.meet_run.proofs.run.run_calls.Goals as goal

@@ -1,7 +1,7 @@
 use Rattle.std.proofs.Common.{◌≡◌, ◌+◌, ◌≤◌}
 use Rattle.std.specs.Vec.{vec_capacity}
 use Rattle.meet_run.specs.Reading.{UsesTurns}
-use Rattle.meet_run.specs.Stepping.{place_of}
+use Rattle.meet_history.specs.Stepping.{place_of}
 use Rattle.meet_run.proofs.Ran.{Ran}
 use Rattle.meet_run.proofs.run.run_calls.Given as goal
 

@@ -1,6 +1,4 @@
-use Rattle.std.proofs.Common.{◌≡◌, ◌∙◌, sym, ap, refl, Some, rules}
-use Rattle.meet_tickets.specs.BySeat.{open_ticket}
-use Rattle.meet_line.specs.Table.{hold_at}
+use Rattle.std.proofs.Common.{◌≡◌, ◌∙◌, sym, refl, Some, rules}
 use Rattle.meet_core.proofs.Following.{WithdrawStep-from}
 use Rattle.meet_core.proofs.dual.Dual.cancel.Goals as goal
 

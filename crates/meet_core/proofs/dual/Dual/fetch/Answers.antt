@@ -1,4 +1,4 @@
-use Rattle.std.proofs.Common.{◌≡◌, ◌∙◌, sym, ap, subst, refl, None}
+use Rattle.std.proofs.Common.{◌∙◌, sym, ap, subst, refl, None}
 use Rattle.meet_tickets.specs.declared.places.Side.TheVariants.{Taker}
 use Rattle.meet_tickets.specs.BySeat.{put_at}
 use Rattle.meet_line.specs.Table.{hold_at, HasNoItem}

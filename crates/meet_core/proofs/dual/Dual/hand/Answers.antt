@@ -1,11 +1,11 @@
-use Rattle.std.proofs.Common.{◌≡◌, ◌∙◌, sym, ap, subst, refl, Some, Bool, false}
-use Rattle.meet_tickets.specs.declared.lines.Hold.TheVariants.{Served}
+use Rattle.std.proofs.Common.{◌≡◌, ◌∙◌, sym, ap, subst, refl, Some, false}
 use Rattle.meet_tickets.specs.declared.places.Side.TheVariants.{Giver}
 use Rattle.meet_tickets.specs.Meeting.{is_on}
+use Rattle.meet_tickets.proofs.Partners.{none-from}
 use Rattle.meet_tickets.proofs.Sides.{partner-other}
 use Rattle.meet_tickets.specs.BySeat.{put_at}
 use Rattle.meet_line.specs.Table.{hold_at, HasNoItem}
-use Rattle.meet_core.specs.Queue.{Queue, Stands}
+use Rattle.meet_core.specs.Queue.{Queue}
 use Rattle.meet_core.proofs.Sound.{HasOneSide-sound, Stands-partner, IsSound-met, there-waiting}
 use Rattle.meet_core.proofs.Moves.{paired_hold-taker, Leaves-paired}
 use Rattle.meet_core.proofs.dual.Dual.hand.Goals as goal
@@ -32,6 +32,7 @@ returns-in-Some-clause-met g c =
       taker,
       found,
       c.serve.ensures.ticket,
+      none-from taker.item off,
       Leaves-paired g.T.Marked.mark_of g.L.Line.order old _ taker c.args.ticket (Some c.args.item) (Stands-partner g.L.Line.order Giver taker c.self.invariant found).waits c.in-Some.ensures.rest (record {
         holds = c.serve.ensures.held ∙ ap (λ hold. put_at (hold_at old.table.holds) taker.seat hold) (paired_hold-taker g.T.Marked.mark_of taker c.args.ticket c.args.item off);
         count = c.serve.ensures.count;

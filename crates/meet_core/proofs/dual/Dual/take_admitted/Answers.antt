@@ -1,5 +1,3 @@
-use Rattle.std.proofs.Common.{sym, subst}
-use Rattle.std.specs.Prelude.{All}
 use Rattle.meet_core.proofs.dual.Dual.take_admitted.Goals as goal
 
 pub wait-requires-clause-new : goal.wait-requires-clause-new

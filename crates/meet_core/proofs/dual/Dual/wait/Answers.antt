@@ -1,4 +1,3 @@
-use Rattle.std.proofs.Common.{sym}
 use Rattle.meet_core.proofs.Sound.{IsSound-queued}
 use Rattle.meet_core.proofs.dual.Dual.wait.Goals as goal
 

@@ -1,9 +1,8 @@
-use Rattle.std.proofs.Common.{◌≡◌, ◌∙◌, ◌==◌, ◌+◌, sym, ap, refl, arith, length}
-use Rattle.meet_tickets.specs.declared.lines.Hold.TheVariants.{Free, Waiting}
+use Rattle.std.proofs.Common.{◌≡◌, ◌∙◌, ◌==◌, sym, refl, arith}
+use Rattle.meet_tickets.specs.declared.lines.Hold.TheVariants.{Free}
 use Rattle.meet_tickets.proofs.Sides.{found-ticket}
 use Rattle.meet_tickets.specs.BySeat.{left, without_first}
-use Rattle.meet_line.specs.Table.{hold_at}
-use Rattle.meet_core.specs.Queue.{Queue, IsSound, seats_of}
+use Rattle.meet_core.specs.Queue.{Queue, seats_of}
 use Rattle.meet_core.specs.Steps.{Leaves}
 use Rattle.meet_core.proofs.Moves.{Leaves-from}
 use Rattle.meet_core.proofs.Removed.{removed-none, removed-some}

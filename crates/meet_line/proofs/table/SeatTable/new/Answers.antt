@@ -4,8 +4,7 @@ use Rattle.std.proofs.lemmas.List.{replicate_more, length-replicate}
 use Rattle.std.specs.Prelude.{count_by, Bool}
 use Rattle.meet_tickets.specs.declared.lines.Hold.TheVariants.{Free}
 use Rattle.meet_tickets.specs.BySeat.{is_open, is_settled}
-use Rattle.meet_line.specs.Table.{hold_at, flag_at}
-use Rattle.meet_line.proofs.Counts.{count_by-replicate_free, hold_at-replicate, flag_at-replicate}
+use Rattle.meet_line.proofs.Counts.{count_by-replicate_free}
 use Rattle.meet_line.proofs.table.SeatTable.new.Goals as goal
 
 pub loop-preserved : goal.loop-preserved

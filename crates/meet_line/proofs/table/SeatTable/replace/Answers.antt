@@ -1,6 +1,5 @@
-use Rattle.std.proofs.Common.{◌≡◌, ◌∙◌, ◌<◌, sym, ap, length, set}
+use Rattle.std.proofs.Common.{◌<◌, length}
 use Rattle.meet_tickets.specs.declared.lines.Hold.TheVariants.{Free}
-use Rattle.meet_line.specs.Table.{hold_at}
 use Rattle.meet_line.proofs.Written.{put_at-set}
 use Rattle.meet_line.proofs.table.SeatTable.replace.Goals as goal
 

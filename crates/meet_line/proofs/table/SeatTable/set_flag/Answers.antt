@@ -1,4 +1,4 @@
-use Rattle.std.proofs.Common.{◌≡◌, ◌∙◌, ◌<◌, sym, ap, length, arith, false}
+use Rattle.std.proofs.Common.{◌<◌, length, arith, false}
 use Rattle.meet_line.proofs.Written.{put_at-set}
 use Rattle.meet_line.proofs.table.SeatTable.set_flag.Goals as goal
 

@@ -1,0 +1,51 @@
+-- A call of the stepper's queue, in the words of one thread's replies.
+use Rattle.std.proofs.Common.{◌≡◌, ◌≢◌, ℕ, ◌+◌, ◌<◌, refl, sym, ap, ◌∙◌, cond, Option, Some, None, arith}
+use Rattle.std.specs.Prelude.{nat_lt, nat_le, ◌||◌, IsTrue, MatchOption}
+use Rattle.meet_tickets.specs.declared.places.Order.{Order}
+use Rattle.meet_tickets.specs.declared.places.Order.TheVariants.{Fair, Unfair, Transfer}
+use Rattle.meet_tickets.specs.declared.places.Kind.{Kind}
+use Rattle.meet_tickets.specs.declared.refusals.Refusal.{Refusal}
+use Rattle.meet_tickets.specs.declared.refusals.Refusal.TheVariants.{Memory, NoSuchSeat}
+use Rattle.meet_tickets.specs.BySeat.{owed_of}
+use Rattle.meet_tickets.specs.Refusals.{refusal_of}
+use Rattle.meet_core.specs.Queue.{Queue, seats_of, count_of}
+use Rattle.meet_history.specs.declared.setups.Setup.{Setup}
+use Rattle.meet_history.specs.declared.told.DualCall.{DualCall}
+use Rattle.meet_history.specs.declared.told.DualCall.TheVariants.{Give, Offer, Take, Poll, FollowUp, Cancel, Expire, Interrupt}
+use Rattle.meet_history.specs.Booking.{call_refusal}
+use Rattle.meet_history.specs.DualSteps.{kind_of, dual_refusal, dual_need, dual_owed}
+use Rattle.meet_history.specs.Limits.{FitsBound}
+use Rattle.meet_history.specs.Served.{serves_place}
+use Rattle.meet_history.specs.Stepping.{refusal_at}
+
+-- the book's reason is that of the place
+refusal-there : (setup : Setup) (q : Queue ℕ) (written seat : ℕ) (call : DualCall ℕ) → count_of q ≡ setup.seats → 0 < dual_need call → call_refusal (dual_refusal q seat call) (nat_lt setup.cap (written + dual_owed q + dual_need call)) ≡ refusal_at setup (record { next = q.next; seats = seats_of q; records = written }) seat call
+refusal-there setup q written seat (Give mark) count need = ap (λ n. call_refusal (refusal_of n q.next (seats_of q) seat) (nat_lt setup.cap (written + owed_of n (seats_of q).holds + 2))) count
+refusal-there setup q written seat (Offer mark) count need = ap (λ n. call_refusal (refusal_of n q.next (seats_of q) seat) (nat_lt setup.cap (written + owed_of n (seats_of q).holds + 2))) count
+refusal-there setup q written seat Take count need = ap (λ n. call_refusal (refusal_of n q.next (seats_of q) seat) (nat_lt setup.cap (written + owed_of n (seats_of q).holds + 2))) count
+refusal-there setup q written seat Poll count need = ap (λ n. call_refusal (refusal_of n q.next (seats_of q) seat) (nat_lt setup.cap (written + owed_of n (seats_of q).holds + 2))) count
+refusal-there setup q written seat (FollowUp t) count need = absurd (omega arith)
+refusal-there setup q written seat (Cancel t) count need = absurd (omega arith)
+refusal-there setup q written seat (Expire t) count need = absurd (omega arith)
+refusal-there setup q written seat (Interrupt j) count need = ap (λ n. call_refusal (cond (nat_le n seat || nat_le n j) (Some NoSuchSeat) None) (nat_lt setup.cap (written + owed_of n (seats_of q).holds + 1))) count
+
+-- whatever the book's cap is called
+pub refusal_at-is : (setup : Setup) (q : Queue ℕ) (cap written seat : ℕ) (call : DualCall ℕ) → cap ≡ setup.cap → count_of q ≡ setup.seats → 0 < dual_need call → call_refusal (dual_refusal q seat call) (nat_lt cap (written + dual_owed q + dual_need call)) ≡ refusal_at setup (record { next = q.next; seats = seats_of q; records = written }) seat call
+refusal_at-is setup q cap written seat call same count need =
+    ap (λ n. call_refusal (dual_refusal q seat call) (nat_lt n (written + dual_owed q + dual_need call))) same ∙ refusal-there setup q written seat call count need
+
+-- a call that was refused for another reason than Memory was refused for the place's
+pub refused-so : (first : Option Refusal) (why : Refusal) → MatchOption first (why ≡ Memory) (λ own. why ≡ own) → why ≢ Memory → first ≡ Some why
+refused-so None why memory other = absurd (other memory)
+refused-so (Some own) why same other = ap Some (sym same)
+
+-- a synchronous place has no bound
+pub kind-is : (kind : Kind) → IsTrue (serves_place kind.order) → FitsBound kind.order kind.bound → kind_of kind.order ≡ kind
+kind-is kind served fits = by_order kind.order kind.bound served fits
+  where
+    by_order : (order : Order) (bound : Option ℕ) → IsTrue (serves_place order) → FitsBound order bound → kind_of order ≡ record { order = order; bound = bound }
+    by_order Fair None served fits = refl
+    by_order Fair (Some n) served fits = absurd fits
+    by_order Unfair None served fits = refl
+    by_order Unfair (Some n) served fits = absurd fits
+    by_order Transfer bound served fits = cc

@@ -1,0 +1,200 @@
+-- A drain of the book is a drain of one thread.
+use Rattle.std.proofs.Common.{◌≡◌, ℕ, zero, suc, ◌+◌, ◌-◌, ◌^◌, ◌<◌, ◌≤◌, refl, sym, ap, ◌∙◌, subst, Bool, true, false, cond, Option, Some, None, List, [], ◌∷◌, ◌++◌, map, length, append-nil, arith}
+use Rattle.std.specs.Prelude.{unwrap_or, nat_lt}
+use Rattle.std.specs.Option.{option_map_or}
+use Rattle.std.proofs.lemmas.Bool.{le-ltb, ltb-false}
+use Rattle.meet_tickets.specs.declared.lines.Entry.{Entry}
+use Rattle.meet_tickets.specs.declared.places.Side.TheVariants.{Taker}
+use Rattle.meet_tickets.specs.declared.places.Order.{Order}
+use Rattle.meet_tickets.specs.declared.records.Deed.{Deed}
+use Rattle.meet_tickets.specs.declared.records.Deed.TheVariants.{TakeMeets, TakeFails}
+use Rattle.meet_tickets.specs.declared.refusals.Refusal.{Refusal}
+use Rattle.meet_tickets.specs.declared.refusals.Refusal.TheVariants.{Memory, HistoryFull, TicketsSpent, SeatOpen, NoSuchSeat, NotOpen, Differs, SeatMissing, Contended, Worn, BadSizes, PolicyNeedsBuffer, NoThread, BadLine, BadTrace, ReadFault, WriteFault}
+use Rattle.meet_tickets.specs.BySeat.{paired, meets, owed_of}
+use Rattle.meet_tickets.specs.Refusals.{refusal_of}
+use Rattle.meet_core.specs.Queue.{Queue, seats_of, count_of}
+use Rattle.meet_core.specs.declared.answers.Polled.TheVariants.{Meets, Fails}
+use Rattle.meet_history.specs.declared.setups.Setup.{Setup}
+use Rattle.meet_history.specs.declared.told.DualCall.TheVariants.{Poll}
+use Rattle.meet_history.specs.declared.told.DualAnswer.{DualAnswer}
+use Rattle.meet_history.specs.declared.told.DualAnswer.TheVariants.{Gave as ToGive, Offered as ToOffer, Took as ToTake, Polled as ToPoll, Followed as ToFollowUp, TakenBack as ToWithdrawal, Interrupted as ToInterrupt}
+use Rattle.meet_history.specs.declared.replies.Outcome.TheVariants.{Recorded, Drained}
+use Rattle.meet_history.specs.Booking.{call_refusal}
+use Rattle.meet_history.specs.Received.{Received}
+use Rattle.meet_history.specs.Queues.{OrderedQueue}
+use Rattle.meet_history.specs.Draining.{seat_refusal, drain_refusal_by, TakingStep, Polls, AreNumbered}
+use Rattle.meet_history.specs.DualRecords.{made, dual_record}
+use Rattle.meet_history.specs.DualSteps.{DualStep, dual_refusal, dual_owed, dual_available, dual_left}
+use Rattle.meet_history.specs.OneThread.{Place, Turn, joined, immediate, refused, stepped, request_refusal, take, take_deed, take_alone, answer_of, polls, drain, drain_refusal, silent}
+use Rattle.meet_history.specs.Stepping.{poll_reply}
+use Rattle.meet_history.proofs.Polling.{not-spent}
+
+-- where a place with this queue is, after so many records
+abbrev place_at : Queue ℕ → ℕ → Place
+place_at q written = record { next = q.next; seats = seats_of q; records = written }
+
+-- the turn of the poll that a receipt is for
+abbrev told_turn : (seat : ℕ) → Received Deed → Queue ℕ → ℕ → Turn
+told_turn seat receipt new written = record {
+  replies = poll_reply seat receipt ∷ [];
+  records = receipt.entry ∷ [];
+  place = place_at new written;
+}
+
+module _ (setup : Setup) (seat : ℕ) where
+  -- an admitted take is made
+  take-made : (p : Place) (deed : Deed) → request_refusal setup p seat ≡ None → take_deed setup.kind p.seats seat immediate ≡ deed → take setup p seat immediate ≡ stepped setup p seat p.next deed None
+  take-made p deed none is =
+      ap (λ o. option_map_or (refused p seat) o (stepped setup p seat p.next (take_deed setup.kind p.seats seat immediate) None)) none
+      ∙ ap (λ d. stepped setup p seat p.next d None) is
+
+  -- one poll
+  one-poll : (old new : Queue ℕ) (written : ℕ) (answer : DualAnswer ℕ) (receipt : Received Deed) → request_refusal setup (place_at old written) seat ≡ None → DualStep (λ m. m) setup.kind.order old seat Poll answer new → dual_record (λ m. m) seat Poll answer ≡ Some receipt.entry → receipt.place ≡ written + 1 → take setup (place_at old written) seat immediate ≡ told_turn seat receipt new (written + 1)
+  one-poll old new written (ToPoll (Meets t u item)) receipt none (e, found, ticket, own, uses) is place =
+      let p : Place = place_at old written in
+      let entry : made seat t (TakeMeets item u) ≡ receipt.entry = cc in
+      let deed : take_deed setup.kind p.seats seat immediate ≡ TakeMeets item u = ap (λ o. option_map_or (λ (f : Entry ℕ). TakeMeets (unwrap_or f.item 0) f.ticket) o (take_alone p.seats seat immediate)) found ∙ ap (λ o. TakeMeets (unwrap_or o 0) e.ticket) own ∙ ap (λ v. TakeMeets item v) (sym ticket) in
+      let record_is : made seat old.next (TakeMeets item u) ≡ receipt.entry = ap (λ v. made seat v (TakeMeets item u)) (sym uses.used) ∙ entry in
+      let seats_is : meets setup.kind (seats_of old) old.next None Taker ≡ seats_of new = ap (λ o. option_map_or (paired (λ m. m) setup.kind.order (seats_of old) old.next None) o (seats_of old)) found ∙ ap (λ v. paired (λ m. m) setup.kind.order (seats_of old) v None e) (sym uses.used) ∙ sym uses.left in
+      take-made p (TakeMeets item u) none deed
+      ∙ (λ i. record {
+        replies = record { seat = seat; outcome = Recorded (sym place i) (record_is i).ticket (answer_of (record_is i).deed None) } ∷ [];
+        records = record_is i ∷ [];
+        place = record { next = sym uses.next i; seats = seats_is i; records = written + 1 };
+      })
+  one-poll old new written (ToPoll (Fails t)) receipt none (alone, uses) is place =
+      let p : Place = place_at old written in
+      let entry : made seat t TakeFails ≡ receipt.entry = cc in
+      let deed : take_deed setup.kind p.seats seat immediate ≡ TakeFails = ap (λ o. option_map_or (λ (f : Entry ℕ). TakeMeets (unwrap_or f.item 0) f.ticket) o TakeFails) alone in
+      let record_is : made seat old.next TakeFails ≡ receipt.entry = ap (λ v. made seat v TakeFails) (sym uses.used) ∙ entry in
+      take-made p TakeFails none deed
+      ∙ (λ i. record {
+        replies = record { seat = seat; outcome = Recorded (sym place i) (record_is i).ticket (answer_of (record_is i).deed None) } ∷ [];
+        records = record_is i ∷ [];
+        place = record { next = sym uses.next i; seats = sym uses.left i; records = written + 1 };
+      })
+  one-poll old new written (ToGive answer) receipt none step is place = absurd step
+  one-poll old new written (ToOffer answer) receipt none step is place = absurd step
+  one-poll old new written (ToTake answer) receipt none step is place = absurd step
+  one-poll old new written (ToFollowUp answer) receipt none step is place = absurd step
+  one-poll old new written (ToWithdrawal answer) receipt none step is place = absurd step
+  one-poll old new written (ToInterrupt answer) receipt none step is place = absurd step
+
+  -- no poll changes how many seats there are
+  same-count : (order : Order) (old new : Queue ℕ) (answer : DualAnswer ℕ) → DualStep (λ m. m) order old seat Poll answer new → count_of new ≡ count_of old
+  same-count order old new (ToPoll (Meets t u item)) (e, found, ticket, own, uses) = uses.count
+  same-count order old new (ToPoll (Fails t)) (alone, uses) = uses.count
+  same-count order old new (ToGive answer) step = absurd step
+  same-count order old new (ToOffer answer) step = absurd step
+  same-count order old new (ToTake answer) step = absurd step
+  same-count order old new (ToFollowUp answer) step = absurd step
+  same-count order old new (ToWithdrawal answer) step = absurd step
+  same-count order old new (ToInterrupt answer) step = absurd step
+
+  -- a place whose seats are there, with what is refused there
+  admitted : (q : Queue ℕ) (written : ℕ) → count_of q ≡ setup.seats → dual_refusal q seat Poll ≡ None → written + dual_owed q + 2 ≤ setup.cap → request_refusal setup (place_at q written) seat ≡ None
+  admitted q written count none fits =
+      let low : nat_lt setup.cap (written + dual_owed q + 2) ≡ false = le-ltb setup.cap (written + dual_owed q + 2) fits in
+      sym (ap (λ n. call_refusal (refusal_of n q.next (seats_of q) seat) (nat_lt setup.cap (written + owed_of n (seats_of q).holds + 2))) count)
+      ∙ (λ i. call_refusal (none i) (low i))
+
+  -- what the polls of a drain do
+  abbrev Poll_of : OrderedQueue → DualAnswer ℕ → OrderedQueue → Type 0
+  Poll_of = TakingStep (λ old answer new. (new.order ≡ old.order) × DualStep (λ m. m) old.order old.queue seat Poll answer new.queue) (λ any. dual_available any.queue) (λ any. dual_left any.queue) (λ any. dual_owed any.queue) (λ any. dual_refusal any.queue seat Poll) (λ answer. dual_record (λ m. m) seat Poll answer)
+
+  -- they are one thread's polls, and leave order and seats
+  pub record ArePolls (old : Queue ℕ) (written : ℕ) (got : List (DualAnswer ℕ × Received Deed)) (new : OrderedQueue) : Type 0 where
+    pub turns : polls setup (place_at old written) seat (length got) ≡ record { replies = map (λ one. poll_reply seat one.1) got; records = map (λ one. one.1.entry) got; place = place_at new.queue (written + length got) }
+    pub order : new.order ≡ setup.kind.order
+    pub count : count_of new.queue ≡ setup.seats
+
+  pub are-polls : (old new : OrderedQueue) (written : ℕ) (got : List (DualAnswer ℕ × Received Deed)) → old.order ≡ setup.kind.order → count_of old.queue ≡ setup.seats → (0 < length got → dual_refusal old.queue seat Poll ≡ None) → length got ≤ dual_left old.queue → (0 < length got → written + dual_owed old.queue + length got + 1 ≤ setup.cap) → AreNumbered written got → Polls Poll_of (λ answer. dual_record (λ m. m) seat Poll answer) old got new → ArePolls old.queue written got new
+  are-polls old new written [] order count none left fits numbered same =
+      let still : written ≡ written + 0 = omega arith in
+      record {
+        turns = λ i. record { replies = []; records = []; place = place_at (sym same i).queue (still i) };
+        order = ap (λ (q : OrderedQueue). q.order) same ∙ order;
+        count = ap (λ (q : OrderedQueue). count_of q.queue) same ∙ count;
+      }
+  are-polls old new written (one ∷ got) order count none left fits numbered (mid, (step, takes), is, more) =
+      let made_step : DualStep (λ m. m) setup.kind.order old.queue seat Poll one.0 mid.queue = subst (λ o. DualStep (λ m. m) o old.queue seat Poll one.0 mid.queue) order step.1 in
+      let first : take setup (place_at old.queue written) seat immediate ≡ told_turn seat one.1 mid.queue (written + 1) = one-poll old.queue mid.queue written one.0 one.1 (admitted old.queue written count (none (omega arith)) (omega (arith, fits (omega arith)))) made_step is numbered.0 in
+      let rest : ArePolls mid.queue (written + 1) got new = are-polls mid new (written + 1) got (step.0 ∙ order) (same-count old.order old.queue mid.queue one.0 step.1 ∙ count) (λ some. takes.free (omega (arith, left, takes.left, some))) (omega (arith, left, takes.left)) (λ some. omega (arith, fits (omega arith), takes.owed)) numbered.1 more in
+      let further : written + 1 + length got ≡ written + length (one ∷ got) = omega arith in
+      record {
+        turns = ap (λ t. joined t (λ q. polls setup q seat (length got))) first
+            ∙ ap (λ (t : Turn). record { replies = poll_reply seat one.1 ∷ t.replies; records = one.1.entry ∷ t.records; place = t.place }) rest.turns
+            ∙ ap (λ n. record { replies = map (λ (g : DualAnswer ℕ × Received Deed). poll_reply seat g.1) (one ∷ got); records = map (λ (g : DualAnswer ℕ × Received Deed). g.1.entry) (one ∷ got); place = place_at new.queue n }) further;
+        order = rest.order;
+        count = rest.count;
+      }
+
+  -- what is known of a drain that isn't refused
+  pub record MayDrain (q : Queue ℕ) (k : ℕ) (full : Bool) : Type 0 where
+    pub left : k ≤ dual_left q
+    pub free : 0 < k → dual_refusal q seat Poll ≡ None
+    pub fits : 0 < k → full ≡ false
+
+  enough : (q : Queue ℕ) (k : ℕ) (full : Bool) → cond full (Some HistoryFull) None ≡ None → nat_lt (dual_left q) (suc k) ≡ false → dual_refusal q seat Poll ≡ None → MayDrain q (suc k) full
+  enough q k true none are is = cc
+  enough q k false none are is = record { left = omega (arith, ltb-false (dual_left q) (suc k) are); free = λ some. is; fits = λ some. refl }
+
+  pub may-drain : (q : Queue ℕ) (k : ℕ) (full : Bool) → drain_refusal_by (dual_refusal q seat Poll) (dual_left q) k full ≡ None → MayDrain q k full
+  may-drain q zero full none = record { left = omega arith; free = λ some. absurd (omega arith); fits = λ some. absurd (omega arith) }
+  may-drain q (suc k) full none = by_first (dual_refusal q seat Poll) refl (nat_lt (dual_left q) (suc k)) refl none
+    where
+      by_first : (first : Option Refusal) → dual_refusal q seat Poll ≡ first → (few : Bool) → nat_lt (dual_left q) (suc k) ≡ few → option_map_or Some (seat_refusal first) (cond few (Some TicketsSpent) (cond full (Some HistoryFull) None)) ≡ None → MayDrain q (suc k) full
+      by_first (Some Memory) is few are none = cc
+      by_first (Some HistoryFull) is few are none = cc
+      by_first (Some SeatOpen) is few are none = cc
+      by_first (Some NoSuchSeat) is few are none = cc
+      by_first (Some NotOpen) is few are none = cc
+      by_first (Some Differs) is few are none = cc
+      by_first (Some SeatMissing) is few are none = cc
+      by_first (Some Contended) is few are none = cc
+      by_first (Some Worn) is few are none = cc
+      by_first (Some BadSizes) is few are none = cc
+      by_first (Some PolicyNeedsBuffer) is few are none = cc
+      by_first (Some NoThread) is few are none = cc
+      by_first (Some BadLine) is few are none = cc
+      by_first (Some BadTrace) is few are none = cc
+      by_first (Some ReadFault) is few are none = cc
+      by_first (Some WriteFault) is few are none = cc
+      by_first None is true are none = cc
+      by_first None is false are none = enough q k full none are is
+      by_first (Some TicketsSpent) is true are none = cc
+      by_first (Some TicketsSpent) is false are none = absurd (not-spent q seat (omega (arith, ltb-false (dual_left q) (suc k) are)) is)
+
+  -- the book's reason against a drain is that of the place
+  pub drain_refusal-is : (q : Queue ℕ) (cap written k : ℕ) → cap ≡ setup.cap → count_of q ≡ setup.seats → drain_refusal_by (dual_refusal q seat Poll) (dual_left q) k (nat_lt cap (written + dual_owed q + k + 1)) ≡ drain_refusal setup (place_at q written) seat k
+  drain_refusal-is q cap written k same count =
+      ap (λ n. drain_refusal_by (refusal_of n q.next (seats_of q) seat) (2 ^ 63 - q.next) k (nat_lt cap (written + owed_of n (seats_of q).holds + k + 1))) count
+      ∙ (let sum : written + owed_of setup.seats (seats_of q).holds + k + 1 ≡ written + owed_of setup.seats (seats_of q).holds + (k + 1) = omega arith in
+      λ i. drain_refusal_by (refusal_of setup.seats q.next (seats_of q) seat) (2 ^ 63 - q.next) k (nat_lt (same i) (sum i)))
+
+  -- a drain that is refused, and one that isn't
+  pub drain-refused : (p : Place) (k : ℕ) (why : Refusal) → drain_refusal setup p seat k ≡ Some why → drain setup p seat k ≡ refused p seat why
+  drain-refused p k why is = ap (λ o. option_map_or (refused p seat) o (joined (polls setup p seat k) (λ q. silent q seat (Drained k)))) is
+
+  pub drain-made : (p : Place) (k : ℕ) → drain_refusal setup p seat k ≡ None → drain setup p seat k ≡ joined (polls setup p seat k) (λ q. silent q seat (Drained k))
+  drain-made p k is = ap (λ o. option_map_or (refused p seat) o (joined (polls setup p seat k) (λ q. silent q seat (Drained k)))) is
+
+  -- a drain that was made: its replies and records, and what it leaves
+  pub record IsDrained (old : Queue ℕ) (written k : ℕ) (got : List (DualAnswer ℕ × Received Deed)) (new : OrderedQueue) : Type 0 where
+    pub turn : drain setup (place_at old written) seat k ≡ record { replies = map (λ one. poll_reply seat one.1) got ++ record { seat = seat; outcome = Drained k } ∷ []; records = map (λ one. one.1.entry) got; place = place_at new.queue (written + length got) }
+    pub order : new.order ≡ setup.kind.order
+    pub count : count_of new.queue ≡ setup.seats
+
+  pub drained : (old new : OrderedQueue) (cap written k : ℕ) (got : List (DualAnswer ℕ × Received Deed)) → cap ≡ setup.cap → count_of old.queue ≡ setup.seats → old.order ≡ setup.kind.order → drain_refusal_by (dual_refusal old.queue seat Poll) (dual_left old.queue) k (nat_lt cap (written + dual_owed old.queue + k + 1)) ≡ None → length got ≡ k → AreNumbered written got → Polls Poll_of (λ answer. dual_record (λ m. m) seat Poll answer) old got new → IsDrained old.queue written k got new
+  drained old new cap written k got same count order none long numbered steps =
+      let may : MayDrain old.queue k (nat_lt cap (written + dual_owed old.queue + k + 1)) = may-drain old.queue k (nat_lt cap (written + dual_owed old.queue + k + 1)) none in
+      let are : ArePolls old.queue written got new = are-polls old new written got order count (λ some. may.free (omega (arith, long, some))) (omega (arith, long, may.left))
+      (λ some. omega (arith, long, same, ltb-false cap (written + dual_owed old.queue + k + 1) (may.fits (omega (arith, long, some))))) numbered steps in
+      record {
+        turn = drain-made (place_at old.queue written) k (sym (drain_refusal-is old.queue cap written k same count) ∙ none)
+            ∙ ap (λ n. joined (polls setup (place_at old.queue written) seat n) (λ q. silent q seat (Drained k))) (sym long)
+            ∙ ap (λ t. joined t (λ q. silent q seat (Drained k))) are.turns
+            ∙ (λ i. record { replies = map (λ (one : DualAnswer ℕ × Received Deed). poll_reply seat one.1) got ++ record { seat = seat; outcome = Drained k } ∷ []; records = append-nil (map (λ (one : DualAnswer ℕ × Received Deed). one.1.entry) got) i; place = place_at new.queue (written + length got) });
+        order = are.order;
+        count = are.count;
+      }

@@ -1,0 +1,223 @@
+-- What each step of a queue does in the words of histories, and what it costs.
+use Rattle.std.proofs.Common.{◌≡◌, ℕ, ◌+◌, ◌≤◌, ◌-◌, ◌==◌, refl, sym, ap, ◌∙◌, Bool, true, false, cond, Option, Some, None, is_some, List, [], ◌∷◌, length, length-take, arith}
+use Rattle.std.specs.Prelude.{option_map}
+use Rattle.std.specs.Option.{option_map_or}
+use Rattle.std.proofs.lemmas.List.{length-append, length-drop}
+use Rattle.meet_tickets.specs.declared.lines.Entry.{Entry}
+use Rattle.meet_tickets.specs.declared.lines.Hold.{Hold}
+use Rattle.meet_tickets.specs.declared.lines.Hold.TheVariants.{Free, Waiting, Handed, Served, Cut}
+use Rattle.meet_tickets.specs.declared.places.Side.{Side}
+use Rattle.meet_tickets.specs.declared.places.Side.TheVariants.{Giver, Taker}
+use Rattle.meet_tickets.specs.declared.places.Order.{Order}
+use Rattle.meet_tickets.specs.declared.places.Order.TheVariants.{Fair, Unfair, Transfer}
+use Rattle.meet_tickets.specs.declared.records.Cause.TheVariants.{Cancelled, Expired, Interrupted}
+use Rattle.meet_tickets.specs.declared.records.Deed.{Deed}
+use Rattle.meet_tickets.specs.declared.records.Deed.TheVariants.{GiveWaits, GiveMeets, GiveFails, TakeWaits, TakeMeets, TakeFails, EntryInterrupted, Done, Got, Withdrawn, Interrupt}
+use Rattle.meet_tickets.specs.Meeting.{partner}
+use Rattle.meet_tickets.specs.BySeat.{Seats, put_at, is_open, open_ticket, owed_of, unmet, without_first, entry_of, queued, paired, paired_hold, released, flagged, left, cut_off, is_request, Allows, seats_after, meets}
+use Rattle.meet_core.specs.Queue.{Queue, seats_of, count_of, Stands, IsSound}
+use Rattle.meet_core.specs.Steps.{Uses, Leaves, HandsTo, GetsFrom, GiveStep, OfferStep, TakeStep, PollStep, FollowStep, WithdrawStep, InterruptStep}
+use Rattle.meet_core.specs.declared.answers.Gave.{Gave}
+use Rattle.meet_core.specs.declared.answers.Gave.TheVariants.{Waits as GiverWaits, Meets as GiverMeets, EntryInterrupted as GiverInterrupted}
+use Rattle.meet_core.specs.declared.answers.Took.{Took}
+use Rattle.meet_core.specs.declared.answers.Took.TheVariants.{Waits as TakerWaits, Meets as TakerMeets, EntryInterrupted as TakerInterrupted}
+use Rattle.meet_core.specs.declared.answers.Offered.{Offered}
+use Rattle.meet_core.specs.declared.answers.Offered.TheVariants.{Meets as OfferMeets, Fails as OfferFails}
+use Rattle.meet_core.specs.declared.answers.Polled.{Polled}
+use Rattle.meet_core.specs.declared.answers.Polled.TheVariants.{Meets as PollMeets, Fails as PollFails}
+use Rattle.meet_core.specs.declared.answers.Followed.{Followed}
+use Rattle.meet_core.specs.declared.answers.Followed.TheVariants.{Done as WasMet, Got as HasGot, Interrupted as WasCut, NotYet}
+use Rattle.meet_core.specs.declared.answers.TakenBack.{TakenBack}
+use Rattle.meet_core.specs.declared.answers.TakenBack.TheVariants.{Back, Late}
+use Rattle.meet_core.specs.declared.answers.Interrupted.{Interrupted as Struck}
+use Rattle.meet_core.specs.declared.answers.Interrupted.TheVariants.{Cut as CutOff, Flagged}
+use Rattle.meet_core.proofs.Sound.{Stands-partner, there-waiting}
+use Rattle.meet_core.proofs.Following.{there-open}
+use Rattle.meet_history.specs.DualRecords.{made, give_record, offer_record, take_record, poll_record, follow_record, back_record, interrupt_record}
+use Rattle.meet_history.specs.DualSteps.{dual_owed, marked_entry, marked_hold, marked, kind_of, Writes, Costs, HasEffect}
+use Rattle.meet_history.proofs.Marking.{partner-marked, entry_of-marked, queued-marked, paired-marked, released-marked, left-marked, cut_off-marked}
+use Rattle.meet_history.proofs.Owed.{owed-same, owed-more, owed-fewer}
+
+-- what leaves a line doesn't lengthen it
+unmet-short : {X : Type 0} (order : Order) (line : List (Entry X)) → length (unmet order line) ≤ length line
+unmet-short Fair line = omega (arith, length-drop 1 line)
+unmet-short Unfair line = omega (arith, length-take (length line - 1) line)
+unmet-short Transfer line = omega (arith, length-drop 1 line)
+
+without-short : {X : Type 0} (t : ℕ) (line : List (Entry X)) → length (without_first (λ e. e.ticket == t) line) ≤ length line
+without-short t [] = omega arith
+without-short t (e ∷ line) = by_test (e.ticket == t) (without-short t line)
+  where
+    by_test : (b : Bool) → length (without_first (λ e. e.ticket == t) line) ≤ length line → length (cond b line (e ∷ without_first (λ e. e.ticket == t) line)) ≤ length (e ∷ line)
+    by_test true less = omega arith
+    by_test false less = omega (arith, less)
+
+-- what stands in the line is open
+entry-open : {X : Type 0} (line : List (Entry X)) (hold : Hold X) (e : Entry X) → entry_of line hold ≡ Some e → is_open hold ≡ true
+entry-open line Free e found = cc
+entry-open line (Waiting t) e found = refl
+entry-open line (Handed t u mark) e found = refl
+entry-open line (Served t u item) e found = refl
+entry-open line (Cut t item) e found = refl
+
+module _ {T : Type 0} (mark : T → ℕ) (order : Order) (old new : Queue T) where
+  abbrev now : Seats ℕ
+  now = marked mark (seats_of old)
+
+  -- a request's step
+  writes-request : (i t : ℕ) (deed : Deed) (seats : Seats T) → is_request deed ≡ true → Uses old new t seats → Allows (kind_of order) now i t deed → marked mark seats ≡ seats_after (kind_of order) now i t deed → Writes mark order old new (made i t deed)
+  writes-request i t deed seats asks uses allowed after = record {
+    used = λ _. uses.used;
+    next = uses.next ∙ sym (ap (λ b. cond b (old.next + 1) old.next) asks);
+    allowed = allowed;
+    after = ap (marked mark) uses.left ∙ after;
+  }
+
+  -- an ending's, or an interrupt's
+  writes-other : (i t : ℕ) (deed : Deed) (seats : Seats T) → is_request deed ≡ false → Leaves old new seats → Allows (kind_of order) now i t deed → marked mark seats ≡ seats_after (kind_of order) now i t deed → Writes mark order old new (made i t deed)
+  writes-other i t deed seats asks leaves allowed after = record {
+    used = λ is. absurd (let x : false ≡ true = sym asks ∙ is in cc);
+    next = leaves.next ∙ sym (ap (λ b. cond b (old.next + 1) old.next) asks);
+    allowed = allowed;
+    after = ap (marked mark) leaves.left ∙ after;
+  }
+
+  costs-from : (need written : ℕ) (seats : Seats T) → count_of new ≡ count_of old → seats_of new ≡ seats → written + owed_of (count_of old) seats.holds ≤ dual_owed old + need → length seats.line ≤ length old.line + 1 → Costs old new need written
+  costs-from need written seats count is owed line =
+      let same : dual_owed new ≡ owed_of (count_of old) seats.holds = ap (λ n. owed_of n (seats_of new).holds) count ∙ ap (λ s. owed_of (count_of old) s.holds) is in
+      let long : length new.line ≡ length seats.line = ap (λ (s : Seats T). length s.line) is in
+      record { owed = omega (arith, same, owed); line = omega (arith, long, line) }
+
+  -- the partner as histories see it
+  found-marked : (side : Side) (e : Entry T) → partner order old.line side ≡ Some e → partner order now.line side ≡ Some (marked_entry mark e)
+  found-marked side e found = partner-marked mark order old.line side ∙ ap (option_map (marked_entry mark)) found
+
+  alone-marked : (side : Side) → partner order old.line side ≡ None → partner order now.line side ≡ None
+  alone-marked side alone = partner-marked mark order old.line side ∙ ap (option_map (marked_entry mark)) alone
+
+  -- a meeting leaves the same
+  meets-marked : (t : ℕ) (item : Option T) (side : Side) (e : Entry T) → partner order old.line side ≡ Some e → marked mark (paired mark order (seats_of old) t item e) ≡ meets (kind_of order) now t (option_map mark item) side
+  meets-marked t item side e found =
+      paired-marked mark order (seats_of old) t item e
+      ∙ sym (ap (λ o. option_map_or (paired (λ m. m) order now t (option_map mark item)) o now) (found-marked side e found))
+
+  free-marked : (i : ℕ) → (seats_of old).holds i ≡ Free → now.holds i ≡ Free
+  free-marked i free = ap (marked_hold mark) free
+
+  -- what a met seat holds is open, as it was
+  pub met-open : (side : Side) (t : ℕ) (item : Option T) (e : Entry T) → IsSound old.line (seats_of old).holds old.next → partner order old.line side ≡ Some e → is_open (paired_hold mark e.ticket e.item t item) ≡ true → owed_of (count_of old) (paired mark order (seats_of old) t item e).holds ≡ dual_owed old
+  met-open side t item e sound found opened =
+      let stands : Stands (seats_of old).holds old.next e = Stands-partner order side e sound found in
+      ap (λ b. owed_of (count_of old) (cond b (put_at (seats_of old).holds e.seat (paired_hold mark e.ticket e.item t item)) (seats_of old).holds)) stands.waits
+      ∙ owed-same (seats_of old).holds (count_of old) e.seat (paired_hold mark e.ticket e.item t item) (opened ∙ sym (ap is_open stands.held))
+
+  -- a giver that meets
+  hands-effect : (i t u : ℕ) (item : T) → IsSound old.line (seats_of old).holds old.next → (seats_of old).holds i ≡ Free → HandsTo mark order old item t u new → Writes mark order old new (made i t (GiveMeets (mark item) u)) × Costs old new 2 1
+  hands-effect i t u item sound free (e, found, ticket, none, uses) = (
+    writes-request i t (GiveMeets (mark item) u) _ refl uses
+        (free-marked i free, (marked_entry mark e, found-marked Giver e found, sym ticket, ap (option_map mark) none))
+        (meets-marked t (Some item) Giver e found),
+    costs-from 2 1 _ uses.count uses.left
+        (omega (arith, met-open Giver t (Some item) e sound found (ap (λ o. is_open (paired_hold mark e.ticket o t (Some item))) none)))
+        (omega (arith, unmet-short order old.line)),
+  )
+
+  -- a taker that meets
+  gets-effect : (i t u : ℕ) (item : T) → IsSound old.line (seats_of old).holds old.next → (seats_of old).holds i ≡ Free → GetsFrom mark order old t u item new → Writes mark order old new (made i t (TakeMeets (mark item) u)) × Costs old new 2 1
+  gets-effect i t u item sound free (e, found, ticket, own, uses) = (
+    writes-request i t (TakeMeets (mark item) u) _ refl uses
+        (free-marked i free, (marked_entry mark e, found-marked Taker e found, sym ticket, ap (option_map mark) own))
+        (meets-marked t None Taker e found),
+    costs-from 2 1 _ uses.count uses.left
+        (omega (arith, met-open Taker t None e sound found (ap (λ o. is_open (paired_hold mark e.ticket o t None)) own)))
+        (omega (arith, unmet-short order old.line)),
+  )
+
+  -- a request that goes to the line
+  waits-costs : (i t : ℕ) (item : Option T) → Uses old new t (queued (seats_of old) i t item true) → Costs old new 2 1
+  waits-costs i t item uses =
+      let e : Entry T = record { ticket = t; seat = i; item = item; waits = true } in
+      costs-from 2 1 _ uses.count uses.left
+      (omega (arith, owed-more (seats_of old).holds (count_of old) i (Waiting t)))
+      (omega (arith, length-append old.line (e ∷ [])))
+
+  -- one that leaves line and seats as they are
+  same-costs : (t : ℕ) (flags : ℕ → Bool) → Uses old new t (record (seats_of old) { flags = flags }) → Costs old new 2 1
+  same-costs t flags uses = costs-from 2 1 _ uses.count uses.left (omega arith) (omega arith)
+
+  pub give-effect : (i : ℕ) (item : T) (answer : Gave T) → IsSound old.line (seats_of old).holds old.next → (seats_of old).holds i ≡ Free → GiveStep mark order old i item answer new → Writes mark order old new (give_record i (mark item) answer) × Costs old new 2 1
+  give-effect i item (GiverWaits t) sound free (alone, flag, uses) =
+      (writes-request i t (GiveWaits (mark item)) _ refl uses (free-marked i free, alone-marked Giver alone, flag) (queued-marked mark (seats_of old) i t (Some item)), waits-costs i t (Some item) uses)
+  give-effect i item (GiverMeets t u) sound free step = hands-effect i t u item sound free step
+  give-effect i item (GiverInterrupted t back) sound free (alone, flag, same, uses) =
+      (writes-request i t (EntryInterrupted Giver) _ refl uses (free-marked i free, alone-marked Giver alone, flag) refl, same-costs t _ uses)
+
+  pub offer-effect : (i : ℕ) (item : T) (answer : Offered T) → IsSound old.line (seats_of old).holds old.next → (seats_of old).holds i ≡ Free → OfferStep mark order old item answer new → Writes mark order old new (offer_record i (mark item) answer) × Costs old new 2 1
+  offer-effect i item (OfferMeets t u) sound free step = hands-effect i t u item sound free step
+  offer-effect i item (OfferFails t back) sound free (alone, same, uses) =
+      (writes-request i t (GiveFails (mark item)) _ refl uses (free-marked i free, alone-marked Giver alone) refl, same-costs t _ uses)
+
+  pub take-effect : (i : ℕ) (answer : Took T) → IsSound old.line (seats_of old).holds old.next → (seats_of old).holds i ≡ Free → TakeStep mark order old i answer new → Writes mark order old new (take_record mark i answer) × Costs old new 2 1
+  take-effect i (TakerWaits t) sound free (alone, flag, uses) =
+      (writes-request i t TakeWaits _ refl uses (free-marked i free, alone-marked Taker alone, flag) (queued-marked mark (seats_of old) i t None), waits-costs i t None uses)
+  take-effect i (TakerMeets t u item) sound free step = gets-effect i t u item sound free step
+  take-effect i (TakerInterrupted t) sound free (alone, flag, uses) =
+      (writes-request i t (EntryInterrupted Taker) _ refl uses (free-marked i free, alone-marked Taker alone, flag) refl, same-costs t _ uses)
+
+  pub poll-effect : (i : ℕ) (answer : Polled T) → IsSound old.line (seats_of old).holds old.next → (seats_of old).holds i ≡ Free → PollStep mark order old answer new → Writes mark order old new (poll_record mark i answer) × Costs old new 2 1
+  poll-effect i (PollMeets t u item) sound free step = gets-effect i t u item sound free step
+  poll-effect i (PollFails t) sound free (alone, uses) =
+      (writes-request i t TakeFails _ refl uses (free-marked i free, alone-marked Taker alone) refl, same-costs t _ uses)
+
+  -- an open ticket that ends where it was settled
+  ends-costs : (i t : ℕ) → open_ticket ((seats_of old).holds i) ≡ Some t → Leaves old new (released (seats_of old) i) → Costs old new 0 1
+  ends-costs i t opened leaves =
+      costs-from 0 1 _ leaves.count leaves.left
+      (omega (arith, owed-fewer (seats_of old).holds (count_of old) i (there-open old.table.holds i t opened) (ap is_some opened)))
+      (omega arith)
+
+  pub follow-effect : (i t : ℕ) (answer : Followed T) → FollowStep old i t answer new → HasEffect mark order old new 0 (follow_record mark i t answer)
+  follow-effect i t WasMet (u, m, held, leaves) =
+      (writes-other i t Done _ refl leaves (u, m, ap (marked_hold mark) held) (released-marked mark (seats_of old) i), ends-costs i t (ap open_ticket held) leaves)
+  follow-effect i t (HasGot u item) (held, leaves) =
+      (writes-other i t (Got (mark item) u) _ refl leaves (ap (marked_hold mark) held) (released-marked mark (seats_of old) i), ends-costs i t (ap open_ticket held) leaves)
+  follow-effect i t (WasCut item) (held, leaves) =
+      (writes-other i t (Withdrawn Interrupted) _ refl leaves (option_map mark item, ap (marked_hold mark) held) (released-marked mark (seats_of old) i), ends-costs i t (ap open_ticket held) leaves)
+  follow-effect i t NotYet (held, same) = same
+
+  -- a waiting ticket that is taken back stands in the line of marks too
+  in-line-marked : (i t : ℕ) (e : Entry T) → (seats_of old).holds i ≡ Waiting t → entry_of old.line (Waiting t) ≡ Some e → is_some (entry_of now.line (now.holds i)) ≡ true
+  in-line-marked i t e held found =
+      ap is_some (entry_of-marked mark old.line ((seats_of old).holds i) ∙ ap (λ h. option_map (marked_entry mark) (entry_of old.line h)) held ∙ ap (option_map (marked_entry mark)) found)
+
+  back-costs : (i t : ℕ) → (seats_of old).holds i ≡ Waiting t → Leaves old new (left (seats_of old) i t) → Costs old new 0 1
+  back-costs i t held leaves =
+      costs-from 0 1 _ leaves.count leaves.left
+      (omega (arith, owed-fewer (seats_of old).holds (count_of old) i (there-waiting old.table.holds i t held) (ap is_open held)))
+      (omega (arith, without-short t old.line))
+
+  pub cancel-effect : (i t : ℕ) (answer : TakenBack T) → WithdrawStep old i t answer new → HasEffect mark order old new 0 (back_record i t Cancelled answer)
+  cancel-effect i t (Back item) (e, held, found, is, leaves) =
+      (writes-other i t (Withdrawn Cancelled) _ refl leaves (ap (marked_hold mark) held, in-line-marked i t e held found) (left-marked mark (seats_of old) i t), back-costs i t held leaves)
+  cancel-effect i t Late (none, same) = same
+
+  pub expire-effect : (i t : ℕ) (answer : TakenBack T) → WithdrawStep old i t answer new → HasEffect mark order old new 0 (back_record i t Expired answer)
+  expire-effect i t (Back item) (e, held, found, is, leaves) =
+      (writes-other i t (Withdrawn Expired) _ refl leaves (ap (marked_hold mark) held, in-line-marked i t e held found) (left-marked mark (seats_of old) i t), back-costs i t held leaves)
+  expire-effect i t Late (none, same) = same
+
+  pub interrupt-effect : (i j : ℕ) (answer : Struck) → InterruptStep old j answer new → Writes mark order old new (interrupt_record i j answer) × Costs old new 1 1
+  interrupt-effect i j (CutOff t) (e, found, ticket, leaves) =
+      let there : entry_of now.line (now.holds j) ≡ Some (marked_entry mark e) = entry_of-marked mark old.line ((seats_of old).holds j) ∙ ap (option_map (marked_entry mark)) found in (
+        writes-other i t (Interrupt j) _ refl leaves (ticket ∙ sym (ap (λ o. option_map_or (λ (f : Entry ℕ). f.ticket) o 0) there))
+            (cut_off-marked mark (seats_of old) j e ∙ sym (ap (λ o. option_map_or (cut_off now j) o (flagged now j true)) there)),
+        costs-from 1 1 _ leaves.count leaves.left
+            (omega (arith, owed-same (seats_of old).holds (count_of old) j (Cut e.ticket e.item) (sym (entry-open old.line ((seats_of old).holds j) e found))))
+            (omega (arith, without-short e.ticket old.line)),
+      )
+  interrupt-effect i j Flagged (none, leaves) =
+      let there : entry_of now.line (now.holds j) ≡ None = entry_of-marked mark old.line ((seats_of old).holds j) ∙ ap (option_map (marked_entry mark)) none in (
+        writes-other i 0 (Interrupt j) _ refl leaves (sym (ap (λ o. option_map_or (λ (f : Entry ℕ). f.ticket) o 0) there))
+            (sym (ap (λ o. option_map_or (cut_off now j) o (flagged now j true)) there)),
+        costs-from 1 1 _ leaves.count leaves.left (omega arith) (omega arith),
+      )

@@ -1,0 +1,12 @@
+pub mod Calling
+pub mod Drained
+pub mod Draining
+pub mod Effects
+pub mod Faulty
+pub mod Kept
+pub mod Leading
+pub mod ManyTurns
+pub mod Marking
+pub mod Owed
+pub mod Polling
+pub mod RecordCounts

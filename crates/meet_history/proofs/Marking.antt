@@ -1,0 +1,114 @@
+-- The moves of the rules are the same for items and for their marks.
+use Rattle.std.proofs.Common.{◌≡◌, ℕ, ◌-◌, ◌==◌, refl, sym, ap, ◌∙◌, Bool, true, false, cond, Option, Some, None, is_some, not, List, [], ◌∷◌, map, length, take, slice_get, find}
+use Rattle.std.specs.Prelude.{option_map}
+use Rattle.std.proofs.Math.Path.{fun_ext}
+use Rattle.std.proofs.lemmas.List.{map-append, take-map, drop-map, length-map}
+use Rattle.std.proofs.lemmas.Option.{slice_get-map}
+use Rattle.meet_tickets.specs.declared.lines.Entry.{Entry}
+use Rattle.meet_tickets.specs.declared.lines.Hold.{Hold}
+use Rattle.meet_tickets.specs.declared.lines.Hold.TheVariants.{Free, Waiting, Handed, Served, Cut}
+use Rattle.meet_tickets.specs.declared.places.Side.{Side}
+use Rattle.meet_tickets.specs.declared.places.Side.TheVariants.{Giver, Taker}
+use Rattle.meet_tickets.specs.declared.places.Order.{Order}
+use Rattle.meet_tickets.specs.declared.places.Order.TheVariants.{Fair, Unfair, Transfer}
+use Rattle.meet_tickets.specs.Meeting.{is_on, met, partner}
+use Rattle.meet_tickets.specs.BySeat.{Seats, put_at, unmet, without_first, entry_of, queued, paired, paired_hold, released, left, cut_off}
+use Rattle.meet_history.specs.DualSteps.{marked_entry, marked_hold, marked}
+
+module _ {T : Type 0} (mark : T → ℕ) where
+  -- an entry has an item, or a mark
+  some-marked : (o : Option T) → is_some (option_map mark o) ≡ is_some o
+  some-marked None = refl
+  some-marked (Some x) = refl
+
+  is_on-marked : (side : Side) (e : Entry T) → is_on side (marked_entry mark e) ≡ is_on side e
+  is_on-marked Giver e = some-marked e.item
+  is_on-marked Taker e = ap not (some-marked e.item)
+
+  -- whom a request meets
+  met-marked : (order : Order) (line : List (Entry T)) → met order (map (marked_entry mark) line) ≡ option_map (marked_entry mark) (met order line)
+  met-marked Fair line = slice_get-map (marked_entry mark) line 0
+  met-marked Unfair line = ap (λ n. slice_get (map (marked_entry mark) line) (n - 1)) (length-map line (marked_entry mark)) ∙ slice_get-map (marked_entry mark) line (length line - 1)
+  met-marked Transfer line = slice_get-map (marked_entry mark) line 0
+
+  pub partner-marked : (order : Order) (line : List (Entry T)) (side : Side) → partner order (map (marked_entry mark) line) side ≡ option_map (marked_entry mark) (partner order line side)
+  partner-marked order [] side = refl
+  partner-marked order (e ∷ line) side =
+      (λ i. cond (is_on-marked side e i) None (met-marked order (e ∷ line) i)) ∙ by_test (is_on side e) (met order (e ∷ line))
+    where
+      by_test : (b : Bool) (o : Option (Entry T)) → cond b None (option_map (marked_entry mark) o) ≡ option_map (marked_entry mark) (cond b None o)
+      by_test true o = refl
+      by_test false o = refl
+
+  -- what is left of a line
+  unmet-marked : (order : Order) (line : List (Entry T)) → map (marked_entry mark) (unmet order line) ≡ unmet order (map (marked_entry mark) line)
+  unmet-marked Fair line = sym (drop-map (marked_entry mark) 1 line)
+  unmet-marked Unfair line = sym (ap (λ n. take (n - 1) (map (marked_entry mark) line)) (length-map line (marked_entry mark)) ∙ take-map (marked_entry mark) (length line - 1) line)
+  unmet-marked Transfer line = sym (drop-map (marked_entry mark) 1 line)
+
+  find-marked : (t : ℕ) (line : List (Entry T)) → find (λ e. e.ticket == t) (map (marked_entry mark) line) ≡ option_map (marked_entry mark) (find (λ e. e.ticket == t) line)
+  find-marked t [] = refl
+  find-marked t (e ∷ line) = by_test (e.ticket == t) (find-marked t line)
+    where
+      by_test : (b : Bool) → find (λ e. e.ticket == t) (map (marked_entry mark) line) ≡ option_map (marked_entry mark) (find (λ e. e.ticket == t) line) → cond b (Some (marked_entry mark e)) (find (λ e. e.ticket == t) (map (marked_entry mark) line)) ≡ option_map (marked_entry mark) (cond b (Some e) (find (λ e. e.ticket == t) line))
+      by_test true more = refl
+      by_test false more = more
+
+  without-marked : (t : ℕ) (line : List (Entry T)) → map (marked_entry mark) (without_first (λ e. e.ticket == t) line) ≡ without_first (λ e. e.ticket == t) (map (marked_entry mark) line)
+  without-marked t [] = refl
+  without-marked t (e ∷ line) = by_test (e.ticket == t) (without-marked t line)
+    where
+      by_test : (b : Bool) → map (marked_entry mark) (without_first (λ e. e.ticket == t) line) ≡ without_first (λ e. e.ticket == t) (map (marked_entry mark) line) → map (marked_entry mark) (cond b line (e ∷ without_first (λ e. e.ticket == t) line)) ≡ cond b (map (marked_entry mark) line) (marked_entry mark e ∷ without_first (λ e. e.ticket == t) (map (marked_entry mark) line))
+      by_test true more = refl
+      by_test false more = ap (λ l. marked_entry mark e ∷ l) more
+
+  -- the entry of what a seat holds
+  pub entry_of-marked : (line : List (Entry T)) (hold : Hold T) → entry_of (map (marked_entry mark) line) (marked_hold mark hold) ≡ option_map (marked_entry mark) (entry_of line hold)
+  entry_of-marked line Free = refl
+  entry_of-marked line (Waiting t) = find-marked t line
+  entry_of-marked line (Handed t u m) = refl
+  entry_of-marked line (Served t u item) = refl
+  entry_of-marked line (Cut t item) = refl
+
+  -- what is put somewhere
+  put_at-marked : (holds : ℕ → Hold T) (i : ℕ) (hold : Hold T) → (λ k. marked_hold mark (put_at holds i hold k)) ≡ put_at (λ k. marked_hold mark (holds k)) i (marked_hold mark hold)
+  put_at-marked holds i hold = fun_ext (λ k. by_test (k == i) (holds k))
+    where
+      by_test : (b : Bool) (h : Hold T) → marked_hold mark (cond b hold h) ≡ cond b (marked_hold mark hold) (marked_hold mark h)
+      by_test true h = refl
+      by_test false h = refl
+
+  -- what a met seat holds
+  paired_hold-marked : (t : ℕ) (own : Option T) (u : ℕ) (brought : Option T) → marked_hold mark (paired_hold mark t own u brought) ≡ paired_hold (λ m. m) t (option_map mark own) u (option_map mark brought)
+  paired_hold-marked t None u None = refl
+  paired_hold-marked t None u (Some item) = refl
+  paired_hold-marked t (Some item) u brought = refl
+
+  -- the moves
+  pub queued-marked : (s : Seats T) (i t : ℕ) (item : Option T) → marked mark (queued s i t item true) ≡ queued (marked mark s) i t (option_map mark item) true
+  queued-marked s i t item =
+      let e : Entry T = record { ticket = t; seat = i; item = item; waits = true } in
+      λ j. record {
+        line = map-append (marked_entry mark) s.line (e ∷ []) j;
+        holds = put_at-marked s.holds i (Waiting t) j;
+        flags = s.flags;
+      }
+
+  pub paired-marked : (order : Order) (s : Seats T) (t : ℕ) (item : Option T) (e : Entry T) → marked mark (paired mark order s t item e) ≡ paired (λ m. m) order (marked mark s) t (option_map mark item) (marked_entry mark e)
+  paired-marked order s t item e = λ j. record { line = unmet-marked order s.line j; holds = by_test e.waits j; flags = s.flags }
+    where
+      hold : Hold T
+      hold = paired_hold mark e.ticket e.item t item
+
+      by_test : (b : Bool) → (λ k. marked_hold mark ((cond b (put_at s.holds e.seat hold) s.holds) k)) ≡ cond b (put_at (λ k. marked_hold mark (s.holds k)) e.seat (paired_hold (λ m. m) e.ticket (option_map mark e.item) t (option_map mark item))) (λ k. marked_hold mark (s.holds k))
+      by_test true = put_at-marked s.holds e.seat hold ∙ ap (λ h. put_at (λ k. marked_hold mark (s.holds k)) e.seat h) (paired_hold-marked e.ticket e.item t item)
+      by_test false = refl
+
+  pub released-marked : (s : Seats T) (i : ℕ) → marked mark (released s i) ≡ released (marked mark s) i
+  released-marked s i = λ j. record { line = map (marked_entry mark) s.line; holds = put_at-marked s.holds i Free j; flags = s.flags }
+
+  pub left-marked : (s : Seats T) (i t : ℕ) → marked mark (left s i t) ≡ left (marked mark s) i t
+  left-marked s i t = λ j. record { line = without-marked t s.line j; holds = put_at-marked s.holds i Free j; flags = s.flags }
+
+  pub cut_off-marked : (s : Seats T) (i : ℕ) (e : Entry T) → marked mark (cut_off s i e) ≡ cut_off (marked mark s) i (marked_entry mark e)
+  cut_off-marked s i e = λ j. record { line = without-marked e.ticket s.line j; holds = put_at-marked s.holds i (Cut e.ticket e.item) j; flags = s.flags }

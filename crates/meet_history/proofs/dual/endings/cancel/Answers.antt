@@ -1,0 +1,10 @@
+use Rattle.std.proofs.Common.{sym, subst}
+use Rattle.meet_history.specs.DualSteps.{HasEffect}
+use Rattle.meet_history.proofs.Effects.{cancel-effect}
+use Rattle.meet_history.proofs.dual.endings.cancel.Goals as goal
+
+pub returns-clause-effect : goal.returns-clause-effect
+returns-clause-effect g c =
+    let old = c.args.queue.now in
+    let new = c.cancel.new.self in
+    subst (λ r. HasEffect g.T.Marked.mark_of g.L.Line.order old new 0 r) (sym c.withdrawn-entry.ensures) (cancel-effect g.T.Marked.mark_of g.L.Line.order old new c.args.seat c.args.ticket _ c.in-Ok.ensures.step)

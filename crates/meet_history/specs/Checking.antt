@@ -1,0 +1,87 @@
+-- Why a record can't come next, and what the checker shows of itself.
+use Rattle.std.specs.Prelude.{◌≡◌, ◌≢◌, ℕ, ◌+◌, ◌<◌, ◌≤◌, Bool, true, false, Some, List, [], ◌∷◌, ◌++◌, length}
+use Rattle.meet_tickets.specs.declared.lines.Entry.{Entry}
+use Rattle.meet_tickets.specs.declared.places.Kind.{Kind}
+use Rattle.meet_tickets.specs.declared.places.Order.{Order}
+use Rattle.meet_tickets.specs.declared.places.Order.TheVariants.{Fair, Unfair, Transfer}
+use Rattle.meet_tickets.specs.declared.records.Record.{Record}
+use Rattle.meet_tickets.specs.declared.records.Deed.{Deed}
+use Rattle.meet_tickets.specs.declared.records.Deed.TheVariants.{Done, Got, Withdrawn}
+use Rattle.meet_tickets.specs.Meeting.{waiting_count, kept_count}
+use Rattle.meet_tickets.specs.ByLists.{IsLegal}
+use Rattle.meet_tickets.specs.BySeat.{Moment, beginning, moment_of, open_ticket, is_open, settled_of, IsFree, is_request, Allows}
+use Rattle.meet_line.specs.Table.{Table, hold_at, flag_at}
+use Rattle.meet_history.specs.declared.checker.Why.{Why}
+use Rattle.meet_history.specs.declared.checker.Why.TheVariants.{SeatOpen, TicketOrder, NotOpen, WrongReply}
+use Rattle.meet_history.specs.declared.checker.Standing.{Standing}
+use Rattle.meet_history.specs.declared.checker.CheckFault.{CheckFault}
+use Rattle.meet_history.specs.declared.checker.CheckFault.TheVariants.{Illegal, Memory}
+
+-- whether a deed ends a ticket
+abbrev pub is_ending : Deed → Bool
+is_ending Done = true
+is_ending (Got mark u) = true
+is_ending (Withdrawn cause) = true
+is_ending deed = false
+
+-- a request is of a free seat and has a new ticket; an ending is of the seat's open ticket
+pub record IsTimely (m : Moment) (r : Record Deed) : Type 0 where
+  pub free : is_request r.deed ≡ true → IsFree m.seats r.seat
+  pub above : is_request r.deed ≡ true → m.last < r.ticket
+  pub opened : is_ending r.deed ≡ true → open_ticket (m.seats.holds r.seat) ≡ Some r.ticket
+
+-- the first reason for which a record can't come next (our choice of words and order)
+abbrev pub IsFaulty : Kind → Moment → Record Deed → Why → Type 0
+IsFaulty k m r SeatOpen = (is_request r.deed ≡ true) × (is_open (m.seats.holds r.seat) ≡ true)
+IsFaulty k m r TicketOrder = (is_request r.deed ≡ true) × IsFree m.seats r.seat × (r.ticket ≤ m.last)
+IsFaulty k m r NotOpen = (is_ending r.deed ≡ true) × (open_ticket (m.seats.holds r.seat) ≢ Some r.ticket)
+IsFaulty k m r WrongReply = IsTimely m r × (Allows k m.seats r.seat r.ticket r.deed → ⊥)
+
+-- why a request of this seat with this ticket comes at the wrong time
+abbrev pub IsLateRequest : Moment → (seat ticket : ℕ) → Why → Type 0
+IsLateRequest m i t SeatOpen = is_open (m.seats.holds i) ≡ true
+IsLateRequest m i t TicketOrder = IsFree m.seats i × (t ≤ m.last)
+IsLateRequest m i t why = ⊥
+
+-- the record of this number is the last of the shortest front that isn't legal
+pub record IsIllegalAt (k : Kind) (records : List (Record Deed)) (place : ℕ) (why : Why) : Type 0 where
+  pub front : List (Record Deed)
+  pub bad : Record Deed
+  pub rest : List (Record Deed)
+  pub parts : records ≡ front ++ bad ∷ rest
+  pub number : place ≡ length front + 1
+  pub legal : IsLegal k front
+  pub illegal : IsLegal k (front ++ bad ∷ []) → ⊥
+  pub faulty : IsFaulty k (moment_of k beginning front) bad why
+
+-- what the checker says of records that aren't legal; want of memory says nothing
+abbrev pub IsCheckFault : Kind → List (Record Deed) → CheckFault → Type 0
+IsCheckFault k records (Illegal place why) = IsIllegalAt k records place why
+IsCheckFault k records Memory = Unit {0}
+
+-- the order of a line in which requests of this order find their partner
+abbrev pub line_order : Order → Order
+line_order Fair = Fair
+line_order Unfair = Unfair
+line_order Transfer = Fair
+
+-- the numbers of tickets that wait in the line, that were met or cut and not collected, and of items that are kept, where
+-- a place has so many seats
+abbrev pub standing_at : (seats : ℕ) → Moment → Standing
+standing_at seats m = record {
+  waiting = waiting_count m.seats.line;
+  uncollected = settled_of seats m.seats.holds;
+  kept = kept_count m.seats.line;
+}
+
+-- what a checker shows of itself
+pub record Checked : Type 0 where
+  pub kind : Kind
+  pub last : ℕ
+  pub line : List (Entry ℕ)
+  pub room : ℕ  -- how many entries more the line takes without growth
+  pub table : Table ℕ
+
+-- where the place is
+abbrev pub moment_at : Checked → Moment
+moment_at c = record { last = c.last; seats = record { line = c.line; holds = hold_at c.table.holds; flags = flag_at c.table.flags } }

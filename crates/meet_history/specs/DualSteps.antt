@@ -1,0 +1,117 @@
+-- A synchronous queue as a book's place: its steps, refusals and costs, and the histories that lead to it.
+use Rattle.std.specs.Prelude.{◌≡◌, ℕ, ◌+◌, ◌-◌, ◌^◌, ◌<◌, ◌≤◌, nat_eq, nat_le, ◌||◌, Bool, true, false, Option, Some, None, option_map, List, map, length, MatchOption, if◌then◌else◌}
+use Rattle.std.specs.Option.{option_map_or}
+use Rattle.meet_tickets.specs.declared.lines.Entry.{Entry}
+use Rattle.meet_tickets.specs.declared.lines.Hold.{Hold}
+use Rattle.meet_tickets.specs.declared.lines.Hold.TheVariants.{Free, Waiting, Handed, Served, Cut}
+use Rattle.meet_tickets.specs.declared.places.Side.TheVariants.{Giver}
+use Rattle.meet_tickets.specs.declared.places.Order.{Order}
+use Rattle.meet_tickets.specs.declared.places.Kind.{Kind}
+use Rattle.meet_tickets.specs.declared.records.Record.{Record}
+use Rattle.meet_tickets.specs.declared.records.Deed.{Deed}
+use Rattle.meet_tickets.specs.declared.refusals.Refusal.{Refusal}
+use Rattle.meet_tickets.specs.declared.refusals.Refusal.TheVariants.{NotOpen, NoSuchSeat}
+use Rattle.meet_tickets.specs.Meeting.{count_on}
+use Rattle.meet_tickets.specs.ByLists.{IsLegal}
+use Rattle.meet_tickets.specs.BySeat.{Seats, beginning, moment_of, open_ticket, owed_of, is_request, Allows, seats_after}
+use Rattle.meet_tickets.specs.Refusals.{refusal_of}
+use Rattle.meet_core.specs.Queue.{Queue, seats_of, count_of}
+use Rattle.meet_core.specs.Steps.{GiveStep, OfferStep, TakeStep, PollStep, FollowStep, WithdrawStep, InterruptStep}
+use Rattle.meet_history.specs.declared.told.DualCall.{DualCall}
+use Rattle.meet_history.specs.declared.told.DualCall.TheVariants.{Give, Offer, Take, Poll, FollowUp, Cancel, Expire, Interrupt}
+use Rattle.meet_history.specs.declared.told.DualAnswer.{DualAnswer}
+use Rattle.meet_history.specs.declared.told.DualAnswer.TheVariants.{Gave as ToGive, Offered as ToOffer, Took as ToTake, Polled as ToPoll, Followed as ToFollowUp, TakenBack as ToWithdrawal, Interrupted as ToInterrupt}
+
+-- a seat's call makes the queue's step, with an answer of its own kind
+abbrev pub DualStep : {T : Type 0} → (T → ℕ) → Order → Queue T → (seat : ℕ) → DualCall T → DualAnswer T → Queue T → Type 0
+DualStep mark order old i (Give item) (ToGive answer) new = GiveStep mark order old i item answer new
+DualStep mark order old i (Offer item) (ToOffer answer) new = OfferStep mark order old item answer new
+DualStep mark order old i Take (ToTake answer) new = TakeStep mark order old i answer new
+DualStep mark order old i Poll (ToPoll answer) new = PollStep mark order old answer new
+DualStep mark order old i (FollowUp t) (ToFollowUp answer) new = FollowStep old i t answer new
+DualStep mark order old i (Cancel t) (ToWithdrawal answer) new = WithdrawStep old i t answer new
+DualStep mark order old i (Expire t) (ToWithdrawal answer) new = WithdrawStep old i t answer new
+DualStep mark order old i (Interrupt j) (ToInterrupt answer) new = InterruptStep old j answer new
+DualStep mark order old i call answer new = ⊥
+
+-- whether this is the seat's open ticket
+abbrev pub is_its : {T : Type 0} → Queue T → (seat ticket : ℕ) → Bool
+is_its q i t = option_map_or (λ own. nat_eq own t) (open_ticket ((seats_of q).holds i)) false
+
+-- why an ending is refused
+abbrev pub ending_refusal : {T : Type 0} → Queue T → (seat ticket : ℕ) → Option Refusal
+ending_refusal q i t = if is_its q i t then None else Some NotOpen
+
+-- why a call is refused, HistoryFull and Memory aside
+abbrev pub dual_refusal : {T : Type 0} → Queue T → (seat : ℕ) → DualCall T → Option Refusal
+dual_refusal q i (Give item) = refusal_of (count_of q) q.next (seats_of q) i
+dual_refusal q i (Offer item) = refusal_of (count_of q) q.next (seats_of q) i
+dual_refusal q i Take = refusal_of (count_of q) q.next (seats_of q) i
+dual_refusal q i Poll = refusal_of (count_of q) q.next (seats_of q) i
+dual_refusal q i (FollowUp t) = ending_refusal q i t
+dual_refusal q i (Cancel t) = ending_refusal q i t
+dual_refusal q i (Expire t) = ending_refusal q i t
+dual_refusal q i (Interrupt j) = if nat_le (count_of q) i || nat_le (count_of q) j then Some NoSuchSeat else None
+
+-- a request needs a record for itself and one for its ending, an interrupt one, an ending none
+abbrev pub dual_need : {T : Type 0} → DualCall T → ℕ
+dual_need (Give item) = 2
+dual_need (Offer item) = 2
+dual_need Take = 2
+dual_need Poll = 2
+dual_need (FollowUp t) = 0
+dual_need (Cancel t) = 0
+dual_need (Expire t) = 0
+dual_need (Interrupt j) = 1
+
+-- each open ticket owes its ending's record
+abbrev pub dual_owed : {T : Type 0} → Queue T → ℕ
+dual_owed q = owed_of (count_of q) (seats_of q).holds
+
+-- the givers in the line can be drained
+abbrev pub dual_available : {T : Type 0} → Queue T → ℕ
+dual_available q = count_on Giver q.line
+
+-- the tickets from the next one to 2^63 - 1 are left
+abbrev pub dual_left : {T : Type 0} → Queue T → ℕ
+dual_left q = 2 ^ 63 - q.next
+
+-- the seats as histories see them, items by their marks
+abbrev pub marked_entry : {T : Type 0} → (T → ℕ) → Entry T → Entry ℕ
+marked_entry mark e = record { ticket = e.ticket; seat = e.seat; item = option_map mark e.item; waits = e.waits }
+
+abbrev pub marked_hold : {T : Type 0} → (T → ℕ) → Hold T → Hold ℕ
+marked_hold mark Free = Free
+marked_hold mark (Waiting t) = Waiting t
+marked_hold mark (Handed t u m) = Handed t u m
+marked_hold mark (Served t u item) = Served t u (mark item)
+marked_hold mark (Cut t item) = Cut t (option_map mark item)
+
+abbrev pub marked : {T : Type 0} → (T → ℕ) → Seats T → Seats ℕ
+marked mark s = record { line = map (marked_entry mark) s.line; holds = λ i. marked_hold mark (s.holds i); flags = s.flags }
+
+-- a place of this order, without a bound
+abbrev pub kind_of : Order → Kind
+kind_of order = record { order = order; bound = None }
+
+-- these records are legal, their tickets are used up, and they leave what the queue's seats hold
+pub record LeadsTo {T : Type 0} (mark : T → ℕ) (order : Order) (records : List (Record Deed)) (q : Queue T) : Type 0 where
+  pub legal : IsLegal (kind_of order) records
+  pub used : (moment_of (kind_of order) beginning records).last < q.next
+  pub leaves : (moment_of (kind_of order) beginning records).seats ≡ marked mark (seats_of q)
+
+-- what a step that writes this record does to the queue, in the words of histories
+pub record Writes {T : Type 0} (mark : T → ℕ) (order : Order) (old new : Queue T) (r : Record Deed) : Type 0 where
+  pub used : is_request r.deed ≡ true → r.ticket ≡ old.next
+  pub next : new.next ≡ (if is_request r.deed then old.next + 1 else old.next)
+  pub allowed : Allows (kind_of order) (marked mark (seats_of old)) r.seat r.ticket r.deed
+  pub after : marked mark (seats_of new) ≡ seats_after (kind_of order) (marked mark (seats_of old)) r.seat r.ticket r.deed
+
+-- what a call costs: the records that it writes and leaves owed, and its place in the line
+pub record Costs {T : Type 0} (old new : Queue T) (need : ℕ) (written : ℕ) : Type 0 where
+  pub owed : written + dual_owed new ≤ dual_owed old + need
+  pub line : length new.line ≤ length old.line + 1
+
+-- a step that writes this record, or none and then changes nothing
+abbrev pub HasEffect : {T : Type 0} → (T → ℕ) → Order → Queue T → Queue T → (need : ℕ) → Option (Record Deed) → Type 0
+HasEffect mark order old new need r = MatchOption r (new ≡ old) (λ r. Writes mark order old new r × Costs old new need 1)

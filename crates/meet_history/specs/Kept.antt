@@ -1,0 +1,8 @@
+-- What a book shows of itself.
+use Rattle.std.specs.Prelude.{ℕ, List}
+use Rattle.meet_tickets.specs.declared.records.Record.{Record}
+
+pub record Kept (O D : Type 0) : Type 0 where
+  pub object : O
+  pub records : List (Record D)
+  pub cap : ℕ  -- how many records it may have

@@ -1,0 +1,15 @@
+pub mod Booking
+pub mod Checking
+pub mod Draining
+pub mod DualRecords
+pub mod DualRoom
+pub mod DualSteps
+pub mod Kept
+pub mod Limits
+pub mod Marks
+pub mod OneThread
+pub mod Queues
+pub mod Received
+pub mod Said
+pub mod Served
+pub mod Stepping

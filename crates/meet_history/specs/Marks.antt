@@ -1,0 +1,31 @@
+-- What the line of a history's marks shows of itself.
+use Rattle.std.specs.Prelude.{ℕ, List, Option, Some, None, not, if◌then◌else◌}
+use Rattle.meet_tickets.specs.declared.lines.Entry.{Entry}
+use Rattle.meet_tickets.specs.declared.places.Order.{Order}
+use Rattle.meet_tickets.specs.declared.places.Order.TheVariants.{Fair, Unfair}
+use Rattle.meet_history.specs.declared.checker.line.ByEnd.{ByEnd}
+use Rattle.meet_history.specs.declared.checker.line.ByEnd.TheVariants.{Front, Back}
+
+pub record MarkedLine : Type 0 where
+  pub order : Order  -- which entry is met
+  pub entries : List (Entry ℕ)
+  pub room : ℕ  -- how many entries more it takes without growth
+  pub newest : ℕ  -- no entry's ticket is above this one
+
+-- each end has its order
+abbrev pub end_order : ByEnd → Order
+end_order (Front line) = Fair
+end_order (Back line) = Unfair
+
+abbrev pub entries_of : ByEnd → List (Entry ℕ)
+entries_of (Front line) = line.entries
+entries_of (Back line) = line.entries
+
+abbrev pub room_of : ByEnd → ℕ
+room_of (Front line) = line.room
+room_of (Back line) = line.room
+
+-- one for a kept entry, else 0
+abbrev pub kept_in : Option (Entry ℕ) → ℕ
+kept_in None = 0
+kept_in (Some e) = if not e.waits then 1 else 0

@@ -1,0 +1,266 @@
+-- The replies of a place that one thread uses, whatever seats it speaks for.
+use Rattle.std.specs.Prelude.{ℕ, zero, suc, ◌+◌, ◌-◌, ◌^◌, nat_le, nat_lt, min, Bool, true, ◌||◌, Option, Some, None, unwrap_or, List, [], ◌∷◌, ◌++◌, slice_get, if◌then◌else◌}
+use Rattle.std.specs.Option.{option_map_or, option_and_then}
+use Rattle.meet_tickets.specs.declared.lines.Entry.{Entry}
+use Rattle.meet_tickets.specs.declared.lines.Hold.{Hold}
+use Rattle.meet_tickets.specs.declared.lines.Hold.TheVariants.{Free, Waiting, Handed, Served, Cut}
+use Rattle.meet_tickets.specs.declared.places.Side.TheVariants.{Giver, Taker}
+use Rattle.meet_tickets.specs.declared.places.Order.{Order}
+use Rattle.meet_tickets.specs.declared.places.Order.TheVariants.{Fair, Unfair, Transfer}
+use Rattle.meet_tickets.specs.declared.places.Kind.{Kind}
+use Rattle.meet_tickets.specs.declared.records.Record.{Record}
+use Rattle.meet_tickets.specs.declared.records.Cause.{Cause}
+use Rattle.meet_tickets.specs.declared.records.Cause.TheVariants.{Cancelled, Expired, Interrupted}
+use Rattle.meet_tickets.specs.declared.records.Deed.{Deed}
+use Rattle.meet_tickets.specs.declared.records.Deed.TheVariants.{GiveWaits, GiveMeets, GiveFails, GiveKept, TakeWaits, TakeMeets, TakeFails, EntryInterrupted, Done, Got, Withdrawn, Interrupt}
+use Rattle.meet_tickets.specs.declared.refusals.Refusal.{Refusal}
+use Rattle.meet_tickets.specs.declared.refusals.Refusal.TheVariants.{NoSuchSeat, NotOpen}
+use Rattle.meet_tickets.specs.Meeting.{partner, kept_count, waiting_count, count_on}
+use Rattle.meet_tickets.specs.BySeat.{Seats, nobody, entry_of, cut_ticket, owed_of, settled_of, is_request, seats_after}
+use Rattle.meet_tickets.specs.Refusals.{refusal_of}
+use Rattle.meet_history.specs.Booking.{call_refusal}
+use Rattle.meet_history.specs.Draining.{drain_refusal_by}
+use Rattle.meet_history.specs.declared.calls.Call.{Call}
+use Rattle.meet_history.specs.declared.calls.Verb.{Verb}
+use Rattle.meet_history.specs.declared.calls.Verb.TheVariants.{Put, Offer, Take, Poll, Transfer as TransferItem, Try, Follow, Cancel, Expire, Interrupt as InterruptSeat, Drain, Size, Room, Peek, Consumers}
+use Rattle.meet_history.specs.declared.setups.Setup.{Setup}
+use Rattle.meet_history.specs.declared.replies.Reply.{Reply}
+use Rattle.meet_history.specs.declared.replies.Outcome.{Outcome}
+use Rattle.meet_history.specs.declared.replies.Outcome.TheVariants.{Recorded, Interrupted as InterruptedSeat, NotYet, Late, Drained, Count, Peeked, Refused}
+use Rattle.meet_history.specs.declared.replies.Answer.{Answer}
+use Rattle.meet_history.specs.declared.replies.Answer.TheVariants.{Waits, Kept, Gave, Got as GotItem, Fails, Done as Finished, Withdrawn as TakenBack}
+
+-- where the place is
+pub record Place : Type 0 where
+  pub next : ℕ  -- the next ticket
+  pub seats : Seats ℕ
+  pub records : ℕ  -- how many records were written
+
+abbrev pub start : Setup → Place
+start setup = record { next = setup.first; seats = nobody; records = 0 }
+
+-- what a call says, writes and leaves
+pub record Turn : Type 0 where
+  pub replies : List Reply
+  pub records : List (Record Deed)
+  pub place : Place
+
+-- nothing is written, and nothing changes
+abbrev pub silent : Place → (seat : ℕ) → Outcome → Turn
+silent p seat outcome = record { replies = record { seat = seat; outcome = outcome } ∷ []; records = []; place = p }
+
+abbrev pub refused : Place → (seat : ℕ) → Refusal → Turn
+refused p seat why = silent p seat (Refused why)
+
+-- one record is written, whose step the place makes; a request uses its ticket
+abbrev pub written : Setup → Place → Record Deed → (ℕ → Outcome) → Turn
+written setup p r outcome = record {
+  replies = record { seat = r.seat; outcome = outcome (p.records + 1) } ∷ [];
+  records = r ∷ [];
+  place = record {
+    next = if is_request r.deed then p.next + 1 else p.next;
+    seats = seats_after setup.kind p.seats r.seat r.ticket r.deed;
+    records = p.records + 1;
+  };
+}
+
+-- one turn after another
+abbrev pub joined : Turn → (Place → Turn) → Turn
+joined turn rest = record {
+  replies = turn.replies ++ (rest turn.place).replies;
+  records = turn.records ++ (rest turn.place).records;
+  place = (rest turn.place).place;
+}
+
+-- the history has no room for what is owed and this many records more
+abbrev pub is_full : Setup → Place → (need : ℕ) → Bool
+is_full setup p need = nat_lt setup.cap (p.records + owed_of setup.seats p.seats.holds + need)
+
+abbrev pub has_seat : Setup → ℕ → Bool
+has_seat setup seat = nat_lt seat setup.seats
+
+-- three forms of a request without a partner: it waits, it fails, or a giver's item is kept
+pub data Form : Type 0 where
+  waiting : Form
+  immediate : Form
+  keeping : Form
+
+-- an item more may be kept
+abbrev pub may_keep : Kind → List (Entry ℕ) → Bool
+may_keep k line = option_map_or (λ most. nat_lt (kept_count line) most) k.bound true
+
+-- the deed of a give: a partner is met; without one it goes by the form, and a flag stops only one that would wait
+abbrev pub give_alone : Kind → Seats ℕ → (seat : ℕ) → Form → (mark : ℕ) → Deed
+give_alone k s seat waiting mark = if s.flags seat then EntryInterrupted Giver else GiveWaits mark
+give_alone k s seat immediate mark = GiveFails mark
+give_alone k s seat keeping mark = if may_keep k s.line then GiveKept mark else GiveFails mark
+
+abbrev pub give_deed : Kind → Seats ℕ → (seat : ℕ) → Form → (mark : ℕ) → Deed
+give_deed k s seat form mark =
+    option_map_or (λ e. GiveMeets mark e.ticket) (partner k.order s.line Giver) (give_alone k s seat form mark)
+
+-- the deed of a take
+abbrev pub take_alone : Seats ℕ → (seat : ℕ) → Form → Deed
+take_alone s seat waiting = if s.flags seat then EntryInterrupted Taker else TakeWaits
+take_alone s seat immediate = TakeFails
+take_alone s seat keeping = TakeFails
+
+abbrev pub take_deed : Kind → Seats ℕ → (seat : ℕ) → Form → Deed
+take_deed k s seat form =
+    option_map_or (λ e. TakeMeets (unwrap_or e.item 0) e.ticket) (partner k.order s.line Taker) (take_alone s seat form)
+
+-- the answer to a deed; `item` is the giver's item, where it comes back
+abbrev pub answer_of : Deed → (item : Option ℕ) → Answer
+answer_of (GiveWaits m) item = Waits
+answer_of (GiveMeets m u) item = Gave m u
+answer_of (GiveFails m) item = Fails item
+answer_of (GiveKept m) item = Kept
+answer_of TakeWaits item = Waits
+answer_of (TakeMeets m u) item = GotItem m u
+answer_of TakeFails item = Fails item
+answer_of (EntryInterrupted side) item = TakenBack Interrupted item
+answer_of Done item = Finished
+answer_of (Got m u) item = GotItem m u
+answer_of (Withdrawn cause) item = TakenBack cause item
+answer_of (Interrupt j) item = Waits
+
+-- a step of one ticket is written
+abbrev pub stepped : Setup → Place → (seat ticket : ℕ) → Deed → (item : Option ℕ) → Turn
+stepped setup p seat ticket deed item =
+    written setup p (record { seat = seat; ticket = ticket; deed = deed }) (λ n. Recorded n ticket (answer_of deed item))
+
+-- why a request is refused: the first that applies
+abbrev pub request_refusal : Setup → Place → (seat : ℕ) → Option Refusal
+request_refusal setup p seat = call_refusal (refusal_of setup.seats p.next p.seats seat) (is_full setup p 2)
+
+-- a request uses the next ticket
+abbrev pub request : Setup → Place → (seat : ℕ) → Deed → (item : Option ℕ) → Turn
+request setup p seat deed item =
+    option_map_or (refused p seat) (request_refusal setup p seat) (stepped setup p seat p.next deed item)
+
+abbrev pub give : Setup → Place → (seat : ℕ) → Form → (mark : ℕ) → Turn
+give setup p seat form mark = request setup p seat (give_deed setup.kind p.seats seat form mark) (Some mark)
+
+abbrev pub take : Setup → Place → (seat : ℕ) → Form → Turn
+take setup p seat form = request setup p seat (take_deed setup.kind p.seats seat form) None
+
+-- the follow-up of the seat's open ticket
+abbrev pub follow : Setup → Place → (seat : ℕ) → Hold ℕ → Turn
+follow setup p seat Free = refused p seat NotOpen
+follow setup p seat (Waiting t) = silent p seat NotYet
+follow setup p seat (Handed t u mark) = stepped setup p seat t Done None
+follow setup p seat (Served t u item) = stepped setup p seat t (Got item u) None
+follow setup p seat (Cut t item) = stepped setup p seat t (Withdrawn Interrupted) item
+
+-- a cancel or an expiry of the seat's open ticket
+abbrev pub withdraw : Setup → Place → (seat : ℕ) → Cause → Hold ℕ → Turn
+withdraw setup p seat cause Free = refused p seat NotOpen
+withdraw setup p seat cause (Waiting t) =
+    option_map_or (λ e. stepped setup p seat t (Withdrawn cause) e.item) (entry_of p.seats.line (Waiting t)) (silent p seat Late)
+withdraw setup p seat cause (Handed t u mark) = silent p seat Late
+withdraw setup p seat cause (Served t u item) = silent p seat Late
+withdraw setup p seat cause (Cut t item) = silent p seat Late
+
+-- why an interrupt is refused: the first that applies
+abbrev pub interrupt_refusal : Setup → Place → (seat target : ℕ) → Option Refusal
+interrupt_refusal setup p seat target =
+    call_refusal (if nat_le setup.seats seat || nat_le setup.seats target then Some NoSuchSeat else None) (is_full setup p 1)
+
+-- an interrupt's record names the ticket that it cut, or 0
+abbrev pub cut_named : ℕ → Option ℕ
+cut_named zero = None
+cut_named (suc t) = Some (suc t)
+
+abbrev pub interrupt : Setup → Place → (seat target : ℕ) → Turn
+interrupt setup p seat target =
+    option_map_or (refused p seat) (interrupt_refusal setup p seat target)
+    (written setup p
+    (record { seat = seat; ticket = cut_ticket p.seats target; deed = Interrupt target })
+    (λ n. InterruptedSeat n target (cut_named (cut_ticket p.seats target))))
+
+-- a drain is so many polls, and then their number
+abbrev pub polls : Setup → Place → (seat : ℕ) → ℕ → Turn
+polls setup p seat zero = record { replies = []; records = []; place = p }
+polls setup p seat (suc n) = joined (take setup p seat immediate) (λ q. polls setup q seat n)
+
+-- why a drain of k items is refused: the first that applies
+abbrev pub drain_refusal : Setup → Place → (seat k : ℕ) → Option Refusal
+drain_refusal setup p seat k =
+    drain_refusal_by (refusal_of setup.seats p.next p.seats seat) (2 ^ 63 - p.next) k (is_full setup p (k + 1))
+
+abbrev pub drain : Setup → Place → (seat k : ℕ) → Turn
+drain setup p seat k =
+    option_map_or (refused p seat) (drain_refusal setup p seat k) (joined (polls setup p seat k) (λ q. silent q seat (Drained k)))
+
+-- what a probe answers: a synchronous queue is always empty
+abbrev pub size_of : Order → List (Entry ℕ) → ℕ
+size_of Fair line = 0
+size_of Unfair line = 0
+size_of Transfer line = count_on Giver line
+
+abbrev pub room_of : Order → ℕ
+room_of Fair = 0
+room_of Unfair = 0
+room_of Transfer = 2147483647
+
+abbrev pub peek_of : Order → List (Entry ℕ) → Option ℕ
+peek_of Fair line = None
+peek_of Unfair line = None
+peek_of Transfer line = option_and_then (λ e. e.item) (slice_get line 0)
+
+-- the form of `put` and of `offer`
+abbrev pub put_form : Order → Form
+put_form Fair = waiting
+put_form Unfair = waiting
+put_form Transfer = keeping
+
+abbrev pub offer_form : Order → Form
+offer_form Fair = immediate
+offer_form Unfair = immediate
+offer_form Transfer = keeping
+
+abbrev pub turn_of : Setup → Place → (seat : ℕ) → Verb → Turn
+turn_of setup p seat (Put m) = give setup p seat (put_form setup.kind.order) m
+turn_of setup p seat (Offer m) = give setup p seat (offer_form setup.kind.order) m
+turn_of setup p seat Take = take setup p seat waiting
+turn_of setup p seat Poll = take setup p seat immediate
+turn_of setup p seat (TransferItem m) = give setup p seat waiting m
+turn_of setup p seat (Try m) = give setup p seat immediate m
+turn_of setup p seat Follow = follow setup p seat (p.seats.holds seat)
+turn_of setup p seat Cancel = withdraw setup p seat Cancelled (p.seats.holds seat)
+turn_of setup p seat Expire = withdraw setup p seat Expired (p.seats.holds seat)
+turn_of setup p seat (InterruptSeat target) = interrupt setup p seat target
+turn_of setup p seat (Drain most) = drain setup p seat (min most (count_on Giver p.seats.line))
+turn_of setup p seat Size = silent p seat (Count (size_of setup.kind.order p.seats.line))
+turn_of setup p seat Room = silent p seat (Count (room_of setup.kind.order))
+turn_of setup p seat Peek = silent p seat (Peeked (peek_of setup.kind.order p.seats.line))
+turn_of setup p seat Consumers = silent p seat (Count (count_on Taker p.seats.line))
+
+-- one call's turn
+abbrev pub turn : Setup → Place → Call → Turn
+turn setup p call = turn_of setup p call.seat call.verb
+
+-- the turns of a list of calls
+abbrev pub turns : Setup → Place → List Call → Turn
+turns setup p [] = record { replies = []; records = []; place = p }
+turns setup p (call ∷ calls) = joined (turn setup p call) (λ q. turns setup q calls)
+
+-- the replies to the calls of one thread, and the records that they write
+abbrev pub replies : Setup → List Call → List Reply
+replies setup calls = (turns setup (start setup) calls).replies
+
+abbrev pub records : Setup → List Call → List (Record Deed)
+records setup calls = (turns setup (start setup) calls).records
+
+-- the numbers of tickets that wait in the line, that were met or cut and not collected, and of items that are kept
+pub record Standing : Type 0 where
+  pub waiting : ℕ
+  pub uncollected : ℕ
+  pub kept : ℕ
+
+abbrev pub standing_of : Setup → Place → Standing
+standing_of setup p = record {
+  waiting = waiting_count p.seats.line;
+  uncollected = settled_of setup.seats p.seats.holds;
+  kept = kept_count p.seats.line;
+}

@@ -1,0 +1,41 @@
+-- What is served so far: the places, and the verbs of each.
+use Rattle.std.specs.Prelude.{Bool, true, false}
+use Rattle.meet_tickets.specs.declared.places.Order.{Order}
+use Rattle.meet_tickets.specs.declared.places.Order.TheVariants.{Fair, Unfair, Transfer}
+use Rattle.meet_history.specs.declared.calls.Verb.{Verb}
+use Rattle.meet_history.specs.declared.calls.Verb.TheVariants.{Put, Offer, Take, Poll, Transfer as TransferItem, Try, Follow, Cancel, Expire, Interrupt, Drain, Size, Room, Peek, Consumers}
+
+-- the places that are served
+abbrev pub serves_place : Order → Bool
+serves_place Fair = true
+serves_place Unfair = true
+serves_place Transfer = false
+
+-- the verbs that a synchronous place serves, be it fair or unfair
+abbrev pub serves_synchronous : Verb → Bool
+serves_synchronous (Put n) = true
+serves_synchronous (Offer n) = true
+serves_synchronous Take = true
+serves_synchronous Poll = true
+serves_synchronous (TransferItem n) = false
+serves_synchronous (Try n) = false
+serves_synchronous Follow = true
+serves_synchronous Cancel = true
+serves_synchronous Expire = true
+serves_synchronous (Interrupt target) = true
+serves_synchronous (Drain most) = true
+serves_synchronous Size = true
+serves_synchronous Room = true
+serves_synchronous Peek = true
+serves_synchronous Consumers = false
+
+-- the verbs that a place serves
+abbrev pub serves : Order → Verb → Bool
+serves Fair verb = serves_synchronous verb
+serves Unfair verb = serves_synchronous verb
+serves Transfer verb = false
+
+-- every verb but a drain has one reply
+abbrev pub IsOne : Verb → Type 0
+IsOne (Drain most) = ⊥
+IsOne verb = Unit {0}

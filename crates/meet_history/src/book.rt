@@ -1,0 +1,175 @@
+//! The book that a place keeps of its steps.
+
+ghost use Rattle.std.specs.Prelude.{◌≡◌, ◌+◌, ◌<◌, ◌≤◌, ◌^◌, Option, Some, None, [], ◌∷◌, ◌++◌, length, option_to_list, vec_len, nat_lt, ⊤, IfNone, IsOk, IfOk, IfErr, OnOk, OnErr, MatchOption};
+ghost use Rattle.std.specs.Vec.{vec_capacity};
+ghost use Rattle.meet_history.specs.Booking.{call_refusal, entry_of};
+ghost use Rattle.meet_tickets.specs.declared.refusals.Refusal.TheVariants.{Memory, HistoryFull};
+
+mod drain;
+
+use crate::object::Object;
+use crate::receipt::Receipt;
+use meet_tickets::{Record, Refusal, Refused, SeatNo};
+use std::alloc::Global;
+use std::marker::Model;
+
+/// A place and the records of all its steps. The records are legal and leave the place as it is; there is room for those
+/// that its open tickets may still need.
+#[derive(Drop)]
+pub struct Book<O: Object> {
+    object: O,
+    records: Vec<Record<O::Deed>>,
+    cap: u64,
+}
+
+impl<O: Object> Model for Book<O> {
+    ghost use Rattle.std.specs.Prelude.{◌+◌, ◌≤◌, vec_len, length};
+    ghost use Rattle.std.specs.Vec.{vec_capacity};
+    ghost use Rattle.meet_history.specs.Kept.{Kept};
+
+    ghost Value = { Kept O O.Deed };
+
+    ghost view = { λ book. record { object = book.object; records = book.records.items; cap = book.cap } };
+
+    ghost invariant = { λ book. O.leads book.records.items book.object × (length book.records.items + O.owed_of book.object ≤ book.cap) × (vec_len book.records + O.owed_of book.object ≤ vec_capacity book.records) };
+}
+
+impl<O: Object> Book<O> {
+    /// The book of a place that has no history yet, with at most this many records, 1 to 1,048,576.
+    pub fn new(alloc: Global, object: O, cap: u64) -> Self
+        requires fresh { O.leads [] object }
+        requires cap_from { 0 < cap }
+        requires cap_to { cap ≤ 1048576 }
+        ensures { result ≡ record { object = object; records = []; cap = cap } }
+    {
+        Book {
+            object,
+            records: Vec::new(alloc),
+            cap,
+        }
+    }
+
+    /// The place itself, to be looked at.
+    pub fn probe(&self) -> &O
+        ensures { result.now ≡ self.now.object }
+    {
+        &self.object
+    }
+
+    /// The records so far, in order. They are legal, and leave the place as it is.
+    pub fn records(&self) -> &[Record<O::Deed>]
+        ensures records { result.now ≡ self.now.records }
+        ensures leads { O.leads self.now.records self.now.object }
+        ensures within { length self.now.records + O.owed_of self.now.object ≤ self.now.cap }
+    {
+        self.records.as_slice()
+    }
+
+    /// Why a call is refused, Memory aside: the first that applies.
+    fn refusal(&self, seat: SeatNo, call: &O::Call) -> Option<Refusal>
+        ensures first { result ≡ call_refusal (O.refusal_of self.now.object seat call.now) (nat_lt self.now.cap (length self.now.records + O.owed_of self.now.object + O.need_of call.now)) }
+        ensures few { IfNone result (O.owed_of self.now.object + O.need_of call.now < 2 ^ 64) }
+    {
+        if let Err(why) = self.object.admit(seat, call) {
+            return Some(why);
+        }
+        let left = self.cap - self.records.len() as u64 - self.object.owed();
+        if left < O::need(call) {
+            Some(Refusal::HistoryFull)
+        } else {
+            None
+        }
+    }
+
+    /// Makes a seat's call, and writes its record, if it has one. It refuses what the place's `admit` does; else HistoryFull
+    /// exactly where the records, those that are owed and those that this call may need are more than the book may have; else
+    /// Memory. Then nothing has changed, and the call comes back. An admitted call that needs no record is never refused.
+    pub fn step(
+        &mut self,
+        seat: SeatNo,
+        call: O::Call,
+    ) -> Result<(O::Answer, Option<Receipt<O::Deed>>), Refused<O::Call>>
+        ensures step { IfOk result (λ made. O.steps self.old.object seat call made.0 self.new.object) }
+        ensures record { IfOk result (λ made. entry_of made.1 ≡ O.record_of seat call made.0) }
+        ensures place { IfOk result (λ made. MatchOption made.1 ⊤ (λ receipt. receipt.place ≡ length self.old.records + 1)) }
+        ensures records { IfOk result (λ made. self.new.records ≡ self.old.records ++ option_to_list (entry_of made.1)) }
+        ensures admitted { IfOk result (λ _. call_refusal (O.refusal_of self.old.object seat call) (nat_lt self.old.cap (length self.old.records + O.owed_of self.old.object + O.need_of call)) ≡ None) }
+        ensures why { IfErr result (λ refused. MatchOption (call_refusal (O.refusal_of self.old.object seat call) (nat_lt self.old.cap (length self.old.records + O.owed_of self.old.object + O.need_of call))) (refused.why ≡ Memory) (λ first. refused.why ≡ first)) }
+        ensures back { IfErr result (λ refused. refused.back ≡ call) }
+        ensures unchanged { IfErr result (λ _. self.new ≡ self.old) }
+        ensures cap { self.new.cap ≡ self.old.cap }
+        ensures ending { O.need_of call ≡ 0 → O.refusal_of self.old.object seat call ≡ None → IsOk result }
+    {
+        match self.refusal(seat, &call) {
+            Some(why) => return Err(Refused { why, back: call }),
+            None => {}
+        }
+        let need = O::need(&call);
+        if let Err(why) = make_room(&mut self.object, &mut self.records, need, 1) {
+            return Err(Refused { why, back: call });
+        }
+        let (answer, record) = self.object.step(seat, call);
+        let receipt = write(&mut self.records, record);
+        Ok((answer, receipt))
+    }
+
+    /// The place and its records, taken apart. They are legal, and leave the place as it is.
+    pub fn into_parts(self) -> (O, Vec<Record<O::Deed>>)
+        ensures object { result.0 ≡ self.object }
+        ensures records { result.1.items ≡ self.records }
+        ensures leads { O.leads self.records self.object }
+    {
+        let Book {
+            object,
+            records,
+            cap: _,
+        } = self;
+        (object, records)
+    }
+}
+
+/// Makes room for this many records beside those that are owed, and for so many calls; for no record none is asked.
+fn make_room<O: Object>(
+    object: &mut O,
+    records: &mut Vec<Record<O::Deed>>,
+    need: u64,
+    calls: u64,
+) -> Result<(), Refusal>
+    requires few { O.owed_of object.old + need < 2 ^ 64 }
+    requires owed { vec_len records.old + O.owed_of object.old ≤ vec_capacity records.old }
+    ensures same { object.new ≡ O.with_room object.old (O.spare object.new) }
+    ensures asks_none { need ≡ 0 → object.new ≡ object.old }
+    ensures calls { OnOk result (0 < need → calls ≤ O.spare object.new) }
+    ensures records { records.new.items ≡ records.old.items }
+    ensures free { OnOk result (vec_len records.new + O.owed_of object.old + need ≤ vec_capacity records.new) }
+    ensures owed { vec_len records.new + O.owed_of object.old ≤ vec_capacity records.new }
+    ensures unchanged { OnErr result (object.new ≡ object.old) }
+    ensures memory { IfErr result (λ why. why ≡ Memory) }
+    ensures ending { need ≡ 0 → IsOk result }
+{
+    if need == 0 {
+        return Ok(());
+    }
+    let wanted = object.owed() + need;
+    if records.reserve(wanted as usize).is_err() {
+        return Err(Refusal::Memory);
+    }
+    object.reserve(calls)
+}
+
+/// Puts a record behind the others, where there is one, and answers its receipt.
+fn write<D: Copy>(records: &mut Vec<Record<D>>, made: Option<Record<D>>) -> Option<Receipt<D>>
+    requires { vec_len records.old + length (option_to_list made) ≤ vec_capacity records.old }
+    ensures entry { entry_of result ≡ made }
+    ensures place { MatchOption result ⊤ (λ receipt. receipt.place ≡ length records.old.items + 1) }
+    ensures records { records.new.items ≡ records.old.items ++ option_to_list made }
+    ensures capacity { vec_capacity records.new ≡ vec_capacity records.old }
+{
+    match made {
+        None => None,
+        Some(record) => {
+            records.push_reserved(record);
+            Some(Receipt::new(records.len() as u64, record))
+        }
+    }
+}

@@ -1,0 +1,218 @@
+//! The checker of histories: are these records legal?
+
+ghost use Rattle.std.specs.Prelude.{◌≡◌, ◌<◌, ◌↔◌, None, IsTrue, IfOk, IfErr, OnOk};
+ghost use Rattle.meet_tickets.specs.Meeting.{partner};
+ghost use Rattle.meet_tickets.specs.ByLists.{IsLegal};
+ghost use Rattle.meet_tickets.specs.BySeat.{beginning, IsFree, Fits, moment_after, moment_of};
+ghost use Rattle.meet_tickets.specs.declared.refusals.Refusal.TheVariants.{Memory};
+ghost use Rattle.meet_history.specs.Checking.{IsFaulty, IsLateRequest, IsCheckFault, standing_at, moment_at};
+
+use line::MarkLine;
+use meet_line::SeatTable;
+use meet_tickets::{Deed, Hold, Kind, Record, Refusal, SeatNo, Side, Ticket};
+use std::alloc::Global;
+use std::marker::Model;
+
+mod endings;
+mod line;
+mod requests;
+
+/// Why a record can't come next: the first reason that applies.
+#[derive(Clone, Copy, PartialEq, Eq, Debug)]
+pub enum Why {
+    /// A request of a seat that has an open ticket.
+    SeatOpen,
+    /// A request whose ticket isn't above all earlier ones.
+    TicketOrder,
+    /// An ending of a ticket that isn't the seat's open one.
+    NotOpen,
+    /// The rules give another deed, partner or mark.
+    WrongReply,
+}
+
+/// What the checker finds against records.
+#[derive(Clone, Copy, PartialEq, Eq, Debug)]
+pub enum CheckFault {
+    /// The record of this number, from 1, is the first that can't stand, for this reason.
+    Illegal(u64, Why),
+    /// Memory was wanted and not there.
+    Memory,
+}
+
+/// Where a place's tickets and items are at the end of its records.
+#[derive(Clone, Copy, PartialEq, Eq, Debug)]
+pub struct Standing {
+    /// Open tickets that wait in the line.
+    pub waiting: u64,
+    /// Open tickets that were met or cut, and not collected.
+    pub uncollected: u64,
+    /// Items that are kept in the line.
+    pub kept: u64,
+}
+
+/// How many seats the checker knows of: all that there can be.
+const SEATS: u64 = 1024;
+
+/// A place as its records leave it.
+#[derive(Drop)]
+pub(crate) struct Checker {
+    kind: Kind,
+    last: u64,
+    line: MarkLine,
+    seats: SeatTable<u64>,
+}
+
+impl Model for Checker {
+    ghost use Rattle.std.specs.Prelude.{◌≡◌, ◌≤◌, length};
+    ghost use Rattle.meet_history.specs.Checking.{Checked, line_order};
+
+    ghost Value = { Checked };
+
+    ghost view = { λ c. record { kind = c.kind; last = c.last; line = c.line.entries; room = c.line.room; table = c.seats } };
+
+    ghost invariant = { λ c. (length c.seats.holds ≡ 1024) × (c.line.order ≡ line_order c.kind.order) × (c.line.newest ≤ c.last) };
+}
+
+impl Checker {
+    /// An empty place of this kind. The only refusal is Memory.
+    fn new(alloc: Global, kind: Kind) -> Result<Self, Refusal>
+        ensures kind { IfOk result (λ checker. checker.kind ≡ kind) }
+        ensures moment { IfOk result (λ checker. moment_at checker ≡ beginning) }
+        ensures memory { IfErr result (λ why. why ≡ Memory) }
+    {
+        let seats = match SeatTable::new(alloc, SEATS) {
+            Ok(seats) => seats,
+            Err(_) => return Err(Refusal::Memory),
+        };
+        Ok(Checker {
+            kind,
+            last: 0,
+            line: MarkLine::new(alloc, kind.order),
+            seats,
+        })
+    }
+
+    /// Makes room for one entry more. The only refusal is Memory.
+    fn reserve(&mut self) -> Result<(), Refusal>
+        ensures kind { self.new.kind ≡ self.old.kind }
+        ensures moment { moment_at self.new ≡ moment_at self.old }
+        ensures room { OnOk result (0 < self.new.room) }
+        ensures memory { IfErr result (λ why. why ≡ Memory) }
+    {
+        self.line.reserve()
+    }
+
+    /// What the seat has open.
+    fn hold(&self, seat: SeatNo) -> &Hold<u64>
+        ensures { result.now ≡ (moment_at self.now).seats.holds seat }
+    {
+        let _number = seat.number();
+        self.seats.hold(seat)
+    }
+
+    /// Whether a request of this side finds nobody.
+    fn is_alone(&self, side: Side) -> bool
+        ensures { IsTrue result ↔ (partner self.now.kind.order (moment_at self.now).seats.line side ≡ None) }
+    {
+        match self.line.first() {
+            None => true,
+            Some(first) => first.is_on(side),
+        }
+    }
+
+    /// Whether a request of this seat with this ticket may come now.
+    fn requests(&self, seat: SeatNo, ticket: Ticket) -> Result<(), Why>
+        ensures timely { IfOk result (λ _. IsFree (moment_at self.now).seats seat × ((moment_at self.now).last < ticket)) }
+        ensures faulty { IfErr result (λ why. IsLateRequest (moment_at self.now) seat ticket why) }
+    {
+        if self.hold(seat).is_open() {
+            return Err(Why::SeatOpen);
+        }
+        if ticket.number() <= self.last {
+            return Err(Why::TicketOrder);
+        }
+        Ok(())
+    }
+
+    /// Whether the seat is flagged.
+    fn is_flagged(&self, seat: SeatNo) -> bool
+        ensures { result ≡ (moment_at self.now).seats.flags seat }
+    {
+        let _number = seat.number();
+        self.seats.is_flagged(seat)
+    }
+
+    /// Takes the next record in, or tells why it can't stand: the first reason that applies.
+    fn next(&mut self, entry: Record<Deed>) -> Result<(), Why>
+        requires { 0 < self.old.room }
+        ensures fits { IfOk result (λ _. Fits self.old.kind (moment_at self.old) entry) }
+        ensures after { IfOk result (λ _. moment_at self.new ≡ moment_after self.old.kind (moment_at self.old) entry) }
+        ensures kind { self.new.kind ≡ self.old.kind }
+        ensures faulty { IfErr result (λ why. IsFaulty self.old.kind (moment_at self.old) entry why) }
+    {
+        let Record { seat, ticket, deed } = entry;
+        match deed {
+            Deed::Interrupt(target) => {
+                if self.interrupts(target, ticket) {
+                    return Ok(());
+                }
+            }
+            Deed::Done | Deed::Got(_, _) | Deed::Withdrawn(_) => {
+                if self.hold(seat).open_ticket() != Some(ticket) {
+                    return Err(Why::NotOpen);
+                }
+                if self.takes_ending(seat, ticket, deed) {
+                    return Ok(());
+                }
+            }
+            _ => {
+                match self.requests(seat, ticket) {
+                    Ok(()) => {}
+                    Err(why) => return Err(why),
+                }
+                if self.takes_request(seat, ticket, deed) {
+                    return Ok(());
+                }
+            }
+        }
+        Err(Why::WrongReply)
+    }
+
+    /// Where the place's tickets and items are.
+    fn standing(&self) -> Standing
+        ensures { result ≡ standing_at 1024 (moment_at self.now) }
+    {
+        let kept = self.line.kept();
+        Standing {
+            waiting: self.line.len() - kept,
+            uncollected: self.seats.settled(),
+            kept,
+        }
+    }
+}
+
+/// Whether these records, from the first, are a legal history of a place of this kind, and then where its tickets and items
+/// are. Else it names the last record of the shortest front that isn't legal, with the first reason that applies; or Memory.
+pub fn check(alloc: Global, kind: Kind, records: &[Record<Deed>]) -> Result<Standing, CheckFault>
+    ensures legal { IfOk result (λ _. IsLegal kind records.now) }
+    ensures standing { IfOk result (λ standing. standing ≡ standing_at 1024 (moment_of kind beginning records.now)) }
+    ensures fault { IfErr result (λ fault. IsCheckFault kind records.now fault) }
+{
+    let mut checker = match Checker::new(alloc, kind) {
+        Ok(checker) => checker,
+        Err(_) => return Err(CheckFault::Memory),
+    };
+    let mut place = 0u64;
+    for entry in records {
+        place += 1;
+        match checker.reserve() {
+            Ok(()) => {}
+            Err(_) => return Err(CheckFault::Memory),
+        }
+        match checker.next(*entry) {
+            Ok(()) => {}
+            Err(why) => return Err(CheckFault::Illegal(place, why)),
+        }
+    }
+    Ok(checker.standing())
+}

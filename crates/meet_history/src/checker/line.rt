@@ -1,0 +1,209 @@
+//! The line of a history's marks, met in the order of its place.
+
+ghost use Rattle.std.specs.Prelude.{◌≡◌, ◌≢◌, ◌+◌, ◌<◌, ◌==◌, [], ◌∷◌, ◌++◌, find, length, All, OnOk, IfErr, option_to_list, is_some, if◌then◌else◌};
+ghost use Rattle.std.specs.Slice.{IsItemAt};
+ghost use Rattle.meet_tickets.specs.Meeting.{met, partner, kept_count};
+ghost use Rattle.meet_tickets.specs.BySeat.{unmet, without_first};
+ghost use Rattle.meet_tickets.specs.declared.refusals.Refusal.TheVariants.{Memory};
+ghost use Rattle.meet_history.specs.Checking.{line_order};
+ghost use Rattle.meet_history.specs.Marks.{end_order, entries_of, room_of, kept_in};
+
+use meet_line::{FairLine, Line, StackLine};
+use meet_tickets::{Entry, Order, Refusal, Side, Ticket};
+use std::alloc::Global;
+use std::marker::Model;
+
+/// A line of entries whose items are marks. It counts the kept ones.
+#[derive(Drop)]
+pub(crate) struct MarkLine {
+    line: ByEnd,
+    kept: u64,
+    newest: u64,
+}
+
+/// The end at which an entry is met.
+#[derive(Drop)]
+enum ByEnd {
+    Front(FairLine<Entry<u64>>),
+    Back(StackLine<Entry<u64>>),
+}
+
+impl Model for MarkLine {
+    ghost use Rattle.std.specs.Prelude.{◌≡◌, ◌≤◌, All};
+    ghost use Rattle.meet_tickets.specs.Meeting.{kept_count};
+    ghost use Rattle.meet_history.specs.Marks.{MarkedLine, end_order, entries_of, room_of};
+
+    ghost Value = { MarkedLine };
+
+    ghost view = { λ marks. record { order = end_order marks.line; entries = entries_of marks.line; room = room_of marks.line; newest = marks.newest } };
+
+    ghost invariant = { λ marks. All (λ e. e.ticket ≤ marks.newest) (entries_of marks.line) × (marks.kept ≡ kept_count (entries_of marks.line)) };
+}
+
+impl MarkLine {
+    /// A line with nobody in it, for a place of this order.
+    pub(crate) fn new(alloc: Global, order: Order) -> Self
+        ensures order { result.order ≡ line_order order }
+        ensures entries { result.entries ≡ [] }
+        ensures newest { result.newest ≡ 0 }
+    {
+        let line = match order {
+            Order::Fair | Order::Transfer => ByEnd::Front(FairLine::empty(alloc)),
+            Order::Unfair => ByEnd::Back(StackLine::empty(alloc)),
+        };
+        MarkLine {
+            line,
+            kept: 0,
+            newest: 0,
+        }
+    }
+
+    /// Makes room for an entry more. The only refusal is Memory.
+    pub(crate) fn reserve(&mut self) -> Result<(), Refusal>
+        ensures order { self.new.order ≡ self.old.order }
+        ensures entries { self.new.entries ≡ self.old.entries }
+        ensures newest { self.new.newest ≡ self.old.newest }
+        ensures room { OnOk result (0 < self.new.room) }
+        ensures memory { IfErr result (λ why. why ≡ Memory) }
+    {
+        match &mut self.line {
+            ByEnd::Front(line) => line.reserve(1),
+            ByEnd::Back(line) => line.reserve(1),
+        }
+    }
+
+    /// An entry comes to the line's end.
+    pub(crate) fn push_back(&mut self, entry: Entry<u64>)
+        requires room { 0 < self.old.room }
+        requires above { self.old.newest < entry.ticket }
+        ensures order { self.new.order ≡ self.old.order }
+        ensures entries { self.new.entries ≡ self.old.entries ++ entry ∷ [] }
+        ensures newest { self.new.newest ≡ entry.ticket }
+    {
+        let ticket = entry.ticket;
+        let kept = u64::from(!entry.waits);
+        push_by(&mut self.line, entry);
+        let _entries = len_of(&self.line);
+        self.newest = ticket.number();
+        self.kept += kept;
+    }
+
+    /// The entry that is met leaves the line, if anybody is there.
+    fn meet(&mut self) -> Option<Entry<u64>>
+        ensures order { self.new.order ≡ self.old.order }
+        ensures entry { result ≡ met self.old.order self.old.entries }
+        ensures entries { self.new.entries ≡ unmet self.old.order self.old.entries }
+        ensures newest { self.new.newest ≡ self.old.newest }
+    {
+        let met = meet_by(&mut self.line);
+        self.kept -= kept_in(&met);
+        met
+    }
+
+    /// The partner of a request of this side leaves the line, if it has one.
+    pub(crate) fn partner(&mut self, side: Side) -> Option<Entry<u64>>
+        ensures order { self.new.order ≡ self.old.order }
+        ensures partner { result ≡ partner self.old.order self.old.entries side }
+        ensures entries { self.new.entries ≡ (if is_some result then unmet self.old.order self.old.entries else self.old.entries) }
+        ensures newest { self.new.newest ≡ self.old.newest }
+    {
+        let own = match self.first() {
+            None => return None,
+            Some(first) => first.is_on(side),
+        };
+        if own { None } else { self.meet() }
+    }
+
+    /// The entry of this ticket leaves the line, if it is there.
+    pub(crate) fn remove(&mut self, ticket: Ticket) -> Option<Entry<u64>>
+        ensures order { self.new.order ≡ self.old.order }
+        ensures entry { result ≡ find (λ e. e.ticket == ticket) self.old.entries }
+        ensures entries { self.new.entries ≡ without_first (λ e. e.ticket == ticket) self.old.entries }
+        ensures newest { self.new.newest ≡ self.old.newest }
+    {
+        let removed = remove_by(&mut self.line, ticket);
+        self.kept -= kept_in(&removed);
+        removed
+    }
+
+    /// How many entries are kept.
+    pub(crate) fn kept(&self) -> u64
+        ensures value { result ≡ kept_count self.now.entries }
+    {
+        self.kept
+    }
+
+    /// The entry that came first, if anybody is there.
+    pub(crate) fn first(&self) -> Option<&Entry<u64>>
+        ensures { IsItemAt self.now.entries 0 result }
+    {
+        match &self.line {
+            ByEnd::Front(line) => line.first(),
+            ByEnd::Back(line) => line.first(),
+        }
+    }
+
+    /// How many entries there are.
+    pub(crate) fn len(&self) -> u64
+        ensures { result ≡ length self.now.entries }
+    {
+        len_of(&self.line)
+    }
+}
+
+/// How many entries a line has.
+fn len_of(line: &ByEnd) -> u64
+    ensures { result ≡ length (entries_of line.now) }
+{
+    match line {
+        ByEnd::Front(line) => line.len(),
+        ByEnd::Back(line) => line.len(),
+    }
+}
+
+/// An entry comes to a line's end.
+fn push_by(line: &mut ByEnd, entry: Entry<u64>)
+    requires room { 0 < room_of line.old }
+    requires fresh { All (λ e. e.ticket ≢ entry.ticket) (entries_of line.old) }
+    ensures order { end_order line.new ≡ end_order line.old }
+    ensures entries { entries_of line.new ≡ entries_of line.old ++ entry ∷ [] }
+{
+    match line {
+        ByEnd::Front(line) => line.push_back(entry),
+        ByEnd::Back(line) => line.push_back(entry),
+    }
+}
+
+/// The entry that is met leaves its line.
+fn meet_by(line: &mut ByEnd) -> Option<Entry<u64>>
+    ensures order { end_order line.new ≡ end_order line.old }
+    ensures entry { result ≡ met (end_order line.old) (entries_of line.old) }
+    ensures entries { entries_of line.new ≡ unmet (end_order line.old) (entries_of line.old) }
+{
+    match line {
+        ByEnd::Front(line) => line.meet(),
+        ByEnd::Back(line) => line.meet(),
+    }
+}
+
+/// The entry of this ticket leaves its line.
+fn remove_by(line: &mut ByEnd, ticket: Ticket) -> Option<Entry<u64>>
+    ensures order { end_order line.new ≡ end_order line.old }
+    ensures entry { result ≡ find (λ e. e.ticket == ticket) (entries_of line.old) }
+    ensures entries { entries_of line.new ≡ without_first (λ e. e.ticket == ticket) (entries_of line.old) }
+{
+    match line {
+        ByEnd::Front(line) => line.remove(ticket),
+        ByEnd::Back(line) => line.remove(ticket),
+    }
+}
+
+/// One for a kept entry, else 0.
+fn kept_in(entry: &Option<Entry<u64>>) -> u64
+    ensures { result ≡ kept_in entry.now }
+{
+    match entry {
+        Some(entry) => u64::from(!entry.waits),
+        None => 0,
+    }
+}

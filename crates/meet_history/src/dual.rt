@@ -1,0 +1,188 @@
+//! The synchronous queue as a book's place, over either line.
+
+ghost use Rattle.std.specs.Prelude.{◌≡◌, ◌+◌, ◌^◌, ◌<◌, ◌≤◌, None, refl, [], option_to_list, length, IfOk, IfErr};
+ghost use Rattle.meet_tickets.specs.BySeat.{nobody};
+ghost use Rattle.meet_core.specs.Queue.{seats_of, count_of, places_of};
+ghost use Rattle.meet_history.specs.DualRecords.{dual_record};
+ghost use Rattle.meet_history.specs.DualSteps.{DualStep, LeadsTo, HasEffect, dual_refusal, dual_need, dual_owed, dual_available, dual_left};
+ghost use Rattle.meet_history.specs.DualRoom.{roomy, roomy-refusal, roomy-leads, roomy-steps, roomy-fresh};
+ghost use Rattle.meet_history.specs.declared.told.DualCall.TheVariants.{Poll};
+
+use crate::book::Book;
+use crate::object::{Drains, Object};
+use crate::told::{DualAnswer, DualCall};
+use meet_core::Dual;
+use meet_line::Line;
+use meet_tickets::{Deed, Entry, Marked, Record, Refusal, SeatNo};
+use std::alloc::Global;
+
+mod endings;
+mod refusals;
+mod requests;
+
+impl<T: Marked, L: Line<Entry<T>>> Object for Dual<T, L> {
+    type Call = DualCall<T>;
+
+    type Answer = DualAnswer<T>;
+
+    type Deed = Deed;
+
+    ghost leads = { λ records q. LeadsTo T.mark_of L.order records q };
+
+    ghost steps = { λ old seat call answer new. DualStep T.mark_of L.order old seat call answer new };
+
+    ghost record_of = { λ seat call answer. dual_record T.mark_of seat call answer };
+
+    ghost refusal_of = { λ q seat call. dual_refusal q seat call };
+
+    ghost owed_of = { λ q. dual_owed q };
+
+    ghost need_of = { λ call. dual_need call };
+
+    ghost spare = { λ q. q.room };
+
+    ghost with_room = { λ q room. roomy q room };
+
+    ghost same_place = { λ q. refl };
+
+    ghost same_refusal = { λ q room seat call. roomy-refusal q room seat call };
+
+    ghost same_owed = { λ q room. refl };
+
+    ghost same_leads = { λ q room records leads. roomy-leads T.mark_of L.order q room records leads };
+
+    ghost same_steps = { λ q room seat call answer new need step. roomy-steps T.mark_of L.order q room seat call answer new need step };
+
+    ghost fresh_owes = { λ q leads. roomy-fresh T.mark_of L.order q leads };
+
+    fn admit(&self, seat: SeatNo, call: &DualCall<T>) -> Result<(), Refusal> {
+        match call {
+            DualCall::Give(_) | DualCall::Offer(_) | DualCall::Take | DualCall::Poll => {
+                refusals::request(self, seat)
+            }
+            DualCall::FollowUp(ticket) | DualCall::Cancel(ticket) | DualCall::Expire(ticket) => {
+                refusals::ending(self, seat, *ticket)
+            }
+            DualCall::Interrupt(target) => refusals::interrupt(self, seat, *target),
+        }
+    }
+
+    fn need(call: &DualCall<T>) -> u64 {
+        match call {
+            DualCall::Give(_) | DualCall::Offer(_) | DualCall::Take | DualCall::Poll => 2,
+            DualCall::Interrupt(_) => 1,
+            DualCall::FollowUp(_) | DualCall::Cancel(_) | DualCall::Expire(_) => 0,
+        }
+    }
+
+    fn owed(&self) -> u64 {
+        Dual::owed(self)
+    }
+
+    fn reserve(&mut self, calls: u64) -> Result<(), Refusal> {
+        Dual::reserve(self, calls)
+    }
+
+    fn step(&mut self, seat: SeatNo, call: DualCall<T>) -> (DualAnswer<T>, Option<Record<Deed>>) {
+        make(self, seat, call)
+    }
+}
+
+impl<T: Marked, L: Line<Entry<T>>> Drains for Dual<T, L> {
+    ghost poll = { Poll };
+
+    ghost available_of = { λ q. dual_available q };
+
+    ghost left_of = { λ q. dual_left q };
+
+    ghost poll_needs = { refl };
+
+    ghost same_available = { λ q room. refl };
+
+    ghost same_left = { λ q room. refl };
+
+    fn available(&self) -> u64 {
+        self.givers()
+    }
+
+    fn tickets_left(&self) -> u64 {
+        Dual::tickets_left(self)
+    }
+
+    fn poll_call(&self) -> DualCall<T> {
+        self.stays_sound();
+        DualCall::Poll
+    }
+}
+
+impl<T: Marked, L: Line<Entry<T>>> Book<Dual<T, L>> {
+    ghost use Rattle.meet_tickets.specs.declared.refusals.Refusal.TheVariants.{Memory};
+
+    /// The book of a new queue with this many seats, 1 to 1,024, this first ticket, 1 to 2^63 - 1, and at most this many
+    /// records, 1 to 1,048,576. The only refusal is Memory.
+    pub fn of_queue(alloc: Global, seats: u64, first: u64, cap: u64) -> Result<Self, Refusal>
+        requires seats { seats ≤ 1024 }
+        requires first_from { 0 < first }
+        requires first_to { first < 2 ^ 63 }
+        requires cap_from { 0 < cap }
+        requires cap_to { cap ≤ 1048576 }
+        ensures fresh { IfOk result (λ book. seats_of book.object ≡ nobody) }
+        ensures seats { IfOk result (λ book. count_of book.object ≡ seats) }
+        ensures first { IfOk result (λ book. book.object.next ≡ first) }
+        ensures records { IfOk result (λ book. book.records ≡ []) }
+        ensures cap { IfOk result (λ book. book.cap ≡ cap) }
+        ensures memory { IfErr result (λ why. why ≡ Memory) }
+    {
+        let queue = Dual::new(alloc, seats, first)?;
+        Ok(Book::new(alloc, queue, cap))
+    }
+}
+
+/// Makes an admitted call, for which there is room, and tells its record.
+fn make<T: Marked, L: Line<Entry<T>>>(
+    queue: &mut Dual<T, L>,
+    seat: SeatNo,
+    call: DualCall<T>,
+) -> (DualAnswer<T>, Option<Record<Deed>>)
+    requires admitted { dual_refusal queue.old seat call ≡ None }
+    requires room { 0 < dual_need call → 0 < queue.old.room }
+    ensures step { DualStep T.mark_of L.order queue.old seat call result.0 queue.new }
+    ensures entry { result.1 ≡ dual_record T.mark_of seat call result.0 }
+    ensures effect { HasEffect T.mark_of L.order queue.old queue.new (dual_need call) result.1 }
+    ensures places { places_of queue.new ≡ places_of queue.old }
+{
+    match call {
+        DualCall::Give(item) => {
+            let (gave, entry) = requests::give(queue, seat, item);
+            (DualAnswer::Gave(gave), Some(entry))
+        }
+        DualCall::Offer(item) => {
+            let (offered, entry) = requests::offer(queue, seat, item);
+            (DualAnswer::Offered(offered), Some(entry))
+        }
+        DualCall::Take => {
+            let (took, entry) = requests::take(queue, seat);
+            (DualAnswer::Took(took), Some(entry))
+        }
+        DualCall::Poll => {
+            let (polled, entry) = requests::poll(queue, seat);
+            (DualAnswer::Polled(polled), Some(entry))
+        }
+        DualCall::FollowUp(ticket) => {
+            let (followed, entry) = endings::follow_up(queue, seat, ticket);
+            (DualAnswer::Followed(followed), entry)
+        }
+        DualCall::Cancel(ticket) => {
+            let (back, entry) = endings::cancel(queue, seat, ticket);
+            (DualAnswer::TakenBack(back), entry)
+        }
+        DualCall::Expire(ticket) => {
+            let (back, entry) = endings::expire(queue, seat, ticket);
+            (DualAnswer::TakenBack(back), entry)
+        }
+        DualCall::Interrupt(target) => {
+            let (struck, entry) = endings::interrupt(queue, seat, target);
+            (DualAnswer::Interrupted(struck), Some(entry))
+        }
+    }
+}

@@ -1,0 +1,32 @@
+//! The book that a place keeps of its steps, its receipts, and the replies of one thread.
+#![tactic(auto)]
+
+mod all_calls;
+mod book;
+mod calls;
+mod checker;
+mod dual;
+mod object;
+mod queues;
+mod receipt;
+mod replies;
+mod setups;
+mod stepper;
+mod steps;
+mod told;
+
+pub use all_calls::run_all;
+pub use book::Book;
+pub use calls::{Call, Verb};
+pub use checker::{CheckFault, Standing, Why, check};
+pub use object::{Drains, Object};
+pub use queues::AnyQueue;
+pub use receipt::Receipt;
+pub use replies::{Answer, Outcome, Reply};
+pub use setups::Setup;
+pub use stepper::Stepper;
+pub use steps::Step;
+pub use told::{DualAnswer, DualCall};
+
+#[cfg(test)]
+mod tests;

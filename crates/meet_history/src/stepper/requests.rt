@@ -1,0 +1,75 @@
+//! The requests of a stepper.
+
+ghost use Rattle.std.specs.Prelude.{◌≡◌, IfOk, IfErr};
+ghost use Rattle.meet_tickets.specs.declared.refusals.Refusal.TheVariants.{Memory};
+
+use crate::replies::Reply;
+use crate::stepper::{Stepper, refused_unless_memory};
+use crate::steps::Step;
+use crate::told::DualCall;
+use meet_tickets::{Refusal, SeatNo};
+
+impl Stepper {
+    ghost use Rattle.meet_history.specs.OneThread.{give, take, waiting, immediate};
+    ghost use Rattle.meet_history.specs.Stepping.{place_of, TakesTurn};
+
+    /// A give that waits for a taker.
+    pub(super) fn put(&mut self, seat: SeatNo, mark: u64) -> Result<Reply, Refusal>
+        ensures turn { IfOk result (TakesTurn (give self.old.setup (place_of self.old) seat waiting mark) self.old self.new) }
+        ensures memory { IfErr result (λ why. why ≡ Memory) }
+    {
+        let answer = match self.call(seat, DualCall::Give(mark)) {
+            Ok(answer) => answer,
+            Err(why) => return refused_unless_memory(seat, why),
+        };
+        match answer.gave() {
+            Some(gave) => Ok(self.told(seat, Step::of_give(gave, mark))),
+            None => unreachable!(),
+        }
+    }
+
+    /// A give to a taker that is there.
+    pub(super) fn offer(&mut self, seat: SeatNo, mark: u64) -> Result<Reply, Refusal>
+        ensures turn { IfOk result (TakesTurn (give self.old.setup (place_of self.old) seat immediate mark) self.old self.new) }
+        ensures memory { IfErr result (λ why. why ≡ Memory) }
+    {
+        let answer = match self.call(seat, DualCall::Offer(mark)) {
+            Ok(answer) => answer,
+            Err(why) => return refused_unless_memory(seat, why),
+        };
+        match answer.offered() {
+            Some(offered) => Ok(self.told(seat, Step::of_offer(offered, mark))),
+            None => unreachable!(),
+        }
+    }
+
+    /// A take that waits for a giver.
+    pub(super) fn take(&mut self, seat: SeatNo) -> Result<Reply, Refusal>
+        ensures turn { IfOk result (TakesTurn (take self.old.setup (place_of self.old) seat waiting) self.old self.new) }
+        ensures memory { IfErr result (λ why. why ≡ Memory) }
+    {
+        let answer = match self.call(seat, DualCall::Take) {
+            Ok(answer) => answer,
+            Err(why) => return refused_unless_memory(seat, why),
+        };
+        match answer.took() {
+            Some(took) => Ok(self.told(seat, Step::of_take(took))),
+            None => unreachable!(),
+        }
+    }
+
+    /// A take from a giver that is there.
+    pub(super) fn poll(&mut self, seat: SeatNo) -> Result<Reply, Refusal>
+        ensures turn { IfOk result (TakesTurn (take self.old.setup (place_of self.old) seat immediate) self.old self.new) }
+        ensures memory { IfErr result (λ why. why ≡ Memory) }
+    {
+        let answer = match self.call(seat, DualCall::Poll) {
+            Ok(answer) => answer,
+            Err(why) => return refused_unless_memory(seat, why),
+        };
+        match answer.polled() {
+            Some(polled) => Ok(self.told(seat, Step::of_poll(polled))),
+            None => unreachable!(),
+        }
+    }
+}

@@ -1,0 +1,101 @@
+//! What a seat asks of a synchronous queue, and what it is answered.
+
+ghost use Rattle.std.specs.Prelude.{◌≡◌};
+
+use meet_core::{Followed, Gave, Interrupted, Offered, Polled, TakenBack, Took};
+use meet_tickets::{SeatNo, Ticket};
+
+/// A call of `Dual`.
+#[derive(Drop)]
+pub enum DualCall<T> {
+    /// A give that waits for a taker.
+    Give(T),
+    /// A give to a taker that is there.
+    Offer(T),
+    /// A take that waits for a giver.
+    Take,
+    /// A take from a giver that is there.
+    Poll,
+    /// The follow-up of the seat's open ticket.
+    FollowUp(Ticket),
+    /// The seat takes its open ticket back.
+    Cancel(Ticket),
+    /// The time of the seat's open ticket ran out.
+    Expire(Ticket),
+    /// `Thread.interrupt` of this seat.
+    Interrupt(SeatNo),
+}
+
+/// Its answer, as `Dual` gives it.
+#[derive(Drop)]
+pub enum DualAnswer<T> {
+    /// To a give.
+    Gave(Gave<T>),
+    /// To an offer.
+    Offered(Offered<T>),
+    /// To a take.
+    Took(Took<T>),
+    /// To a poll.
+    Polled(Polled<T>),
+    /// To a follow-up.
+    Followed(Followed<T>),
+    /// To a cancel or an expiry.
+    TakenBack(TakenBack<T>),
+    /// To an interrupt.
+    Interrupted(Interrupted),
+}
+
+/// What the answer is, where it is to a request of that kind, or to an interrupt.
+impl DualAnswer<u64> {
+    ghost use Rattle.meet_history.specs.Said.{gave_of, offered_of, took_of, polled_of, struck_of};
+
+    /// To a give.
+    pub(crate) fn gave(self) -> Option<Gave<u64>>
+        ensures { result ≡ gave_of self }
+    {
+        match self {
+            DualAnswer::Gave(gave) => Some(gave),
+            _ => None,
+        }
+    }
+
+    /// To an offer.
+    pub(crate) fn offered(self) -> Option<Offered<u64>>
+        ensures { result ≡ offered_of self }
+    {
+        match self {
+            DualAnswer::Offered(offered) => Some(offered),
+            _ => None,
+        }
+    }
+
+    /// To a take.
+    pub(crate) fn took(self) -> Option<Took<u64>>
+        ensures { result ≡ took_of self }
+    {
+        match self {
+            DualAnswer::Took(took) => Some(took),
+            _ => None,
+        }
+    }
+
+    /// To a poll.
+    pub(crate) fn polled(self) -> Option<Polled<u64>>
+        ensures { result ≡ polled_of self }
+    {
+        match self {
+            DualAnswer::Polled(polled) => Some(polled),
+            _ => None,
+        }
+    }
+
+    /// To an interrupt.
+    pub(crate) fn struck(self) -> Option<Interrupted>
+        ensures { result ≡ struck_of self }
+    {
+        match self {
+            DualAnswer::Interrupted(struck) => Some(struck),
+            _ => None,
+        }
+    }
+}

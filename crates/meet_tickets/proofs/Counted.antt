@@ -1,0 +1,69 @@
+-- How many givers stand in a line of one side.
+use Rattle.std.proofs.Common.{◌≡◌, ◌+◌, ◌-◌, ◌<◌, refl, sym, ap, ◌∙◌, Bool, true, false, cond, not, Option, Some, None, is_some, subst, List, [], ◌∷◌, length, length-take, get_or, arith}
+use Rattle.std.specs.Prelude.{All}
+use Rattle.std.proofs.Math.Path.{ap₂}
+use Rattle.std.proofs.lemmas.List.Sums.{sum_by-cons}
+use Rattle.std.proofs.lemmas.List.Elements.{All-head, All-tail}
+use Rattle.meet_tickets.specs.declared.lines.Entry.{Entry}
+use Rattle.meet_tickets.specs.declared.places.Side.TheVariants.{Giver, Taker}
+use Rattle.meet_tickets.specs.declared.places.Order.{Order}
+use Rattle.meet_tickets.specs.declared.places.Order.TheVariants.{Fair, Unfair, Transfer}
+use Rattle.meet_tickets.specs.Meeting.{is_on, met, partner, count_on, HasOneSide}
+use Rattle.meet_tickets.specs.BySeat.{unmet}
+use Rattle.meet_tickets.proofs.Sides.{All-unmet, first-side, met-some}
+
+-- where all entries are givers, or none is, all are counted, or none
+count-same : {X : Type 0} (own : Bool) (line : List (Entry X)) → All (λ f. own ≡ is_some f.item) line → count_on Giver line ≡ cond own (length line) 0
+count-same true [] all = refl
+count-same false [] all = refl
+count-same true (e ∷ line) all =
+    let more : count_on Giver line ≡ length line = count-same true line (All-tail (λ f. true ≡ is_some f.item) e line all) in
+    sum_by-cons (λ f. cond (is_on Giver f) 1 0) e line ∙ ap₂ ◌+◌ (ap (λ b. cond b 1 0) (sym (All-head (λ f. true ≡ is_some f.item) e line all))) more ∙ omega arith
+count-same false (e ∷ line) all =
+    sum_by-cons (λ f. cond (is_on Giver f) 1 0) e line ∙ ap₂ ◌+◌ (ap (λ b. cond b 1 0) (sym (All-head (λ f. false ≡ is_some f.item) e line all))) (count-same false line (All-tail (λ f. false ≡ is_some f.item) e line all))
+
+-- the first tells
+all_of : {X : Type 0} (own : Bool) (e : Entry X) (line : List (Entry X)) → HasOneSide (e ∷ line) → is_some e.item ≡ own → All (λ f. own ≡ is_some f.item) (e ∷ line)
+all_of own e line one is = subst (λ b. All (λ f. b ≡ is_some f.item) (e ∷ line)) is (first-side e line one)
+
+pub givers-all : {X : Type 0} (line : List (Entry X)) (e : Entry X) → HasOneSide line → e ≡ get_or line 0 e → is_some e.item ≡ true → count_on Giver line ≡ length line
+givers-all [] e one first is = refl
+givers-all {X} (x ∷ line) e one first is = count-same true (x ∷ line) (all_of true x line one (ap (λ (f : Entry X). is_some f.item) (sym first) ∙ is))
+
+pub givers-none : {X : Type 0} (line : List (Entry X)) (e : Entry X) → HasOneSide line → e ≡ get_or line 0 e → is_some e.item ≡ false → count_on Giver line ≡ 0
+givers-none [] e one first is = refl
+givers-none {X} (x ∷ line) e one first is = count-same false (x ∷ line) (all_of false x line one (ap (λ (f : Entry X). is_some f.item) (sym first) ∙ is))
+
+-- one leaves
+length-unmet : {X : Type 0} (order : Order) (e : Entry X) (line : List (Entry X)) → length (unmet order (e ∷ line)) + 1 ≡ length (e ∷ line)
+length-unmet Fair e line = omega arith
+length-unmet Unfair e line = omega (arith, length-take (length (e ∷ line) - 1) (e ∷ line))
+length-unmet Transfer e line = omega arith
+
+-- a line with a giver has a partner for a taker, who leaves one giver less
+pub record HasGiver {X : Type 0} (order : Order) (line : List (Entry X)) : Type 0 where
+  pub giver : Entry X
+  pub met : partner order line Taker ≡ Some giver
+  pub fewer : count_on Giver (unmet order line) + 1 ≡ count_on Giver line
+
+-- in a line that isn't empty one is met
+met-there : {X : Type 0} (order : Order) (e : Entry X) (line : List (Entry X)) (o : Option (Entry X)) → met order (e ∷ line) ≡ o → (giver : Entry X) × (o ≡ Some giver)
+met-there order e line None is = absurd (met-some order e line is)
+met-there order e line (Some giver) is = (giver, refl)
+
+pub giver-there : {X : Type 0} (order : Order) (line : List (Entry X)) → HasOneSide line → 0 < count_on Giver line → HasGiver order line
+giver-there order [] one some = absurd (omega arith)
+giver-there {X} order (e ∷ line) one some = by_side (is_some e.item) refl
+  where
+    by_side : (own : Bool) → is_some e.item ≡ own → HasGiver order (e ∷ line)
+    by_side false is = absurd (let none : count_on Giver (e ∷ line) ≡ 0 = count-same false (e ∷ line) (all_of false e line one is) in omega arith)
+    by_side true is =
+        let found = met-there order e line (met order (e ∷ line)) refl in
+        let left : count_on Giver (unmet order (e ∷ line)) ≡ length (unmet order (e ∷ line)) = count-same true (unmet order (e ∷ line)) (All-unmet (λ f. true ≡ is_some f.item) order (e ∷ line) (all_of true e line one is)) in
+        let before : count_on Giver (e ∷ line) ≡ length (e ∷ line) = count-same true (e ∷ line) (all_of true e line one is) in
+        let less : length (unmet order (e ∷ line)) + 1 ≡ length (e ∷ line) = length-unmet order e line in
+        record {
+          giver = found.0;
+          met = ap (λ b. cond (not b) None (met order (e ∷ line))) is ∙ found.1;
+          fewer = omega (arith, left, before, less);
+        }
