@@ -1,6 +1,6 @@
--- Room in the line changes no call of a synchronous queue.
+-- Room in the line changes no call of a synchronous queue, and a record is of the seat that called.
 use Rattle.std.proofs.Common.{◌≡◌, refl, sym, ap, ◌∙◌, ℕ, zero, suc, ◌+◌, ◌<◌, cond, List, [], arith}
-use Rattle.std.specs.Prelude.{count_by}
+use Rattle.std.specs.Prelude.{count_by, MatchOption, ⊤}
 use Rattle.std.specs.List.{range_with_len}
 use Rattle.std.proofs.Math.Path.{ap₂}
 use Rattle.std.proofs.lemmas.List.Sums.{sum_by-cons}
@@ -16,11 +16,14 @@ use Rattle.meet_core.specs.declared.answers.Gave.TheVariants.{Waits as GiverWait
 use Rattle.meet_core.specs.declared.answers.Took.TheVariants.{Waits as TakerWaits, Meets as TakerMeets, EntryInterrupted as TakerInterrupted}
 use Rattle.meet_core.specs.declared.answers.Offered.TheVariants.{Meets as OfferMeets, Fails as OfferFails}
 use Rattle.meet_core.specs.declared.answers.Polled.TheVariants.{Meets as PollMeets, Fails as PollFails}
+use Rattle.meet_core.specs.declared.answers.Followed.TheVariants.{Done, Got, Interrupted as WasCut, NotYet}
+use Rattle.meet_core.specs.declared.answers.TakenBack.TheVariants.{Back, Late}
 use Rattle.meet_core.specs.declared.answers.Interrupted.TheVariants.{Cut as CutOff, Flagged}
 use Rattle.meet_history.specs.declared.told.DualCall.{DualCall}
 use Rattle.meet_history.specs.declared.told.DualCall.TheVariants.{Give, Offer, Take, Poll, FollowUp, Cancel, Expire, Interrupt}
 use Rattle.meet_history.specs.declared.told.DualAnswer.{DualAnswer}
-use Rattle.meet_history.specs.declared.told.DualAnswer.TheVariants.{Gave as ToGive, Offered as ToOffer, Took as ToTake, Polled as ToPoll, Interrupted as ToInterrupt}
+use Rattle.meet_history.specs.declared.told.DualAnswer.TheVariants.{Gave as ToGive, Offered as ToOffer, Took as ToTake, Polled as ToPoll, Followed as ToFollowUp, TakenBack as ToWithdrawal, Interrupted as ToInterrupt}
+use Rattle.meet_history.specs.DualRecords.{dual_record}
 use Rattle.meet_history.specs.DualSteps.{DualStep, dual_refusal, dual_need, dual_owed, marked_hold, LeadsTo}
 
 -- the same queue with this room
@@ -90,3 +93,27 @@ none-open holds free a (suc n) =
 pub roomy-fresh : {T : Type 0} (mark : T → ℕ) (order : Order) (q : Queue T) → LeadsTo mark order [] q → dual_owed q ≡ 0
 roomy-fresh mark order q leads =
     none-open (seats_of q).holds (λ k. free-from mark ((seats_of q).holds k) (sym (ap (λ s. s.holds k) leads.leaves))) 0 (count_of q)
+
+-- a record is of the seat that called
+pub own-record : {T : Type 0} (mark : T → ℕ) (seat : ℕ) (call : DualCall T) (answer : DualAnswer T) → MatchOption (dual_record mark seat call answer) ⊤ (λ r. r.seat ≡ seat)
+own-record mark seat (Give item) (ToGive (GiverWaits t)) = refl
+own-record mark seat (Give item) (ToGive (GiverMeets t u)) = refl
+own-record mark seat (Give item) (ToGive (GiverInterrupted t back)) = refl
+own-record mark seat (Offer item) (ToOffer (OfferMeets t u)) = refl
+own-record mark seat (Offer item) (ToOffer (OfferFails t back)) = refl
+own-record mark seat Take (ToTake (TakerWaits t)) = refl
+own-record mark seat Take (ToTake (TakerMeets t u item)) = refl
+own-record mark seat Take (ToTake (TakerInterrupted t)) = refl
+own-record mark seat Poll (ToPoll (PollMeets t u item)) = refl
+own-record mark seat Poll (ToPoll (PollFails t)) = refl
+own-record mark seat (FollowUp t) (ToFollowUp Done) = refl
+own-record mark seat (FollowUp t) (ToFollowUp (Got u item)) = refl
+own-record mark seat (FollowUp t) (ToFollowUp (WasCut item)) = refl
+own-record mark seat (FollowUp t) (ToFollowUp NotYet) = tt
+own-record mark seat (Cancel t) (ToWithdrawal (Back item)) = refl
+own-record mark seat (Cancel t) (ToWithdrawal Late) = tt
+own-record mark seat (Expire t) (ToWithdrawal (Back item)) = refl
+own-record mark seat (Expire t) (ToWithdrawal Late) = tt
+own-record mark seat (Interrupt j) (ToInterrupt (CutOff t)) = refl
+own-record mark seat (Interrupt j) (ToInterrupt Flagged) = refl
+own-record mark seat call answer = tt

@@ -92,6 +92,7 @@ impl<O: Object> Book<O> {
         ensures step { IfOk result (λ made. O.steps self.old.object seat call made.0 self.new.object) }
         ensures record { IfOk result (λ made. entry_of made.1 ≡ O.record_of seat call made.0) }
         ensures place { IfOk result (λ made. MatchOption made.1 ⊤ (λ receipt. receipt.place ≡ length self.old.records + 1)) }
+        ensures seat { IfOk result (λ made. MatchOption made.1 ⊤ (λ receipt. receipt.entry.seat ≡ seat)) }
         ensures records { IfOk result (λ made. self.new.records ≡ self.old.records ++ option_to_list (entry_of made.1)) }
         ensures admitted { IfOk result (λ _. call_refusal (O.refusal_of self.old.object seat call) (nat_lt self.old.cap (length self.old.records + O.owed_of self.old.object + O.need_of call)) ≡ None) }
         ensures why { IfErr result (λ refused. MatchOption (call_refusal (O.refusal_of self.old.object seat call) (nat_lt self.old.cap (length self.old.records + O.owed_of self.old.object + O.need_of call))) (refused.why ≡ Memory) (λ first. refused.why ≡ first)) }

@@ -5,7 +5,7 @@ ghost use Rattle.meet_tickets.specs.BySeat.{nobody};
 ghost use Rattle.meet_core.specs.Queue.{seats_of, count_of, places_of};
 ghost use Rattle.meet_history.specs.DualRecords.{dual_record};
 ghost use Rattle.meet_history.specs.DualSteps.{DualStep, LeadsTo, HasEffect, dual_refusal, dual_need, dual_owed, dual_available, dual_left};
-ghost use Rattle.meet_history.specs.DualRoom.{roomy, roomy-refusal, roomy-leads, roomy-steps, roomy-fresh};
+ghost use Rattle.meet_history.specs.DualRoom.{roomy, roomy-refusal, roomy-leads, roomy-steps, roomy-fresh, own-record};
 ghost use Rattle.meet_history.specs.declared.told.DualCall.TheVariants.{Poll};
 
 use crate::book::Book;
@@ -42,6 +42,8 @@ impl<T: Marked, L: Line<Entry<T>>> Object for Dual<T, L> {
     ghost spare = { λ q. q.room };
 
     ghost with_room = { λ q room. roomy q room };
+
+    ghost own_record = { λ seat call answer. own-record T.mark_of seat call answer };
 
     ghost same_place = { λ q. refl };
 

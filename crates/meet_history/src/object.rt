@@ -1,6 +1,6 @@
 //! What a book asks of a place: each of its calls is one step, which writes one record or none.
 
-ghost use Rattle.std.specs.Prelude.{◌≡◌, ◌≢◌, ℕ, ◌+◌, ◌<◌, ◌≤◌, Option, Some, None, List, [], ◌++◌, length, option_to_list, IsOk, IfOk, IfErr, OnOk, OnErr};
+ghost use Rattle.std.specs.Prelude.{◌≡◌, ◌≢◌, ℕ, ◌+◌, ◌<◌, ◌≤◌, Option, Some, None, List, [], ◌++◌, length, option_to_list, MatchOption, ⊤, IsOk, IfOk, IfErr, OnOk, OnErr};
 ghost use Rattle.meet_tickets.specs.declared.records.Record.{Record};
 ghost use Rattle.meet_tickets.specs.declared.refusals.Refusal.{Refusal};
 ghost use Rattle.meet_tickets.specs.declared.refusals.Refusal.TheVariants.{Memory, HistoryFull, TicketsSpent};
@@ -75,6 +75,9 @@ pub trait Object {
         ensures leads { (records : List (Record Self.Deed)) → leads records self.old → leads (records ++ option_to_list result.1) self.new }
         ensures owed { length (option_to_list result.1) + owed_of self.new ≤ owed_of self.old + need_of call }
         ensures room { spare self.old ≤ spare self.new + 1 };
+
+    /// A record is of the seat that called.
+    ghost own_record: { (seat : ℕ) (call : Self.Call) (answer : Self.Answer) → MatchOption (record_of seat call answer) ⊤ (λ entry. entry.seat ≡ seat) };
 
     /// A place that has the room that it has is the same.
     ghost same_place: { (o : Self) → with_room o (spare o) ≡ o };

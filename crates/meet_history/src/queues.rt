@@ -7,7 +7,7 @@ ghost use Rattle.meet_core.specs.Queue.{seats_of, count_of};
 ghost use Rattle.meet_history.specs.Served.{serves_place};
 ghost use Rattle.meet_history.specs.DualRecords.{dual_record};
 ghost use Rattle.meet_history.specs.DualSteps.{DualStep, LeadsTo, dual_refusal, dual_need, dual_owed, dual_available, dual_left};
-ghost use Rattle.meet_history.specs.DualRoom.{roomy, roomy-refusal, roomy-leads, roomy-steps, roomy-fresh};
+ghost use Rattle.meet_history.specs.DualRoom.{roomy, roomy-refusal, roomy-leads, roomy-steps, roomy-fresh, own-record};
 ghost use Rattle.meet_history.specs.declared.told.DualCall.TheVariants.{Poll};
 
 use crate::object::{Drains, Object};
@@ -117,6 +117,8 @@ impl Object for AnyQueue {
     ghost spare = { λ any. any.queue.room };
 
     ghost with_room = { λ any room. record any { queue = roomy any.queue room } };
+
+    ghost own_record = { λ seat call answer. own-record (λ mark. mark) seat call answer };
 
     ghost same_place = { λ any. refl };
 

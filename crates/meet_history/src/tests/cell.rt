@@ -205,6 +205,8 @@ impl Object for Cell {
 
     ghost with_room = { λ cell room. record cell { room = room } };
 
+    ghost own_record = { λ seat call. elim [ None ↦ tt | Some made ↦ refl ] };
+
     ghost same_place = { λ cell. refl };
 
     ghost same_refusal = { λ cell room seat call. refl };
