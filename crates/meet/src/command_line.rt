@@ -1,6 +1,6 @@
 //! The words of the command line.
 
-use clap::{Command, Error};
+use clap::{Arg, ArgAction, Command, Error};
 use std::alloc::Global;
 
 /// What a command line asks for.
@@ -8,17 +8,36 @@ use std::alloc::Global;
 pub enum Task {
     /// A script on standard input, its replies on standard output.
     Run,
+    /// A script on standard input, the trace of its records on standard output.
+    Trace,
+    /// A trace on standard input, what is found of it on standard output.
+    Check,
 }
 
-/// Reads the words of a command line, the program's name first: none or `run`. The error has the text to show; a request
-/// for help is one.
+/// Reads the words of a command line, the program's name first: none, `run`, `run --trace` or `check`. The error has the
+/// text to show; a request for help is one.
 pub fn task_of(alloc: Global, words: &[String]) -> Result<Task, Error> {
-    let run = Command::new(alloc, "run").about("Runs the script on standard input (the default)");
+    let trace = Arg::new(alloc, "trace")
+        .long("trace")
+        .help("Writes the script's records as a trace, instead of its replies")
+        .action(ArgAction::SetTrue);
+    let run = Command::new(alloc, "run")
+        .about("Runs the script on standard input (the default)")
+        .arg(trace)?;
+    let check = Command::new(alloc, "check").about("Checks the trace on standard input");
     let command = Command::new(alloc, "meet")
-        .about("Runs calls on a meeting place of java.util.concurrent")
-        .subcommand(run)?;
-    command.try_get_matches_from(words)?;
-    Ok(Task::Run)
+        .about(
+            "Runs calls on a meeting place of java.util.concurrent, and checks what was recorded",
+        )
+        .subcommand(run)?
+        .subcommand(check)?;
+    let matches = command.try_get_matches_from(words)?;
+    match matches.subcommand() {
+        None => Ok(Task::Run),
+        Some((name, _)) if name == "check" => Ok(Task::Check),
+        Some((_, asked)) if asked.get_flag("trace") => Ok(Task::Trace),
+        Some(_) => Ok(Task::Run),
+    }
 }
 
 #[cfg(test)]
@@ -27,23 +46,28 @@ mod tests {
     use std::test::Fail;
 
     /// What the program makes of these words behind its name.
-    fn is_run(alloc: Global, words: &[&str]) -> Result<bool, Fail> {
+    fn task(alloc: Global, words: &[&str]) -> Result<Option<Task>, Fail> {
         let mut all = Vec::new(alloc);
         all.push(String::from_str(alloc, "meet")?)?;
         for word in words {
             all.push(String::from_str(alloc, word)?)?;
         }
-        Ok(task_of(alloc, all.as_slice()).is_ok())
+        Ok(task_of(alloc, all.as_slice()).ok())
     }
 
     #[test]
     fn command_lines(rt: HostRuntime) -> Result<(), Fail> {
-        assert!(rt; is_run(rt.alloc(), &[])?);
-        assert!(rt; is_run(rt.alloc(), &["run"])?);
-        assert!(rt; !is_run(rt.alloc(), &["walk"])?);
-        assert!(rt; !is_run(rt.alloc(), &["run", "twice"])?);
-        assert!(rt; !is_run(rt.alloc(), &["--help"])?);
-        assert!(rt; !is_run(rt.alloc(), &["help"])?);
+        let alloc = rt.alloc();
+        assert!(rt; task(alloc, &[])? == Some(Task::Run));
+        assert!(rt; task(alloc, &["run"])? == Some(Task::Run));
+        assert!(rt; task(alloc, &["run", "--trace"])? == Some(Task::Trace));
+        assert!(rt; task(alloc, &["check"])? == Some(Task::Check));
+        assert!(rt; task(alloc, &["walk"])?.is_none());
+        assert!(rt; task(alloc, &["run", "twice"])?.is_none());
+        assert!(rt; task(alloc, &["--trace"])?.is_none());
+        assert!(rt; task(alloc, &["check", "--trace"])?.is_none());
+        assert!(rt; task(alloc, &["--help"])?.is_none());
+        assert!(rt; task(alloc, &["help"])?.is_none());
         Ok(())
     }
 }

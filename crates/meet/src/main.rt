@@ -1,4 +1,5 @@
-//! The program `meet`: a script of calls on standard input, their replies on standard output.
+//! The program `meet`: a script of calls on standard input, their replies or their trace on standard output; or a trace on
+//! standard input, what is found of it on standard output.
 #![tactic(auto)]
 
 ghost use Rattle.std.specs.Prelude.{◌≡◌};
@@ -9,7 +10,7 @@ mod command_line;
 
 use clap::error::ErrorKind;
 use command_line::{Task, task_of};
-use meet_run::{RunFault, report_of, run_script};
+use meet_run::{RunFault, check_trace, report_of, run_script, run_trace};
 use meet_tickets::Refusal;
 use std::alloc::AllocError;
 use std::io::{BufReader, Write};
@@ -28,12 +29,16 @@ fn words(rt: &HostRuntime) -> io::Result<Vec<String>> {
     Ok(words)
 }
 
-/// Runs the script on standard input.
-fn run(rt: &HostRuntime) -> Result<bool, RunFault> {
+/// Does what is asked with standard input and standard output.
+fn perform(rt: &HostRuntime, task: Task) -> Result<bool, RunFault> {
     let Ok(mut reader) = BufReader::new(rt.alloc(), rt.stdin()) else {
         return Err(MEMORY);
     };
-    run_script(rt.alloc(), &mut reader, &mut rt.stdout())
+    match task {
+        Task::Run => run_script(rt.alloc(), &mut reader, &mut rt.stdout()),
+        Task::Trace => run_trace(rt.alloc(), &mut reader, &mut rt.stdout()),
+        Task::Check => check_trace(rt.alloc(), &mut reader, &mut rt.stdout()),
+    }
 }
 
 /// Says on standard error how a run failed, if it did, and gives the exit status.
@@ -57,7 +62,7 @@ fn main(rt: HostRuntime) -> ExitCode {
         }
     };
     match task_of(rt.alloc(), words.as_slice()) {
-        Ok(Task::Run) => finish(&rt, &run(&rt)),
+        Ok(task) => finish(&rt, &perform(&rt, task)),
         Err(error) if error.kind() == ErrorKind::OutOfMemory => finish(&rt, &Err(MEMORY)),
         Err(error) => {
             let _ = eprint!(rt; "{error}");

@@ -5,8 +5,11 @@ pub mod Effects
 pub mod Faulty
 pub mod Kept
 pub mod Leading
+pub mod LegalTurns
 pub mod ManyTurns
 pub mod Marking
 pub mod Owed
 pub mod Polling
 pub mod RecordCounts
+pub mod Recorded
+pub mod Within

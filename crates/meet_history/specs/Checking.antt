@@ -7,13 +7,11 @@ use Rattle.meet_tickets.specs.declared.places.Order.TheVariants.{Fair, Unfair, T
 use Rattle.meet_tickets.specs.declared.records.Record.{Record}
 use Rattle.meet_tickets.specs.declared.records.Deed.{Deed}
 use Rattle.meet_tickets.specs.declared.records.Deed.TheVariants.{Done, Got, Withdrawn}
-use Rattle.meet_tickets.specs.Meeting.{waiting_count, kept_count}
 use Rattle.meet_tickets.specs.ByLists.{IsLegal}
-use Rattle.meet_tickets.specs.BySeat.{Moment, beginning, moment_of, open_ticket, is_open, settled_of, IsFree, is_request, Allows}
+use Rattle.meet_tickets.specs.BySeat.{Moment, beginning, moment_of, open_ticket, is_open, IsFree, is_request, Allows}
 use Rattle.meet_line.specs.Table.{Table, hold_at, flag_at}
 use Rattle.meet_history.specs.declared.checker.Why.{Why}
 use Rattle.meet_history.specs.declared.checker.Why.TheVariants.{SeatOpen, TicketOrder, NotOpen, WrongReply}
-use Rattle.meet_history.specs.declared.checker.Standing.{Standing}
 use Rattle.meet_history.specs.declared.checker.CheckFault.{CheckFault}
 use Rattle.meet_history.specs.declared.checker.CheckFault.TheVariants.{Illegal, Memory}
 
@@ -64,15 +62,6 @@ abbrev pub line_order : Order → Order
 line_order Fair = Fair
 line_order Unfair = Unfair
 line_order Transfer = Fair
-
--- the numbers of tickets that wait in the line, that were met or cut and not collected, and of items that are kept, where
--- a place has so many seats
-abbrev pub standing_at : (seats : ℕ) → Moment → Standing
-standing_at seats m = record {
-  waiting = waiting_count m.seats.line;
-  uncollected = settled_of seats m.seats.holds;
-  kept = kept_count m.seats.line;
-}
 
 -- what a checker shows of itself
 pub record Checked : Type 0 where

@@ -12,4 +12,5 @@ pub mod Queues
 pub mod Received
 pub mod Said
 pub mod Served
+pub mod Standings
 pub mod Stepping

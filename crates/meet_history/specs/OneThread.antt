@@ -21,6 +21,7 @@ use Rattle.meet_tickets.specs.Refusals.{refusal_of}
 use Rattle.meet_history.specs.Booking.{call_refusal}
 use Rattle.meet_history.specs.Draining.{drain_refusal_by}
 use Rattle.meet_history.specs.declared.calls.Call.{Call}
+use Rattle.meet_history.specs.declared.checker.Standing.{Standing}
 use Rattle.meet_history.specs.declared.calls.Verb.{Verb}
 use Rattle.meet_history.specs.declared.calls.Verb.TheVariants.{Put, Offer, Take, Poll, Transfer as TransferItem, Try, Follow, Cancel, Expire, Interrupt as InterruptSeat, Drain, Size, Room, Peek, Consumers}
 use Rattle.meet_history.specs.declared.setups.Setup.{Setup}
@@ -75,9 +76,6 @@ joined turn rest = record {
 -- the history has no room for what is owed and this many records more
 abbrev pub is_full : Setup → Place → (need : ℕ) → Bool
 is_full setup p need = nat_lt setup.cap (p.records + owed_of setup.seats p.seats.holds + need)
-
-abbrev pub has_seat : Setup → ℕ → Bool
-has_seat setup seat = nat_lt seat setup.seats
 
 -- three forms of a request without a partner: it waits, it fails, or a giver's item is kept
 pub data Form : Type 0 where
@@ -252,15 +250,14 @@ replies setup calls = (turns setup (start setup) calls).replies
 abbrev pub records : Setup → List Call → List (Record Deed)
 records setup calls = (turns setup (start setup) calls).records
 
--- the numbers of tickets that wait in the line, that were met or cut and not collected, and of items that are kept
-pub record Standing : Type 0 where
-  pub waiting : ℕ
-  pub uncollected : ℕ
-  pub kept : ℕ
+-- the numbers of tickets that wait in the line, that were met or cut and not collected, and of items that are kept, where
+-- a place has so many seats
+abbrev pub standing_at : (seats : ℕ) → Seats ℕ → Standing
+standing_at count s = record {
+  waiting = waiting_count s.line;
+  uncollected = settled_of count s.holds;
+  kept = kept_count s.line;
+}
 
 abbrev pub standing_of : Setup → Place → Standing
-standing_of setup p = record {
-  waiting = waiting_count p.seats.line;
-  uncollected = settled_of setup.seats p.seats.holds;
-  kept = kept_count p.seats.line;
-}
+standing_of setup p = standing_at setup.seats p.seats

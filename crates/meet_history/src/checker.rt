@@ -1,11 +1,13 @@
 //! The checker of histories: are these records legal?
 
-ghost use Rattle.std.specs.Prelude.{◌≡◌, ◌<◌, ◌↔◌, None, IsTrue, IfOk, IfErr, OnOk};
+ghost use Rattle.std.specs.Prelude.{◌≡◌, ℕ, ◌<◌, ◌≤◌, ◌↔◌, None, IsTrue, IfOk, IfErr, OnOk};
 ghost use Rattle.meet_tickets.specs.Meeting.{partner};
 ghost use Rattle.meet_tickets.specs.ByLists.{IsLegal};
-ghost use Rattle.meet_tickets.specs.BySeat.{beginning, IsFree, Fits, moment_after, moment_of};
+ghost use Rattle.meet_tickets.specs.BySeat.{beginning, IsFree, Fits, moment_after};
 ghost use Rattle.meet_tickets.specs.declared.refusals.Refusal.TheVariants.{Memory};
-ghost use Rattle.meet_history.specs.Checking.{IsFaulty, IsLateRequest, IsCheckFault, standing_at, moment_at};
+ghost use Rattle.meet_history.specs.Checking.{IsFaulty, IsLateRequest, IsCheckFault, moment_at};
+ghost use Rattle.meet_history.specs.OneThread.{standing_at};
+ghost use Rattle.meet_history.specs.Standings.{standing_in};
 
 use line::MarkLine;
 use meet_line::SeatTable;
@@ -180,7 +182,8 @@ impl Checker {
 
     /// Where the place's tickets and items are.
     fn standing(&self) -> Standing
-        ensures { result ≡ standing_at 1024 (moment_at self.now) }
+        ensures standing { result ≡ standing_at 1024 (moment_at self.now).seats }
+        ensures beyond { (seat : ℕ) → 1024 ≤ seat → IsFree (moment_at self.now).seats seat }
     {
         let kept = self.line.kept();
         Standing {
@@ -195,7 +198,7 @@ impl Checker {
 /// are. Else it names the last record of the shortest front that isn't legal, with the first reason that applies; or Memory.
 pub fn check(alloc: Global, kind: Kind, records: &[Record<Deed>]) -> Result<Standing, CheckFault>
     ensures legal { IfOk result (λ _. IsLegal kind records.now) }
-    ensures standing { IfOk result (λ standing. standing ≡ standing_at 1024 (moment_of kind beginning records.now)) }
+    ensures standing { IfOk result (λ standing. standing ≡ standing_in records.now) }
     ensures fault { IfErr result (λ fault. IsCheckFault kind records.now fault) }
 {
     let mut checker = match Checker::new(alloc, kind) {

@@ -5,6 +5,7 @@ ghost use Rattle.meet_tickets.specs.declared.refusals.Refusal.TheVariants.{Memor
 
 use crate::book::Book;
 use crate::calls::{Call, Verb};
+use crate::checker::Standing;
 use crate::queues::AnyQueue;
 use crate::replies::{Outcome, Reply, push_reserved};
 use crate::setups::Setup;
@@ -179,26 +180,16 @@ impl Stepper {
         self.book.records().len() as u64
     }
 
-    /// How many tickets wait in the line.
-    pub fn waiting(&self) -> u64
-        ensures { result ≡ (standing_of self.now.setup (place_of self.now)).waiting }
+    /// Where the place's tickets and items are. Nothing is kept in a synchronous queue.
+    pub fn standing(&self) -> Standing
+        ensures { result ≡ standing_of self.now.setup (place_of self.now) }
     {
-        self.book.probe().waiting()
-    }
-
-    /// How many tickets were met or cut, and not collected.
-    pub fn uncollected(&self) -> u64
-        ensures { result ≡ (standing_of self.now.setup (place_of self.now)).uncollected }
-    {
-        self.book.probe().uncollected()
-    }
-
-    /// How many items are kept: none, in a synchronous queue.
-    pub fn kept(&self) -> u64
-        ensures { result ≡ (standing_of self.now.setup (place_of self.now)).kept }
-    {
-        let _waiting = self.book.probe().waiting();
-        0
+        let queue = self.book.probe();
+        Standing {
+            waiting: queue.waiting(),
+            uncollected: queue.uncollected(),
+            kept: 0,
+        }
     }
 
     /// The records, in order. They are legal.

@@ -164,7 +164,7 @@ call_in-again call small fits =
     let cut = tail-space (verb_text call.verb) (decimal call.seat) (no_space-decimal call.seat wide) in
     rw (cut.0, cut.1, number_of-decimal call.seat wide, seat-again call.seat small, verb-again call.verb fits) refl
 
-number-short : (n : ℕ) → n < 2 ^ 64 → length (decimal n) ≤ 20
+pub number-short : (n : ℕ) → n < 2 ^ 64 → length (decimal n) ≤ 20
 number-short n lt = length-decimal-le 20 n (lit< tt) (omega arith) lt
 
 verb-short : (verb : Verb) → FitsVerb verb → length (verb_text verb) ≤ 40

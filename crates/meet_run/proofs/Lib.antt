@@ -1,10 +1,16 @@
 pub mod CallLemmas
+pub mod HeadLemmas
 pub mod LineLemmas
+pub mod NextLemmas
 pub mod Ran
 pub mod Reached
+pub mod Recorded
 pub mod RunLemmas
 pub mod ScriptLemmas
 pub mod SetupLemmas
+pub mod TraceLemmas
+pub mod TraceReading
+pub mod TraceWriting
 pub mod WordLemmas
-pub mod WritingLemmas
 pub mod WorkedScripts
+pub mod WritingLemmas

@@ -3,7 +3,7 @@ use Rattle.std.proofs.Common.{◌≡◌, ◌⊎◌, inl, inr, ℕ, ◌+◌, List
 use Rattle.std.specs.Prelude.{IfSome, Result}
 use Rattle.std.specs.Io.KnownBytes.{Appends}
 use Rattle.meet_tickets.specs.declared.refusals.Refusal.{Refusal}
-use Rattle.meet_tickets.specs.declared.refusals.Refusal.TheVariants.{Memory, WriteFault}
+use Rattle.meet_tickets.specs.declared.refusals.Refusal.TheVariants.{Memory, BadLine, WriteFault}
 use Rattle.meet_history.specs.declared.calls.Call.{Call}
 use Rattle.meet_run.specs.declared.faults.RunFault.{RunFault}
 use Rattle.meet_history.specs.declared.setups.Setup.{Setup}
@@ -29,7 +29,7 @@ pub record Ran (setup : Setup) (reader_old reader_new writer_old writer_new : Op
   pub came : Both reader_old reader_new (λ first rest. CameFrom setup first rest read place written)
 
 -- nothing was read or written so far
-appends-nothing : (w : Option (List ℕ)) → Appends w w []
+pub appends-nothing : (w : Option (List ℕ)) → Appends w w []
 appends-nothing None = tt
 appends-nothing (Some xs) = sym (append-nil xs)
 
@@ -116,9 +116,13 @@ module _ (setup : Setup) (old mid : Option (List ℕ)) (before now : Option (Lis
       (λ input ended. front-more before now after ran.written [] (text_before input) ran.wrote front ([], ended.text ∙ sym (append-nil ran.written) ∙ sym (append-nil (ran.written ++ []))))
 
 -- a fact of a known value that follows from another
-follows : {X : Type 0} {P Q : X → Type 0} (o : Option X) → ((x : X) → P x → Q x) → IfSome o P → IfSome o Q
+pub follows : {X : Type 0} {P Q : X → Type 0} (o : Option X) → ((x : X) → P x → Q x) → IfSome o P → IfSome o Q
 follows None f h = tt
 follows (Some x) f h = f x h
+
+-- how a run ends at a faulty line
+pub bad_line-ends : (f : RunFault) (n : ℕ) (fault : Option ℕ) (text output : List ℕ) (old new : Option (List ℕ)) → f ≡ record { why = BadLine; line = Some n } → (fault ≡ Some n) × Appends old new output → RunEnds fault text output (Err f) old new
+bad_line-ends f n fault text output old new is at = subst (λ x. RunEnds fault text output (Err x) old new) (sym is) at
 
 -- how a run that was cut short ends
 cut-ends : (f : RunFault) (why : Refusal) (fault : Option ℕ) (text output : List ℕ) (old new : Option (List ℕ)) → f ≡ record { why = why; line = None } → (why ≡ Memory) ⊎ (why ≡ WriteFault) → AppendsFront old new text × AppendsFront old new output → RunEnds fault text output (Err f) old new

@@ -5,10 +5,10 @@ use Rattle.meet_history.specs.declared.setups.Setup.{Setup}
 use Rattle.meet_history.specs.OneThread.{Place, start, turn, standing_of}
 use Rattle.meet_run.specs.Grammar.{call_of, setup_of}
 use Rattle.meet_run.specs.Wording.{last_line}
-use Rattle.meet_run.specs.Reading.{lines_of}
+use Rattle.meet_run.specs.Reading.{lines_of, Listed, no_more, faulty_at, with_item}
 use Rattle.meet_run.specs.Writing.{IsFront}
-use Rattle.meet_run.specs.Script.{Reached, Calls, no_more, faulty_at, with_call, calls_from, replies_text, text_from, output_from, fault_in, text_in, output_in, fault_of, text_before, output_of}
-use Rattle.meet_run.proofs.ScriptLemmas.{calls-end, calls-more, calls-fault, text-end, text-more, output-more, output-end, output-fault, first-line, first-fault, no-line}
+use Rattle.meet_run.specs.Script.{Reached, calls_from, replies_text, text_from, output_from, fault_in, text_in, output_in, fault_of, text_before, output_of}
+use Rattle.meet_run.proofs.ScriptLemmas.{reads, listed-end, listed-more, listed-fault, text-end, text-more, output-more, output-end, output-fault, first-line, first-fault, no-line}
 
 -- after the first line nothing is written
 pub reached-first : (setup : Setup) (input rest line : List ℕ) → lines_of input ≡ line ∷ lines_of rest → setup_of line ≡ Some setup → Reached setup input rest 2 (start setup) []
@@ -24,13 +24,13 @@ reached-first setup input rest line is read =
 pub reached-more : (setup : Setup) (input rest : List ℕ) (n : ℕ) (place : Place) (written line : List ℕ) (more : List ℕ) (call : Call) → Reached setup input rest n place written → lines_of rest ≡ line ∷ lines_of more → call_of setup.kind.order line ≡ Some call → Reached setup input more (n + 1) (turn setup place call).place (written ++ replies_text (turn setup place call).replies)
 reached-more setup input rest n place written line more call h is read =
     let order = setup.kind.order in
-    let left : Calls = calls_from order (n + 1) (lines_of more) in
+    let left : Listed Call = calls_from order (n + 1) (lines_of more) in
     let t = turn setup place call in
-    let calls : calls_from order n (lines_of rest) ≡ with_call call left = ap (λ (ls : List (List ℕ)). calls_from order n ls) is ∙ calls-more order n line (lines_of more) call read in
+    let calls : calls_from order n (lines_of rest) ≡ with_item call left = ap (λ (ls : List (List ℕ)). calls_from order n ls) is ∙ listed-more (reads order) n line (lines_of more) call read in
     record {
-      fault = h.fault ∙ ap (λ (c : Calls). c.fault) calls;
-      text = h.text ∙ (ap (λ (c : Calls). written ++ text_from setup place c.calls) calls ∙ (ap (λ (s : List ℕ). written ++ s) (text-more setup place call left.calls) ∙ sym (append_assoc written (replies_text t.replies) (text_from setup t.place left.calls))));
-      output = h.output ∙ (ap (λ (c : Calls). written ++ output_from setup place c) calls ∙ (ap (λ (s : List ℕ). written ++ s) (output-more setup place call left) ∙ sym (append_assoc written (replies_text t.replies) (output_from setup t.place left))));
+      fault = h.fault ∙ ap (λ (c : Listed Call). c.fault) calls;
+      text = h.text ∙ (ap (λ (c : Listed Call). written ++ text_from setup place c.items) calls ∙ (ap (λ (s : List ℕ). written ++ s) (text-more setup place call left.items) ∙ sym (append_assoc written (replies_text t.replies) (text_from setup t.place left.items))));
+      output = h.output ∙ (ap (λ (c : Listed Call). written ++ output_from setup place c) calls ∙ (ap (λ (s : List ℕ). written ++ s) (output-more setup place call left) ∙ sym (append_assoc written (replies_text t.replies) (output_from setup t.place left))));
     }
 
 -- what is written goes on with a call's replies
@@ -51,11 +51,11 @@ pub record Ended (setup : Setup) (input : List ℕ) (place : Place) (written : L
 
 pub reached-end : (setup : Setup) (input rest : List ℕ) (n : ℕ) (place : Place) (written : List ℕ) → Reached setup input rest n place written → lines_of rest ≡ [] → Ended setup input place written
 reached-end setup input rest n place written h is =
-    let calls : calls_from setup.kind.order n (lines_of rest) ≡ no_more = ap (λ (ls : List (List ℕ)). calls_from setup.kind.order n ls) is ∙ calls-end setup.kind.order n in
+    let calls : calls_from setup.kind.order n (lines_of rest) ≡ no_more = ap (λ (ls : List (List ℕ)). calls_from setup.kind.order n ls) is ∙ listed-end (reads setup.kind.order) n in
     record {
-      fault = h.fault ∙ ap (λ (c : Calls). c.fault) calls;
-      text = h.text ∙ (ap (λ (c : Calls). written ++ text_from setup place c.calls) calls ∙ (ap (λ (s : List ℕ). written ++ s) (text-end setup place) ∙ append-nil written));
-      output = h.output ∙ (ap (λ (c : Calls). written ++ output_from setup place c) calls ∙ ap (λ (s : List ℕ). written ++ s) (output-end setup place));
+      fault = h.fault ∙ ap (λ (c : Listed Call). c.fault) calls;
+      text = h.text ∙ (ap (λ (c : Listed Call). written ++ text_from setup place c.items) calls ∙ (ap (λ (s : List ℕ). written ++ s) (text-end setup place) ∙ append-nil written));
+      output = h.output ∙ (ap (λ (c : Listed Call). written ++ output_from setup place c) calls ∙ ap (λ (s : List ℕ). written ++ s) (output-end setup place));
     }
 
 -- what a run gives where it ends at a fault
@@ -66,11 +66,11 @@ pub record EndedAtFault (input : List ℕ) (n : ℕ) (written : List ℕ) : Type
 
 pub reached-fault : (setup : Setup) (input rest : List ℕ) (n : ℕ) (place : Place) (written line : List ℕ) (lines : List (List ℕ)) → Reached setup input rest n place written → lines_of rest ≡ line ∷ lines → call_of setup.kind.order line ≡ None → EndedAtFault input n written
 reached-fault setup input rest n place written line lines h is read =
-    let calls : calls_from setup.kind.order n (lines_of rest) ≡ faulty_at n = ap (λ (ls : List (List ℕ)). calls_from setup.kind.order n ls) is ∙ calls-fault setup.kind.order n line lines read in
+    let calls : calls_from setup.kind.order n (lines_of rest) ≡ faulty_at n = ap (λ (ls : List (List ℕ)). calls_from setup.kind.order n ls) is ∙ listed-fault (reads setup.kind.order) n line lines read in
     record {
-      fault = h.fault ∙ ap (λ (c : Calls). c.fault) calls;
-      text = h.text ∙ (ap (λ (c : Calls). written ++ text_from setup place c.calls) calls ∙ (ap (λ (s : List ℕ). written ++ s) (text-end setup place) ∙ append-nil written));
-      output = h.output ∙ (ap (λ (c : Calls). written ++ output_from setup place c) calls ∙ (ap (λ (s : List ℕ). written ++ s) (output-fault setup place n) ∙ append-nil written));
+      fault = h.fault ∙ ap (λ (c : Listed Call). c.fault) calls;
+      text = h.text ∙ (ap (λ (c : Listed Call). written ++ text_from setup place c.items) calls ∙ (ap (λ (s : List ℕ). written ++ s) (text-end setup place) ∙ append-nil written));
+      output = h.output ∙ (ap (λ (c : Listed Call). written ++ output_from setup place c) calls ∙ (ap (λ (s : List ℕ). written ++ s) (output-fault setup place n) ∙ append-nil written));
     }
 
 -- a first line that is at fault

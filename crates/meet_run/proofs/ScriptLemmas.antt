@@ -1,5 +1,5 @@
 -- A script, line by line.
-use Rattle.std.proofs.Common.{◌≡◌, ℕ, ◌+◌, ◌<◌, List, [], ◌∷◌, ◌++◌, length, Some, None, refl, sym, ap, ◌∙◌, append_assoc, append-nil, arith, length-append}
+use Rattle.std.proofs.Common.{◌≡◌, ℕ, ◌+◌, ◌<◌, ◌≤◌, List, [], ◌∷◌, ◌++◌, length, Option, Some, None, refl, sym, ap, ◌∙◌, append_assoc, append-nil, arith, length-append}
 use Rattle.std.specs.Option.{option_map_or}
 use Rattle.std.proofs.lemmas.Bool.{lt-ltb}
 use Rattle.meet_tickets.specs.declared.places.Order.{Order}
@@ -9,8 +9,13 @@ use Rattle.meet_history.specs.declared.replies.Reply.{Reply}
 use Rattle.meet_history.specs.OneThread.{Place, start, turn, turns, records, standing_of}
 use Rattle.meet_run.specs.Grammar.{call_of, setup_of}
 use Rattle.meet_run.specs.Wording.{text_of, last_line}
-use Rattle.meet_run.specs.Script.{Calls, no_more, faulty_at, with_call, calls_from, replies_text, text_from, closing_from, ending_from, output_from, calls_behind, fault_in, text_in, output_in, text, closing, AreCalls, ScriptsAreAnswered, FaultsEndScripts}
+use Rattle.meet_run.specs.Reading.{Listed, no_more, faulty_at, with_item, listed}
+use Rattle.meet_run.specs.Script.{calls_from, replies_text, text_from, closing_from, ending_from, output_from, calls_behind, fault_in, text_in, output_in, text, closing, AreCalls, ScriptsAreAnswered, FaultsEndScripts}
+use Rattle.meet_history.specs.Standings.{standing_in}
 use Rattle.meet_history.proofs.RecordCounts.{turn-counted}
+use Rattle.meet_history.proofs.Recorded.{is_recorded}
+use Rattle.meet_run.specs.Spelling.{FitsSetup}
+use Rattle.meet_run.proofs.SetupLemmas.{setup-fits}
 
 -- ---- lines that are too long
 
@@ -22,19 +27,23 @@ pub setup-too_long : (line : List ℕ) → 128 < length line → setup_of line �
 unfolding setup_of
 setup-too_long line long = rw (lt-ltb 128 (length line) long) refl
 
--- ---- the calls of the lines from here on
+-- ---- what the lines from here on read as
 
-pub calls-end : (order : Order) (n : ℕ) → calls_from order n [] ≡ no_more
-unfolding calls_from
-calls-end order n = refl
+pub listed-end : {A : Type 0} (reading : ℕ → List ℕ → Option A) (n : ℕ) → listed reading n [] ≡ no_more
+unfolding listed
+listed-end reading n = refl
 
-pub calls-more : (order : Order) (n : ℕ) (line : List ℕ) (lines : List (List ℕ)) (call : Call) → call_of order line ≡ Some call → calls_from order n (line ∷ lines) ≡ with_call call (calls_from order (n + 1) lines)
-unfolding calls_from
-calls-more order n line lines call e = rw e refl
+pub listed-more : {A : Type 0} (reading : ℕ → List ℕ → Option A) (n : ℕ) (line : List ℕ) (lines : List (List ℕ)) (item : A) → reading n line ≡ Some item → listed reading n (line ∷ lines) ≡ with_item item (listed reading (n + 1) lines)
+unfolding listed
+listed-more reading n line lines item e = rw e refl
 
-pub calls-fault : (order : Order) (n : ℕ) (line : List ℕ) (lines : List (List ℕ)) → call_of order line ≡ None → calls_from order n (line ∷ lines) ≡ faulty_at n
-unfolding calls_from
-calls-fault order n line lines e = rw e refl
+pub listed-fault : {A : Type 0} (reading : ℕ → List ℕ → Option A) (n : ℕ) (line : List ℕ) (lines : List (List ℕ)) → reading n line ≡ None → listed reading n (line ∷ lines) ≡ faulty_at n
+unfolding listed
+listed-fault reading n line lines e = rw e refl
+
+-- how the lines of a script read
+abbrev pub reads : Order → ℕ → List ℕ → Option Call
+reads order n line = call_of order line
 
 -- ---- what is written from here on
 
@@ -51,21 +60,21 @@ pub text-more : (setup : Setup) (p : Place) (call : Call) (calls : List Call) �
 unfolding text_from
 text-more setup p call calls = replies_text-append (turn setup p call).replies (turns setup (turn setup p call).place calls).replies
 
-pub ending-more : (setup : Setup) (p : Place) (call : Call) (rest : Calls) → ending_from setup p (with_call call rest) ≡ ending_from setup (turn setup p call).place rest
+pub ending-more : (setup : Setup) (p : Place) (call : Call) (rest : Listed Call) → ending_from setup p (with_item call rest) ≡ ending_from setup (turn setup p call).place rest
 unfolding ending_from closing_from
 ending-more setup p call rest =
     let t = turn setup p call in
-    let more = turns setup t.place rest.calls in
+    let more = turns setup t.place rest.items in
     let count : p.records + length (t.records ++ more.records) ≡ t.place.records + length more.records = omega (arith, length-append t.records more.records, turn-counted setup p call) in
     ap (λ (n : ℕ). option_map_or (λ k. []) rest.fault (last_line n (standing_of setup more.place))) count
 
-pub output-more : (setup : Setup) (p : Place) (call : Call) (rest : Calls) → output_from setup p (with_call call rest) ≡ replies_text (turn setup p call).replies ++ output_from setup (turn setup p call).place rest
+pub output-more : (setup : Setup) (p : Place) (call : Call) (rest : Listed Call) → output_from setup p (with_item call rest) ≡ replies_text (turn setup p call).replies ++ output_from setup (turn setup p call).place rest
 unfolding output_from
 output-more setup p call rest =
     let t = turn setup p call in
-    let text = text-more setup p call rest.calls in
+    let text = text-more setup p call rest.items in
     let end = ending-more setup p call rest in
-    ap (λ (s : List ℕ). s ++ ending_from setup p (with_call call rest)) text ∙ (append_assoc (replies_text t.replies) (text_from setup t.place rest.calls) (ending_from setup p (with_call call rest)) ∙ ap (λ (s : List ℕ). replies_text t.replies ++ (text_from setup t.place rest.calls ++ s)) end)
+    ap (λ (s : List ℕ). s ++ ending_from setup p (with_item call rest)) text ∙ (append_assoc (replies_text t.replies) (text_from setup t.place rest.items) (ending_from setup p (with_item call rest)) ∙ ap (λ (s : List ℕ). replies_text t.replies ++ (text_from setup t.place rest.items ++ s)) end)
 
 -- at the end of the lines only the last line is left
 pub output-end : (setup : Setup) (p : Place) → output_from setup p no_more ≡ last_line p.records (standing_of setup p)
@@ -84,7 +93,7 @@ output-fault setup p n = refl
 -- what a script gives behind its first line
 pub record Behind (setup : Setup) (line : List ℕ) (lines : List (List ℕ)) : Type 0 where
   pub fault : fault_in (line ∷ lines) ≡ (calls_behind setup lines).fault
-  pub text : text_in (line ∷ lines) ≡ text_from setup (start setup) (calls_behind setup lines).calls
+  pub text : text_in (line ∷ lines) ≡ text_from setup (start setup) (calls_behind setup lines).items
   pub output : output_in (line ∷ lines) ≡ output_from setup (start setup) (calls_behind setup lines)
 
 pub first-line : (setup : Setup) (line : List ℕ) (lines : List (List ℕ)) → setup_of line ≡ Some setup → Behind setup line lines
@@ -107,40 +116,43 @@ no-line = record { fault = refl; text = refl; output = refl }
 
 -- ---- the law
 
-are-calls : (order : Order) (n : ℕ) (lines : List (List ℕ)) (calls : List Call) → AreCalls order lines calls → calls_from order n lines ≡ record { calls = calls; fault = None }
-are-calls order n [] [] h = calls-end order n
+are-calls : (order : Order) (n : ℕ) (lines : List (List ℕ)) (calls : List Call) → AreCalls order lines calls → calls_from order n lines ≡ record { items = calls; fault = None }
+are-calls order n [] [] h = listed-end (reads order) n
 are-calls order n [] (call ∷ calls) h = absurd h
 are-calls order n (line ∷ lines) [] h = absurd h
 are-calls order n (line ∷ lines) (call ∷ calls) h =
-    calls-more order n line lines call h.0 ∙ ap (λ (rest : Calls). with_call call rest) (are-calls order (n + 1) lines calls h.1)
+    listed-more (reads order) n line lines call h.0 ∙ ap (λ (rest : Listed Call). with_item call rest) (are-calls order (n + 1) lines calls h.1)
 
 pub scripts-are-answered : ScriptsAreAnswered
 unfolding output_from text_from replies_text ending_from closing_from
 scripts-are-answered line lines setup calls first h =
     let behind = first-line setup line lines first in
-    let all : Calls = record { calls = calls; fault = None } in
+    let all : Listed Call = record { items = calls; fault = None } in
     let are : calls_behind setup lines ≡ all = are-calls setup.kind.order 2 lines calls h in
     let count : 0 + length (records setup calls) ≡ length (records setup calls) = omega arith in
+    let fits : FitsSetup setup = setup-fits line setup first in
+    let from : 1 ≤ setup.first = fits.limits.first.0 in
+    let stands : standing_of setup (turns setup (start setup) calls).place ≡ standing_in (records setup calls) = (is_recorded setup calls (omega arith)).standing in
     let whole : output_from setup (start setup) all ≡ text setup calls ++ closing setup calls =
-    ap (λ (n : ℕ). text setup calls ++ last_line n (standing_of setup (turns setup (start setup) calls).place)) count in
-    (behind.fault ∙ ap (λ (c : Calls). c.fault) are, behind.output ∙ (ap (λ (c : Calls). output_from setup (start setup) c) are ∙ whole))
+    (λ i. text setup calls ++ last_line (count i) (stands i)) in
+    (behind.fault ∙ ap (λ (c : Listed Call). c.fault) are, behind.output ∙ (ap (λ (c : Listed Call). output_from setup (start setup) c) are ∙ whole))
 
-are-faulty : (order : Order) (n : ℕ) (lines : List (List ℕ)) (calls : List Call) (bad : List ℕ) (more : List (List ℕ)) → AreCalls order lines calls → call_of order bad ≡ None → calls_from order n (lines ++ bad ∷ more) ≡ record { calls = calls; fault = Some (length lines + n) }
+are-faulty : (order : Order) (n : ℕ) (lines : List (List ℕ)) (calls : List Call) (bad : List ℕ) (more : List (List ℕ)) → AreCalls order lines calls → call_of order bad ≡ None → calls_from order n (lines ++ bad ∷ more) ≡ record { items = calls; fault = Some (length lines + n) }
 are-faulty order n [] [] bad more h e =
     let at : n ≡ 0 + n = omega arith in
-    calls-fault order n bad more e ∙ ap (λ (k : ℕ). faulty_at k) at
+    listed-fault (reads order) n bad more e ∙ ap (λ (k : ℕ). faulty_at k) at
 are-faulty order n [] (call ∷ calls) bad more h e = absurd h
 are-faulty order n (line ∷ lines) [] bad more h e = absurd h
 are-faulty order n (line ∷ lines) (call ∷ calls) bad more h e =
     let at : length lines + (n + 1) ≡ length (line ∷ lines) + n = omega arith in
     let rest = are-faulty order (n + 1) lines calls bad more h.1 e in
-    let next : ℕ → Calls = λ k. record { calls = call ∷ calls; fault = Some k } in
-    calls-more order n line (lines ++ bad ∷ more) call h.0 ∙ (ap (λ (c : Calls). with_call call c) rest ∙ ap next at)
+    let next : ℕ → Listed Call = λ k. record { items = call ∷ calls; fault = Some k } in
+    listed-more (reads order) n line (lines ++ bad ∷ more) call h.0 ∙ (ap (λ (c : Listed Call). with_item call c) rest ∙ ap next at)
 
 pub faults-end-scripts : FaultsEndScripts
 unfolding output_from text_from replies_text ending_from
 faults-end-scripts line lines bad more setup calls first h e =
     let behind = first-line setup line (lines ++ bad ∷ more) first in
-    let all : Calls = record { calls = calls; fault = Some (length lines + 2) } in
+    let all : Listed Call = record { items = calls; fault = Some (length lines + 2) } in
     let are : calls_behind setup (lines ++ bad ∷ more) ≡ all = are-faulty setup.kind.order 2 lines calls bad more h e in
-    (behind.fault ∙ ap (λ (c : Calls). c.fault) are, behind.output ∙ (ap (λ (c : Calls). output_from setup (start setup) c) are ∙ append-nil (text setup calls)))
+    (behind.fault ∙ ap (λ (c : Listed Call). c.fault) are, behind.output ∙ (ap (λ (c : Listed Call). output_from setup (start setup) c) are ∙ append-nil (text setup calls)))

@@ -18,14 +18,14 @@ use Rattle.meet_run.proofs.WordLemmas.{HasNoSpace, number_of-is, number_of-decim
 use Rattle.meet_run.proofs.CallLemmas.{bind-some, chosen, chosen-second}
 
 -- an option that is spelled out is in its limits
-abbrev IsWithin : (most : ℕ) → Option ℕ → Type 0
+abbrev pub IsWithin : (most : ℕ) → Option ℕ → Type 0
 IsWithin most None = ⊤
 IsWithin most (Some n) = (1 ≤ n) × (n ≤ most)
 
 -- ---- what is read is spelled
 
 -- what an option took from the front of a line's rest
-abbrev IsOption : (name : List ℕ) (most : ℕ) (rest : List ℕ) → Option ℕ × List ℕ → Type 0
+abbrev pub IsOption : (name : List ℕ) (most : ℕ) (rest : List ℕ) → Option ℕ × List ℕ → Type 0
 IsOption name most rest found = (rest ≡ option_text name found.0 ++ found.1) × IsWithin most found.0
 
 value-is : (name : List ℕ) (most : ℕ) (text : List ℕ) (found : Option ℕ × List ℕ) → option_value most (word_of text) (rest_of text) ≡ Some found → IsOption name most (name ++ text) found
@@ -40,7 +40,7 @@ value-is name most text found e =
     let whole : name ++ text ≡ (name ++ decimal n) ++ rest_of text = ap (λ (t : List ℕ). name ++ t) cut ∙ sym (append_assoc name (decimal n) (rest_of text)) in
     subst (λ (f : Option ℕ × List ℕ). IsOption name most (name ++ text) f) test.1 (whole, (leb-true 1 n limits.0, leb-true n most limits.1))
 
-option-is : (name : List ℕ) (most : ℕ) (rest : List ℕ) (found : Option ℕ × List ℕ) → option_in name most rest ≡ Some found → IsOption name most rest found
+pub option-is : (name : List ℕ) (most : ℕ) (rest : List ℕ) (found : Option ℕ × List ℕ) → option_in name most rest ≡ Some found → IsOption name most rest found
 unfolding option_in
 option-is name most rest found e = go (behind name rest) refl e
   where
@@ -84,7 +84,7 @@ written-is rest found e =
     let s0 : rest ≡ (ta ++ (tb ++ (tc ++ td))) ++ last = a.0 ∙ (ap (λ (t : List ℕ). ta ++ t) s1 ∙ sym (append_assoc ta (tb ++ (tc ++ td)) last)) in
     subst (λ (f : Options × List ℕ). (rest ≡ written_text f.0 ++ f.1) × AreWithin f.0) same (s0, record { seats = a.1; cap = b.1; first = c.1; bound = d.1 })
 
-order-is : (word : List ℕ) (order : Order) → order_of word ≡ Some order → word ≡ place_text order
+pub order-is : (word : List ℕ) (order : Order) → order_of word ≡ Some order → word ≡ place_text order
 unfolding order_of
 order-is word order e =
     let P : Type 0 = word ≡ place_text order in
@@ -101,7 +101,7 @@ limits-of : (most default : ℕ) (o : Option ℕ) → IsWithin most o → 1 ≤ 
 limits-of most default None h low high = (low, high)
 limits-of most default (Some n) h low high = h
 
-bound-of : (order : Order) (bound : Option ℕ) → may_have order bound ≡ true → IsWithin 1048576 bound → FitsBound order bound
+pub bound-of : (order : Order) (bound : Option ℕ) → may_have order bound ≡ true → IsWithin 1048576 bound → FitsBound order bound
 bound-of order None may h = tt
 bound-of Fair (Some n) may h = absurd cc
 bound-of Unfair (Some n) may h = absurd cc
@@ -148,7 +148,7 @@ unfolding option_in
 option-absent name most text front = rw front refl
 
 -- the texts of the last option, of the last two and of the last three
-abbrev bound-text : Option ℕ → List ℕ
+abbrev pub bound-text : Option ℕ → List ℕ
 bound-text b = option_text (codes " bound ") b
 
 abbrev first-text : (f b : Option ℕ) → List ℕ
@@ -160,7 +160,7 @@ cap-text c f b = option_text (codes " cap ") c ++ first-text f b
 abbrev seats-text : (s c f b : Option ℕ) → List ℕ
 seats-text s c f b = option_text (codes " seats ") s ++ cap-text c f b
 
-bound-tail : (b : Option ℕ) → IsTail (bound-text b)
+pub bound-tail : (b : Option ℕ) → IsTail (bound-text b)
 bound-tail None = tail-none
 bound-tail (Some n) = tail-space _
 
@@ -176,7 +176,7 @@ seats-tail : (s c f b : Option ℕ) → IsTail (seats-text s c f b)
 seats-tail None c f b = cap-tail c f b
 seats-tail (Some n) c f b = tail-space _
 
-bound-again : (b : Option ℕ) → IsWithin 1048576 b → option_in (codes " bound ") 1048576 (bound-text b) ≡ Some (b, [])
+pub bound-again : (b : Option ℕ) → IsWithin 1048576 b → option_in (codes " bound ") 1048576 (bound-text b) ≡ Some (b, [])
 unfolding behind
 bound-again None h = option-absent (codes " bound ") 1048576 [] refl
 bound-again (Some n) h =
@@ -209,12 +209,12 @@ unfolding written_in
 written-again o h =
     rw (seats-again o.seats o.cap o.first o.bound h.seats, cap-again o.cap o.first o.bound h.cap, first-again o.first o.bound h.first, bound-again o.bound h.bound) refl
 
-place-no_space : (order : Order) → HasNoSpace (place_text order)
+pub place-no_space : (order : Order) → HasNoSpace (place_text order)
 place-no_space Fair = (refl, (refl, (refl, (refl, tt))))
 place-no_space Unfair = (refl, (refl, (refl, (refl, (refl, (refl, tt))))))
 place-no_space Transfer = (refl, (refl, (refl, (refl, (refl, (refl, (refl, (refl, tt))))))))
 
-order-again : (order : Order) → order_of (place_text order) ≡ Some order
+pub order-again : (order : Order) → order_of (place_text order) ≡ Some order
 unfolding order_of
 order-again Fair = refl
 order-again Unfair = refl
@@ -230,7 +230,7 @@ within-of : (most default : ℕ) (o : Option ℕ) → 1 ≤ unwrap_or o default 
 within-of most default None low high = tt
 within-of most default (Some n) low high = (low, high)
 
-may-of : (order : Order) (bound : Option ℕ) → FitsBound order bound → (may_have order bound ≡ true) × IsWithin 1048576 bound
+pub may-of : (order : Order) (bound : Option ℕ) → FitsBound order bound → (may_have order bound ≡ true) × IsWithin 1048576 bound
 may-of order None h = (refl, tt)
 may-of Fair (Some n) h = absurd h
 may-of Unfair (Some n) h = absurd h
@@ -244,14 +244,14 @@ within order o h = record {
   bound = (may-of order o.bound h.bound).1;
 }
 
-option-short : (name : List ℕ) (most : ℕ) (o : Option ℕ) → most < 2 ^ 64 → IsWithin most o → length (option_text name o) ≤ length name + 20
+pub option-short : (name : List ℕ) (most : ℕ) (o : Option ℕ) → most < 2 ^ 64 → IsWithin most o → length (option_text name o) ≤ length name + 20
 option-short name most None wide h = omega arith
 option-short name most (Some n) wide h =
     let lt : n < 2 ^ 64 = omega (arith, h.1) in
     let short : length (decimal n) ≤ 20 = length-decimal-le 20 n (lit< tt) (omega arith) lt in
     omega (arith, length-append name (decimal n))
 
-place-short : (order : Order) → length (place_text order) ≤ 8
+pub place-short : (order : Order) → length (place_text order) ≤ 8
 place-short Fair = lit≤ tt
 place-short Unfair = lit≤ tt
 place-short Transfer = lit≤ tt

@@ -4,6 +4,10 @@ pub mod Reading
 pub mod Running
 pub mod Script
 pub mod Spelling
+pub mod TraceGrammar
+pub mod TraceSpelling
+pub mod TraceWording
+pub mod Traces
 pub mod Wording
 pub mod Words
 pub mod Writing

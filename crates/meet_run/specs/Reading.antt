@@ -1,5 +1,6 @@
 -- The lines of a text, and what reading one of them takes.
 use Rattle.std.specs.Prelude.{◌≡◌, ℕ, ◌+◌, ◌<◌, ◌≤◌, ◌==◌, Option, Some, None, IfSome, ⊤, List, [], ◌∷◌, length, if◌then◌else◌}
+use Rattle.std.specs.Option.{option_map_or}
 use Rattle.std.specs.Io.KnownBytes.{Consumes, IsAtEnd}
 use Rattle.meet_run.specs.declared.reading.ByteRead.{ByteRead}
 use Rattle.meet_run.specs.declared.reading.ByteRead.TheVariants.{Byte, End as EndOfBytes, Failed as ByteFailed}
@@ -15,6 +16,28 @@ with_front b (line ∷ lines) = (b ∷ line) ∷ lines
 unfoldable pub lines_of : List ℕ → List (List ℕ)
 lines_of [] = []
 lines_of (b ∷ bs) = if b == 10 then [] ∷ lines_of bs else with_front b (lines_of bs)
+
+-- what lines read as, up to the first that reads as nothing, and the number of that line, if there is one
+pub record Listed (A : Type 0) : Type 0 where
+  pub items : List A
+  pub fault : Option ℕ
+
+-- no line is left
+abbrev pub no_more : {A : Type 0} → Listed A
+no_more = record { items = []; fault = None }
+
+-- the line with this number is faulty
+abbrev pub faulty_at : {A : Type 0} → (n : ℕ) → Listed A
+faulty_at n = record { items = []; fault = Some n }
+
+-- one more in front
+abbrev pub with_item : {A : Type 0} → A → Listed A → Listed A
+with_item item rest = record { items = item ∷ rest.items; fault = rest.fault }
+
+-- what these lines read as, by their numbers, of which this is the first
+unfoldable pub listed : {A : Type 0} → (reading : ℕ → List ℕ → Option A) → (n : ℕ) → (lines : List (List ℕ)) → Listed A
+listed reading n [] = no_more
+listed reading n (line ∷ lines) = option_map_or (λ item. with_item item (listed reading (n + 1) lines)) (reading n line) (faulty_at n)
 
 -- a fact of the known bytes before and after
 abbrev pub Both : (old new : Option (List ℕ)) → (List ℕ → List ℕ → Type 0) → Type 0

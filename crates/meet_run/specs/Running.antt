@@ -5,12 +5,22 @@ use Rattle.meet_tickets.specs.declared.refusals.Refusal.{Refusal}
 use Rattle.meet_tickets.specs.declared.refusals.Refusal.TheVariants.{Memory, BadLine, ReadFault, WriteFault}
 use Rattle.meet_history.specs.declared.setups.Setup.{Setup}
 use Rattle.meet_run.specs.declared.faults.RunFault.{RunFault}
-use Rattle.meet_run.specs.declared.run.Next.{Next}
-use Rattle.meet_run.specs.declared.run.Next.TheVariants.{Read, Ended, Faulty, Broken}
+use Rattle.meet_run.specs.declared.next.Next.{Next}
+use Rattle.meet_run.specs.declared.next.Next.TheVariants.{Read, Ended, Faulty, Broken}
+use Rattle.meet_run.specs.declared.reading.LineRead.{LineRead}
+use Rattle.meet_run.specs.declared.reading.LineRead.TheVariants.{Line, End, TooLong, Failed}
 use Rattle.meet_run.specs.Reading.{lines_of, Both}
 use Rattle.meet_run.specs.Writing.{AppendsFront}
 use Rattle.meet_history.specs.OneThread.{start}
 use Rattle.meet_run.specs.Script.{Reached, fault_of, text_before, output_of}
+
+-- what the next line is, by what came of reading it, and what it then reads as
+abbrev pub next_from : {A : Type 0} → LineRead → Option A → Next A
+next_from Line (Some item) = Read item
+next_from Line None = Faulty
+next_from End read = Ended
+next_from TooLong read = Faulty
+next_from Failed read = Broken
 
 -- what the next line is, by a reading of lines: one that reads as this; none; one that reads as nothing; or a failed read
 abbrev pub IsNext : {A : Type 0} → (List ℕ → Option A) → Next A → (old new : Option (List ℕ)) → (turns left : ℕ) → Type 0

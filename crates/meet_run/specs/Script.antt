@@ -7,32 +7,14 @@ use Rattle.meet_history.specs.declared.calls.Call.{Call}
 use Rattle.meet_history.specs.declared.setups.Setup.{Setup}
 use Rattle.meet_history.specs.declared.replies.Reply.{Reply}
 use Rattle.meet_history.specs.OneThread.{Place, start, turns, replies, records, standing_of}
+use Rattle.meet_history.specs.Standings.{standing_in}
 use Rattle.meet_run.specs.Grammar.{call_of, setup_of}
 use Rattle.meet_run.specs.Wording.{text_of, last_line}
-use Rattle.meet_run.specs.Reading.{lines_of}
+use Rattle.meet_run.specs.Reading.{lines_of, Listed, listed}
 
--- the calls before the first faulty line, and the number of that line, if there is one
-pub record Calls : Type 0 where
-  pub calls : List Call
-  pub fault : Option ℕ
-
--- no call is left
-abbrev pub no_more : Calls
-no_more = record { calls = []; fault = None }
-
--- the line with this number is faulty
-abbrev pub faulty_at : (n : ℕ) → Calls
-faulty_at n = record { calls = []; fault = Some n }
-
--- a call in front
-abbrev pub with_call : Call → Calls → Calls
-with_call call rest = record { calls = call ∷ rest.calls; fault = rest.fault }
-
--- the calls of these lines, of which the first has this number
-unfoldable pub calls_from : Order → (n : ℕ) → (lines : List (List ℕ)) → Calls
-calls_from order n [] = no_more
-calls_from order n (line ∷ lines) =
-    option_map_or (λ call. with_call call (calls_from order (n + 1) lines)) (call_of order line) (faulty_at n)
+-- the calls of these lines, of which the first has this number, up to the first that is none
+abbrev pub calls_from : Order → (n : ℕ) → (lines : List (List ℕ)) → Listed Call
+calls_from order n lines = listed (λ n line. call_of order line) n lines
 
 -- the text of these replies
 unfoldable pub replies_text : List Reply → List ℕ
@@ -48,15 +30,15 @@ closing_from setup place calls =
     last_line (place.records + length (turns setup place calls).records) (standing_of setup (turns setup place calls).place)
 
 -- the same; after a fault there is none
-unfoldable pub ending_from : Setup → Place → Calls → List ℕ
-ending_from setup place rest = option_map_or (λ n. []) rest.fault (closing_from setup place rest.calls)
+unfoldable pub ending_from : Setup → Place → Listed Call → List ℕ
+ending_from setup place rest = option_map_or (λ n. []) rest.fault (closing_from setup place rest.items)
 
 -- all that is written from here on
-unfoldable pub output_from : Setup → Place → Calls → List ℕ
-output_from setup place rest = text_from setup place rest.calls ++ ending_from setup place rest
+unfoldable pub output_from : Setup → Place → Listed Call → List ℕ
+output_from setup place rest = text_from setup place rest.items ++ ending_from setup place rest
 
 -- the calls behind the first line
-abbrev pub calls_behind : Setup → (lines : List (List ℕ)) → Calls
+abbrev pub calls_behind : Setup → (lines : List (List ℕ)) → Listed Call
 calls_behind setup lines = calls_from setup.kind.order 2 lines
 
 -- the number of the first faulty line; without a first line it is 1
@@ -68,7 +50,7 @@ fault_in (line ∷ lines) = option_map_or (λ setup. (calls_behind setup lines).
 unfoldable pub text_in : (lines : List (List ℕ)) → List ℕ
 text_in [] = []
 text_in (line ∷ lines) =
-    option_map_or (λ setup. text_from setup (start setup) (calls_behind setup lines).calls) (setup_of line) []
+    option_map_or (λ setup. text_from setup (start setup) (calls_behind setup lines).items) (setup_of line) []
 
 -- that text, and without a fault the last line
 unfoldable pub output_in : (lines : List (List ℕ)) → List ℕ
@@ -99,10 +81,9 @@ AreCalls order (line ∷ lines) (call ∷ calls) = (call_of order line ≡ Some 
 abbrev pub text : Setup → List Call → List ℕ
 text setup calls = flat_map text_of (replies setup calls)
 
--- the line at the end of one thread's calls: how many records they wrote, and what stands then
+-- the line at the end of one thread's calls: how many records they wrote, and how many tickets have which fate by them
 abbrev pub closing : Setup → List Call → List ℕ
-closing setup calls =
-    last_line (length (records setup calls)) (standing_of setup (turns setup (start setup) calls).place)
+closing setup calls = last_line (length (records setup calls)) (standing_in (records setup calls))
 
 -- a script about a place, all of whose other lines are calls, has no fault; it writes their replies and the last line
 abbrev pub ScriptsAreAnswered : Type 0
@@ -118,5 +99,5 @@ FaultsEndScripts =
 -- written
 pub record Reached (setup : Setup) (input rest : List ℕ) (n : ℕ) (place : Place) (written : List ℕ) : Type 0 where
   pub fault : fault_of input ≡ (calls_from setup.kind.order n (lines_of rest)).fault
-  pub text : text_before input ≡ written ++ text_from setup place (calls_from setup.kind.order n (lines_of rest)).calls
+  pub text : text_before input ≡ written ++ text_from setup place (calls_from setup.kind.order n (lines_of rest)).items
   pub output : output_of input ≡ written ++ output_from setup place (calls_from setup.kind.order n (lines_of rest))

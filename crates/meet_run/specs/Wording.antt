@@ -8,7 +8,7 @@ use Rattle.meet_history.specs.declared.replies.Outcome.{Outcome}
 use Rattle.meet_history.specs.declared.replies.Outcome.TheVariants.{Recorded, Interrupted as InterruptedSeat, NotYet, Late, Drained, Count, Peeked, Refused}
 use Rattle.meet_history.specs.declared.replies.Answer.{Answer}
 use Rattle.meet_history.specs.declared.replies.Answer.TheVariants.{Waits, Kept, Gave, Got, Fails, Done, Withdrawn}
-use Rattle.meet_history.specs.OneThread.{Standing}
+use Rattle.meet_history.specs.declared.checker.Standing.{Standing}
 
 -- a word, and a mark behind it where there is one
 unfoldable pub marked : (word : List ℕ) → (mark : Option ℕ) → List ℕ

@@ -19,7 +19,7 @@ const MOST_RECORDS: u64 = 1_048_576;
 /// The last ticket.
 const LAST_TICKET: u64 = 9_223_372_036_854_775_807;
 /// The most items that a bound may let a place keep.
-const MOST_KEPT: u64 = 1_048_576;
+pub(crate) const MOST_KEPT: u64 = 1_048_576;
 
 /// The options that a first line spells out.
 #[derive(Clone, Copy, PartialEq, Eq, Debug)]
@@ -42,7 +42,7 @@ pub fn is_place_served(order: Order) -> bool
 
 /// The order of a place by its word.
 #[tactic(auto, unfolding(crate::specs::Grammar::order_of))]
-fn read_order(word: &[u8]) -> Option<Order>
+pub(crate) fn read_order(word: &[u8]) -> Option<Order>
     ensures { result ≡ order_of word.now }
 {
     if word == b"fair".as_slice() {
@@ -57,7 +57,7 @@ fn read_order(word: &[u8]) -> Option<Order>
 }
 
 /// What stands behind a front, where a text begins with it.
-fn strip_front<'a>(front: &[u8], text: &'a [u8]) -> Option<&'a [u8]>
+pub(crate) fn strip_front<'a>(front: &[u8], text: &'a [u8]) -> Option<&'a [u8]>
     ensures { option_map (λ rest. rest.now) result ≡ behind front.now text.now }
 {
     text.strip_prefix(front)
@@ -80,7 +80,11 @@ fn read_value(most: u64, text: &[u8]) -> Option<(Option<u64>, &[u8])>
 
 /// An option by its name with a space on either side: its number, if it stands there, and the rest of its line.
 #[tactic(auto, unfolding(crate::specs::Grammar::option_in))]
-fn read_option<'a>(name: &[u8], most: u64, rest: &'a [u8]) -> Option<(Option<u64>, &'a [u8])>
+pub(crate) fn read_option<'a>(
+    name: &[u8],
+    most: u64,
+    rest: &'a [u8],
+) -> Option<(Option<u64>, &'a [u8])>
     ensures { option_map (λ found. (found.0, found.1.now)) result ≡ option_in name.now most rest.now }
 {
     match strip_front(name, rest) {
@@ -108,7 +112,7 @@ fn read_options(rest: &[u8]) -> Option<(Options, &[u8])>
 }
 
 /// Whether a place of this order may have this bound.
-fn may_have_bound(order: Order, bound: Option<u64>) -> bool
+pub(crate) fn may_have_bound(order: Order, bound: Option<u64>) -> bool
     ensures { result ≡ may_have order bound }
 {
     bound.is_none() || matches!(order, Order::Transfer)

@@ -1,21 +1,29 @@
-//! Scripts: one thread's calls on a meeting place, and their replies as text.
+//! Scripts: one thread's calls on a meeting place, and their replies as text. Traces: a place's records as text.
 #![tactic(auto)]
 
+pub mod check;
 pub mod faults;
 pub mod first_line;
 pub mod grammar;
+pub mod next;
 pub mod output;
 pub mod reading;
 pub mod run;
 pub mod scripts;
 pub mod spellings;
+pub mod trace;
+pub mod trace_grammar;
+pub mod trace_spellings;
+pub mod trace_wording;
 pub mod wording;
 pub mod words;
 
+pub use check::{check_trace, check_trace_within};
 pub use faults::{Report, RunFault, report_of};
 pub use meet_history::{Answer, Call, Outcome, Reply, Setup, Stepper, Verb, run_all};
 pub use meet_tickets::{Deed, Kind, Record, Refusal, SeatNo, Ticket};
 pub use run::{MOST_READS, run_script, run_script_within};
+pub use trace::{run_trace, run_trace_within};
 
 #[cfg(test)]
 mod tests;

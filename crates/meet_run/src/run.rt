@@ -1,87 +1,28 @@
 //! A script from a reader, its replies to a writer, line by line.
 
 ghost use Rattle.std.specs.Prelude.{◌≡◌, ◌+◌, ◌^◌, ◌<◌, ◌≤◌, ◌++◌, [], length, Some, Err, IfSome, IfErr, OnOk, OnErr, IsTrue};
-ghost use Rattle.std.specs.Io.KnownBytes.{Appends, IsAtEnd};
+ghost use Rattle.std.specs.Io.KnownBytes.{Appends};
 ghost use Rattle.std.specs.Vec.{vec_capacity};
-ghost use Rattle.meet_tickets.specs.declared.refusals.Refusal.TheVariants.{Memory, WriteFault};
+ghost use Rattle.meet_tickets.specs.declared.refusals.Refusal.TheVariants.{Memory, BadLine};
 ghost use Rattle.meet_history.specs.OneThread.{start, turn, standing_of};
-ghost use Rattle.meet_run.specs.Grammar.{call_of, setup_of};
-ghost use Rattle.meet_run.specs.Reading.{UsesTurns, EndsInTurns, lines_of};
-ghost use Rattle.meet_run.specs.Script.{fault_of, text_before, output_of, replies_text, calls_behind, text_from, output_from};
+ghost use Rattle.meet_run.specs.Reading.{UsesTurns, EndsInTurns};
+ghost use Rattle.meet_run.specs.Script.{fault_of, text_before, output_of, replies_text};
 ghost use Rattle.meet_history.specs.Stepping.{Takes, place_of};
 ghost use Rattle.meet_history.specs.Limits.{IsInLimits};
-ghost use Rattle.meet_run.specs.Spelling.{FitsCall, FitsSetup};
 ghost use Rattle.meet_history.specs.Served.{serves_place, serves};
 ghost use Rattle.meet_run.specs.Wording.{last_line};
-ghost use Rattle.meet_run.specs.Running.{IsNext, IfRead, IsCutShort, IsRunFault, RunsOn, RunEnds};
+ghost use Rattle.meet_run.specs.Running.{IsCutShort, IsRunFault, RunsOn, RunEnds};
 ghost use Rattle.meet_run.specs.Writing.{AppendsFront};
 
 use crate::faults::RunFault;
-use crate::first_line::read_setup;
-use crate::grammar::{LONGEST_LINE, read_call};
+use crate::grammar::LONGEST_LINE;
+use crate::next::{Next, next_call, next_setup};
 use crate::output::write_whole;
-use crate::reading::{LineRead, read_line};
 use crate::wording::{push_last_line, push_reply};
 use meet_history::{Call, Reply, Setup, Stepper};
-use meet_tickets::{Order, Refusal};
+use meet_tickets::Refusal;
 use std::alloc::Global;
 use std::io::{Read, Write};
-
-/// What the next line is.
-#[derive(Clone, Copy, PartialEq, Eq, Debug)]
-pub enum Next<A> {
-    /// It reads as this.
-    Read(A),
-    /// There is none.
-    Ended,
-    /// It reads as nothing.
-    Faulty,
-    /// A read failed, or no turn was left for it.
-    Broken,
-}
-
-/// Reads the first line.
-fn next_setup<R: Read>(reader: &mut R, turns: &mut u64, line: &mut Vec<u8>) -> Next<Setup>
-    requires { LONGEST_LINE ≤ vec_capacity line.old }
-    ensures fits { IfRead result FitsSetup }
-    ensures next { IsNext setup_of result (R.remaining reader.old) (R.remaining reader.new) turns.old turns.new }
-    ensures uses { UsesTurns (R.remaining reader.old) (R.remaining reader.new) turns.old turns.new }
-    ensures room { LONGEST_LINE ≤ vec_capacity line.new }
-{
-    match read_line(reader, turns, line) {
-        LineRead::Line => match read_setup(line.as_slice()) {
-            Some(setup) => Next::Read(setup),
-            None => Next::Faulty,
-        },
-        LineRead::End => Next::Ended,
-        LineRead::TooLong => Next::Faulty,
-        LineRead::Failed => Next::Broken,
-    }
-}
-
-/// Reads the line of a call.
-fn next_call<R: Read>(
-    reader: &mut R,
-    turns: &mut u64,
-    line: &mut Vec<u8>,
-    order: Order,
-) -> Next<Call>
-    requires { LONGEST_LINE ≤ vec_capacity line.old }
-    ensures fits { IfRead result (FitsCall order) }
-    ensures next { IsNext (call_of order) result (R.remaining reader.old) (R.remaining reader.new) turns.old turns.new }
-    ensures uses { UsesTurns (R.remaining reader.old) (R.remaining reader.new) turns.old turns.new }
-    ensures room { LONGEST_LINE ≤ vec_capacity line.new }
-{
-    match read_line(reader, turns, line) {
-        LineRead::Line => match read_call(order, line.as_slice()) {
-            Some(call) => Next::Read(call),
-            None => Next::Faulty,
-        },
-        LineRead::End => Next::Ended,
-        LineRead::TooLong => Next::Faulty,
-        LineRead::Failed => Next::Broken,
-    }
-}
 
 /// Appends the lines of these replies.
 fn push_replies(out: &mut Vec<u8>, replies: &[Reply]) -> Result<(), Refusal>
@@ -126,21 +67,27 @@ fn close<W: Write>(stepper: &Stepper, out: &mut Vec<u8>, writer: &mut W) -> Resu
     ensures why { IfErr result IsCutShort }
 {
     out.clear();
-    let records = stepper.count();
-    let waiting = stepper.waiting();
-    let uncollected = stepper.uncollected();
-    let kept = stepper.kept();
-    match push_last_line(out, records, waiting, uncollected, kept) {
+    match push_last_line(out, stepper.count(), stepper.standing()) {
         Ok(()) => write_whole(writer, out.as_slice()),
         Err(_) => Err(Refusal::Memory),
     }
 }
 
 /// A run that ends early, outside any line.
-fn cut_short(why: Refusal) -> RunFault
+pub(crate) fn cut_short(why: Refusal) -> RunFault
     ensures { result ≡ record { why = why; line = None } }
 {
     RunFault { why, line: None }
+}
+
+/// A script that can't be read on, for the fault of this line.
+pub(crate) fn bad_line(line: u64) -> RunFault
+    ensures { result ≡ record { why = BadLine; line = Some line } }
+{
+    RunFault {
+        why: Refusal::BadLine,
+        line: Some(line),
+    }
 }
 
 /// Runs the calls behind the first line.
@@ -181,12 +128,7 @@ fn run_calls<R: Read, W: Write>(
                 Ok(()) => return Ok(true),
                 Err(why) => return Err(cut_short(why)),
             },
-            Next::Faulty => {
-                return Err(RunFault {
-                    why: Refusal::BadLine,
-                    line: Some(read + 1),
-                });
-            }
+            Next::Faulty => return Err(bad_line(read + 1)),
             Next::Broken => return Err(cut_short(Refusal::ReadFault)),
         }
     }
@@ -217,14 +159,8 @@ pub fn run_script_within<R: Read, W: Write>(
     };
     match next_setup(reader, &mut left, &mut line) {
         Next::Read(setup) => run_calls(alloc, reader, writer, &mut left, &mut line, setup),
-        Next::Ended => Err(RunFault {
-            why: Refusal::BadLine,
-            line: Some(1),
-        }),
-        Next::Faulty => Err(RunFault {
-            why: Refusal::BadLine,
-            line: Some(1),
-        }),
+        Next::Ended => Err(bad_line(1)),
+        Next::Faulty => Err(bad_line(1)),
         Next::Broken => Err(cut_short(Refusal::ReadFault)),
     }
 }

@@ -6,5 +6,8 @@ mod first_lines;
 mod input;
 mod output;
 mod runs;
+mod seeded;
 mod synchronous;
+mod trace_lines;
+mod traces;
 mod wording;

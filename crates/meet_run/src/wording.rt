@@ -1,11 +1,10 @@
 //! The text of the replies, one line each. Where memory runs out, nothing is said of what was appended.
 
 ghost use Rattle.std.specs.Prelude.{◌≡◌, ◌++◌, OnOk, codes, decimal};
-ghost use Rattle.meet_history.specs.OneThread.{Standing};
 ghost use Rattle.meet_run.specs.Wording.{marked, cause_text, answer_text, cut_text, mark_text, outcome_text, text_of, last_line};
 
 use itoa::Buffer;
-use meet_history::{Answer, Outcome, Reply};
+use meet_history::{Answer, Outcome, Reply, Standing};
 use meet_tickets::{Cause, SeatNo, Ticket};
 use std::alloc::AllocError;
 
@@ -30,8 +29,16 @@ fn push_marked(out: &mut Vec<u8>, word: &[u8], mark: Option<u64>) -> Result<(), 
     Ok(())
 }
 
+/// Appends a number behind a word.
+pub(crate) fn push_numbered(out: &mut Vec<u8>, word: &[u8], number: u64) -> Result<(), AllocError>
+    ensures { OnOk result (out.new.items ≡ out.old.items ++ (word.now ++ decimal number)) }
+{
+    out.extend_from_slice(word)?;
+    push_number(out, number)
+}
+
 /// Appends a word, a number, another word and a second number.
-fn push_pair(
+pub(crate) fn push_pair(
     out: &mut Vec<u8>,
     word: &[u8],
     number: u64,
@@ -41,15 +48,13 @@ fn push_pair(
     ensures { OnOk result (out.new.items
         ≡ out.old.items ++ (word.now ++ decimal number ++ middle.now ++ decimal second)) }
 {
-    out.extend_from_slice(word)?;
-    push_number(out, number)?;
-    out.extend_from_slice(middle)?;
-    push_number(out, second)
+    push_numbered(out, word, number)?;
+    push_numbered(out, middle, second)
 }
 
 /// Why a ticket was withdrawn.
 #[tactic(auto, unfolding(crate::specs::Wording::cause_text))]
-fn cause_word(cause: Cause) -> &'static [u8]
+pub(crate) fn cause_word(cause: Cause) -> &'static [u8]
     ensures { result.now ≡ cause_text cause }
 {
     match cause {
@@ -160,17 +165,16 @@ pub fn push_reply(out: &mut Vec<u8>, reply: &Reply) -> Result<(), AllocError>
 /// Appends the line at the end of a script: how many records there are, how many tickets wait in the line, how many
 /// were met or cut and not collected, and how many items are kept.
 #[tactic(auto, unfolding(crate::specs::Wording::last_line))]
-pub fn push_last_line(
-    out: &mut Vec<u8>,
-    records: u64,
-    waiting: u64,
-    uncollected: u64,
-    kept: u64,
-) -> Result<(), AllocError>
-    ensures { OnOk result (out.new.items
-        ≡ out.old.items ++ last_line records (record { waiting = waiting; uncollected = uncollected; kept = kept })) }
+pub fn push_last_line(out: &mut Vec<u8>, records: u64, standing: Standing) -> Result<(), AllocError>
+    ensures { OnOk result (out.new.items ≡ out.old.items ++ last_line records standing) }
 {
-    push_pair(out, b"legal ", records, b" waiting ", waiting)?;
-    push_pair(out, b" uncollected ", uncollected, b" kept ", kept)?;
+    push_pair(out, b"legal ", records, b" waiting ", standing.waiting)?;
+    push_pair(
+        out,
+        b" uncollected ",
+        standing.uncollected,
+        b" kept ",
+        standing.kept,
+    )?;
     out.extend_from_slice(b"\n")
 }

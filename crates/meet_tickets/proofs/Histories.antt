@@ -13,17 +13,16 @@ use Rattle.meet_tickets.proofs.Deeds.{Told, seen}
 use Rattle.meet_tickets.proofs.Steps.{Follows, follows}
 
 -- a reached state, and a moment that agrees with it
-record Alike (s : State) (m : Moment) : Type 0 where
-  reached : Reached s
-  agrees : Agrees s m
+pub record Alike (s : State) (m : Moment) : Type 0 where
+  pub reached : Reached s
+  pub agrees : Agrees s m
 
 -- what the moment says of the state
-told_by : (s : State) (m : Moment) → Alike s m → Told s
+abbrev pub told_by : (s : State) (m : Moment) → Alike s m → Told s
 told_by s m a = record { reached = a.reached; held = m.seats.holds; raised = m.seats.flags; holds = a.agrees.holds; flags = a.agrees.flags }
 
 -- the moment is the state's
-seen_is : (s : State) (m : Moment) (a : Alike s m) → seen (told_by s m a) ≡ m
-unfolding told_by
+pub seen_is : (s : State) (m : Moment) (a : Alike s m) → seen (told_by s m a) ≡ m
 seen_is s m a = λ i. record { last = a.agrees.last i; seats = record { line = a.agrees.line i; holds = m.seats.holds; flags = m.seats.flags } }
 
 -- one record is told alike
@@ -31,7 +30,7 @@ follows_at : (k : Kind) (s : State) (m : Moment) → Alike s m → (r : Record D
 follows_at k s m a r = subst (λ n. Follows k s n r.seat r.ticket r.deed) (seen_is s m a) (follows (told_by s m a) k r.seat r.ticket r.deed)
 
 -- what one record leaves is alike
-alike_after : (k : Kind) (s : State) (m : Moment) → Alike s m → (r : Record Deed) → IsStep k s r.seat r.ticket r.deed →
+pub alike_after : (k : Kind) (s : State) (m : Moment) → Alike s m → (r : Record Deed) → IsStep k s r.seat r.ticket r.deed →
     Alike (after s r.seat r.ticket r.deed) (moment_after k m r)
 alike_after k s m a r z = let f = follows_at k s m a r in record { reached = f.reached z; agrees = f.agrees z }
 
@@ -46,7 +45,7 @@ legal_from k (r ∷ history) s m a =
     (λ z. (next.0 z.0, (later z.0).0 z.1), λ q. (next.1 q.0, (later (next.1 q.0)).1 q.1))
 
 -- what a legal history leaves is alike
-alike_at_end : (k : Kind) (history : List (Record Deed)) (s : State) (m : Moment) → Alike s m → IsLegalFrom k s history →
+pub alike_at_end : (k : Kind) (history : List (Record Deed)) (s : State) (m : Moment) → Alike s m → IsLegalFrom k s history →
     Alike (run s history) (moment_of k m history)
 alike_at_end k [] s m a z = a
 alike_at_end k (r ∷ history) s m a z = alike_at_end k history (after s r.seat r.ticket r.deed) (moment_after k m r) (alike_after k s m a r z.0) z.1
@@ -82,16 +81,17 @@ agrees_empty = record {
   flags = λ i. (λ y. absurd (false≢true y), λ m. absurd (Contains-nil i m));
 }
 
+-- so they are alike
+pub starts_alike : Alike empty beginning
+starts_alike = record { reached = reached_empty; agrees = agrees_empty }
+
 -- the two tellings are one
 pub tellings_are_one : (k : Kind) (history : List (Record Deed)) → TellingsAgree k history
 tellings_are_one k history = record {
-  legal = legal_from k history empty beginning start;
+  legal = legal_from k history empty beginning starts_alike;
   leaves = λ z. (end z).agrees;
   next = λ z r. (follows_at k (run empty history) (moment_of k beginning history) (end z) r).next;
 }
   where
-    start : Alike empty beginning
-    start = record { reached = reached_empty; agrees = agrees_empty }
-
     end : IsLegal k history → Alike (run empty history) (moment_of k beginning history)
-    end z = alike_at_end k history empty beginning start z
+    end z = alike_at_end k history empty beginning starts_alike z

@@ -143,7 +143,7 @@ pub held_cut : (s : State) (r : Reached s) (i t : ℕ) (x : Hold ℕ) → Holds 
 held_cut s r i t x h m e = let k = held_place s r i x h t m in cut_shape t x k.1 (sym k.0 ∙ e)
 
 -- two seats with one open ticket are one
-same_seat : (s : State) (r : Reached s) (i j t : ℕ) → IsOpen s i t → IsOpen s j t → j ≡ i
+pub same_seat : (s : State) (r : Reached s) (i j t : ℕ) → IsOpen s i t → IsOpen s j t → j ≡ i
 same_seat s r i j t m k = sym (r.opened.owned j t k) ∙ r.opened.owned i t m
 
 -- later, with other flags

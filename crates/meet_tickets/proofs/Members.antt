@@ -78,7 +78,7 @@ without_apart t (e ∷ line) h =
     rw (ne_not_eqb e.ticket t (h e (Contains-first e line))) (ap (λ l. e ∷ l) (without_apart t line (λ x m. h x (Contains-rest e line x m))))
 
 -- the line without its first ticket is the rest
-without_head : (e : Entry ℕ) (line : List (Entry ℕ)) → IsApart e.ticket line → without e.ticket (e ∷ line) ≡ line
+pub without_head : (e : Entry ℕ) (line : List (Entry ℕ)) → IsApart e.ticket line → without e.ticket (e ∷ line) ≡ line
 without_head e line h = rw (eq-eqb e.ticket e.ticket refl) (without_apart e.ticket line h)
 
 -- the same, where the first entry is said to be another
@@ -89,7 +89,7 @@ without_head_same x line e h s =
     sym (subst (λ t. without t (x ∷ line) ≡ line) (ap (λ y. y.ticket) same) (without_head x line h))
 
 -- the line without another ticket than its first keeps the first entry
-without_tail : (t : ℕ) (e : Entry ℕ) (line : List (Entry ℕ)) → e.ticket ≢ t → without t (e ∷ line) ≡ e ∷ without t line
+pub without_tail : (t : ℕ) (e : Entry ℕ) (line : List (Entry ℕ)) → e.ticket ≢ t → without t (e ∷ line) ≡ e ∷ without t line
 without_tail t e line h = rw (ne_not_eqb e.ticket t h)
 
 -- the two ways to take a ticket out of the line are one

@@ -1,5 +1,6 @@
 pub mod Agreement
 pub mod ByLists
 pub mod BySeat
+pub mod Fates
 pub mod Meeting
 pub mod Refusals

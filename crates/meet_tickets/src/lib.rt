@@ -1,9 +1,10 @@
 //! The names that every meeting place shares, and the rules of a legal history.
 //!
 //! `specs/` has the rules: `Meeting` says whom a request meets, `ByLists` which histories are legal, `BySeat` the same
-//! as the code sees it.
+//! as the code sees it, `Fates` what became of each ticket.
 #![tactic(auto)]
 
+pub mod fates;
 pub mod items;
 pub mod laws;
 pub mod lines;
@@ -12,6 +13,7 @@ pub mod places;
 pub mod records;
 pub mod refusals;
 
+pub use fates::Fate;
 pub use items::Marked;
 pub use laws::tellings_agree;
 pub use lines::{Entry, Hold};

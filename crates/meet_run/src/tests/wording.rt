@@ -1,5 +1,5 @@
 use crate::wording::{push_last_line, push_reply};
-use meet_history::{Answer, Outcome, Reply};
+use meet_history::{Answer, Outcome, Reply, Standing};
 use meet_tickets::{Cause, Refusal, SeatNo, Ticket};
 use std::alloc::Global;
 use std::process::Abort;
@@ -114,7 +114,12 @@ fn refusals(rt: HostRuntime) -> Result<(), Fail> {
 #[test]
 fn last_lines(rt: HostRuntime) -> Result<(), Fail> {
     let mut out = Vec::new(rt.alloc());
-    push_last_line(&mut out, 4, 1, 2, 3)?;
+    let standing = Standing {
+        waiting: 1,
+        uncollected: 2,
+        kept: 3,
+    };
+    push_last_line(&mut out, 4, standing)?;
     assert_eq!(rt;
         out.as_slice(),
         b"legal 4 waiting 1 uncollected 2 kept 3\n".as_slice()

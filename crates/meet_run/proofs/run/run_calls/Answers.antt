@@ -1,13 +1,13 @@
-use Rattle.std.proofs.Common.{◌≡◌, subst, sym, ap, ◌∙◌, arith, true, Err}
+use Rattle.std.proofs.Common.{◌≡◌, subst, sym, ap, ◌∙◌, arith, ◌+◌, true, Err}
 use Rattle.std.specs.Io.KnownBytes.{Appends}
 use Rattle.meet_history.specs.OneThread.{turn, standing_of}
-use Rattle.meet_run.specs.Script.{replies_text}
+use Rattle.meet_run.specs.Script.{replies_text, fault_of, text_before, output_of}
 use Rattle.meet_run.specs.Wording.{last_line}
 use Rattle.meet_run.specs.Writing.{AppendsFront}
 use Rattle.meet_history.specs.Served.{serves}
 use Rattle.meet_history.specs.Stepping.{place_of}
 use Rattle.meet_run.proofs.LineLemmas.{uses-more, ends-in-turns, at-end-before}
-use Rattle.meet_run.proofs.Ran.{ran-more, runs-cut, runs-closed, runs-unclosed, ran-faulty}
+use Rattle.meet_run.proofs.Ran.{ran-more, runs-cut, runs-closed, runs-unclosed, ran-faulty, follows, bad_line-ends}
 use Rattle.meet_run.proofs.run.run_calls.Goals as goal
 
 pub serve-requires : goal.serve-requires
@@ -47,7 +47,9 @@ returns-in-Err-close-clause-script g c =
 
 pub returns-in-Faulty-clause-script : goal.returns-in-Faulty-clause-script
 returns-in-Faulty-clause-script g c =
-    ran-faulty c.args.setup (g.R.Read.remaining c.args.reader.now) (g.R.Read.remaining c.loop-call.reader) (g.W.Write.contents c.args.writer.now) (g.W.Write.contents c.loop-call.writer) c.loop-call.read (place_of c.loop-call.stepper) c.loop-call.invariant.ran c.in-Faulty.ensures.next.0
+    follows (g.R.Read.remaining c.args.reader.now)
+    (λ rest at input h. bad_line-ends c.bad_line.result (c.loop-call.read + 1) (fault_of input) (text_before input) (output_of input) (g.W.Write.contents c.args.writer.now) (g.W.Write.contents c.loop-call.writer) c.bad_line.ensures (at input h))
+    (ran-faulty c.args.setup (g.R.Read.remaining c.args.reader.now) (g.R.Read.remaining c.loop-call.reader) (g.W.Write.contents c.args.writer.now) (g.W.Write.contents c.loop-call.writer) c.loop-call.read (place_of c.loop-call.stepper) c.loop-call.invariant.ran c.in-Faulty.ensures.next.0)
 
 pub returns-in-Err-serve-clause-uses : goal.returns-in-Err-serve-clause-uses
 returns-in-Err-serve-clause-uses g c =

@@ -1,6 +1,7 @@
 use Rattle.std.proofs.Common.{arith}
+use Rattle.meet_run.specs.Script.{fault_of, text_before, output_of}
 use Rattle.meet_run.proofs.LineLemmas.{uses-more, uses-fewer}
-use Rattle.meet_run.proofs.Ran.{runs-behind, runs-faulty, runs-lineless}
+use Rattle.meet_run.proofs.Ran.{runs-behind, runs-faulty, runs-lineless, follows, bad_line-ends}
 use Rattle.meet_run.proofs.run.run_script_within.Goals as goal
 
 pub returns-in-Read-clause-script : goal.returns-in-Read-clause-script
@@ -15,8 +16,12 @@ returns-in-Read-clause-uses g c =
 
 pub returns-in-Ended-clause-script : goal.returns-in-Ended-clause-script
 returns-in-Ended-clause-script g c =
-    runs-lineless (g.R.Read.remaining c.args.reader.now) (g.W.Write.contents c.args.writer.now) c.in-Ended.ensures.next.0
+    follows (g.R.Read.remaining c.args.reader.now)
+    (λ input at. bad_line-ends c.bad_line.result 1 (fault_of input) (text_before input) (output_of input) (g.W.Write.contents c.args.writer.now) (g.W.Write.contents c.args.writer.now) c.bad_line.ensures at)
+    (runs-lineless (g.R.Read.remaining c.args.reader.now) (g.W.Write.contents c.args.writer.now) c.in-Ended.ensures.next.0)
 
 pub returns-in-Faulty-clause-script : goal.returns-in-Faulty-clause-script
 returns-in-Faulty-clause-script g c =
-    runs-faulty (g.R.Read.remaining c.args.reader.now) (g.W.Write.contents c.args.writer.now) c.in-Faulty.ensures.next.0
+    follows (g.R.Read.remaining c.args.reader.now)
+    (λ input at. bad_line-ends c.bad_line-in-Faulty.result 1 (fault_of input) (text_before input) (output_of input) (g.W.Write.contents c.args.writer.now) (g.W.Write.contents c.args.writer.now) c.bad_line-in-Faulty.ensures at)
+    (runs-faulty (g.R.Read.remaining c.args.reader.now) (g.W.Write.contents c.args.writer.now) c.in-Faulty.ensures.next.0)

@@ -1,0 +1,123 @@
+-- How far the records of a trace were read.
+use Rattle.std.proofs.Common.{◌≡◌, inl, inr, ℕ, ◌+◌, Bool, List, [], ◌∷◌, ◌++◌, Option, Some, None, Ok, refl, sym, ap, ◌∙◌, subst, append_assoc, append-nil}
+use Rattle.std.specs.Prelude.{IfSome}
+use Rattle.std.specs.Io.KnownBytes.{Appends}
+use Rattle.meet_tickets.specs.declared.places.Kind.{Kind}
+use Rattle.meet_tickets.specs.declared.records.Deed.{Deed}
+use Rattle.meet_tickets.specs.declared.records.Record.{Record}
+use Rattle.meet_tickets.specs.declared.refusals.Refusal.TheVariants.{BadTrace, WriteFault}
+use Rattle.meet_run.specs.declared.faults.RunFault.{RunFault}
+use Rattle.meet_run.specs.Reading.{lines_of, Listed, Both, listed, no_more, faulty_at, with_item}
+use Rattle.meet_run.specs.TraceGrammar.{head_of}
+use Rattle.meet_run.specs.Traces.{record_at, records_behind, trace_fault_in, IsTrace, NamesLine, IsVerdict, IsFound, CheckBreaks, CheckEnds, IsUnreadTrace, IsTraceFault}
+use Rattle.meet_run.specs.Writing.{AppendsFront}
+use Rattle.meet_run.proofs.Ran.{appends-nothing}
+use Rattle.meet_run.proofs.ScriptLemmas.{listed-end, listed-more, listed-fault}
+
+-- these records, and then what the rest reads as
+abbrev pub after_records : (past : List (Record Deed)) → Listed (Record Deed) → Listed (Record Deed)
+after_records past rest = record { items = past ++ rest.items; fault = rest.fault }
+
+-- of the known bytes so many lines were read as these records
+abbrev pub WasRead : (old now : Option (List ℕ)) → (read : ℕ) → (past : List (Record Deed)) → Type 0
+WasRead old now read past =
+    Both old now (λ first rest. records_behind (lines_of first) ≡ after_records past (listed record_at (read + 1) (lines_of rest)))
+
+-- nothing was read so far
+pub read-none : (reader : Option (List ℕ)) (past : List (Record Deed)) → past ≡ [] → WasRead reader reader 1 past
+read-none None past none = tt
+read-none (Some xs) past none = subst (λ q. records_behind (lines_of xs) ≡ after_records q (listed record_at 2 (lines_of xs))) (sym none) refl
+
+module _ (past : List (Record Deed)) (read : ℕ) where
+  -- a record was read
+  pub read-more : (old mid new : Option (List ℕ)) (entry : Record Deed) (now : List (Record Deed)) → WasRead old mid read past → Both mid new (λ xs ys. (line : List ℕ) × (lines_of xs ≡ line ∷ lines_of ys) × (record_at (read + 1) line ≡ Some entry)) → now ≡ past ++ entry ∷ [] → WasRead old new (read + 1) now
+  read-more None mid new entry now was next more = tt
+  read-more (Some xs) None new entry now was next more = absurd was
+  read-more (Some xs) (Some ys) None entry now was next more = absurd next
+  read-more (Some xs) (Some ys) (Some zs) entry now was next more =
+      let left : Listed (Record Deed) = listed record_at (read + 1 + 1) (lines_of zs) in
+      let items : listed record_at (read + 1) (lines_of ys) ≡ with_item entry left = ap (λ (ls : List (List ℕ)). listed record_at (read + 1) ls) next.1 ∙ listed-more record_at (read + 1) next.0 (lines_of zs) entry next.2 in
+      let joined : after_records past (with_item entry left) ≡ after_records (past ++ entry ∷ []) left = ap (λ (q : List (Record Deed)). let l : Listed (Record Deed) = record { items = q; fault = left.fault } in l) (sym (append_assoc past (entry ∷ []) left.items)) in
+      subst (λ q. records_behind (lines_of xs) ≡ after_records q left) (sym more) (was ∙ (ap (λ (c : Listed (Record Deed)). after_records past c) items ∙ joined))
+
+  -- no line is left
+  pub read-end : (old mid : Option (List ℕ)) → WasRead old mid read past → IfSome mid (λ xs. lines_of xs ≡ []) → IfSome old (λ rest. records_behind (lines_of rest) ≡ record { items = past; fault = None })
+  read-end None mid was none = tt
+  read-end (Some xs) None was none = absurd was
+  read-end (Some xs) (Some ys) was none =
+      let items : listed record_at (read + 1) (lines_of ys) ≡ no_more = ap (λ (ls : List (List ℕ)). listed record_at (read + 1) ls) none ∙ listed-end record_at (read + 1) in
+      was ∙ (ap (λ (c : Listed (Record Deed)). after_records past c) items ∙ ap (λ (q : List (Record Deed)). let l : Listed (Record Deed) = record { items = q; fault = None } in l) (append-nil past))
+
+  -- the next line is no record
+  pub read-fault : (old mid : Option (List ℕ)) → WasRead old mid read past → IfSome mid (λ xs. (line : List ℕ) × (lines : List (List ℕ)) × (lines_of xs ≡ line ∷ lines) × (record_at (read + 1) line ≡ None)) → IfSome old (λ rest. (records_behind (lines_of rest)).fault ≡ Some (read + 1))
+  read-fault None mid was next = tt
+  read-fault (Some xs) None was next = absurd was
+  read-fault (Some xs) (Some ys) was next =
+      let items : listed record_at (read + 1) (lines_of ys) ≡ faulty_at (read + 1) = ap (λ (ls : List (List ℕ)). listed record_at (read + 1) ls) next.2 ∙ listed-fault record_at (read + 1) next.0 next.1 next.3 in
+      ap (λ (c : Listed (Record Deed)). c.fault) (was ∙ ap (λ (c : Listed (Record Deed)). after_records past c) items)
+
+-- a fault at a known line names it
+pub names-it : (old : Option (List ℕ)) (fault : List ℕ → Option ℕ) (f : RunFault) (n : ℕ) → f ≡ record { why = BadTrace; line = Some n } → IfSome old (λ xs. fault xs ≡ Some n) → IfSome old (λ xs. NamesLine f (fault xs))
+names-it None fault f n is at = tt
+names-it (Some xs) fault f n is at = λ bad. ap (λ x. x.line) is ∙ sym at
+
+-- ---- a whole trace
+
+-- behind its first line
+pub trace-behind : (old mid : Option (List ℕ)) (kind : Kind) (past : List (Record Deed)) → Both old mid (λ xs ys. (line : List ℕ) × (lines_of xs ≡ line ∷ lines_of ys) × (head_of line ≡ Some kind)) → IfSome mid (λ rest. records_behind (lines_of rest) ≡ record { items = past; fault = None }) → IfSome old (λ input. IsTrace (lines_of input) kind past)
+trace-behind None mid kind past first rest = tt
+trace-behind (Some xs) None kind past first rest = absurd first
+trace-behind (Some xs) (Some ys) kind past first rest =
+    record { first = first.0; rest = lines_of ys; parts = first.1; head = first.2; behind = rest }
+
+-- its fault is behind its first line
+pub fault-behind : (old mid : Option (List ℕ)) (kind : Kind) (P : Option ℕ → Type 0) → Both old mid (λ xs ys. (line : List ℕ) × (lines_of xs ≡ line ∷ lines_of ys) × (head_of line ≡ Some kind)) → IfSome mid (λ rest. P (records_behind (lines_of rest)).fault) → IfSome old (λ input. P (trace_fault_in (lines_of input)))
+unfolding trace_fault_in
+fault-behind None mid kind P first rest = tt
+fault-behind (Some xs) None kind P first rest = absurd first
+fault-behind (Some xs) (Some ys) kind P first rest =
+    subst (λ ls. P (trace_fault_in ls)) (sym first.1) (rw first.2 rest)
+
+-- its first line is at fault, or isn't there
+pub fault-first : (old : Option (List ℕ)) → IfSome old (λ xs. (line : List ℕ) × (lines : List (List ℕ)) × (lines_of xs ≡ line ∷ lines) × (head_of line ≡ None)) → IfSome old (λ input. trace_fault_in (lines_of input) ≡ Some 1)
+unfolding trace_fault_in
+fault-first None faulty = tt
+fault-first (Some xs) faulty = ap (λ (ls : List (List ℕ)). trace_fault_in ls) faulty.2 ∙ (rw faulty.3 refl)
+
+pub fault-none : (old : Option (List ℕ)) → IfSome old (λ xs. lines_of xs ≡ []) → IfSome old (λ input. trace_fault_in (lines_of input) ≡ Some 1)
+unfolding trace_fault_in
+fault-none None none = tt
+fault-none (Some xs) none = ap (λ (ls : List (List ℕ)). trace_fault_in ls) none
+
+-- ---- what is found of it
+
+-- a trace that wasn't read to its end: nothing is written
+pub check-unread : (old writer : Option (List ℕ)) (f : RunFault) → IsUnreadTrace f → IfSome old (λ input. NamesLine f (trace_fault_in (lines_of input))) → IfSome old (λ input. CheckBreaks (lines_of input) f.why f.line writer writer)
+check-unread None writer f unread names = tt
+check-unread (Some xs) writer f (inl bad) names =
+    let at : trace_fault_in (lines_of xs) ≡ Some bad.0 = sym (names (ap (λ x. x.why) bad.1)) ∙ ap (λ x. x.line) bad.1 in
+    subst (λ (x : RunFault). CheckBreaks (lines_of xs) x.why x.line writer writer) (sym bad.1) (at, appends-nothing writer)
+check-unread (Some xs) writer f (inr (inl memory)) names =
+    subst (λ (x : RunFault). CheckBreaks (lines_of xs) x.why x.line writer writer) (sym memory) (appends-nothing writer)
+check-unread (Some xs) writer f (inr (inr read)) names =
+    subst (λ (x : RunFault). CheckBreaks (lines_of xs) x.why x.line writer writer) (sym read) (appends-nothing writer)
+
+-- such a fault ends a check
+pub unread-faults : (f : RunFault) → IsUnreadTrace f → IsTraceFault f
+unread-faults f (inl bad) = subst IsTraceFault (sym bad.1) tt
+unread-faults f (inr (inl memory)) = subst IsTraceFault (sym memory) tt
+unread-faults f (inr (inr read)) = subst IsTraceFault (sym read) tt
+
+-- a trace that was read, whose line is written whole, or but for a part
+pub check-found : (old : Option (List ℕ)) (kind : Kind) (records : List (Record Deed)) (legal : Bool) (text : List ℕ) → IfSome old (λ input. IsTrace (lines_of input) kind records) → IsVerdict kind records legal text → IfSome old (λ input. IsFound (lines_of input) legal text)
+check-found None kind records legal text trace verdict = tt
+check-found (Some xs) kind records legal text trace verdict = record { kind = kind; records = records; trace = trace; verdict = verdict }
+
+pub check-broken : (old before after : Option (List ℕ)) (f : RunFault) (legal : Bool) (text : List ℕ) → f ≡ record { why = WriteFault; line = None } → IfSome old (λ input. IsFound (lines_of input) legal text) → AppendsFront before after text → IfSome old (λ input. CheckBreaks (lines_of input) f.why f.line before after)
+check-broken None before after f legal text is found front = tt
+check-broken (Some xs) before after f legal text is found front =
+    subst (λ (x : RunFault). CheckBreaks (lines_of xs) x.why x.line before after) (sym is) (legal, text, found, front)
+
+pub check-done : (old before after : Option (List ℕ)) (legal : Bool) (text : List ℕ) → IfSome old (λ input. IsFound (lines_of input) legal text) → Appends before after text → IfSome old (λ input. CheckEnds (lines_of input) (Ok legal) before after)
+check-done None before after legal text found wrote = tt
+check-done (Some xs) before after legal text found wrote = (text, found, wrote)

@@ -1,0 +1,35 @@
+use Rattle.std.proofs.Common.{◌+◌, arith}
+use Rattle.meet_run.specs.Reading.{lines_of}
+use Rattle.meet_run.specs.Traces.{records_behind}
+use Rattle.meet_run.proofs.LineLemmas.{uses-more}
+use Rattle.meet_run.proofs.TraceReading.{read-more, read-end, read-fault, names-it}
+use Rattle.meet_run.proofs.check.read_records.Goals as goal
+
+pub loop-entry-preserved : goal.loop-entry-preserved
+loop-entry-preserved g c = record {
+  was = read-more c.loop-entry.records.items c.loop-entry.read (g.R.Read.remaining c.args.reader.now) (g.R.Read.remaining c.loop-entry.reader) (g.R.Read.remaining c.next_record.new.reader) c.in-Read.entry c.push.new.self.items c.loop-entry.invariant.was c.in-Read.ensures.next.0 c.in-Ok.ensures.items;
+  uses = uses-more (g.R.Read.remaining c.args.reader.now) (g.R.Read.remaining c.loop-entry.reader) (g.R.Read.remaining c.next_record.new.reader) c.args.turns.now c.loop-entry.turns c.next_record.new.turns c.loop-entry.invariant.uses c.next_record.ensures.uses;
+  few = omega (arith, c.loop-entry.invariant.few, c.in-Read.ensures.next.1);
+  room = c.next_record.ensures.room;
+}
+
+pub returns-in-Err-clause-uses : goal.returns-in-Err-clause-uses
+returns-in-Err-clause-uses g c =
+    uses-more (g.R.Read.remaining c.args.reader.now) (g.R.Read.remaining c.loop-entry.reader) (g.R.Read.remaining c.next_record.new.reader) c.args.turns.now c.loop-entry.turns c.next_record.new.turns c.loop-entry.invariant.uses c.next_record.ensures.uses
+
+pub returns-in-Ended-clause-records : goal.returns-in-Ended-clause-records
+returns-in-Ended-clause-records g c =
+    read-end c.loop-entry.records.items c.loop-entry.read (g.R.Read.remaining c.args.reader.now) (g.R.Read.remaining c.loop-entry.reader) c.loop-entry.invariant.was c.in-Ended.ensures.next.0
+
+pub returns-in-Faulty-clause-bad : goal.returns-in-Faulty-clause-bad
+returns-in-Faulty-clause-bad g c =
+    names-it (g.R.Read.remaining c.args.reader.now) (λ rest. (records_behind (lines_of rest)).fault) c.bad_trace.result (c.loop-entry.read + 1) c.bad_trace.ensures
+    (read-fault c.loop-entry.records.items c.loop-entry.read (g.R.Read.remaining c.args.reader.now) (g.R.Read.remaining c.loop-entry.reader) c.loop-entry.invariant.was c.in-Faulty.ensures.next.0)
+
+pub returns-in-Faulty-clause-uses : goal.returns-in-Faulty-clause-uses
+returns-in-Faulty-clause-uses g c =
+    uses-more (g.R.Read.remaining c.args.reader.now) (g.R.Read.remaining c.loop-entry.reader) (g.R.Read.remaining c.next_record.new.reader) c.args.turns.now c.loop-entry.turns c.next_record.new.turns c.loop-entry.invariant.uses c.next_record.ensures.uses
+
+pub returns-in-Broken-clause-uses : goal.returns-in-Broken-clause-uses
+returns-in-Broken-clause-uses g c =
+    uses-more (g.R.Read.remaining c.args.reader.now) (g.R.Read.remaining c.loop-entry.reader) (g.R.Read.remaining c.next_record.new.reader) c.args.turns.now c.loop-entry.turns c.next_record.new.turns c.loop-entry.invariant.uses c.next_record.ensures.uses

@@ -1,0 +1,118 @@
+-- What a whole trace says, and what is found of it; and the trace that a script leaves.
+use Rattle.std.specs.Prelude.{◌≡◌, ◌⊎◌, ℕ, nat_lt, Bool, true, false, Option, Some, None, Result, Ok, Err, List, [], ◌∷◌, length, if◌then◌else◌}
+use Rattle.std.specs.Io.KnownBytes.{Appends}
+use Rattle.std.specs.Option.{option_map_or}
+use Rattle.meet_tickets.specs.declared.places.Kind.{Kind}
+use Rattle.meet_tickets.specs.declared.records.Deed.{Deed}
+use Rattle.meet_tickets.specs.declared.records.Record.{Record}
+use Rattle.meet_tickets.specs.declared.refusals.Refusal.{Refusal}
+use Rattle.meet_tickets.specs.declared.refusals.Refusal.TheVariants.{Memory, BadTrace, ReadFault, WriteFault}
+use Rattle.meet_tickets.specs.ByLists.{IsLegal}
+use Rattle.meet_history.specs.declared.checker.Why.{Why}
+use Rattle.meet_history.specs.declared.setups.Setup.{Setup}
+use Rattle.meet_history.specs.Checking.{IsIllegalAt}
+use Rattle.meet_history.specs.OneThread.{records}
+use Rattle.meet_history.specs.Standings.{standing_in}
+use Rattle.meet_run.specs.declared.faults.RunFault.{RunFault}
+use Rattle.meet_run.specs.Grammar.{setup_of}
+use Rattle.meet_run.specs.Reading.{lines_of, Listed, listed}
+use Rattle.meet_run.specs.Running.{RunEnds}
+use Rattle.meet_run.specs.Script.{calls_behind}
+use Rattle.meet_run.specs.TraceGrammar.{head_of, record_of}
+use Rattle.meet_run.specs.TraceWording.{trace_text, illegal_line}
+use Rattle.meet_run.specs.Wording.{last_line}
+use Rattle.meet_run.specs.Writing.{AppendsFront}
+
+-- the record of a line with this number: a trace has at most 1,048,576 of them, and no line behind these (our choice)
+unfoldable pub record_at : (n : ℕ) → (line : List ℕ) → Option (Record Deed)
+record_at n line = if nat_lt 1048577 n then None else record_of line
+
+-- the records of the lines behind a trace's first
+abbrev pub records_behind : (lines : List (List ℕ)) → Listed (Record Deed)
+records_behind lines = listed record_at 2 lines
+
+-- the number of a trace's first faulty line; without a first line it is 1
+unfoldable pub trace_fault_in : (lines : List (List ℕ)) → Option ℕ
+trace_fault_in [] = Some 1
+trace_fault_in (line ∷ lines) = option_map_or (λ kind. (records_behind lines).fault) (head_of line) (Some 1)
+
+-- these lines are a whole trace, of such a place, with these records
+pub record IsTrace (lines : List (List ℕ)) (kind : Kind) (records : List (Record Deed)) : Type 0 where
+  pub first : List ℕ
+  pub rest : List (List ℕ)
+  pub parts : lines ≡ first ∷ rest
+  pub head : head_of first ≡ Some kind
+  pub behind : records_behind rest ≡ record { items = records; fault = None }
+
+-- whether records are legal, and the line that says so: it counts them, and says what stands at their end; or it names
+-- the first that can't stand, and why
+abbrev pub IsVerdict : Kind → List (Record Deed) → (legal : Bool) → (text : List ℕ) → Type 0
+IsVerdict kind records true text = IsLegal kind records × (text ≡ last_line (length records) (standing_in records))
+IsVerdict kind records false text = (place : ℕ) × (why : Why) × IsIllegalAt kind records place why × (text ≡ illegal_line place why)
+
+-- the lines are a whole trace, of which this is found
+pub record IsFound (lines : List (List ℕ)) (legal : Bool) (text : List ℕ) : Type 0 where
+  pub kind : Kind
+  pub records : List (Record Deed)
+  pub trace : IsTrace lines kind records
+  pub verdict : IsVerdict kind records legal text
+
+-- a fault of a trace's line names it
+abbrev pub NamesLine : RunFault → (fault : Option ℕ) → Type 0
+NamesLine f fault = f.why ≡ BadTrace → f.line ≡ fault
+
+-- what a fault leaves of a check: nothing is written but where a write failed, and then a front of what is found
+abbrev pub CheckBreaks : (lines : List (List ℕ)) → Refusal → Option ℕ → (old new : Option (List ℕ)) → Type 0
+CheckBreaks lines BadTrace (Some n) old new = (trace_fault_in lines ≡ Some n) × Appends old new []
+CheckBreaks lines Memory None old new = Appends old new []
+CheckBreaks lines ReadFault None old new = Appends old new []
+CheckBreaks lines WriteFault None old new = (legal : Bool) × (text : List ℕ) × IsFound lines legal text × AppendsFront old new text
+CheckBreaks lines _ _ old new = ⊥
+
+-- what came of a check
+abbrev pub CheckEnds : (lines : List (List ℕ)) → Result Bool RunFault → (old new : Option (List ℕ)) → Type 0
+CheckEnds lines (Ok legal) old new = (text : List ℕ) × IsFound lines legal text × Appends old new text
+CheckEnds lines (Err f) old new = CheckBreaks lines f.why f.line old new
+
+-- the faults of a trace that wasn't read to its end: a line's, and want of memory or a read that failed
+abbrev pub IsUnreadTrace : RunFault → Type 0
+IsUnreadTrace f =
+    ((n : ℕ) × (f ≡ record { why = BadTrace; line = Some n })) ⊎ ((f ≡ record { why = Memory; line = None }) ⊎ (f ≡ record { why = ReadFault; line = None }))
+
+-- the faults that end a check
+abbrev pub TraceFaultIs : Refusal → Option ℕ → Type 0
+TraceFaultIs BadTrace (Some n) = Unit {0}
+TraceFaultIs Memory None = Unit {0}
+TraceFaultIs ReadFault None = Unit {0}
+TraceFaultIs WriteFault None = Unit {0}
+TraceFaultIs _ _ = ⊥
+
+abbrev pub IsTraceFault : RunFault → Type 0
+IsTraceFault f = TraceFaultIs f.why f.line
+
+-- the trace of these lines' calls
+abbrev pub trace_behind : Setup → (lines : List (List ℕ)) → List ℕ
+trace_behind setup lines = trace_text setup.kind (records setup (calls_behind setup lines).items)
+
+-- the trace of a script's calls before its first fault; where that is its first line, nothing
+unfoldable pub trace_in : (lines : List (List ℕ)) → List ℕ
+trace_in [] = []
+trace_in (line ∷ lines) =
+    option_map_or (λ setup. trace_behind setup lines) (setup_of line) []
+
+abbrev pub trace_of : (input : List ℕ) → List ℕ
+trace_of input = trace_in (lines_of input)
+
+-- the calls of these lines, up to the first that is none, write these records
+pub record LeavesRecords (setup : Setup) (lines : List (List ℕ)) (written : List (Record Deed)) (bad : Option ℕ) : Type 0 where
+  pub records : records setup (calls_behind setup lines).items ≡ written
+  pub fault : (calls_behind setup lines).fault ≡ bad
+
+-- what came of tracing these lines
+abbrev pub TracesOn : Setup → (lines : List (List ℕ)) → Result Bool RunFault → (old new : Option (List ℕ)) → Type 0
+TracesOn setup lines result old new =
+    RunEnds (calls_behind setup lines).fault (trace_behind setup lines) (trace_behind setup lines) result old new
+
+-- a text that wasn't read to its end: there was no memory, or a read failed
+abbrev pub IsUnread : Refusal → Type 0
+IsUnread why = (why ≡ Memory) ⊎ (why ≡ ReadFault)

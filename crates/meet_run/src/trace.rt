@@ -1,0 +1,184 @@
+//! The trace of a script: the records that its calls write.
+
+ghost use Rattle.std.specs.Prelude.{◌≡◌, ◌+◌, ◌^◌, ◌<◌, ◌≤◌, ◌++◌, None, IfSome, IfOk, IfErr, OnOk, IsTrue};
+ghost use Rattle.std.specs.Io.KnownBytes.{Appends};
+ghost use Rattle.std.specs.List.{flat_map};
+ghost use Rattle.std.specs.Vec.{vec_capacity};
+ghost use Rattle.meet_history.specs.Limits.{IsInLimits};
+ghost use Rattle.meet_history.specs.Served.{serves_place};
+ghost use Rattle.meet_run.specs.Reading.{UsesTurns, EndsInTurns, lines_of};
+ghost use Rattle.meet_run.specs.Running.{IsCutShort, IsRunFault, RunEnds};
+ghost use Rattle.meet_run.specs.Script.{fault_of};
+ghost use Rattle.meet_run.specs.TraceWording.{record_line, trace_text};
+ghost use Rattle.meet_run.specs.Traces.{trace_of, LeavesRecords, TracesOn, IsUnread};
+ghost use Rattle.meet_run.specs.Writing.{AppendsFront};
+
+use crate::faults::RunFault;
+use crate::grammar::LONGEST_LINE;
+use crate::next::{Next, next_call, next_setup};
+use crate::output::write_whole;
+use crate::run::{MOST_READS, bad_line, cut_short};
+use crate::trace_wording::{push_head, push_record};
+use meet_history::{Setup, Stepper};
+use meet_tickets::{Deed, Kind, Record, Refusal};
+use std::alloc::Global;
+use std::io::{Read, Write};
+
+/// How many bytes are kept back at least before they are written.
+const BLOCK: usize = 8192;
+
+/// Writes what is kept back, and then the lines of these records, block by block.
+fn write_records<W: Write>(
+    out: &mut Vec<u8>,
+    records: &[Record<Deed>],
+    writer: &mut W,
+) -> Result<(), Refusal>
+    ensures written { OnOk result (Appends (W.contents writer.old) (W.contents writer.new) (out.old.items ++ flat_map record_line records.now)) }
+    ensures front { AppendsFront (W.contents writer.old) (W.contents writer.new) (out.old.items ++ flat_map record_line records.now) }
+    ensures why { IfErr result IsCutShort }
+{
+    for entry in records {
+        match push_record(out, *entry) {
+            Ok(()) => {}
+            Err(_) => return Err(Refusal::Memory),
+        }
+        if out.len() >= BLOCK {
+            write_whole(writer, out.as_slice())?;
+            out.clear();
+        }
+    }
+    write_whole(writer, out.as_slice())
+}
+
+/// Writes the trace of these records of a place.
+fn write_trace<W: Write>(
+    alloc: Global,
+    kind: Kind,
+    records: &[Record<Deed>],
+    writer: &mut W,
+) -> Result<(), Refusal>
+    ensures written { OnOk result (Appends (W.contents writer.old) (W.contents writer.new) (trace_text kind records.now)) }
+    ensures front { AppendsFront (W.contents writer.old) (W.contents writer.new) (trace_text kind records.now) }
+    ensures why { IfErr result IsCutShort }
+{
+    let mut out = Vec::new(alloc);
+    match push_head(&mut out, kind) {
+        Ok(()) => write_records(&mut out, records, writer),
+        Err(_) => Err(Refusal::Memory),
+    }
+}
+
+/// Makes the calls behind the first line: the records that they write, up to the first faulty line, and the number of that
+/// line, if there is one.
+fn record_calls<R: Read>(
+    alloc: Global,
+    reader: &mut R,
+    turns: &mut u64,
+    line: &mut Vec<u8>,
+    setup: Setup,
+) -> Result<(Vec<Record<Deed>>, Option<u64>), Refusal>
+    requires served { IsTrue (serves_place setup.kind.order) }
+    requires limits { IsInLimits setup }
+    requires room { LONGEST_LINE ≤ vec_capacity line.old }
+    requires turns { turns.old + 1 < 2 ^ 64 }
+    ensures records { IfOk result (λ left. IfSome (R.remaining reader.old) (λ rest. LeavesRecords setup (lines_of rest) left.0.items left.1)) }
+    ensures uses { UsesTurns (R.remaining reader.old) (R.remaining reader.new) turns.old turns.new }
+    ensures ends { IfOk result (λ left. left.1 ≡ None → EndsInTurns (R.remaining reader.old) turns.old) }
+    ensures why { IfErr result IsUnread }
+{
+    let mut stepper = Stepper::new(alloc, setup)?;
+    let mut replies = Vec::new(alloc);
+    // How many lines were read.
+    let mut read = 1u64;
+    loop {
+        match next_call(reader, turns, line, setup.kind.order) {
+            Next::Read(call) => {
+                replies.clear();
+                stepper.answer(call, &mut replies)?;
+                read += 1;
+            }
+            Next::Ended => return Ok((stepper.into_records(), None)),
+            Next::Faulty => return Ok((stepper.into_records(), Some(read + 1))),
+            Next::Broken => return Err(Refusal::ReadFault),
+        }
+    }
+}
+
+/// Makes the calls behind the first line, and writes their trace.
+fn trace_calls<R: Read, W: Write>(
+    alloc: Global,
+    reader: &mut R,
+    writer: &mut W,
+    turns: &mut u64,
+    line: &mut Vec<u8>,
+    setup: Setup,
+) -> Result<bool, RunFault>
+    requires served { IsTrue (serves_place setup.kind.order) }
+    requires limits { IsInLimits setup }
+    requires room { LONGEST_LINE ≤ vec_capacity line.old }
+    requires turns { turns.old + 1 < 2 ^ 64 }
+    ensures trace { IfSome (R.remaining reader.old) (λ rest. TracesOn setup (lines_of rest) result (W.contents writer.old) (W.contents writer.new)) }
+    ensures uses { UsesTurns (R.remaining reader.old) (R.remaining reader.new) turns.old turns.new }
+    ensures ends { OnOk result (EndsInTurns (R.remaining reader.old) turns.old) }
+    ensures faults { IfErr result IsRunFault }
+{
+    let (records, fault) = match record_calls(alloc, reader, turns, line, setup) {
+        Ok(left) => left,
+        Err(why) => return Err(cut_short(why)),
+    };
+    match write_trace(alloc, setup.kind, records.as_slice(), writer) {
+        Ok(()) => {}
+        Err(why) => return Err(cut_short(why)),
+    }
+    match fault {
+        None => Ok(true),
+        Some(number) => Err(bad_line(number)),
+    }
+}
+
+/// Runs the script that this reader gives, and writes the trace of its records: a first line that names the place, and a
+/// line for each record. It is written once the script has ended. A read of the reader takes one byte and costs a turn.
+///
+/// The answer is true. A line that can't be read ends the script: the trace of the calls before it is written, and the
+/// fault is BadLine with the line's number, from 1; where that is the first line, or there is none, nothing is written. A
+/// read that fails, or no turn left for it, is ReadFault; a write that fails or takes no byte is WriteFault; where memory is
+/// wanted and not there, it is Memory. Then a front of the trace is written.
+pub fn run_trace_within<R: Read, W: Write>(
+    alloc: Global,
+    reader: &mut R,
+    writer: &mut W,
+    turns: u64,
+) -> Result<bool, RunFault>
+    ensures trace { IfSome (R.remaining reader.old) (λ input.
+        RunEnds (fault_of input) (trace_of input) (trace_of input) result (W.contents writer.old) (W.contents writer.new)) }
+    ensures uses { UsesTurns (R.remaining reader.old) (R.remaining reader.new) turns 0 }
+    ensures ends { OnOk result (EndsInTurns (R.remaining reader.old) turns) }
+    ensures faults { IfErr result IsRunFault }
+{
+    let mut left = turns;
+    let mut line = match Vec::with_capacity(alloc, LONGEST_LINE) {
+        Ok(line) => line,
+        Err(_) => return Err(cut_short(Refusal::Memory)),
+    };
+    match next_setup(reader, &mut left, &mut line) {
+        Next::Read(setup) => trace_calls(alloc, reader, writer, &mut left, &mut line, setup),
+        Next::Ended => Err(bad_line(1)),
+        Next::Faulty => Err(bad_line(1)),
+        Next::Broken => Err(cut_short(Refusal::ReadFault)),
+    }
+}
+
+/// Runs a script as `run_trace_within` does, with 2^32 reads.
+pub fn run_trace<R: Read, W: Write>(
+    alloc: Global,
+    reader: &mut R,
+    writer: &mut W,
+) -> Result<bool, RunFault>
+    ensures trace { IfSome (R.remaining reader.old) (λ input.
+        RunEnds (fault_of input) (trace_of input) (trace_of input) result (W.contents writer.old) (W.contents writer.new)) }
+    ensures uses { UsesTurns (R.remaining reader.old) (R.remaining reader.new) (2 ^ 32) 0 }
+    ensures ends { OnOk result (EndsInTurns (R.remaining reader.old) (2 ^ 32)) }
+    ensures faults { IfErr result IsRunFault }
+{
+    run_trace_within(alloc, reader, writer, MOST_READS)
+}
