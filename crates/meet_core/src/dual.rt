@@ -1,14 +1,13 @@
 //! The dual queue: givers and takers that meet.
 
-ghost use Rattle.std.specs.Prelude.{◌≡◌, ◌^◌, ◌≤◌, ◌<◌, ◌-◌, Some, None, IsOk, IfOk, IfErr, OnOk, OnErr, MatchOption, length};
+ghost use Rattle.std.specs.Prelude.{◌≡◌, ◌^◌, ◌≤◌, ◌<◌, ◌-◌, Some, None, IsOk, IfOk, IfErr, OnOk, OnErr, MatchOption};
 ghost use Rattle.meet_tickets.specs.Meeting.{waiting_count, kept_count, count_on};
 ghost use Rattle.meet_tickets.specs.BySeat.{nobody, open_ticket, owed_of, settled_of};
 ghost use Rattle.meet_tickets.specs.Refusals.{refusal_of};
 ghost use Rattle.meet_tickets.specs.declared.places.Side.TheVariants.{Giver};
 
-use crate::answers::{Gave, Offered, Polled, Took};
-use meet_line::{Line, SeatTable};
-use meet_tickets::{Entry, Marked, Refusal, Refused, SeatNo, Side, Ticket};
+use meet_line::{Gave, Line, Meetings, Offered, Polled, Took};
+use meet_tickets::{Entry, Marked, Refusal, Refused, SeatNo, Ticket};
 use std::alloc::Global;
 use std::marker::Model;
 
@@ -18,25 +17,24 @@ mod endings;
 /// A synchronous queue of one thread: over a `FairLine` in fair mode, over a `StackLine` in the default mode.
 #[derive(Drop)]
 pub struct Dual<T: Marked, L: Line<Entry<T>>> {
-    line: L,
-    seats: SeatTable<T>,
-    next: u64,
+    meetings: Meetings<T, L>,
 }
 
 impl<T: Marked, L: Line<Entry<T>>> Model for Dual<T, L> {
-    ghost use Rattle.meet_line.specs.Table.{hold_at};
-    ghost use Rattle.meet_core.specs.Queue.{Queue, IsSound};
+    ghost use Rattle.std.specs.Prelude.{◌≡◌};
+    ghost use Rattle.meet_tickets.specs.Meeting.{kept_count};
+    ghost use Rattle.meet_line.specs.Queue.{Queue};
 
     ghost Value = { Queue T };
 
-    ghost view = { λ dual. record { line = L.entries dual.line; room = L.spare dual.line; table = dual.seats; next = dual.next } };
+    ghost view = { λ dual. dual.meetings };
 
-    ghost invariant = { λ dual. IsSound (L.entries dual.line) (hold_at dual.seats.holds) dual.next };
+    ghost invariant = { λ dual. kept_count dual.meetings.line ≡ 0 };
 }
 
 impl<T: Marked, L: Line<Entry<T>>> Dual<T, L> {
-    ghost use Rattle.meet_core.specs.Queue.{seats_of, count_of, places_of, IsSound};
-    ghost use Rattle.meet_core.specs.Steps.{GiveStep, TakeStep, OfferStep, PollStep};
+    ghost use Rattle.meet_line.specs.Queue.{seats_of, count_of, places_of, IsSound};
+    ghost use Rattle.meet_line.specs.Steps.{GiveStep, TakeStep, OfferStep, PollStep};
     ghost use Rattle.meet_tickets.specs.declared.refusals.Refusal.TheVariants.{Memory};
 
     /// A queue with this many seats, 1 to 1,024, and this first ticket, 1 to 2^63 - 1. The only refusal is Memory.
@@ -49,15 +47,8 @@ impl<T: Marked, L: Line<Entry<T>>> Dual<T, L> {
         ensures first { IfOk result (λ queue. queue.next ≡ first) }
         ensures memory { IfErr result (λ why. why ≡ Memory) }
     {
-        let seats = match SeatTable::new(alloc, seats) {
-            Ok(seats) => seats,
-            Err(_) => return Err(Refusal::Memory),
-        };
-        Ok(Dual {
-            line: L::empty(alloc),
-            seats,
-            next: first,
-        })
+        let meetings = Meetings::new(alloc, seats, first)?;
+        Ok(Dual { meetings })
     }
 
     /// The ticket that a request of this seat would use, or why it would be refused: NoSuchSeat, SeatOpen or
@@ -66,13 +57,7 @@ impl<T: Marked, L: Line<Entry<T>>> Dual<T, L> {
         ensures admitted { IfOk result (λ ticket. (refusal_of (count_of self.now) self.now.next (seats_of self.now) seat ≡ None) × (ticket ≡ self.now.next)) }
         ensures refused { IfErr result (λ why. refusal_of (count_of self.now) self.now.next (seats_of self.now) seat ≡ Some why) }
     {
-        if seat.number() >= self.seats.count() {
-            return Err(Refusal::NoSuchSeat);
-        }
-        if self.seats.hold(seat).is_open() {
-            return Err(Refusal::SeatOpen);
-        }
-        Ticket::new(self.next).ok_or(Refusal::TicketsSpent)
+        self.meetings.admit(seat)
     }
 
     /// Makes room for this many requests that wait. The only refusal is Memory.
@@ -84,7 +69,7 @@ impl<T: Marked, L: Line<Entry<T>>> Dual<T, L> {
         ensures memory { IfErr result (λ why. why ≡ Memory) }
         ensures enough { requests ≤ self.old.room → IsOk result }
     {
-        self.line.reserve(requests)
+        self.meetings.reserve(requests)
     }
 
     /// `SynchronousQueue.put` up to its wait: the item goes to the taker that is met, or its giver goes to the line, or is
@@ -97,13 +82,7 @@ impl<T: Marked, L: Line<Entry<T>>> Dual<T, L> {
         ensures back { IfErr result (λ refused. refused.back ≡ item) }
         ensures unchanged { IfErr result (λ _. self.new ≡ self.old) }
     {
-        if let Err(why) = self.admit(seat) {
-            return Err(Refused { why, back: item });
-        }
-        if let Err(why) = self.reserve(1) {
-            return Err(Refused { why, back: item });
-        }
-        Ok(self.give_admitted(seat, item))
+        self.meetings.give(seat, item)
     }
 
     /// `SynchronousQueue.take` up to its wait: the item comes from the giver that is met, or the taker goes to the line, or
@@ -115,9 +94,7 @@ impl<T: Marked, L: Line<Entry<T>>> Dual<T, L> {
         ensures why { IfErr result (λ why. MatchOption (refusal_of (count_of self.old) self.old.next (seats_of self.old) seat) (why ≡ Memory) (λ first. why ≡ first)) }
         ensures unchanged { IfErr result (λ _. self.new ≡ self.old) }
     {
-        self.admit(seat)?;
-        self.reserve(1)?;
-        Ok(self.take_admitted(seat))
+        self.meetings.take(seat)
     }
 
     /// `SynchronousQueue.offer`: the item goes to the taker that is met, or comes back. It takes no memory, and refuses
@@ -130,10 +107,7 @@ impl<T: Marked, L: Line<Entry<T>>> Dual<T, L> {
         ensures back { IfErr result (λ refused. refused.back ≡ item) }
         ensures unchanged { IfErr result (λ _. self.new ≡ self.old) }
     {
-        if let Err(why) = self.admit(seat) {
-            return Err(Refused { why, back: item });
-        }
-        Ok(self.offer_admitted(seat, item))
+        self.meetings.offer(seat, item)
     }
 
     /// `SynchronousQueue.poll`: the item comes from the giver that is met, if one is there. It takes no memory, and refuses
@@ -145,33 +119,28 @@ impl<T: Marked, L: Line<Entry<T>>> Dual<T, L> {
         ensures why { IfErr result (λ why. refusal_of (count_of self.old) self.old.next (seats_of self.old) seat ≡ Some why) }
         ensures unchanged { IfErr result (λ _. self.new ≡ self.old) }
     {
-        self.admit(seat)?;
-        Ok(self.poll_admitted(seat))
+        self.meetings.poll(seat)
     }
 
     /// The seat's open ticket, if it has one.
     pub fn open_ticket(&self, seat: SeatNo) -> Option<Ticket>
         ensures { result ≡ open_ticket ((seats_of self.now).holds seat) }
     {
-        if seat.number() < self.seats.count() {
-            self.seats.hold(seat).open_ticket()
-        } else {
-            None
-        }
+        self.meetings.open_ticket(seat)
     }
 
     /// How many seats there are.
     pub fn seats(&self) -> u64
         ensures { result ≡ count_of self.now }
     {
-        self.seats.count()
+        self.meetings.seats()
     }
 
     /// How many requests that wait have room.
     pub fn room(&self) -> u64
         ensures { result ≡ self.now.room }
     {
-        self.line.room()
+        self.meetings.room()
     }
 
     /// How many tickets are open.
@@ -179,7 +148,7 @@ impl<T: Marked, L: Line<Entry<T>>> Dual<T, L> {
         ensures value { result ≡ owed_of (count_of self.now) (seats_of self.now).holds }
         ensures few { result ≤ 1024 }
     {
-        self.seats.owed()
+        self.meetings.owed()
     }
 
     /// How many open tickets stand in the line.
@@ -187,43 +156,36 @@ impl<T: Marked, L: Line<Entry<T>>> Dual<T, L> {
         ensures value { result ≡ waiting_count self.now.line }
         ensures nothing_kept { kept_count self.now.line ≡ 0 }
     {
-        self.line.len()
+        self.meetings.waiting()
     }
 
     /// How many open tickets were met or cut, and await their follow-up.
     pub fn uncollected(&self) -> u64
         ensures { result ≡ settled_of (count_of self.now) (seats_of self.now).holds }
     {
-        self.seats.settled()
+        self.meetings.uncollected()
     }
 
     /// How many givers stand in the line.
     pub fn givers(&self) -> u64
         ensures { result ≡ count_on Giver self.now.line }
     {
-        let first = match self.line.first() {
-            None => return 0,
-            Some(first) => first,
-        };
-        if first.is_on(Side::Giver) {
-            self.line.len()
-        } else {
-            0
-        }
+        self.meetings.givers()
     }
 
     /// How many tickets are left.
     pub fn tickets_left(&self) -> u64
         ensures { result ≡ 2 ^ 63 - self.now.next }
     {
-        (1 << 63) - self.next
+        self.meetings.tickets_left()
     }
 
-    /// What is always true of a queue: each entry of its line waits and is what its seat holds, no two entries share seat
-    /// or ticket, and all have one side. It does nothing.
+    /// What is always true of a queue: each entry of its line waits and is what its seat holds, no two entries share a
+    /// ticket, and all have one side. It does nothing.
     pub fn stays_sound(&self)
-        ensures { IsSound self.now.line (seats_of self.now).holds self.now.next }
+        ensures sound { IsSound self.now.line (seats_of self.now).holds self.now.next }
+        ensures all_wait { kept_count self.now.line ≡ 0 }
     {
-        let _ = &self.line;
+        self.meetings.stays_sound();
     }
 }

@@ -2,12 +2,10 @@
 //! request and its ending.
 #![tactic(auto)]
 
-mod answers;
 mod dual;
-mod meeting;
 
-pub use answers::{Followed, Gave, Interrupted, Offered, Polled, TakenBack, Took};
 pub use dual::Dual;
+pub use meet_line::{Followed, Gave, Interrupted, Offered, Polled, TakenBack, Took};
 
 #[cfg(test)]
 mod tests;

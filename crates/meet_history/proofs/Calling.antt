@@ -1,21 +1,16 @@
 -- A call of the stepper's queue, in the words of one thread's replies.
-use Rattle.std.proofs.Common.{◌≡◌, ◌≢◌, ℕ, ◌+◌, ◌<◌, refl, sym, ap, ◌∙◌, cond, Option, Some, None, arith}
-use Rattle.std.specs.Prelude.{nat_lt, nat_le, ◌||◌, IsTrue, MatchOption}
-use Rattle.meet_tickets.specs.declared.places.Order.{Order}
-use Rattle.meet_tickets.specs.declared.places.Order.TheVariants.{Fair, Unfair, Transfer}
-use Rattle.meet_tickets.specs.declared.places.Kind.{Kind}
+use Rattle.std.proofs.Common.{◌≡◌, ◌≢◌, ℕ, ◌+◌, ◌<◌, sym, ap, ◌∙◌, cond, Option, Some, None, arith}
+use Rattle.std.specs.Prelude.{nat_lt, nat_le, ◌||◌, MatchOption}
 use Rattle.meet_tickets.specs.declared.refusals.Refusal.{Refusal}
 use Rattle.meet_tickets.specs.declared.refusals.Refusal.TheVariants.{Memory, NoSuchSeat}
 use Rattle.meet_tickets.specs.BySeat.{owed_of}
 use Rattle.meet_tickets.specs.Refusals.{refusal_of}
-use Rattle.meet_core.specs.Queue.{Queue, seats_of, count_of}
+use Rattle.meet_line.specs.Queue.{Queue, seats_of, count_of}
 use Rattle.meet_history.specs.declared.setups.Setup.{Setup}
 use Rattle.meet_history.specs.declared.told.DualCall.{DualCall}
 use Rattle.meet_history.specs.declared.told.DualCall.TheVariants.{Give, Offer, Take, Poll, FollowUp, Cancel, Expire, Interrupt}
 use Rattle.meet_history.specs.Booking.{call_refusal}
-use Rattle.meet_history.specs.DualSteps.{kind_of, dual_refusal, dual_need, dual_owed}
-use Rattle.meet_history.specs.Limits.{FitsBound}
-use Rattle.meet_history.specs.Served.{serves_place}
+use Rattle.meet_history.specs.DualSteps.{dual_refusal, dual_need, dual_owed}
 use Rattle.meet_history.specs.Stepping.{refusal_at}
 
 -- the book's reason is that of the place
@@ -38,14 +33,3 @@ refusal_at-is setup q cap written seat call same count need =
 pub refused-so : (first : Option Refusal) (why : Refusal) → MatchOption first (why ≡ Memory) (λ own. why ≡ own) → why ≢ Memory → first ≡ Some why
 refused-so None why memory other = absurd (other memory)
 refused-so (Some own) why same other = ap Some (sym same)
-
--- a synchronous place has no bound
-pub kind-is : (kind : Kind) → IsTrue (serves_place kind.order) → FitsBound kind.order kind.bound → kind_of kind.order ≡ kind
-kind-is kind served fits = by_order kind.order kind.bound served fits
-  where
-    by_order : (order : Order) (bound : Option ℕ) → IsTrue (serves_place order) → FitsBound order bound → kind_of order ≡ record { order = order; bound = bound }
-    by_order Fair None served fits = refl
-    by_order Fair (Some n) served fits = absurd fits
-    by_order Unfair None served fits = refl
-    by_order Unfair (Some n) served fits = absurd fits
-    by_order Transfer bound served fits = cc

@@ -6,25 +6,30 @@ use Rattle.std.proofs.lemmas.Bool.{le-ltb, ltb-false}
 use Rattle.meet_tickets.specs.declared.lines.Entry.{Entry}
 use Rattle.meet_tickets.specs.declared.places.Side.TheVariants.{Taker}
 use Rattle.meet_tickets.specs.declared.places.Order.{Order}
+use Rattle.meet_tickets.specs.declared.places.Kind.{Kind}
 use Rattle.meet_tickets.specs.declared.records.Deed.{Deed}
 use Rattle.meet_tickets.specs.declared.records.Deed.TheVariants.{TakeMeets, TakeFails}
 use Rattle.meet_tickets.specs.declared.refusals.Refusal.{Refusal}
 use Rattle.meet_tickets.specs.declared.refusals.Refusal.TheVariants.{Memory, HistoryFull, TicketsSpent, SeatOpen, NoSuchSeat, NotOpen, Differs, SeatMissing, Contended, Worn, BadSizes, PolicyNeedsBuffer, NoThread, BadLine, BadTrace, ReadFault, WriteFault}
 use Rattle.meet_tickets.specs.BySeat.{paired, meets, owed_of}
 use Rattle.meet_tickets.specs.Refusals.{refusal_of}
-use Rattle.meet_core.specs.Queue.{Queue, seats_of, count_of}
-use Rattle.meet_core.specs.declared.answers.Polled.TheVariants.{Meets, Fails}
+use Rattle.meet_line.specs.Queue.{Queue, seats_of, count_of}
+use Rattle.meet_line.specs.declared.answers.Polled.TheVariants.{Meets, Fails}
 use Rattle.meet_history.specs.declared.setups.Setup.{Setup}
 use Rattle.meet_history.specs.declared.told.DualCall.TheVariants.{Poll}
 use Rattle.meet_history.specs.declared.told.DualAnswer.{DualAnswer}
 use Rattle.meet_history.specs.declared.told.DualAnswer.TheVariants.{Gave as ToGive, Offered as ToOffer, Took as ToTake, Polled as ToPoll, Followed as ToFollowUp, TakenBack as ToWithdrawal, Interrupted as ToInterrupt}
+use Rattle.meet_history.specs.declared.told.QueueCall.TheVariants.{Dual}
+use Rattle.meet_history.specs.declared.told.QueueAnswer.{QueueAnswer}
+use Rattle.meet_history.specs.declared.told.QueueAnswer.TheVariants.{Put as ToPut, Dual as ToDual}
 use Rattle.meet_history.specs.declared.replies.Outcome.TheVariants.{Recorded, Drained}
 use Rattle.meet_history.specs.Booking.{call_refusal}
 use Rattle.meet_history.specs.Received.{Received}
-use Rattle.meet_history.specs.Queues.{OrderedQueue}
+use Rattle.meet_history.specs.Queues.{QueueOfKind}
 use Rattle.meet_history.specs.Draining.{seat_refusal, drain_refusal_by, TakingStep, Polls, AreNumbered}
 use Rattle.meet_history.specs.DualRecords.{made, dual_record}
 use Rattle.meet_history.specs.DualSteps.{DualStep, dual_refusal, dual_owed, dual_available, dual_left}
+use Rattle.meet_history.specs.QueueSteps.{QueueStep, queue_record}
 use Rattle.meet_history.specs.OneThread.{Place, Turn, joined, immediate, refused, stepped, request_refusal, take, take_deed, take_alone, answer_of, polls, drain, drain_refusal, silent}
 use Rattle.meet_history.specs.Stepping.{poll_reply}
 use Rattle.meet_history.proofs.Polling.{not-spent}
@@ -91,6 +96,15 @@ module _ (setup : Setup) (seat : ℕ) where
   same-count order old new (ToWithdrawal answer) step = absurd step
   same-count order old new (ToInterrupt answer) step = absurd step
 
+  -- nor does one of any kind
+  queue-poll : (old new : Queue ℕ) (written : ℕ) (answer : QueueAnswer ℕ) (receipt : Received Deed) → request_refusal setup (place_at old written) seat ≡ None → QueueStep (λ m. m) setup.kind old seat (Dual Poll) answer new → queue_record (λ m. m) seat (Dual Poll) answer ≡ Some receipt.entry → receipt.place ≡ written + 1 → take setup (place_at old written) seat immediate ≡ told_turn seat receipt new (written + 1)
+  queue-poll old new written (ToDual answer) receipt none step is place = one-poll old new written answer receipt none step is place
+  queue-poll old new written (ToPut answer) receipt none step is place = absurd step
+
+  queue-count : (k : Kind) (old new : Queue ℕ) (answer : QueueAnswer ℕ) → QueueStep (λ m. m) k old seat (Dual Poll) answer new → count_of new ≡ count_of old
+  queue-count k old new (ToDual answer) step = same-count k.order old new answer step
+  queue-count k old new (ToPut answer) step = absurd step
+
   -- a place whose seats are there, with what is refused there
   admitted : (q : Queue ℕ) (written : ℕ) → count_of q ≡ setup.seats → dual_refusal q seat Poll ≡ None → written + dual_owed q + 2 ≤ setup.cap → request_refusal setup (place_at q written) seat ≡ None
   admitted q written count none fits =
@@ -99,33 +113,33 @@ module _ (setup : Setup) (seat : ℕ) where
       ∙ (λ i. call_refusal (none i) (low i))
 
   -- what the polls of a drain do
-  abbrev Poll_of : OrderedQueue → DualAnswer ℕ → OrderedQueue → Type 0
-  Poll_of = TakingStep (λ old answer new. (new.order ≡ old.order) × DualStep (λ m. m) old.order old.queue seat Poll answer new.queue) (λ any. dual_available any.queue) (λ any. dual_left any.queue) (λ any. dual_owed any.queue) (λ any. dual_refusal any.queue seat Poll) (λ answer. dual_record (λ m. m) seat Poll answer)
+  abbrev Poll_of : QueueOfKind → QueueAnswer ℕ → QueueOfKind → Type 0
+  Poll_of = TakingStep (λ old answer new. (new.kind ≡ old.kind) × QueueStep (λ m. m) old.kind old.queue seat (Dual Poll) answer new.queue) (λ any. dual_available any.queue) (λ any. dual_left any.queue) (λ any. dual_owed any.queue) (λ any. dual_refusal any.queue seat Poll) (λ answer. queue_record (λ m. m) seat (Dual Poll) answer)
 
-  -- they are one thread's polls, and leave order and seats
-  pub record ArePolls (old : Queue ℕ) (written : ℕ) (got : List (DualAnswer ℕ × Received Deed)) (new : OrderedQueue) : Type 0 where
+  -- they are one thread's polls, and leave kind and seats
+  pub record ArePolls (old : Queue ℕ) (written : ℕ) (got : List (QueueAnswer ℕ × Received Deed)) (new : QueueOfKind) : Type 0 where
     pub turns : polls setup (place_at old written) seat (length got) ≡ record { replies = map (λ one. poll_reply seat one.1) got; records = map (λ one. one.1.entry) got; place = place_at new.queue (written + length got) }
-    pub order : new.order ≡ setup.kind.order
+    pub kind : new.kind ≡ setup.kind
     pub count : count_of new.queue ≡ setup.seats
 
-  pub are-polls : (old new : OrderedQueue) (written : ℕ) (got : List (DualAnswer ℕ × Received Deed)) → old.order ≡ setup.kind.order → count_of old.queue ≡ setup.seats → (0 < length got → dual_refusal old.queue seat Poll ≡ None) → length got ≤ dual_left old.queue → (0 < length got → written + dual_owed old.queue + length got + 1 ≤ setup.cap) → AreNumbered written got → Polls Poll_of (λ answer. dual_record (λ m. m) seat Poll answer) old got new → ArePolls old.queue written got new
-  are-polls old new written [] order count none left fits numbered same =
+  pub are-polls : (old new : QueueOfKind) (written : ℕ) (got : List (QueueAnswer ℕ × Received Deed)) → old.kind ≡ setup.kind → count_of old.queue ≡ setup.seats → (0 < length got → dual_refusal old.queue seat Poll ≡ None) → length got ≤ dual_left old.queue → (0 < length got → written + dual_owed old.queue + length got + 1 ≤ setup.cap) → AreNumbered written got → Polls Poll_of (λ answer. queue_record (λ m. m) seat (Dual Poll) answer) old got new → ArePolls old.queue written got new
+  are-polls old new written [] kind count none left fits numbered same =
       let still : written ≡ written + 0 = omega arith in
       record {
         turns = λ i. record { replies = []; records = []; place = place_at (sym same i).queue (still i) };
-        order = ap (λ (q : OrderedQueue). q.order) same ∙ order;
-        count = ap (λ (q : OrderedQueue). count_of q.queue) same ∙ count;
+        kind = ap (λ (q : QueueOfKind). q.kind) same ∙ kind;
+        count = ap (λ (q : QueueOfKind). count_of q.queue) same ∙ count;
       }
-  are-polls old new written (one ∷ got) order count none left fits numbered (mid, (step, takes), is, more) =
-      let made_step : DualStep (λ m. m) setup.kind.order old.queue seat Poll one.0 mid.queue = subst (λ o. DualStep (λ m. m) o old.queue seat Poll one.0 mid.queue) order step.1 in
-      let first : take setup (place_at old.queue written) seat immediate ≡ told_turn seat one.1 mid.queue (written + 1) = one-poll old.queue mid.queue written one.0 one.1 (admitted old.queue written count (none (omega arith)) (omega (arith, fits (omega arith)))) made_step is numbered.0 in
-      let rest : ArePolls mid.queue (written + 1) got new = are-polls mid new (written + 1) got (step.0 ∙ order) (same-count old.order old.queue mid.queue one.0 step.1 ∙ count) (λ some. takes.free (omega (arith, left, takes.left, some))) (omega (arith, left, takes.left)) (λ some. omega (arith, fits (omega arith), takes.owed)) numbered.1 more in
+  are-polls old new written (one ∷ got) kind count none left fits numbered (mid, (step, takes), is, more) =
+      let made_step : QueueStep (λ m. m) setup.kind old.queue seat (Dual Poll) one.0 mid.queue = subst (λ k. QueueStep (λ m. m) k old.queue seat (Dual Poll) one.0 mid.queue) kind step.1 in
+      let first : take setup (place_at old.queue written) seat immediate ≡ told_turn seat one.1 mid.queue (written + 1) = queue-poll old.queue mid.queue written one.0 one.1 (admitted old.queue written count (none (omega arith)) (omega (arith, fits (omega arith)))) made_step is numbered.0 in
+      let rest : ArePolls mid.queue (written + 1) got new = are-polls mid new (written + 1) got (step.0 ∙ kind) (queue-count old.kind old.queue mid.queue one.0 step.1 ∙ count) (λ some. takes.free (omega (arith, left, takes.left, some))) (omega (arith, left, takes.left)) (λ some. omega (arith, fits (omega arith), takes.owed)) numbered.1 more in
       let further : written + 1 + length got ≡ written + length (one ∷ got) = omega arith in
       record {
         turns = ap (λ t. joined t (λ q. polls setup q seat (length got))) first
             ∙ ap (λ (t : Turn). record { replies = poll_reply seat one.1 ∷ t.replies; records = one.1.entry ∷ t.records; place = t.place }) rest.turns
-            ∙ ap (λ n. record { replies = map (λ (g : DualAnswer ℕ × Received Deed). poll_reply seat g.1) (one ∷ got); records = map (λ (g : DualAnswer ℕ × Received Deed). g.1.entry) (one ∷ got); place = place_at new.queue n }) further;
-        order = rest.order;
+            ∙ ap (λ n. record { replies = map (λ (g : QueueAnswer ℕ × Received Deed). poll_reply seat g.1) (one ∷ got); records = map (λ (g : QueueAnswer ℕ × Received Deed). g.1.entry) (one ∷ got); place = place_at new.queue n }) further;
+        kind = rest.kind;
         count = rest.count;
       }
 
@@ -180,21 +194,21 @@ module _ (setup : Setup) (seat : ℕ) where
   drain-made p k is = ap (λ o. option_map_or (refused p seat) o (joined (polls setup p seat k) (λ q. silent q seat (Drained k)))) is
 
   -- a drain that was made: its replies and records, and what it leaves
-  pub record IsDrained (old : Queue ℕ) (written k : ℕ) (got : List (DualAnswer ℕ × Received Deed)) (new : OrderedQueue) : Type 0 where
+  pub record IsDrained (old : Queue ℕ) (written k : ℕ) (got : List (QueueAnswer ℕ × Received Deed)) (new : QueueOfKind) : Type 0 where
     pub turn : drain setup (place_at old written) seat k ≡ record { replies = map (λ one. poll_reply seat one.1) got ++ record { seat = seat; outcome = Drained k } ∷ []; records = map (λ one. one.1.entry) got; place = place_at new.queue (written + length got) }
-    pub order : new.order ≡ setup.kind.order
+    pub kind : new.kind ≡ setup.kind
     pub count : count_of new.queue ≡ setup.seats
 
-  pub drained : (old new : OrderedQueue) (cap written k : ℕ) (got : List (DualAnswer ℕ × Received Deed)) → cap ≡ setup.cap → count_of old.queue ≡ setup.seats → old.order ≡ setup.kind.order → drain_refusal_by (dual_refusal old.queue seat Poll) (dual_left old.queue) k (nat_lt cap (written + dual_owed old.queue + k + 1)) ≡ None → length got ≡ k → AreNumbered written got → Polls Poll_of (λ answer. dual_record (λ m. m) seat Poll answer) old got new → IsDrained old.queue written k got new
-  drained old new cap written k got same count order none long numbered steps =
+  pub drained : (old new : QueueOfKind) (cap written k : ℕ) (got : List (QueueAnswer ℕ × Received Deed)) → cap ≡ setup.cap → count_of old.queue ≡ setup.seats → old.kind ≡ setup.kind → drain_refusal_by (dual_refusal old.queue seat Poll) (dual_left old.queue) k (nat_lt cap (written + dual_owed old.queue + k + 1)) ≡ None → length got ≡ k → AreNumbered written got → Polls Poll_of (λ answer. queue_record (λ m. m) seat (Dual Poll) answer) old got new → IsDrained old.queue written k got new
+  drained old new cap written k got same count kind none long numbered steps =
       let may : MayDrain old.queue k (nat_lt cap (written + dual_owed old.queue + k + 1)) = may-drain old.queue k (nat_lt cap (written + dual_owed old.queue + k + 1)) none in
-      let are : ArePolls old.queue written got new = are-polls old new written got order count (λ some. may.free (omega (arith, long, some))) (omega (arith, long, may.left))
+      let are : ArePolls old.queue written got new = are-polls old new written got kind count (λ some. may.free (omega (arith, long, some))) (omega (arith, long, may.left))
       (λ some. omega (arith, long, same, ltb-false cap (written + dual_owed old.queue + k + 1) (may.fits (omega (arith, long, some))))) numbered steps in
       record {
         turn = drain-made (place_at old.queue written) k (sym (drain_refusal-is old.queue cap written k same count) ∙ none)
             ∙ ap (λ n. joined (polls setup (place_at old.queue written) seat n) (λ q. silent q seat (Drained k))) (sym long)
             ∙ ap (λ t. joined t (λ q. silent q seat (Drained k))) are.turns
-            ∙ (λ i. record { replies = map (λ (one : DualAnswer ℕ × Received Deed). poll_reply seat one.1) got ++ record { seat = seat; outcome = Drained k } ∷ []; records = append-nil (map (λ (one : DualAnswer ℕ × Received Deed). one.1.entry) got) i; place = place_at new.queue (written + length got) });
-        order = are.order;
+            ∙ (λ i. record { replies = map (λ (one : QueueAnswer ℕ × Received Deed). poll_reply seat one.1) got ++ record { seat = seat; outcome = Drained k } ∷ []; records = append-nil (map (λ (one : QueueAnswer ℕ × Received Deed). one.1.entry) got) i; place = place_at new.queue (written + length got) });
+        kind = are.kind;
         count = are.count;
       }

@@ -1,6 +1,6 @@
 -- What each step of a queue does in the words of histories, and what it costs.
-use Rattle.std.proofs.Common.{◌≡◌, ℕ, ◌+◌, ◌≤◌, ◌-◌, ◌==◌, refl, sym, ap, ◌∙◌, Bool, true, false, cond, Option, Some, None, is_some, List, [], ◌∷◌, length, length-take, arith}
-use Rattle.std.specs.Prelude.{option_map}
+use Rattle.std.proofs.Common.{◌≡◌, ℕ, ◌+◌, ◌≤◌, ◌-◌, ◌==◌, refl, sym, ap, ◌∙◌, subst, Bool, true, false, cond, Option, Some, None, is_some, List, [], ◌∷◌, length, length-take, arith}
+use Rattle.std.specs.Prelude.{◌<◌, option_map, option_to_list, MatchOption, ⊤}
 use Rattle.std.specs.Option.{option_map_or}
 use Rattle.std.proofs.lemmas.List.{length-append, length-drop}
 use Rattle.meet_tickets.specs.declared.lines.Entry.{Entry}
@@ -9,33 +9,49 @@ use Rattle.meet_tickets.specs.declared.lines.Hold.TheVariants.{Free, Waiting, Ha
 use Rattle.meet_tickets.specs.declared.places.Side.{Side}
 use Rattle.meet_tickets.specs.declared.places.Side.TheVariants.{Giver, Taker}
 use Rattle.meet_tickets.specs.declared.places.Order.{Order}
+use Rattle.meet_tickets.specs.declared.places.Kind.{Kind}
 use Rattle.meet_tickets.specs.declared.places.Order.TheVariants.{Fair, Unfair, Transfer}
 use Rattle.meet_tickets.specs.declared.records.Cause.TheVariants.{Cancelled, Expired, Interrupted}
+use Rattle.meet_tickets.specs.declared.records.Record.{Record}
 use Rattle.meet_tickets.specs.declared.records.Deed.{Deed}
-use Rattle.meet_tickets.specs.declared.records.Deed.TheVariants.{GiveWaits, GiveMeets, GiveFails, TakeWaits, TakeMeets, TakeFails, EntryInterrupted, Done, Got, Withdrawn, Interrupt}
-use Rattle.meet_tickets.specs.Meeting.{partner}
+use Rattle.meet_tickets.specs.declared.records.Deed.TheVariants.{GiveWaits, GiveMeets, GiveFails, GiveKept, TakeWaits, TakeMeets, TakeFails, EntryInterrupted, Done, Got, Withdrawn, Interrupt}
+use Rattle.meet_tickets.specs.Meeting.{partner, kept_count}
 use Rattle.meet_tickets.specs.BySeat.{Seats, put_at, is_open, open_ticket, owed_of, unmet, without_first, entry_of, queued, paired, paired_hold, released, flagged, left, cut_off, is_request, Allows, seats_after, meets}
-use Rattle.meet_core.specs.Queue.{Queue, seats_of, count_of, Stands, IsSound}
-use Rattle.meet_core.specs.Steps.{Uses, Leaves, HandsTo, GetsFrom, GiveStep, OfferStep, TakeStep, PollStep, FollowStep, WithdrawStep, InterruptStep}
-use Rattle.meet_core.specs.declared.answers.Gave.{Gave}
-use Rattle.meet_core.specs.declared.answers.Gave.TheVariants.{Waits as GiverWaits, Meets as GiverMeets, EntryInterrupted as GiverInterrupted}
-use Rattle.meet_core.specs.declared.answers.Took.{Took}
-use Rattle.meet_core.specs.declared.answers.Took.TheVariants.{Waits as TakerWaits, Meets as TakerMeets, EntryInterrupted as TakerInterrupted}
-use Rattle.meet_core.specs.declared.answers.Offered.{Offered}
-use Rattle.meet_core.specs.declared.answers.Offered.TheVariants.{Meets as OfferMeets, Fails as OfferFails}
-use Rattle.meet_core.specs.declared.answers.Polled.{Polled}
-use Rattle.meet_core.specs.declared.answers.Polled.TheVariants.{Meets as PollMeets, Fails as PollFails}
-use Rattle.meet_core.specs.declared.answers.Followed.{Followed}
-use Rattle.meet_core.specs.declared.answers.Followed.TheVariants.{Done as WasMet, Got as HasGot, Interrupted as WasCut, NotYet}
-use Rattle.meet_core.specs.declared.answers.TakenBack.{TakenBack}
-use Rattle.meet_core.specs.declared.answers.TakenBack.TheVariants.{Back, Late}
-use Rattle.meet_core.specs.declared.answers.Interrupted.{Interrupted as Struck}
-use Rattle.meet_core.specs.declared.answers.Interrupted.TheVariants.{Cut as CutOff, Flagged}
-use Rattle.meet_core.proofs.Sound.{Stands-partner, there-waiting}
-use Rattle.meet_core.proofs.Following.{there-open}
-use Rattle.meet_history.specs.DualRecords.{made, give_record, offer_record, take_record, poll_record, follow_record, back_record, interrupt_record}
-use Rattle.meet_history.specs.DualSteps.{dual_owed, marked_entry, marked_hold, marked, kind_of, Writes, Costs, HasEffect}
-use Rattle.meet_history.proofs.Marking.{partner-marked, entry_of-marked, queued-marked, paired-marked, released-marked, left-marked, cut_off-marked}
+use Rattle.meet_tickets.specs.Refusals.{refusal_of}
+use Rattle.meet_tickets.proofs.Admitted.{IsAdmitted-from}
+use Rattle.meet_line.specs.Queue.{Queue, seats_of, count_of, places_of, Stands, IsSound}
+use Rattle.meet_line.specs.Steps.{Uses, Leaves, HandsTo, GetsFrom, GiveStep, OfferStep, PutStep, TakeStep, PollStep, FollowStep, WithdrawStep, InterruptStep}
+use Rattle.meet_line.specs.declared.answers.Gave.{Gave}
+use Rattle.meet_line.specs.declared.answers.Gave.TheVariants.{Waits as GiverWaits, Meets as GiverMeets, EntryInterrupted as GiverInterrupted}
+use Rattle.meet_line.specs.declared.answers.Put.{Put}
+use Rattle.meet_line.specs.declared.answers.Put.TheVariants.{Kept as PutKept, Meets as PutMeets, Fails as PutFails}
+use Rattle.meet_line.specs.declared.answers.Took.{Took}
+use Rattle.meet_line.specs.declared.answers.Took.TheVariants.{Waits as TakerWaits, Meets as TakerMeets, EntryInterrupted as TakerInterrupted}
+use Rattle.meet_line.specs.declared.answers.Offered.{Offered}
+use Rattle.meet_line.specs.declared.answers.Offered.TheVariants.{Meets as OfferMeets, Fails as OfferFails}
+use Rattle.meet_line.specs.declared.answers.Polled.{Polled}
+use Rattle.meet_line.specs.declared.answers.Polled.TheVariants.{Meets as PollMeets, Fails as PollFails}
+use Rattle.meet_line.specs.declared.answers.Followed.{Followed}
+use Rattle.meet_line.specs.declared.answers.Followed.TheVariants.{Done as WasMet, Got as HasGot, Interrupted as WasCut, NotYet}
+use Rattle.meet_line.specs.declared.answers.TakenBack.{TakenBack}
+use Rattle.meet_line.specs.declared.answers.TakenBack.TheVariants.{Back, Late}
+use Rattle.meet_line.specs.declared.answers.Interrupted.{Interrupted as Struck}
+use Rattle.meet_line.specs.declared.answers.Interrupted.TheVariants.{Cut as CutOff, Flagged}
+use Rattle.meet_line.proofs.Sound.{Stands-partner, there-waiting}
+use Rattle.meet_line.proofs.Following.{there-open}
+use Rattle.meet_history.specs.declared.told.DualCall.{DualCall}
+use Rattle.meet_history.specs.declared.told.DualCall.TheVariants.{Give, Offer, Take, Poll, FollowUp, Cancel, Expire, Interrupt as InterruptSeat}
+use Rattle.meet_history.specs.declared.told.DualAnswer.{DualAnswer}
+use Rattle.meet_history.specs.declared.told.DualAnswer.TheVariants.{Gave as ToGive, Offered as ToOffer, Took as ToTake, Polled as ToPoll, Followed as ToFollowUp, TakenBack as ToWithdrawal, Interrupted as ToInterrupt}
+use Rattle.meet_history.specs.declared.told.QueueCall.{QueueCall}
+use Rattle.meet_history.specs.declared.told.QueueCall.TheVariants.{Put as PutItem, Dual}
+use Rattle.meet_history.specs.declared.told.QueueAnswer.{QueueAnswer}
+use Rattle.meet_history.specs.declared.told.QueueAnswer.TheVariants.{Put as ToPut, Dual as ToDual}
+use Rattle.meet_history.specs.OneThread.{put_form, keeping}
+use Rattle.meet_history.specs.QueueSteps.{QueueStep, queue_refusal, queue_need, put_record, queue_record}
+use Rattle.meet_history.specs.DualRecords.{made, give_record, offer_record, take_record, poll_record, follow_record, back_record, interrupt_record, dual_record}
+use Rattle.meet_history.specs.DualSteps.{DualStep, dual_refusal, dual_need, dual_owed, marked_entry, marked_hold, marked, Writes, Costs, HasEffect}
+use Rattle.meet_history.proofs.Marking.{partner-marked, entry_of-marked, kept-marked, queued-marked, paired-marked, released-marked, left-marked, cut_off-marked}
 use Rattle.meet_history.proofs.Owed.{owed-same, owed-more, owed-fewer}
 
 -- what leaves a line doesn't lengthen it
@@ -60,12 +76,18 @@ entry-open line (Handed t u mark) e found = refl
 entry-open line (Served t u item) e found = refl
 entry-open line (Cut t item) e found = refl
 
-module _ {T : Type 0} (mark : T → ℕ) (order : Order) (old new : Queue T) where
+-- only a transfer queue keeps items
+keeps-only : (order : Order) → put_form order ≡ keeping → order ≡ Transfer
+keeps-only Fair keeps = cc
+keeps-only Unfair keeps = cc
+keeps-only Transfer keeps = refl
+
+module _ {T : Type 0} (mark : T → ℕ) (k : Kind) (old new : Queue T) where
   abbrev now : Seats ℕ
   now = marked mark (seats_of old)
 
   -- a request's step
-  writes-request : (i t : ℕ) (deed : Deed) (seats : Seats T) → is_request deed ≡ true → Uses old new t seats → Allows (kind_of order) now i t deed → marked mark seats ≡ seats_after (kind_of order) now i t deed → Writes mark order old new (made i t deed)
+  writes-request : (i t : ℕ) (deed : Deed) (seats : Seats T) → is_request deed ≡ true → Uses old new t seats → Allows k now i t deed → marked mark seats ≡ seats_after k now i t deed → Writes mark k old new (made i t deed)
   writes-request i t deed seats asks uses allowed after = record {
     used = λ _. uses.used;
     next = uses.next ∙ sym (ap (λ b. cond b (old.next + 1) old.next) asks);
@@ -74,7 +96,7 @@ module _ {T : Type 0} (mark : T → ℕ) (order : Order) (old new : Queue T) whe
   }
 
   -- an ending's, or an interrupt's
-  writes-other : (i t : ℕ) (deed : Deed) (seats : Seats T) → is_request deed ≡ false → Leaves old new seats → Allows (kind_of order) now i t deed → marked mark seats ≡ seats_after (kind_of order) now i t deed → Writes mark order old new (made i t deed)
+  writes-other : (i t : ℕ) (deed : Deed) (seats : Seats T) → is_request deed ≡ false → Leaves old new seats → Allows k now i t deed → marked mark seats ≡ seats_after k now i t deed → Writes mark k old new (made i t deed)
   writes-other i t deed seats asks leaves allowed after = record {
     used = λ is. absurd (let x : false ≡ true = sym asks ∙ is in cc);
     next = leaves.next ∙ sym (ap (λ b. cond b (old.next + 1) old.next) asks);
@@ -89,48 +111,62 @@ module _ {T : Type 0} (mark : T → ℕ) (order : Order) (old new : Queue T) whe
       record { owed = omega (arith, same, owed); line = omega (arith, long, line) }
 
   -- the partner as histories see it
-  found-marked : (side : Side) (e : Entry T) → partner order old.line side ≡ Some e → partner order now.line side ≡ Some (marked_entry mark e)
-  found-marked side e found = partner-marked mark order old.line side ∙ ap (option_map (marked_entry mark)) found
+  found-marked : (side : Side) (e : Entry T) → partner k.order old.line side ≡ Some e → partner k.order now.line side ≡ Some (marked_entry mark e)
+  found-marked side e found = partner-marked mark k.order old.line side ∙ ap (option_map (marked_entry mark)) found
 
-  alone-marked : (side : Side) → partner order old.line side ≡ None → partner order now.line side ≡ None
-  alone-marked side alone = partner-marked mark order old.line side ∙ ap (option_map (marked_entry mark)) alone
+  alone-marked : (side : Side) → partner k.order old.line side ≡ None → partner k.order now.line side ≡ None
+  alone-marked side alone = partner-marked mark k.order old.line side ∙ ap (option_map (marked_entry mark)) alone
 
   -- a meeting leaves the same
-  meets-marked : (t : ℕ) (item : Option T) (side : Side) (e : Entry T) → partner order old.line side ≡ Some e → marked mark (paired mark order (seats_of old) t item e) ≡ meets (kind_of order) now t (option_map mark item) side
+  meets-marked : (t : ℕ) (item : Option T) (side : Side) (e : Entry T) → partner k.order old.line side ≡ Some e → marked mark (paired mark k.order (seats_of old) t item e) ≡ meets k now t (option_map mark item) side
   meets-marked t item side e found =
-      paired-marked mark order (seats_of old) t item e
-      ∙ sym (ap (λ o. option_map_or (paired (λ m. m) order now t (option_map mark item)) o now) (found-marked side e found))
+      paired-marked mark k.order (seats_of old) t item e
+      ∙ sym (ap (λ o. option_map_or (paired (λ m. m) k.order now t (option_map mark item)) o now) (found-marked side e found))
+
+  -- an item may be kept for histories where it may be kept
+  may-marked : MatchOption k.bound ⊤ (λ most. kept_count old.line < most) → MatchOption k.bound ⊤ (λ most. kept_count now.line < most)
+  may-marked = by_bound k.bound
+    where
+      by_bound : (bound : Option ℕ) → MatchOption bound ⊤ (λ most. kept_count old.line < most) → MatchOption bound ⊤ (λ most. kept_count now.line < most)
+      by_bound None may = tt
+      by_bound (Some most) may = subst (λ n. n < most) (sym (kept-marked mark old.line)) may
+
+  free-seat : (i : ℕ) → refusal_of (count_of old) old.next (seats_of old) i ≡ None → (seats_of old).holds i ≡ Free
+  free-seat i none = (IsAdmitted-from (count_of old) old.next (seats_of old) i none).free
 
   free-marked : (i : ℕ) → (seats_of old).holds i ≡ Free → now.holds i ≡ Free
   free-marked i free = ap (marked_hold mark) free
 
   -- what a met seat holds is open, as it was
-  pub met-open : (side : Side) (t : ℕ) (item : Option T) (e : Entry T) → IsSound old.line (seats_of old).holds old.next → partner order old.line side ≡ Some e → is_open (paired_hold mark e.ticket e.item t item) ≡ true → owed_of (count_of old) (paired mark order (seats_of old) t item e).holds ≡ dual_owed old
-  met-open side t item e sound found opened =
-      let stands : Stands (seats_of old).holds old.next e = Stands-partner order side e sound found in
-      ap (λ b. owed_of (count_of old) (cond b (put_at (seats_of old).holds e.seat (paired_hold mark e.ticket e.item t item)) (seats_of old).holds)) stands.waits
-      ∙ owed-same (seats_of old).holds (count_of old) e.seat (paired_hold mark e.ticket e.item t item) (opened ∙ sym (ap is_open stands.held))
+  pub met-open : (side : Side) (t : ℕ) (item : Option T) (e : Entry T) → IsSound old.line (seats_of old).holds old.next → partner k.order old.line side ≡ Some e → is_open (paired_hold mark e.ticket e.item t item) ≡ true → owed_of (count_of old) (paired mark k.order (seats_of old) t item e).holds ≡ dual_owed old
+  met-open side t item e sound found opened = by_waits e.waits refl
+    where
+      by_waits : (w : Bool) → e.waits ≡ w → owed_of (count_of old) (cond w (put_at (seats_of old).holds e.seat (paired_hold mark e.ticket e.item t item)) (seats_of old).holds) ≡ dual_owed old
+      by_waits true waits =
+          let stands : Stands (seats_of old).holds old.next e = Stands-partner k.order side e sound found in
+          owed-same (seats_of old).holds (count_of old) e.seat (paired_hold mark e.ticket e.item t item) (opened ∙ sym (ap is_open (stands.held waits)))
+      by_waits false waits = refl
 
   -- a giver that meets
-  hands-effect : (i t u : ℕ) (item : T) → IsSound old.line (seats_of old).holds old.next → (seats_of old).holds i ≡ Free → HandsTo mark order old item t u new → Writes mark order old new (made i t (GiveMeets (mark item) u)) × Costs old new 2 1
+  hands-effect : (i t u : ℕ) (item : T) → IsSound old.line (seats_of old).holds old.next → (seats_of old).holds i ≡ Free → HandsTo mark k.order old item t u new → Writes mark k old new (made i t (GiveMeets (mark item) u)) × Costs old new 2 1
   hands-effect i t u item sound free (e, found, ticket, none, uses) = (
     writes-request i t (GiveMeets (mark item) u) _ refl uses
         (free-marked i free, (marked_entry mark e, found-marked Giver e found, sym ticket, ap (option_map mark) none))
         (meets-marked t (Some item) Giver e found),
     costs-from 2 1 _ uses.count uses.left
         (omega (arith, met-open Giver t (Some item) e sound found (ap (λ o. is_open (paired_hold mark e.ticket o t (Some item))) none)))
-        (omega (arith, unmet-short order old.line)),
+        (omega (arith, unmet-short k.order old.line)),
   )
 
   -- a taker that meets
-  gets-effect : (i t u : ℕ) (item : T) → IsSound old.line (seats_of old).holds old.next → (seats_of old).holds i ≡ Free → GetsFrom mark order old t u item new → Writes mark order old new (made i t (TakeMeets (mark item) u)) × Costs old new 2 1
+  gets-effect : (i t u : ℕ) (item : T) → IsSound old.line (seats_of old).holds old.next → (seats_of old).holds i ≡ Free → GetsFrom mark k.order old t u item new → Writes mark k old new (made i t (TakeMeets (mark item) u)) × Costs old new 2 1
   gets-effect i t u item sound free (e, found, ticket, own, uses) = (
     writes-request i t (TakeMeets (mark item) u) _ refl uses
         (free-marked i free, (marked_entry mark e, found-marked Taker e found, sym ticket, ap (option_map mark) own))
         (meets-marked t None Taker e found),
     costs-from 2 1 _ uses.count uses.left
         (omega (arith, met-open Taker t None e sound found (ap (λ o. is_open (paired_hold mark e.ticket o t None)) own)))
-        (omega (arith, unmet-short order old.line)),
+        (omega (arith, unmet-short k.order old.line)),
   )
 
   -- a request that goes to the line
@@ -145,29 +181,40 @@ module _ {T : Type 0} (mark : T → ℕ) (order : Order) (old new : Queue T) whe
   same-costs : (t : ℕ) (flags : ℕ → Bool) → Uses old new t (record (seats_of old) { flags = flags }) → Costs old new 2 1
   same-costs t flags uses = costs-from 2 1 _ uses.count uses.left (omega arith) (omega arith)
 
-  pub give-effect : (i : ℕ) (item : T) (answer : Gave T) → IsSound old.line (seats_of old).holds old.next → (seats_of old).holds i ≡ Free → GiveStep mark order old i item answer new → Writes mark order old new (give_record i (mark item) answer) × Costs old new 2 1
+  give-effect : (i : ℕ) (item : T) (answer : Gave T) → IsSound old.line (seats_of old).holds old.next → (seats_of old).holds i ≡ Free → GiveStep mark k.order old i item answer new → Writes mark k old new (give_record i (mark item) answer) × Costs old new 2 1
   give-effect i item (GiverWaits t) sound free (alone, flag, uses) =
-      (writes-request i t (GiveWaits (mark item)) _ refl uses (free-marked i free, alone-marked Giver alone, flag) (queued-marked mark (seats_of old) i t (Some item)), waits-costs i t (Some item) uses)
+      (writes-request i t (GiveWaits (mark item)) _ refl uses (free-marked i free, alone-marked Giver alone, flag) (queued-marked mark (seats_of old) i t (Some item) true), waits-costs i t (Some item) uses)
   give-effect i item (GiverMeets t u) sound free step = hands-effect i t u item sound free step
   give-effect i item (GiverInterrupted t back) sound free (alone, flag, same, uses) =
       (writes-request i t (EntryInterrupted Giver) _ refl uses (free-marked i free, alone-marked Giver alone, flag) refl, same-costs t _ uses)
 
-  pub offer-effect : (i : ℕ) (item : T) (answer : Offered T) → IsSound old.line (seats_of old).holds old.next → (seats_of old).holds i ≡ Free → OfferStep mark order old item answer new → Writes mark order old new (offer_record i (mark item) answer) × Costs old new 2 1
+  offer-effect : (i : ℕ) (item : T) (answer : Offered T) → IsSound old.line (seats_of old).holds old.next → (seats_of old).holds i ≡ Free → OfferStep mark k.order old item answer new → Writes mark k old new (offer_record i (mark item) answer) × Costs old new 2 1
   offer-effect i item (OfferMeets t u) sound free step = hands-effect i t u item sound free step
   offer-effect i item (OfferFails t back) sound free (alone, same, uses) =
       (writes-request i t (GiveFails (mark item)) _ refl uses (free-marked i free, alone-marked Giver alone) refl, same-costs t _ uses)
 
-  pub take-effect : (i : ℕ) (answer : Took T) → IsSound old.line (seats_of old).holds old.next → (seats_of old).holds i ≡ Free → TakeStep mark order old i answer new → Writes mark order old new (take_record mark i answer) × Costs old new 2 1
+  take-effect : (i : ℕ) (answer : Took T) → IsSound old.line (seats_of old).holds old.next → (seats_of old).holds i ≡ Free → TakeStep mark k.order old i answer new → Writes mark k old new (take_record mark i answer) × Costs old new 2 1
   take-effect i (TakerWaits t) sound free (alone, flag, uses) =
-      (writes-request i t TakeWaits _ refl uses (free-marked i free, alone-marked Taker alone, flag) (queued-marked mark (seats_of old) i t None), waits-costs i t None uses)
+      (writes-request i t TakeWaits _ refl uses (free-marked i free, alone-marked Taker alone, flag) (queued-marked mark (seats_of old) i t None true), waits-costs i t None uses)
   take-effect i (TakerMeets t u item) sound free step = gets-effect i t u item sound free step
   take-effect i (TakerInterrupted t) sound free (alone, flag, uses) =
       (writes-request i t (EntryInterrupted Taker) _ refl uses (free-marked i free, alone-marked Taker alone, flag) refl, same-costs t _ uses)
 
-  pub poll-effect : (i : ℕ) (answer : Polled T) → IsSound old.line (seats_of old).holds old.next → (seats_of old).holds i ≡ Free → PollStep mark order old answer new → Writes mark order old new (poll_record mark i answer) × Costs old new 2 1
+  poll-effect : (i : ℕ) (answer : Polled T) → IsSound old.line (seats_of old).holds old.next → (seats_of old).holds i ≡ Free → PollStep mark k.order old answer new → Writes mark k old new (poll_record mark i answer) × Costs old new 2 1
   poll-effect i (PollMeets t u item) sound free step = gets-effect i t u item sound free step
   poll-effect i (PollFails t) sound free (alone, uses) =
       (writes-request i t TakeFails _ refl uses (free-marked i free, alone-marked Taker alone) refl, same-costs t _ uses)
+
+  -- a giver's item that is kept opens no ticket
+  put-effect : (i : ℕ) (item : T) (answer : Put T) → IsSound old.line (seats_of old).holds old.next → (seats_of old).holds i ≡ Free → k.order ≡ Transfer → PutStep mark k.order k.bound old i item answer new → Writes mark k old new (put_record i (mark item) answer) × Costs old new 2 1
+  put-effect i item (PutKept t) sound free keeps (alone, room, uses) =
+      let e : Entry T = record { ticket = t; seat = i; item = Some item; waits = false } in (
+        writes-request i t (GiveKept (mark item)) _ refl uses (free-marked i free, alone-marked Giver alone, (keeps, may-marked room)) (queued-marked mark (seats_of old) i t (Some item) false),
+        costs-from 2 1 _ uses.count uses.left (omega arith) (omega (arith, length-append old.line (e ∷ []))),
+      )
+  put-effect i item (PutMeets t u) sound free keeps step = hands-effect i t u item sound free step
+  put-effect i item (PutFails t back) sound free keeps (alone, full, same, uses) =
+      (writes-request i t (GiveFails (mark item)) _ refl uses (free-marked i free, alone-marked Giver alone) refl, same-costs t _ uses)
 
   -- an open ticket that ends where it was settled
   ends-costs : (i t : ℕ) → open_ticket ((seats_of old).holds i) ≡ Some t → Leaves old new (released (seats_of old) i) → Costs old new 0 1
@@ -176,7 +223,7 @@ module _ {T : Type 0} (mark : T → ℕ) (order : Order) (old new : Queue T) whe
       (omega (arith, owed-fewer (seats_of old).holds (count_of old) i (there-open old.table.holds i t opened) (ap is_some opened)))
       (omega arith)
 
-  pub follow-effect : (i t : ℕ) (answer : Followed T) → FollowStep old i t answer new → HasEffect mark order old new 0 (follow_record mark i t answer)
+  follow-effect : (i t : ℕ) (answer : Followed T) → FollowStep old i t answer new → HasEffect mark k old new 0 (follow_record mark i t answer)
   follow-effect i t WasMet (u, m, held, leaves) =
       (writes-other i t Done _ refl leaves (u, m, ap (marked_hold mark) held) (released-marked mark (seats_of old) i), ends-costs i t (ap open_ticket held) leaves)
   follow-effect i t (HasGot u item) (held, leaves) =
@@ -196,17 +243,17 @@ module _ {T : Type 0} (mark : T → ℕ) (order : Order) (old new : Queue T) whe
       (omega (arith, owed-fewer (seats_of old).holds (count_of old) i (there-waiting old.table.holds i t held) (ap is_open held)))
       (omega (arith, without-short t old.line))
 
-  pub cancel-effect : (i t : ℕ) (answer : TakenBack T) → WithdrawStep old i t answer new → HasEffect mark order old new 0 (back_record i t Cancelled answer)
+  cancel-effect : (i t : ℕ) (answer : TakenBack T) → WithdrawStep old i t answer new → HasEffect mark k old new 0 (back_record i t Cancelled answer)
   cancel-effect i t (Back item) (e, held, found, is, leaves) =
       (writes-other i t (Withdrawn Cancelled) _ refl leaves (ap (marked_hold mark) held, in-line-marked i t e held found) (left-marked mark (seats_of old) i t), back-costs i t held leaves)
   cancel-effect i t Late (none, same) = same
 
-  pub expire-effect : (i t : ℕ) (answer : TakenBack T) → WithdrawStep old i t answer new → HasEffect mark order old new 0 (back_record i t Expired answer)
+  expire-effect : (i t : ℕ) (answer : TakenBack T) → WithdrawStep old i t answer new → HasEffect mark k old new 0 (back_record i t Expired answer)
   expire-effect i t (Back item) (e, held, found, is, leaves) =
       (writes-other i t (Withdrawn Expired) _ refl leaves (ap (marked_hold mark) held, in-line-marked i t e held found) (left-marked mark (seats_of old) i t), back-costs i t held leaves)
   expire-effect i t Late (none, same) = same
 
-  pub interrupt-effect : (i j : ℕ) (answer : Struck) → InterruptStep old j answer new → Writes mark order old new (interrupt_record i j answer) × Costs old new 1 1
+  interrupt-effect : (i j : ℕ) (answer : Struck) → InterruptStep old j answer new → Writes mark k old new (interrupt_record i j answer) × Costs old new 1 1
   interrupt-effect i j (CutOff t) (e, found, ticket, leaves) =
       let there : entry_of now.line (now.holds j) ≡ Some (marked_entry mark e) = entry_of-marked mark old.line ((seats_of old).holds j) ∙ ap (option_map (marked_entry mark)) found in (
         writes-other i t (Interrupt j) _ refl leaves (ticket ∙ sym (ap (λ o. option_map_or (λ (f : Entry ℕ). f.ticket) o 0) there))
@@ -221,3 +268,41 @@ module _ {T : Type 0} (mark : T → ℕ) (order : Order) (old new : Queue T) whe
             (sym (ap (λ o. option_map_or (cut_off now j) o (flagged now j true)) there)),
         costs-from 1 1 _ leaves.count leaves.left (omega arith) (omega arith),
       )
+
+  -- an admitted call, whatever it is
+  call-effect : (i : ℕ) (call : DualCall T) (answer : DualAnswer T) → IsSound old.line (seats_of old).holds old.next → dual_refusal old i call ≡ None → DualStep mark k.order old i call answer new → HasEffect mark k old new (dual_need call) (dual_record mark i call answer)
+  call-effect i (Give item) (ToGive answer) sound none step = give-effect i item answer sound (free-seat i none) step
+  call-effect i (Offer item) (ToOffer answer) sound none step = offer-effect i item answer sound (free-seat i none) step
+  call-effect i Take (ToTake answer) sound none step = take-effect i answer sound (free-seat i none) step
+  call-effect i Poll (ToPoll answer) sound none step = poll-effect i answer sound (free-seat i none) step
+  call-effect i (FollowUp t) (ToFollowUp answer) sound none step = follow-effect i t answer step
+  call-effect i (Cancel t) (ToWithdrawal answer) sound none step = cancel-effect i t answer step
+  call-effect i (Expire t) (ToWithdrawal answer) sound none step = expire-effect i t answer step
+  call-effect i (InterruptSeat j) (ToInterrupt answer) sound none step = interrupt-effect i j answer step
+  call-effect i call answer sound none step = absurd step
+
+  -- and a put, of a queue that keeps items or waits
+  queue-effect : (i : ℕ) (call : QueueCall T) (answer : QueueAnswer T) → IsSound old.line (seats_of old).holds old.next → queue_refusal old i call ≡ None → QueueStep mark k old i call answer new → HasEffect mark k old new (queue_need call) (queue_record mark i call answer)
+  queue-effect i (PutItem item) (ToPut answer) sound none (keeps, step) = put-effect i item answer sound (free-seat i none) (keeps-only k.order keeps) step
+  queue-effect i (PutItem item) (ToDual answer) sound none (waits, step) = call-effect i (Give item) answer sound none step
+  queue-effect i (Dual call) (ToDual answer) sound none step = call-effect i call answer sound none step
+  queue-effect i (Dual call) (ToPut answer) sound none step = absurd step
+
+  -- by the record that was told
+  pub dual-made : (i : ℕ) (call : DualCall T) (answer : DualAnswer T) (r : Option (Record Deed)) → r ≡ dual_record mark i call answer → IsSound old.line (seats_of old).holds old.next → dual_refusal old i call ≡ None → DualStep mark k.order old i call answer new → HasEffect mark k old new (dual_need call) r
+  dual-made i call answer r is sound none step = subst (λ r. HasEffect mark k old new (dual_need call) r) (sym is) (call-effect i call answer sound none step)
+
+  pub queue-made : (i : ℕ) (call : QueueCall T) (answer : QueueAnswer T) (r : Option (Record Deed)) → r ≡ queue_record mark i call answer → IsSound old.line (seats_of old).holds old.next → queue_refusal old i call ≡ None → QueueStep mark k old i call answer new → HasEffect mark k old new (queue_need call) r
+  queue-made i call answer r is sound none step = subst (λ r. HasEffect mark k old new (queue_need call) r) (sym is) (queue-effect i call answer sound none step)
+
+  -- what is written and owed then
+  pub effect-owed : (need : ℕ) (r : Option (Record Deed)) → HasEffect mark k old new need r → length (option_to_list r) + dual_owed new ≤ dual_owed old + need
+  effect-owed need None same = let owed : dual_owed new ≡ dual_owed old = ap dual_owed same in omega (arith, owed)
+  effect-owed need (Some r) (writes, costs) = costs.owed
+
+  -- and the room of one call at most is used
+  pub effect-room : (need : ℕ) (r : Option (Record Deed)) → HasEffect mark k old new need r → places_of new ≡ places_of old → old.room ≤ new.room + 1
+  effect-room need None same places = let room : new.room ≡ old.room = ap (λ (q : Queue T). q.room) same in omega (arith, room)
+  effect-room need (Some r) (writes, costs) places =
+      let whole : length new.line + new.room ≡ length old.line + old.room = places in
+      omega (arith, whole, costs.line)

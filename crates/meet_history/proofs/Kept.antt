@@ -8,7 +8,7 @@ use Rattle.meet_tickets.specs.Meeting.{met, waiting_count, kept_count}
 use Rattle.meet_tickets.specs.BySeat.{unmet, without_first}
 use Rattle.std.specs.Option.{option_map_or}
 use Rattle.meet_tickets.proofs.Sides.{met-some, found-ticket}
-use Rattle.meet_core.proofs.Removed.{removed-none}
+use Rattle.meet_line.proofs.Removed.{removed-none}
 use Rattle.meet_history.specs.declared.checker.Standing.{Standing}
 use Rattle.meet_history.specs.Marks.{kept_entry}
 

@@ -10,6 +10,7 @@ pub mod ManyTurns
 pub mod Marking
 pub mod Owed
 pub mod Polling
+pub mod Putting
 pub mod RecordCounts
 pub mod Recorded
 pub mod Within

@@ -1,5 +1,5 @@
 -- The moves of the rules are the same for items and for their marks.
-use Rattle.std.proofs.Common.{◌≡◌, ℕ, ◌-◌, ◌==◌, refl, sym, ap, ◌∙◌, Bool, true, false, cond, Option, Some, None, is_some, not, List, [], ◌∷◌, map, length, take, slice_get, find}
+use Rattle.std.proofs.Common.{◌≡◌, ℕ, ◌+◌, ◌-◌, ◌==◌, refl, sym, ap, ◌∙◌, Bool, true, false, cond, Option, Some, None, is_some, not, List, [], ◌∷◌, map, length, take, slice_get, find}
 use Rattle.std.specs.Prelude.{option_map}
 use Rattle.std.proofs.Math.Path.{fun_ext}
 use Rattle.std.proofs.lemmas.List.{map-append, take-map, drop-map, length-map}
@@ -11,7 +11,8 @@ use Rattle.meet_tickets.specs.declared.places.Side.{Side}
 use Rattle.meet_tickets.specs.declared.places.Side.TheVariants.{Giver, Taker}
 use Rattle.meet_tickets.specs.declared.places.Order.{Order}
 use Rattle.meet_tickets.specs.declared.places.Order.TheVariants.{Fair, Unfair, Transfer}
-use Rattle.meet_tickets.specs.Meeting.{is_on, met, partner}
+use Rattle.std.proofs.lemmas.List.Sums.{sum_by-cons}
+use Rattle.meet_tickets.specs.Meeting.{is_on, met, partner, kept_count}
 use Rattle.meet_tickets.specs.BySeat.{Seats, put_at, unmet, without_first, entry_of, queued, paired, paired_hold, released, left, cut_off}
 use Rattle.meet_history.specs.DualSteps.{marked_entry, marked_hold, marked}
 
@@ -62,6 +63,14 @@ module _ {T : Type 0} (mark : T → ℕ) where
       by_test true more = refl
       by_test false more = ap (λ l. marked_entry mark e ∷ l) more
 
+  -- how many are kept
+  pub kept-marked : (line : List (Entry T)) → kept_count (map (marked_entry mark) line) ≡ kept_count line
+  kept-marked [] = refl
+  kept-marked (e ∷ line) =
+      sum_by-cons (λ f. cond (not f.waits) 1 0) (marked_entry mark e) (map (marked_entry mark) line)
+      ∙ (λ j. cond (not e.waits) 1 0 + kept-marked line j)
+      ∙ sym (sum_by-cons (λ f. cond (not f.waits) 1 0) e line)
+
   -- the entry of what a seat holds
   pub entry_of-marked : (line : List (Entry T)) (hold : Hold T) → entry_of (map (marked_entry mark) line) (marked_hold mark hold) ≡ option_map (marked_entry mark) (entry_of line hold)
   entry_of-marked line Free = refl
@@ -85,14 +94,14 @@ module _ {T : Type 0} (mark : T → ℕ) where
   paired_hold-marked t (Some item) u brought = refl
 
   -- the moves
-  pub queued-marked : (s : Seats T) (i t : ℕ) (item : Option T) → marked mark (queued s i t item true) ≡ queued (marked mark s) i t (option_map mark item) true
-  queued-marked s i t item =
-      let e : Entry T = record { ticket = t; seat = i; item = item; waits = true } in
-      λ j. record {
-        line = map-append (marked_entry mark) s.line (e ∷ []) j;
-        holds = put_at-marked s.holds i (Waiting t) j;
-        flags = s.flags;
-      }
+  pub queued-marked : (s : Seats T) (i t : ℕ) (item : Option T) (waits : Bool) → marked mark (queued s i t item waits) ≡ queued (marked mark s) i t (option_map mark item) waits
+  queued-marked s i t item waits =
+      let e : Entry T = record { ticket = t; seat = i; item = item; waits = waits } in
+      λ j. record { line = map-append (marked_entry mark) s.line (e ∷ []) j; holds = by_test waits j; flags = s.flags }
+    where
+      by_test : (b : Bool) → (λ k. marked_hold mark ((cond b (put_at s.holds i (Waiting t)) s.holds) k)) ≡ cond b (put_at (λ k. marked_hold mark (s.holds k)) i (Waiting t)) (λ k. marked_hold mark (s.holds k))
+      by_test true = put_at-marked s.holds i (Waiting t)
+      by_test false = refl
 
   pub paired-marked : (order : Order) (s : Seats T) (t : ℕ) (item : Option T) (e : Entry T) → marked mark (paired mark order s t item e) ≡ paired (λ m. m) order (marked mark s) t (option_map mark item) (marked_entry mark e)
   paired-marked order s t item e = λ j. record { line = unmet-marked order s.line j; holds = by_test e.waits j; flags = s.flags }

@@ -8,22 +8,29 @@ use Rattle.meet_tickets.specs.declared.lines.Hold.{Hold}
 use Rattle.meet_tickets.specs.declared.lines.Hold.TheVariants.{Free, Waiting}
 use Rattle.meet_tickets.specs.declared.places.Side.TheVariants.{Giver, Taker}
 use Rattle.meet_tickets.specs.declared.places.Order.{Order}
+use Rattle.meet_tickets.specs.declared.places.Order.TheVariants.{Transfer as TransferOrder}
+use Rattle.meet_tickets.specs.declared.places.Kind.{Kind}
 use Rattle.meet_tickets.specs.declared.refusals.Refusal.TheVariants.{NoSuchSeat, SeatOpen, TicketsSpent}
 use Rattle.meet_tickets.specs.Meeting.{count_on}
 use Rattle.meet_tickets.specs.BySeat.{Seats, put_at, is_open, owed_of, paired_hold}
 use Rattle.meet_tickets.specs.Refusals.{refusal_of}
 use Rattle.meet_tickets.proofs.Admitted.{IsAdmitted, IsAdmitted-from}
 use Rattle.meet_tickets.proofs.Counted.{HasGiver, giver-there}
-use Rattle.meet_core.specs.Queue.{Queue, seats_of, count_of, Stands, IsSound}
-use Rattle.meet_core.specs.declared.answers.Polled.TheVariants.{Meets, Fails}
-use Rattle.meet_core.proofs.Sound.{HasOneSide-sound, Stands-partner}
+use Rattle.meet_line.specs.Queue.{Queue, seats_of, count_of, Stands, IsSound}
+use Rattle.meet_line.specs.declared.answers.Polled.TheVariants.{Meets, Fails}
+use Rattle.meet_line.proofs.Sound.{HasOneSide-sound, Stands-partner}
 use Rattle.meet_history.specs.declared.told.DualCall.TheVariants.{Poll}
 use Rattle.meet_history.specs.declared.told.DualAnswer.{DualAnswer}
 use Rattle.meet_history.specs.declared.told.DualAnswer.TheVariants.{Gave as ToGive, Offered as ToOffer, Took as ToTake, Polled as ToPoll, Followed as ToFollowUp, TakenBack as ToWithdrawal, Interrupted as ToInterrupt}
 use Rattle.meet_history.specs.Draining.{TakesOne}
-use Rattle.meet_history.specs.Queues.{OrderedQueue}
+use Rattle.meet_history.specs.declared.told.QueueCall.TheVariants.{Dual}
+use Rattle.meet_history.specs.declared.told.QueueAnswer.{QueueAnswer}
+use Rattle.meet_history.specs.declared.told.QueueAnswer.TheVariants.{Put as ToPut, Dual as ToDual}
+use Rattle.meet_transfer.specs.Bounded.{Bounded}
+use Rattle.meet_history.specs.QueueSteps.{QueueStep, BoundedStep, bounded_kind, queue_record}
+use Rattle.meet_history.specs.Queues.{QueueOfKind}
 use Rattle.meet_history.specs.DualRecords.{dual_record}
-use Rattle.meet_history.specs.DualSteps.{DualStep, dual_refusal, dual_owed, dual_available, dual_left}
+use Rattle.meet_history.specs.DualSteps.{DualStep, kind_of, dual_refusal, dual_owed, dual_available, dual_left}
 use Rattle.meet_history.proofs.Effects.{met-open}
 
 -- a request is admitted where its seat is there and free, and a ticket is left
@@ -46,11 +53,11 @@ not-spent q seat some spent =
     by_test false false false low is = cc
 
 -- a taker that polls isn't the seat that is met
-others-free : {T : Type 0} (q : Queue T) (seat : ℕ) (e : Entry T) (hold : Hold T) → (seats_of q).holds seat ≡ Free → (seats_of q).holds e.seat ≡ Waiting e.ticket → (w : Bool) → (cond w (put_at (seats_of q).holds e.seat hold) (seats_of q).holds) seat ≡ Free
-others-free q seat e hold free held true =
-    let apart : seat ≢ e.seat = λ same. (let waits : Free ≡ Waiting e.ticket = sym free ∙ ap (seats_of q).holds same ∙ held in cc) in
+others-free : {T : Type 0} (q : Queue T) (seat : ℕ) (e : Entry T) (hold : Hold T) → (seats_of q).holds seat ≡ Free → (w : Bool) → (w ≡ true → (seats_of q).holds e.seat ≡ Waiting e.ticket) → (cond w (put_at (seats_of q).holds e.seat hold) (seats_of q).holds) seat ≡ Free
+others-free q seat e hold free true held =
+    let apart : seat ≢ e.seat = λ same. (let waits : Free ≡ Waiting e.ticket = sym free ∙ ap (seats_of q).holds same ∙ held refl in cc) in
     ap (λ b. cond b hold ((seats_of q).holds seat)) (ne_eqb seat e.seat apart) ∙ free
-others-free q seat e hold free held false = free
+others-free q seat e hold free false held = free
 
 pub poll-takes : {T : Type 0} (mark : T → ℕ) (order : Order) (old : Queue T) → IsSound old.line (seats_of old).holds old.next → (seat : ℕ) (answer : DualAnswer T) (new : Queue T) → DualStep mark order old seat Poll answer new → dual_refusal old seat Poll ≡ None → 0 < dual_available old → TakesOne dual_available dual_left dual_owed (λ q. dual_refusal q seat Poll) (dual_record mark seat Poll answer) old new
 poll-takes {T} mark order old sound seat (ToPoll (Meets t u item)) new (e, found, ticket, own, uses) none some =
@@ -62,10 +69,10 @@ poll-takes {T} mark order old sound seat (ToPoll (Meets t u item)) new (e, found
       recorded = refl;
       available = ap (λ (s : Seats T). count_on Giver s.line + 1) uses.left ∙ giver.fewer;
       left = omega (arith, used, admitted.few);
-      owed = ap (λ n. owed_of n (seats_of new).holds) uses.count ∙ ap (λ (s : Seats T). owed_of (count_of old) s.holds) uses.left ∙ met-open mark order old new Taker t None e sound found (ap (λ o. is_open (paired_hold mark e.ticket o t None)) own);
+      owed = ap (λ n. owed_of n (seats_of new).holds) uses.count ∙ ap (λ (s : Seats T). owed_of (count_of old) s.holds) uses.left ∙ met-open mark (kind_of order) old new Taker t None e sound found (ap (λ o. is_open (paired_hold mark e.ticket o t None)) own);
       free = λ more. admitted-from (count_of new) new.next (seats_of new) seat
           (omega (arith, admitted.there, uses.count))
-          (ap (λ s. s.holds seat) uses.left ∙ others-free old seat e (paired_hold mark e.ticket e.item t None) admitted.free stands.held e.waits)
+          (ap (λ s. s.holds seat) uses.left ∙ others-free old seat e (paired_hold mark e.ticket e.item t None) admitted.free e.waits stands.held)
           (omega (arith, more));
     }
 poll-takes mark order old sound seat (ToPoll (Fails t)) new (alone, uses) none some =
@@ -78,14 +85,32 @@ poll-takes mark order old sound seat (ToFollowUp answer) new step none some = ab
 poll-takes mark order old sound seat (ToWithdrawal answer) new step none some = absurd step
 poll-takes mark order old sound seat (ToInterrupt answer) new step none some = absurd step
 
+-- so takes one of any kind
+pub queue-takes : {T : Type 0} (mark : T → ℕ) (k : Kind) (old : Queue T) → IsSound old.line (seats_of old).holds old.next → (seat : ℕ) (answer : QueueAnswer T) (new : Queue T) → QueueStep mark k old seat (Dual Poll) answer new → dual_refusal old seat Poll ≡ None → 0 < dual_available old → TakesOne dual_available dual_left dual_owed (λ q. dual_refusal q seat Poll) (queue_record mark seat (Dual Poll) answer) old new
+queue-takes mark k old sound seat (ToDual answer) new step none some = poll-takes mark k.order old sound seat answer new step none some
+queue-takes mark k old sound seat (ToPut answer) new step none some = absurd step
+
+-- with a bound, which stays
+pub bounded-takes : {T : Type 0} (mark : T → ℕ) (old : Bounded T) → IsSound old.queue.line (seats_of old.queue).holds old.queue.next → (seat : ℕ) (answer : QueueAnswer T) (new : Bounded T) → BoundedStep mark old seat (Dual Poll) answer new → dual_refusal old.queue seat Poll ≡ None → 0 < dual_available old.queue → TakesOne (λ b. dual_available b.queue) (λ b. dual_left b.queue) (λ b. dual_owed b.queue) (λ b. dual_refusal b.queue seat Poll) (queue_record mark seat (Dual Poll) answer) old new
+bounded-takes mark old sound seat answer new step none some =
+    let one = queue-takes mark (bounded_kind old.bound) old.queue sound seat answer new.queue step.1 none some in
+    record { recorded = one.recorded; available = one.available; left = one.left; owed = one.owed; free = one.free }
+
 -- what a poll of a queue takes
 abbrev PollTakes : Order → Queue ℕ → Type 0
 PollTakes order old =
     (seat : ℕ) (answer : DualAnswer ℕ) (new : Queue ℕ) → DualStep (λ m. m) order old seat Poll answer new → dual_refusal old seat Poll ≡ None → 0 < dual_available old → TakesOne dual_available dual_left dual_owed (λ q. dual_refusal q seat Poll) (dual_record (λ m. m) seat Poll answer) old new
 
--- one of either order takes as much
-pub any-takes : (old : OrderedQueue) (order : Order) (q : Queue ℕ) → record { order = order; queue = q } ≡ old → PollTakes order q → (seat : ℕ) (answer : DualAnswer ℕ) (new : OrderedQueue) → (new.order ≡ old.order) × DualStep (λ m. m) old.order old.queue seat Poll answer new.queue → dual_refusal old.queue seat Poll ≡ None → 0 < dual_available old.queue → TakesOne (λ any. dual_available any.queue) (λ any. dual_left any.queue) (λ any. dual_owed any.queue) (λ any. dual_refusal any.queue seat Poll) (dual_record (λ m. m) seat Poll answer) old new
-any-takes old order q is takes seat answer new step none some =
-    let here : PollTakes old.order old.queue = subst (λ (o : OrderedQueue). PollTakes o.order o.queue) is takes in
+-- one of any kind takes as much
+pub any-takes : (old : QueueOfKind) (k : Kind) (q : Queue ℕ) → record { kind = k; queue = q } ≡ old → PollTakes k.order q → (seat : ℕ) (answer : QueueAnswer ℕ) (new : QueueOfKind) → (new.kind ≡ old.kind) × QueueStep (λ m. m) old.kind old.queue seat (Dual Poll) answer new.queue → dual_refusal old.queue seat Poll ≡ None → 0 < dual_available old.queue → TakesOne (λ any. dual_available any.queue) (λ any. dual_left any.queue) (λ any. dual_owed any.queue) (λ any. dual_refusal any.queue seat Poll) (queue_record (λ m. m) seat (Dual Poll) answer) old new
+any-takes old k q is takes seat (ToPut answer) new step none some = absurd step.1
+any-takes old k q is takes seat (ToDual answer) new step none some =
+    let here : PollTakes old.kind.order old.queue = subst (λ (o : QueueOfKind). PollTakes o.kind.order o.queue) is takes in
     let one = here seat answer new.queue step.1 none some in
+    record { recorded = one.recorded; available = one.available; left = one.left; owed = one.owed; free = one.free }
+
+-- and so does one with a bound
+pub kept-takes : (old : Bounded ℕ) → ((seat : ℕ) (answer : QueueAnswer ℕ) (new : Bounded ℕ) → BoundedStep (λ m. m) old seat (Dual Poll) answer new → dual_refusal old.queue seat Poll ≡ None → 0 < dual_available old.queue → TakesOne (λ b. dual_available b.queue) (λ b. dual_left b.queue) (λ b. dual_owed b.queue) (λ b. dual_refusal b.queue seat Poll) (queue_record (λ m. m) seat (Dual Poll) answer) old new) → PollTakes TransferOrder old.queue
+kept-takes old takes seat answer new step none some =
+    let one = takes seat (ToDual answer) (record { queue = new; bound = old.bound }) (refl, step) none some in
     record { recorded = one.recorded; available = one.available; left = one.left; owed = one.owed; free = one.free }

@@ -6,20 +6,20 @@ use Rattle.meet_tickets.specs.declared.records.Cause.{Cause}
 use Rattle.meet_tickets.specs.declared.records.Cause.TheVariants.{Cancelled, Expired, Interrupted}
 use Rattle.meet_tickets.specs.declared.records.Deed.{Deed}
 use Rattle.meet_tickets.specs.declared.records.Deed.TheVariants.{GiveWaits, GiveMeets, GiveFails, TakeWaits, TakeMeets, TakeFails, EntryInterrupted, Done, Got, Withdrawn, Interrupt}
-use Rattle.meet_core.specs.declared.answers.Gave.{Gave}
-use Rattle.meet_core.specs.declared.answers.Gave.TheVariants.{Waits as GiverWaits, Meets as GiverMeets, EntryInterrupted as GiverInterrupted}
-use Rattle.meet_core.specs.declared.answers.Took.{Took}
-use Rattle.meet_core.specs.declared.answers.Took.TheVariants.{Waits as TakerWaits, Meets as TakerMeets, EntryInterrupted as TakerInterrupted}
-use Rattle.meet_core.specs.declared.answers.Offered.{Offered}
-use Rattle.meet_core.specs.declared.answers.Offered.TheVariants.{Meets as OfferMeets, Fails as OfferFails}
-use Rattle.meet_core.specs.declared.answers.Polled.{Polled}
-use Rattle.meet_core.specs.declared.answers.Polled.TheVariants.{Meets as PollMeets, Fails as PollFails}
-use Rattle.meet_core.specs.declared.answers.Followed.{Followed}
-use Rattle.meet_core.specs.declared.answers.Followed.TheVariants.{Done as WasMet, Got as HasGot, Interrupted as WasCut, NotYet}
-use Rattle.meet_core.specs.declared.answers.TakenBack.{TakenBack}
-use Rattle.meet_core.specs.declared.answers.TakenBack.TheVariants.{Back, Late}
-use Rattle.meet_core.specs.declared.answers.Interrupted.{Interrupted as Struck}
-use Rattle.meet_core.specs.declared.answers.Interrupted.TheVariants.{Cut as CutOff, Flagged}
+use Rattle.meet_line.specs.declared.answers.Gave.{Gave}
+use Rattle.meet_line.specs.declared.answers.Gave.TheVariants.{Waits as GiverWaits, Meets as GiverMeets, EntryInterrupted as GiverInterrupted}
+use Rattle.meet_line.specs.declared.answers.Took.{Took}
+use Rattle.meet_line.specs.declared.answers.Took.TheVariants.{Waits as TakerWaits, Meets as TakerMeets, EntryInterrupted as TakerInterrupted}
+use Rattle.meet_line.specs.declared.answers.Offered.{Offered}
+use Rattle.meet_line.specs.declared.answers.Offered.TheVariants.{Meets as OfferMeets, Fails as OfferFails}
+use Rattle.meet_line.specs.declared.answers.Polled.{Polled}
+use Rattle.meet_line.specs.declared.answers.Polled.TheVariants.{Meets as PollMeets, Fails as PollFails}
+use Rattle.meet_line.specs.declared.answers.Followed.{Followed}
+use Rattle.meet_line.specs.declared.answers.Followed.TheVariants.{Done as WasMet, Got as HasGot, Interrupted as WasCut, NotYet}
+use Rattle.meet_line.specs.declared.answers.TakenBack.{TakenBack}
+use Rattle.meet_line.specs.declared.answers.TakenBack.TheVariants.{Back, Late}
+use Rattle.meet_line.specs.declared.answers.Interrupted.{Interrupted as Struck}
+use Rattle.meet_line.specs.declared.answers.Interrupted.TheVariants.{Cut as CutOff, Flagged}
 use Rattle.meet_history.specs.declared.told.DualCall.{DualCall}
 use Rattle.meet_history.specs.declared.told.DualCall.TheVariants.{Give, Offer, Take, Poll, FollowUp, Cancel, Expire, Interrupt as InterruptSeat}
 use Rattle.meet_history.specs.declared.told.DualAnswer.{DualAnswer}

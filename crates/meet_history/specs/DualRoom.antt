@@ -7,18 +7,19 @@ use Rattle.std.proofs.lemmas.List.Sums.{sum_by-cons}
 use Rattle.meet_tickets.specs.declared.lines.Hold.{Hold}
 use Rattle.meet_tickets.specs.declared.lines.Hold.TheVariants.{Free, Waiting, Handed, Served, Cut}
 use Rattle.meet_tickets.specs.declared.places.Order.{Order}
+use Rattle.meet_tickets.specs.declared.places.Kind.{Kind}
 use Rattle.meet_tickets.specs.declared.records.Record.{Record}
 use Rattle.meet_tickets.specs.declared.records.Deed.{Deed}
-use Rattle.meet_core.specs.Queue.{Queue, seats_of, count_of}
-use Rattle.meet_core.specs.Steps.{Uses, Leaves, HandsTo, GetsFrom}
+use Rattle.meet_line.specs.Queue.{Queue, seats_of, count_of}
+use Rattle.meet_line.specs.Steps.{Uses, Leaves, HandsTo, GetsFrom}
 use Rattle.meet_tickets.specs.BySeat.{Seats, is_open}
-use Rattle.meet_core.specs.declared.answers.Gave.TheVariants.{Waits as GiverWaits, Meets as GiverMeets, EntryInterrupted as GiverInterrupted}
-use Rattle.meet_core.specs.declared.answers.Took.TheVariants.{Waits as TakerWaits, Meets as TakerMeets, EntryInterrupted as TakerInterrupted}
-use Rattle.meet_core.specs.declared.answers.Offered.TheVariants.{Meets as OfferMeets, Fails as OfferFails}
-use Rattle.meet_core.specs.declared.answers.Polled.TheVariants.{Meets as PollMeets, Fails as PollFails}
-use Rattle.meet_core.specs.declared.answers.Followed.TheVariants.{Done, Got, Interrupted as WasCut, NotYet}
-use Rattle.meet_core.specs.declared.answers.TakenBack.TheVariants.{Back, Late}
-use Rattle.meet_core.specs.declared.answers.Interrupted.TheVariants.{Cut as CutOff, Flagged}
+use Rattle.meet_line.specs.declared.answers.Gave.TheVariants.{Waits as GiverWaits, Meets as GiverMeets, EntryInterrupted as GiverInterrupted}
+use Rattle.meet_line.specs.declared.answers.Took.TheVariants.{Waits as TakerWaits, Meets as TakerMeets, EntryInterrupted as TakerInterrupted}
+use Rattle.meet_line.specs.declared.answers.Offered.TheVariants.{Meets as OfferMeets, Fails as OfferFails}
+use Rattle.meet_line.specs.declared.answers.Polled.TheVariants.{Meets as PollMeets, Fails as PollFails}
+use Rattle.meet_line.specs.declared.answers.Followed.TheVariants.{Done, Got, Interrupted as WasCut, NotYet}
+use Rattle.meet_line.specs.declared.answers.TakenBack.TheVariants.{Back, Late}
+use Rattle.meet_line.specs.declared.answers.Interrupted.TheVariants.{Cut as CutOff, Flagged}
 use Rattle.meet_history.specs.declared.told.DualCall.{DualCall}
 use Rattle.meet_history.specs.declared.told.DualCall.TheVariants.{Give, Offer, Take, Poll, FollowUp, Cancel, Expire, Interrupt}
 use Rattle.meet_history.specs.declared.told.DualAnswer.{DualAnswer}
@@ -40,18 +41,18 @@ roomy-refusal q room seat (Cancel t) = refl
 roomy-refusal q room seat (Expire t) = refl
 roomy-refusal q room seat (Interrupt j) = refl
 
-pub roomy-leads : {T : Type 0} (mark : T → ℕ) (order : Order) (q : Queue T) (room : ℕ) (records : List (Record Deed)) → LeadsTo mark order records q → LeadsTo mark order records (roomy q room)
-roomy-leads mark order q room records l = record { legal = l.legal; used = l.used; leaves = l.leaves }
+pub roomy-leads : {T : Type 0} (mark : T → ℕ) (k : Kind) (q : Queue T) (room : ℕ) (records : List (Record Deed)) → LeadsTo mark k records q → LeadsTo mark k records (roomy q room)
+roomy-leads mark k q room records l = record { legal = l.legal; used = l.used; leaves = l.leaves }
 
 -- a request's step
-roomy-uses : {T : Type 0} (q : Queue T) (room : ℕ) (new : Queue T) (t : ℕ) (seats : Seats T) → Uses (roomy q room) new t seats → Uses q new t seats
+pub roomy-uses : {T : Type 0} (q : Queue T) (room : ℕ) (new : Queue T) (t : ℕ) (seats : Seats T) → Uses (roomy q room) new t seats → Uses q new t seats
 roomy-uses q room new t seats uses = record { used = uses.used; next = uses.next; count = uses.count; left = uses.left }
 
 -- an interrupt's
 roomy-leaves : {T : Type 0} (q : Queue T) (room : ℕ) (new : Queue T) (seats : Seats T) → Leaves (roomy q room) new seats → Leaves q new seats
 roomy-leaves q room new seats leaves = record { next = leaves.next; count = leaves.count; left = leaves.left }
 
-roomy-hands : {T : Type 0} (mark : T → ℕ) (order : Order) (q : Queue T) (room : ℕ) (item : T) (t u : ℕ) (new : Queue T) → HandsTo mark order (roomy q room) item t u new → HandsTo mark order q item t u new
+pub roomy-hands : {T : Type 0} (mark : T → ℕ) (order : Order) (q : Queue T) (room : ℕ) (item : T) (t u : ℕ) (new : Queue T) → HandsTo mark order (roomy q room) item t u new → HandsTo mark order q item t u new
 roomy-hands mark order q room item t u new (e, found, ticket, none, uses) = (e, found, ticket, none, roomy-uses q room new t _ uses)
 
 roomy-gets : {T : Type 0} (mark : T → ℕ) (order : Order) (q : Queue T) (room : ℕ) (t u : ℕ) (item : T) (new : Queue T) → GetsFrom mark order (roomy q room) t u item new → GetsFrom mark order q t u item new
@@ -90,8 +91,8 @@ none-open holds free a (suc n) =
     sum_by-cons (λ k. cond (is_open (holds k)) 1 0) a (range_with_len (a + 1) n) ∙ ap₂ ◌+◌ (ap (λ h. cond (is_open h) 1 0) (free a)) (none-open holds free (a + 1) n)
 
 -- a queue without a history owes nothing
-pub roomy-fresh : {T : Type 0} (mark : T → ℕ) (order : Order) (q : Queue T) → LeadsTo mark order [] q → dual_owed q ≡ 0
-roomy-fresh mark order q leads =
+pub roomy-fresh : {T : Type 0} (mark : T → ℕ) (k : Kind) (q : Queue T) → LeadsTo mark k [] q → dual_owed q ≡ 0
+roomy-fresh mark k q leads =
     none-open (seats_of q).holds (λ k. free-from mark ((seats_of q).holds k) (sym (ap (λ s. s.holds k) leads.leaves))) 0 (count_of q)
 
 -- a record is of the seat that called

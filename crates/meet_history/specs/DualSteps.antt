@@ -1,5 +1,5 @@
 -- A synchronous queue as a book's place: its steps, refusals and costs, and the histories that lead to it.
-use Rattle.std.specs.Prelude.{◌≡◌, ℕ, ◌+◌, ◌-◌, ◌^◌, ◌<◌, ◌≤◌, nat_eq, nat_le, ◌||◌, Bool, true, false, Option, Some, None, option_map, List, map, length, MatchOption, if◌then◌else◌}
+use Rattle.std.specs.Prelude.{◌≡◌, ℕ, ◌+◌, ◌-◌, ◌^◌, ◌<◌, ◌≤◌, nat_eq, nat_le, ◌||◌, true, false, Option, Some, None, option_map, List, map, length, MatchOption, if◌then◌else◌}
 use Rattle.std.specs.Option.{option_map_or}
 use Rattle.meet_tickets.specs.declared.lines.Entry.{Entry}
 use Rattle.meet_tickets.specs.declared.lines.Hold.{Hold}
@@ -15,8 +15,8 @@ use Rattle.meet_tickets.specs.Meeting.{count_on}
 use Rattle.meet_tickets.specs.ByLists.{IsLegal}
 use Rattle.meet_tickets.specs.BySeat.{Seats, beginning, moment_of, open_ticket, owed_of, is_request, Allows, seats_after}
 use Rattle.meet_tickets.specs.Refusals.{refusal_of}
-use Rattle.meet_core.specs.Queue.{Queue, seats_of, count_of}
-use Rattle.meet_core.specs.Steps.{GiveStep, OfferStep, TakeStep, PollStep, FollowStep, WithdrawStep, InterruptStep}
+use Rattle.meet_line.specs.Queue.{Queue, seats_of, count_of}
+use Rattle.meet_line.specs.Steps.{GiveStep, OfferStep, TakeStep, PollStep, FollowStep, WithdrawStep, InterruptStep}
 use Rattle.meet_history.specs.declared.told.DualCall.{DualCall}
 use Rattle.meet_history.specs.declared.told.DualCall.TheVariants.{Give, Offer, Take, Poll, FollowUp, Cancel, Expire, Interrupt}
 use Rattle.meet_history.specs.declared.told.DualAnswer.{DualAnswer}
@@ -34,13 +34,17 @@ DualStep mark order old i (Expire t) (ToWithdrawal answer) new = WithdrawStep ol
 DualStep mark order old i (Interrupt j) (ToInterrupt answer) new = InterruptStep old j answer new
 DualStep mark order old i call answer new = ⊥
 
--- whether this is the seat's open ticket
-abbrev pub is_its : {T : Type 0} → Queue T → (seat ticket : ℕ) → Bool
-is_its q i t = option_map_or (λ own. nat_eq own t) (open_ticket ((seats_of q).holds i)) false
+-- why an ending of this ticket is refused, where this one is open
+abbrev pub refusal_unless : (opened : Option ℕ) → (ticket : ℕ) → Option Refusal
+refusal_unless opened t = if option_map_or (λ own. nat_eq own t) opened false then None else Some NotOpen
+
+-- why an interrupt of this target is refused, where there are so many seats
+abbrev pub absent_refusal : (count seat target : ℕ) → Option Refusal
+absent_refusal count i j = if nat_le count i || nat_le count j then Some NoSuchSeat else None
 
 -- why an ending is refused
 abbrev pub ending_refusal : {T : Type 0} → Queue T → (seat ticket : ℕ) → Option Refusal
-ending_refusal q i t = if is_its q i t then None else Some NotOpen
+ending_refusal q i t = refusal_unless (open_ticket ((seats_of q).holds i)) t
 
 -- why a call is refused, HistoryFull and Memory aside
 abbrev pub dual_refusal : {T : Type 0} → Queue T → (seat : ℕ) → DualCall T → Option Refusal
@@ -51,7 +55,7 @@ dual_refusal q i Poll = refusal_of (count_of q) q.next (seats_of q) i
 dual_refusal q i (FollowUp t) = ending_refusal q i t
 dual_refusal q i (Cancel t) = ending_refusal q i t
 dual_refusal q i (Expire t) = ending_refusal q i t
-dual_refusal q i (Interrupt j) = if nat_le (count_of q) i || nat_le (count_of q) j then Some NoSuchSeat else None
+dual_refusal q i (Interrupt j) = absent_refusal (count_of q) i j
 
 -- a request needs a record for itself and one for its ending, an interrupt one, an ending none
 abbrev pub dual_need : {T : Type 0} → DualCall T → ℕ
@@ -95,17 +99,17 @@ abbrev pub kind_of : Order → Kind
 kind_of order = record { order = order; bound = None }
 
 -- these records are legal, their tickets are used up, and they leave what the queue's seats hold
-pub record LeadsTo {T : Type 0} (mark : T → ℕ) (order : Order) (records : List (Record Deed)) (q : Queue T) : Type 0 where
-  pub legal : IsLegal (kind_of order) records
-  pub used : (moment_of (kind_of order) beginning records).last < q.next
-  pub leaves : (moment_of (kind_of order) beginning records).seats ≡ marked mark (seats_of q)
+pub record LeadsTo {T : Type 0} (mark : T → ℕ) (k : Kind) (records : List (Record Deed)) (q : Queue T) : Type 0 where
+  pub legal : IsLegal k records
+  pub used : (moment_of k beginning records).last < q.next
+  pub leaves : (moment_of k beginning records).seats ≡ marked mark (seats_of q)
 
 -- what a step that writes this record does to the queue, in the words of histories
-pub record Writes {T : Type 0} (mark : T → ℕ) (order : Order) (old new : Queue T) (r : Record Deed) : Type 0 where
+pub record Writes {T : Type 0} (mark : T → ℕ) (k : Kind) (old new : Queue T) (r : Record Deed) : Type 0 where
   pub used : is_request r.deed ≡ true → r.ticket ≡ old.next
   pub next : new.next ≡ (if is_request r.deed then old.next + 1 else old.next)
-  pub allowed : Allows (kind_of order) (marked mark (seats_of old)) r.seat r.ticket r.deed
-  pub after : marked mark (seats_of new) ≡ seats_after (kind_of order) (marked mark (seats_of old)) r.seat r.ticket r.deed
+  pub allowed : Allows k (marked mark (seats_of old)) r.seat r.ticket r.deed
+  pub after : marked mark (seats_of new) ≡ seats_after k (marked mark (seats_of old)) r.seat r.ticket r.deed
 
 -- what a call costs: the records that it writes and leaves owed, and its place in the line
 pub record Costs {T : Type 0} (old new : Queue T) (need : ℕ) (written : ℕ) : Type 0 where
@@ -113,5 +117,5 @@ pub record Costs {T : Type 0} (old new : Queue T) (need : ℕ) (written : ℕ) :
   pub line : length new.line ≤ length old.line + 1
 
 -- a step that writes this record, or none and then changes nothing
-abbrev pub HasEffect : {T : Type 0} → (T → ℕ) → Order → Queue T → Queue T → (need : ℕ) → Option (Record Deed) → Type 0
-HasEffect mark order old new need r = MatchOption r (new ≡ old) (λ r. Writes mark order old new r × Costs old new need 1)
+abbrev pub HasEffect : {T : Type 0} → (T → ℕ) → Kind → Queue T → Queue T → (need : ℕ) → Option (Record Deed) → Type 0
+HasEffect mark k old new need r = MatchOption r (new ≡ old) (λ r. Writes mark k old new r × Costs old new need 1)

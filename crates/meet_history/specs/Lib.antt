@@ -8,6 +8,8 @@ pub mod Kept
 pub mod Limits
 pub mod Marks
 pub mod OneThread
+pub mod QueueRoom
+pub mod QueueSteps
 pub mod Queues
 pub mod Received
 pub mod Said

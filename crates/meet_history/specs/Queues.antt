@@ -1,17 +1,20 @@
--- What the queue of a place shows of itself, whatever its order.
+-- What the queue of a place shows of itself, whatever its kind.
 use Rattle.std.specs.Prelude.{ℕ}
-use Rattle.meet_tickets.specs.declared.places.Order.{Order}
 use Rattle.meet_tickets.specs.declared.places.Order.TheVariants.{Fair as FairOrder, Unfair as UnfairOrder}
-use Rattle.meet_core.specs.Queue.{Queue}
-use Rattle.meet_history.specs.declared.queues.ByOrder.{ByOrder}
-use Rattle.meet_history.specs.declared.queues.ByOrder.TheVariants.{Fair, Unfair}
+use Rattle.meet_tickets.specs.declared.places.Kind.{Kind}
+use Rattle.meet_line.specs.Queue.{Queue}
+use Rattle.meet_history.specs.DualSteps.{kind_of}
+use Rattle.meet_history.specs.QueueSteps.{bounded_kind}
+use Rattle.meet_history.specs.declared.queues.ByKind.{ByKind}
+use Rattle.meet_history.specs.declared.queues.ByKind.TheVariants.{Fair, Unfair, Transfer}
 
 -- a queue, and whom it lets a request meet
-pub record OrderedQueue : Type 0 where
-  pub order : Order
+pub record QueueOfKind : Type 0 where
+  pub kind : Kind
   pub queue : Queue ℕ
 
--- each variant has its order
-abbrev pub ordered : ByOrder → OrderedQueue
-ordered (Fair q) = record { order = FairOrder; queue = q }
-ordered (Unfair q) = record { order = UnfairOrder; queue = q }
+-- each variant has its kind
+abbrev pub of_kind : ByKind → QueueOfKind
+of_kind (Fair q) = record { kind = kind_of FairOrder; queue = q }
+of_kind (Unfair q) = record { kind = kind_of UnfairOrder; queue = q }
+of_kind (Transfer q) = record { kind = bounded_kind q.bound; queue = q.queue }

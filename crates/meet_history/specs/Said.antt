@@ -3,21 +3,23 @@ use Rattle.std.specs.Prelude.{ℕ, Option, Some, None}
 use Rattle.meet_tickets.specs.declared.places.Side.TheVariants.{Giver, Taker}
 use Rattle.meet_tickets.specs.declared.records.Cause.{Cause}
 use Rattle.meet_tickets.specs.declared.records.Cause.TheVariants.{Interrupted as ByInterrupt}
-use Rattle.meet_tickets.specs.declared.records.Deed.TheVariants.{GiveWaits, GiveMeets, GiveFails, TakeWaits, TakeMeets, TakeFails, EntryInterrupted as RefusedAtEntry, Done as DoneDeed, Got as GotDeed, Withdrawn}
-use Rattle.meet_core.specs.declared.answers.Gave.{Gave}
-use Rattle.meet_core.specs.declared.answers.Gave.TheVariants.{Waits, Meets, EntryInterrupted}
-use Rattle.meet_core.specs.declared.answers.Took.{Took}
-use Rattle.meet_core.specs.declared.answers.Took.TheVariants.{Waits as TakerWaits, Meets as TakerMeets, EntryInterrupted as TakerInterrupted}
-use Rattle.meet_core.specs.declared.answers.Offered.{Offered}
-use Rattle.meet_core.specs.declared.answers.Offered.TheVariants.{Meets as OfferMeets, Fails}
-use Rattle.meet_core.specs.declared.answers.Polled.{Polled}
-use Rattle.meet_core.specs.declared.answers.Polled.TheVariants.{Meets as PollMeets, Fails as PollFails}
-use Rattle.meet_core.specs.declared.answers.Followed.{Followed}
-use Rattle.meet_core.specs.declared.answers.Followed.TheVariants.{Done, Got, Interrupted, NotYet}
-use Rattle.meet_core.specs.declared.answers.TakenBack.{TakenBack}
-use Rattle.meet_core.specs.declared.answers.TakenBack.TheVariants.{Back, Late}
-use Rattle.meet_core.specs.declared.answers.Interrupted.{Interrupted as Struck}
-use Rattle.meet_core.specs.declared.answers.Interrupted.TheVariants.{Cut, Flagged}
+use Rattle.meet_tickets.specs.declared.records.Deed.TheVariants.{GiveWaits, GiveMeets, GiveFails, GiveKept, TakeWaits, TakeMeets, TakeFails, EntryInterrupted as RefusedAtEntry, Done as DoneDeed, Got as GotDeed, Withdrawn}
+use Rattle.meet_line.specs.declared.answers.Gave.{Gave}
+use Rattle.meet_line.specs.declared.answers.Gave.TheVariants.{Waits, Meets, EntryInterrupted}
+use Rattle.meet_line.specs.declared.answers.Put.{Put}
+use Rattle.meet_line.specs.declared.answers.Put.TheVariants.{Kept as PutKept, Meets as PutMeets, Fails as PutFails}
+use Rattle.meet_line.specs.declared.answers.Took.{Took}
+use Rattle.meet_line.specs.declared.answers.Took.TheVariants.{Waits as TakerWaits, Meets as TakerMeets, EntryInterrupted as TakerInterrupted}
+use Rattle.meet_line.specs.declared.answers.Offered.{Offered}
+use Rattle.meet_line.specs.declared.answers.Offered.TheVariants.{Meets as OfferMeets, Fails}
+use Rattle.meet_line.specs.declared.answers.Polled.{Polled}
+use Rattle.meet_line.specs.declared.answers.Polled.TheVariants.{Meets as PollMeets, Fails as PollFails}
+use Rattle.meet_line.specs.declared.answers.Followed.{Followed}
+use Rattle.meet_line.specs.declared.answers.Followed.TheVariants.{Done, Got, Interrupted, NotYet}
+use Rattle.meet_line.specs.declared.answers.TakenBack.{TakenBack}
+use Rattle.meet_line.specs.declared.answers.TakenBack.TheVariants.{Back, Late}
+use Rattle.meet_line.specs.declared.answers.Interrupted.{Interrupted as Struck}
+use Rattle.meet_line.specs.declared.answers.Interrupted.TheVariants.{Cut, Flagged}
 use Rattle.meet_history.specs.declared.steps.Step.{Step}
 use Rattle.meet_history.specs.declared.told.DualAnswer.{DualAnswer}
 use Rattle.meet_history.specs.declared.told.DualAnswer.TheVariants.{Gave as ToGive, Offered as ToOffer, Took as ToTake, Polled as ToPoll, Interrupted as ToInterrupt}
@@ -27,6 +29,12 @@ abbrev pub step_of_give : Gave ℕ → (mark : ℕ) → Step
 step_of_give (Waits t) mark = record { ticket = t; deed = GiveWaits mark; item = Some mark }
 step_of_give (Meets t u) mark = record { ticket = t; deed = GiveMeets mark u; item = Some mark }
 step_of_give (EntryInterrupted t back) mark = record { ticket = t; deed = RefusedAtEntry Giver; item = Some back }
+
+-- of a put of an item with this mark
+abbrev pub step_of_put : Put ℕ → (mark : ℕ) → Step
+step_of_put (PutKept t) mark = record { ticket = t; deed = GiveKept mark; item = Some mark }
+step_of_put (PutMeets t u) mark = record { ticket = t; deed = GiveMeets mark u; item = Some mark }
+step_of_put (PutFails t back) mark = record { ticket = t; deed = GiveFails mark; item = Some back }
 
 -- of a take
 abbrev pub step_of_take : Took ℕ → Step

@@ -1,15 +1,9 @@
--- What is served so far: the places, and the verbs of each.
+-- The verbs that a place serves.
 use Rattle.std.specs.Prelude.{Bool, true, false}
 use Rattle.meet_tickets.specs.declared.places.Order.{Order}
 use Rattle.meet_tickets.specs.declared.places.Order.TheVariants.{Fair, Unfair, Transfer}
 use Rattle.meet_history.specs.declared.calls.Verb.{Verb}
 use Rattle.meet_history.specs.declared.calls.Verb.TheVariants.{Put, Offer, Take, Poll, Transfer as TransferItem, Try, Follow, Cancel, Expire, Interrupt, Drain, Size, Room, Peek, Consumers}
-
--- the places that are served
-abbrev pub serves_place : Order → Bool
-serves_place Fair = true
-serves_place Unfair = true
-serves_place Transfer = false
 
 -- the verbs that a synchronous place serves, be it fair or unfair
 abbrev pub serves_synchronous : Verb → Bool
@@ -29,11 +23,11 @@ serves_synchronous Room = true
 serves_synchronous Peek = true
 serves_synchronous Consumers = false
 
--- the verbs that a place serves
+-- a transfer queue serves all
 abbrev pub serves : Order → Verb → Bool
 serves Fair verb = serves_synchronous verb
 serves Unfair verb = serves_synchronous verb
-serves Transfer verb = false
+serves Transfer verb = true
 
 -- every verb but a drain has one reply
 abbrev pub IsOne : Verb → Type 0

@@ -3,7 +3,7 @@ use Rattle.std.specs.Prelude.{◌≡◌, ℕ, Option, None, option_to_list, List
 use Rattle.meet_tickets.specs.declared.records.Record.{Record}
 use Rattle.meet_tickets.specs.declared.records.Deed.{Deed}
 use Rattle.meet_tickets.specs.declared.refusals.Refusal.{Refusal}
-use Rattle.meet_core.specs.Queue.{Queue, seats_of}
+use Rattle.meet_line.specs.Queue.{Queue, seats_of}
 use Rattle.meet_history.specs.declared.setups.Setup.{Setup}
 use Rattle.meet_history.specs.Received.{Received}
 use Rattle.meet_history.specs.declared.replies.Reply.{Reply}
@@ -11,8 +11,11 @@ use Rattle.meet_history.specs.declared.replies.Outcome.TheVariants.{Recorded}
 use Rattle.meet_history.specs.declared.told.DualCall.{DualCall}
 use Rattle.meet_history.specs.declared.told.DualCall.TheVariants.{Give, Offer, Take, Poll, Interrupt}
 use Rattle.meet_history.specs.declared.told.DualAnswer.{DualAnswer}
-use Rattle.meet_history.specs.DualRecords.{dual_record}
-use Rattle.meet_history.specs.DualSteps.{DualStep}
+use Rattle.meet_history.specs.declared.told.QueueCall.{QueueCall}
+use Rattle.meet_history.specs.declared.told.QueueCall.TheVariants.{Dual}
+use Rattle.meet_history.specs.declared.told.QueueAnswer.{QueueAnswer}
+use Rattle.meet_history.specs.declared.told.QueueAnswer.TheVariants.{Dual as ToDual}
+use Rattle.meet_history.specs.QueueSteps.{QueueStep, queue_record}
 use Rattle.meet_history.specs.OneThread.{Place, Turn, answer_of, request_refusal, interrupt_refusal}
 
 pub record Stepping : Type 0 where
@@ -45,10 +48,14 @@ refusal_at setup p i (Interrupt j) = interrupt_refusal setup p i j
 refusal_at setup p i call = None
 
 -- the queue made a call's step, and its record was written
-pub record Makes (old : Stepping) (seat : ℕ) (call : DualCall ℕ) (answer : DualAnswer ℕ) (new : Stepping) : Type 0 where
+pub record Answers (old : Stepping) (seat : ℕ) (call : QueueCall ℕ) (answer : QueueAnswer ℕ) (new : Stepping) : Type 0 where
   pub setup : new.setup ≡ old.setup
-  pub step : DualStep (λ mark. mark) old.setup.kind.order old.queue seat call answer new.queue
-  pub records : new.records ≡ old.records ++ option_to_list (dual_record (λ mark. mark) seat call answer)
+  pub step : QueueStep (λ mark. mark) old.setup.kind old.queue seat call answer new.queue
+  pub records : new.records ≡ old.records ++ option_to_list (queue_record (λ mark. mark) seat call answer)
+
+-- a call that each queue has
+abbrev pub Makes : (old : Stepping) (seat : ℕ) (call : DualCall ℕ) (answer : DualAnswer ℕ) (new : Stepping) → Type 0
+Makes old seat call answer new = Answers old seat (Dual call) (ToDual answer) new
 
 -- the reply of the poll that a receipt is for
 abbrev pub poll_reply : (seat : ℕ) → Received Deed → Reply

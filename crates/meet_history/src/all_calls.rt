@@ -4,7 +4,7 @@ ghost use Rattle.std.specs.Prelude.{◌≡◌, IsTrue, All, IfOk, IfErr};
 ghost use Rattle.meet_tickets.specs.ByLists.{IsLegal};
 ghost use Rattle.meet_tickets.specs.declared.refusals.Refusal.TheVariants.{Memory};
 ghost use Rattle.meet_history.specs.OneThread.{replies, records};
-ghost use Rattle.meet_history.specs.Served.{serves_place, serves};
+ghost use Rattle.meet_history.specs.Served.{serves};
 ghost use Rattle.meet_history.specs.Limits.{IsInLimits};
 
 use crate::calls::Call;
@@ -21,7 +21,6 @@ pub fn run_all(
     setup: Setup,
     calls: &[Call],
 ) -> Result<(Vec<Reply>, Vec<Record<Deed>>), Refusal>
-    requires served { IsTrue (serves_place setup.kind.order) }
     requires verbs { All (λ call. IsTrue (serves setup.kind.order call.verb)) calls.now }
     requires limits { IsInLimits setup }
     ensures replies { IfOk result (λ all. all.0.items ≡ replies setup calls.now) }

@@ -2,23 +2,20 @@
 
 ghost use Rattle.std.specs.Prelude.{◌≡◌, ◌+◌, ◌^◌, ◌<◌, ◌≤◌, None, refl, [], option_to_list, length, IfOk, IfErr};
 ghost use Rattle.meet_tickets.specs.BySeat.{nobody};
-ghost use Rattle.meet_core.specs.Queue.{seats_of, count_of, places_of};
+ghost use Rattle.meet_line.specs.Queue.{seats_of, count_of, places_of};
 ghost use Rattle.meet_history.specs.DualRecords.{dual_record};
-ghost use Rattle.meet_history.specs.DualSteps.{DualStep, LeadsTo, HasEffect, dual_refusal, dual_need, dual_owed, dual_available, dual_left};
+ghost use Rattle.meet_history.specs.DualSteps.{DualStep, LeadsTo, kind_of, dual_refusal, dual_need, dual_owed, dual_available, dual_left};
 ghost use Rattle.meet_history.specs.DualRoom.{roomy, roomy-refusal, roomy-leads, roomy-steps, roomy-fresh, own-record};
 ghost use Rattle.meet_history.specs.declared.told.DualCall.TheVariants.{Poll};
 
 use crate::book::Book;
 use crate::object::{Drains, Object};
 use crate::told::{DualAnswer, DualCall};
+use crate::{entries, refusals};
 use meet_core::Dual;
 use meet_line::Line;
-use meet_tickets::{Deed, Entry, Marked, Record, Refusal, SeatNo};
+use meet_tickets::{Cause, Deed, Entry, Marked, Record, Refusal, SeatNo};
 use std::alloc::Global;
-
-mod endings;
-mod refusals;
-mod requests;
 
 impl<T: Marked, L: Line<Entry<T>>> Object for Dual<T, L> {
     type Call = DualCall<T>;
@@ -27,7 +24,7 @@ impl<T: Marked, L: Line<Entry<T>>> Object for Dual<T, L> {
 
     type Deed = Deed;
 
-    ghost leads = { λ records q. LeadsTo T.mark_of L.order records q };
+    ghost leads = { λ records q. LeadsTo T.mark_of (kind_of L.order) records q };
 
     ghost steps = { λ old seat call answer new. DualStep T.mark_of L.order old seat call answer new };
 
@@ -51,30 +48,29 @@ impl<T: Marked, L: Line<Entry<T>>> Object for Dual<T, L> {
 
     ghost same_owed = { λ q room. refl };
 
-    ghost same_leads = { λ q room records leads. roomy-leads T.mark_of L.order q room records leads };
+    ghost same_leads = { λ q room records leads. roomy-leads T.mark_of (kind_of L.order) q room records leads };
 
     ghost same_steps = { λ q room seat call answer new need step. roomy-steps T.mark_of L.order q room seat call answer new need step };
 
-    ghost fresh_owes = { λ q leads. roomy-fresh T.mark_of L.order q leads };
+    ghost fresh_owes = { λ q leads. roomy-fresh T.mark_of (kind_of L.order) q leads };
 
     fn admit(&self, seat: SeatNo, call: &DualCall<T>) -> Result<(), Refusal> {
         match call {
             DualCall::Give(_) | DualCall::Offer(_) | DualCall::Take | DualCall::Poll => {
-                refusals::request(self, seat)
+                match Dual::admit(self, seat) {
+                    Ok(_) => Ok(()),
+                    Err(why) => Err(why),
+                }
             }
             DualCall::FollowUp(ticket) | DualCall::Cancel(ticket) | DualCall::Expire(ticket) => {
-                refusals::ending(self, seat, *ticket)
+                refusals::ending(self.open_ticket(seat), *ticket)
             }
-            DualCall::Interrupt(target) => refusals::interrupt(self, seat, *target),
+            DualCall::Interrupt(target) => refusals::interrupt(self.seats(), seat, *target),
         }
     }
 
     fn need(call: &DualCall<T>) -> u64 {
-        match call {
-            DualCall::Give(_) | DualCall::Offer(_) | DualCall::Take | DualCall::Poll => 2,
-            DualCall::Interrupt(_) => 1,
-            DualCall::FollowUp(_) | DualCall::Cancel(_) | DualCall::Expire(_) => 0,
-        }
+        call.need()
     }
 
     fn owed(&self) -> u64 {
@@ -86,6 +82,7 @@ impl<T: Marked, L: Line<Entry<T>>> Object for Dual<T, L> {
     }
 
     fn step(&mut self, seat: SeatNo, call: DualCall<T>) -> (DualAnswer<T>, Option<Record<Deed>>) {
+        self.stays_sound();
         make(self, seat, call)
     }
 }
@@ -150,40 +147,49 @@ fn make<T: Marked, L: Line<Entry<T>>>(
     requires room { 0 < dual_need call → 0 < queue.old.room }
     ensures step { DualStep T.mark_of L.order queue.old seat call result.0 queue.new }
     ensures entry { result.1 ≡ dual_record T.mark_of seat call result.0 }
-    ensures effect { HasEffect T.mark_of L.order queue.old queue.new (dual_need call) result.1 }
     ensures places { places_of queue.new ≡ places_of queue.old }
 {
     match call {
         DualCall::Give(item) => {
-            let (gave, entry) = requests::give(queue, seat, item);
+            let mark = item.mark();
+            let gave = queue.give_admitted(seat, item);
+            let entry = entries::of_give(seat, mark, &gave);
             (DualAnswer::Gave(gave), Some(entry))
         }
         DualCall::Offer(item) => {
-            let (offered, entry) = requests::offer(queue, seat, item);
+            let mark = item.mark();
+            let offered = queue.offer_admitted(seat, item);
+            let entry = entries::of_offer(seat, mark, &offered);
             (DualAnswer::Offered(offered), Some(entry))
         }
         DualCall::Take => {
-            let (took, entry) = requests::take(queue, seat);
+            let took = queue.take_admitted(seat);
+            let entry = entries::of_take(seat, &took);
             (DualAnswer::Took(took), Some(entry))
         }
         DualCall::Poll => {
-            let (polled, entry) = requests::poll(queue, seat);
+            let polled = queue.poll_admitted(seat);
+            let entry = entries::of_poll(seat, &polled);
             (DualAnswer::Polled(polled), Some(entry))
         }
         DualCall::FollowUp(ticket) => {
-            let (followed, entry) = endings::follow_up(queue, seat, ticket);
+            let followed = queue.follow_up(seat, ticket).unwrap();
+            let entry = entries::of_follow_up(seat, ticket, &followed);
             (DualAnswer::Followed(followed), entry)
         }
         DualCall::Cancel(ticket) => {
-            let (back, entry) = endings::cancel(queue, seat, ticket);
+            let back = queue.cancel(seat, ticket).unwrap();
+            let entry = entries::of_withdrawal(seat, ticket, Cause::Cancelled, &back);
             (DualAnswer::TakenBack(back), entry)
         }
         DualCall::Expire(ticket) => {
-            let (back, entry) = endings::expire(queue, seat, ticket);
+            let back = queue.expire(seat, ticket).unwrap();
+            let entry = entries::of_withdrawal(seat, ticket, Cause::Expired, &back);
             (DualAnswer::TakenBack(back), entry)
         }
         DualCall::Interrupt(target) => {
-            let (struck, entry) = endings::interrupt(queue, seat, target);
+            let struck = queue.interrupt(target).unwrap();
+            let entry = entries::of_interrupt(seat, target, &struck);
             (DualAnswer::Interrupted(struck), Some(entry))
         }
     }

@@ -6,15 +6,19 @@ mod book;
 mod calls;
 mod checker;
 mod dual;
+mod entries;
 mod laws;
 mod object;
+mod put_waits;
 mod queues;
 mod receipt;
+mod refusals;
 mod replies;
 mod setups;
 mod stepper;
 mod steps;
 mod told;
+mod transfer;
 
 pub use all_calls::run_all;
 pub use book::Book;
@@ -28,7 +32,7 @@ pub use replies::{Answer, Outcome, Reply};
 pub use setups::Setup;
 pub use stepper::Stepper;
 pub use steps::Step;
-pub use told::{DualAnswer, DualCall};
+pub use told::{DualAnswer, DualCall, QueueAnswer, QueueCall};
 
 #[cfg(test)]
 mod tests;

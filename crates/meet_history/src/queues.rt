@@ -1,64 +1,75 @@
-//! The queue of a place, whatever its order.
+//! The queue of a place, whatever its kind.
 
-ghost use Rattle.std.specs.Prelude.{◌≡◌, ◌≤◌, ◌<◌, ◌^◌, [], refl, IsTrue, IfOk, IfErr};
-ghost use Rattle.meet_tickets.specs.Meeting.{waiting_count, kept_count};
+ghost use Rattle.std.specs.Prelude.{◌≡◌, ◌≤◌, ◌<◌, ◌^◌, None, [], refl, IfOk, IfErr};
+ghost use Rattle.meet_tickets.specs.declared.places.Order.TheVariants.{Transfer as TransferOrder};
+ghost use Rattle.meet_tickets.specs.declared.places.Side.TheVariants.{Taker};
+ghost use Rattle.meet_tickets.specs.Meeting.{waiting_count, kept_count, count_on};
 ghost use Rattle.meet_tickets.specs.BySeat.{nobody, open_ticket, settled_of};
-ghost use Rattle.meet_core.specs.Queue.{seats_of, count_of};
-ghost use Rattle.meet_history.specs.Served.{serves_place};
-ghost use Rattle.meet_history.specs.DualRecords.{dual_record};
-ghost use Rattle.meet_history.specs.DualSteps.{DualStep, LeadsTo, dual_refusal, dual_need, dual_owed, dual_available, dual_left};
-ghost use Rattle.meet_history.specs.DualRoom.{roomy, roomy-refusal, roomy-leads, roomy-steps, roomy-fresh, own-record};
+ghost use Rattle.meet_line.specs.Queue.{seats_of, count_of, places_of};
+ghost use Rattle.meet_history.specs.DualSteps.{LeadsTo, dual_refusal, dual_owed, dual_available, dual_left};
+ghost use Rattle.meet_history.specs.DualRoom.{roomy, roomy-leads, roomy-fresh};
+ghost use Rattle.meet_history.specs.QueueSteps.{QueueStep, queue_refusal, queue_need, queue_record};
+ghost use Rattle.meet_history.specs.QueueRoom.{queue-refusal, queue-steps, queue-record};
 ghost use Rattle.meet_history.specs.declared.told.DualCall.TheVariants.{Poll};
+ghost use Rattle.meet_history.specs.declared.told.QueueCall.TheVariants.{Dual as EachHas};
 
 use crate::object::{Drains, Object};
-use crate::told::{DualAnswer, DualCall};
+use crate::put_waits;
+use crate::told::{QueueAnswer, QueueCall};
 use meet_core::Dual;
 use meet_line::{FairLine, StackLine};
-use meet_tickets::{Deed, Entry, Order, Record, Refusal, SeatNo, Ticket};
+use meet_tickets::{Deed, Entry, Kind, Order, Record, Refusal, SeatNo, Ticket};
+use meet_transfer::Transfer;
 use std::alloc::Global;
 use std::marker::Model;
 
-/// A queue of numbers that meets in the order of its place.
+/// A queue of numbers that meets, waits and keeps as a place of its kind.
 #[derive(Drop)]
 pub struct AnyQueue {
-    queue: ByOrder,
+    queue: ByKind,
 }
 
-/// The queues of the orders that are served.
+/// The queues of all kinds.
 #[derive(Drop)]
-enum ByOrder {
+enum ByKind {
     Fair(Dual<u64, FairLine<Entry<u64>>>),
     Unfair(Dual<u64, StackLine<Entry<u64>>>),
+    Transfer(Transfer<u64>),
 }
 
 impl Model for AnyQueue {
-    ghost use Rattle.meet_history.specs.Queues.{OrderedQueue, ordered};
+    ghost use Rattle.meet_history.specs.Queues.{QueueOfKind, of_kind};
 
-    ghost Value = { OrderedQueue };
+    ghost Value = { QueueOfKind };
 
-    ghost view = { λ any. ordered any.queue };
+    ghost view = { λ any. of_kind any.queue };
 }
 
 impl AnyQueue {
     ghost use Rattle.meet_tickets.specs.declared.refusals.Refusal.TheVariants.{Memory};
+    ghost use Rattle.meet_history.specs.Limits.{FitsBound};
+    ghost use Rattle.meet_history.specs.OneThread.{size_of, room_of, peek_of};
 
-    /// A queue of this order, with this many seats, 1 to 1,024, and this first ticket, 1 to 2^63 - 1. The only refusal is
-    /// Memory.
-    pub fn new(alloc: Global, order: Order, seats: u64, first: u64) -> Result<Self, Refusal>
-        requires served { IsTrue (serves_place order) }
+    /// A queue of this kind, with this many seats, 1 to 1,024, and this first ticket, 1 to 2^63 - 1. Only a transfer queue
+    /// may have a bound, 1 to 1,048,576. The only refusal is Memory.
+    pub fn new(alloc: Global, kind: Kind, seats: u64, first: u64) -> Result<Self, Refusal>
+        requires bound { FitsBound kind.order kind.bound }
         requires seats { seats ≤ 1024 }
         requires first_from { 0 < first }
         requires first_to { first < 2 ^ 63 }
-        ensures order { IfOk result (λ any. any.order ≡ order) }
+        ensures kind { IfOk result (λ any. any.kind ≡ kind) }
         ensures fresh { IfOk result (λ any. seats_of any.queue ≡ nobody) }
         ensures seats { IfOk result (λ any. count_of any.queue ≡ seats) }
         ensures first { IfOk result (λ any. any.queue.next ≡ first) }
         ensures memory { IfErr result (λ why. why ≡ Memory) }
     {
-        let queue = match order {
-            Order::Fair => ByOrder::Fair(Dual::new(alloc, seats, first)?),
-            Order::Unfair => ByOrder::Unfair(Dual::new(alloc, seats, first)?),
-            Order::Transfer => unreachable!(),
+        let queue = match kind.order {
+            Order::Fair => ByKind::Fair(Dual::new(alloc, seats, first)?),
+            Order::Unfair => ByKind::Unfair(Dual::new(alloc, seats, first)?),
+            Order::Transfer => ByKind::Transfer(match kind.bound {
+                None => Transfer::new(alloc, seats, first)?,
+                Some(most) => Transfer::with_bound(alloc, seats, first, most)?,
+            }),
         };
         Ok(AnyQueue { queue })
     }
@@ -68,19 +79,20 @@ impl AnyQueue {
         ensures { result ≡ open_ticket ((seats_of self.now.queue).holds seat) }
     {
         match &self.queue {
-            ByOrder::Fair(queue) => queue.open_ticket(seat),
-            ByOrder::Unfair(queue) => queue.open_ticket(seat),
+            ByKind::Fair(queue) => queue.open_ticket(seat),
+            ByKind::Unfair(queue) => queue.open_ticket(seat),
+            ByKind::Transfer(queue) => queue.open_ticket(seat),
         }
     }
 
     /// How many open tickets stand in the line.
     pub fn waiting(&self) -> u64
-        ensures value { result ≡ waiting_count self.now.queue.line }
-        ensures nothing_kept { kept_count self.now.queue.line ≡ 0 }
+        ensures { result ≡ waiting_count self.now.queue.line }
     {
         match &self.queue {
-            ByOrder::Fair(queue) => queue.waiting(),
-            ByOrder::Unfair(queue) => queue.waiting(),
+            ByKind::Fair(queue) => queue.waiting(),
+            ByKind::Unfair(queue) => queue.waiting(),
+            ByKind::Transfer(queue) => queue.waiting(),
         }
     }
 
@@ -89,88 +101,154 @@ impl AnyQueue {
         ensures { result ≡ settled_of (count_of self.now.queue) (seats_of self.now.queue).holds }
     {
         match &self.queue {
-            ByOrder::Fair(queue) => queue.uncollected(),
-            ByOrder::Unfair(queue) => queue.uncollected(),
+            ByKind::Fair(queue) => queue.uncollected(),
+            ByKind::Unfair(queue) => queue.uncollected(),
+            ByKind::Transfer(queue) => queue.uncollected(),
+        }
+    }
+
+    /// How many items are kept; a synchronous queue keeps none.
+    pub fn kept(&self) -> u64
+        ensures { result ≡ kept_count self.now.queue.line }
+    {
+        match &self.queue {
+            ByKind::Fair(queue) => {
+                queue.stays_sound();
+                0
+            }
+            ByKind::Unfair(queue) => {
+                queue.stays_sound();
+                0
+            }
+            ByKind::Transfer(queue) => queue.kept(),
+        }
+    }
+
+    /// `Collection.size`: the givers in the line, kept or waiting; a synchronous queue is always empty.
+    pub fn size(&self) -> u64
+        ensures { result ≡ size_of self.now.kind.order self.now.queue.line }
+    {
+        match &self.queue {
+            ByKind::Fair(_) => 0,
+            ByKind::Unfair(_) => 0,
+            ByKind::Transfer(queue) => queue.size(),
+        }
+    }
+
+    /// `BlockingQueue.remainingCapacity`: a synchronous queue has none, a transfer queue is said to be unbounded.
+    pub fn remaining_capacity(&self) -> u64
+        ensures { result ≡ room_of self.now.kind.order }
+    {
+        match &self.queue {
+            ByKind::Fair(_) => 0,
+            ByKind::Unfair(_) => 0,
+            ByKind::Transfer(queue) => queue.remaining_capacity(),
+        }
+    }
+
+    /// `Queue.peek`: the mark of the first giver's item; a synchronous queue shows none.
+    pub fn peek_mark(&self) -> Option<u64>
+        ensures { result ≡ peek_of self.now.kind.order self.now.queue.line }
+    {
+        match &self.queue {
+            ByKind::Fair(_) => None,
+            ByKind::Unfair(_) => None,
+            ByKind::Transfer(queue) => queue.peek_mark(),
+        }
+    }
+
+    /// `LinkedTransferQueue.getWaitingConsumerCount`: the takers in the line of a transfer queue.
+    pub fn waiting_consumers(&self) -> u64
+        requires { self.now.kind.order ≡ TransferOrder }
+        ensures { result ≡ count_on Taker self.now.queue.line }
+    {
+        match &self.queue {
+            ByKind::Transfer(queue) => queue.waiting_consumers(),
+            _ => unreachable!(),
         }
     }
 }
 
 impl Object for AnyQueue {
-    type Call = DualCall<u64>;
+    type Call = QueueCall<u64>;
 
-    type Answer = DualAnswer<u64>;
+    type Answer = QueueAnswer<u64>;
 
     type Deed = Deed;
 
-    ghost leads = { λ records any. LeadsTo (λ mark. mark) any.order records any.queue };
+    ghost leads = { λ records any. LeadsTo (λ mark. mark) any.kind records any.queue };
 
-    ghost steps = { λ old seat call answer new. (new.order ≡ old.order) × DualStep (λ mark. mark) old.order old.queue seat call answer new.queue };
+    ghost steps = { λ old seat call answer new. (new.kind ≡ old.kind) × QueueStep (λ mark. mark) old.kind old.queue seat call answer new.queue };
 
-    ghost record_of = { λ seat call answer. dual_record (λ mark. mark) seat call answer };
+    ghost record_of = { λ seat call answer. queue_record (λ mark. mark) seat call answer };
 
-    ghost refusal_of = { λ any seat call. dual_refusal any.queue seat call };
+    ghost refusal_of = { λ any seat call. queue_refusal any.queue seat call };
 
     ghost owed_of = { λ any. dual_owed any.queue };
 
-    ghost need_of = { λ call. dual_need call };
+    ghost need_of = { λ call. queue_need call };
 
     ghost spare = { λ any. any.queue.room };
 
     ghost with_room = { λ any room. record any { queue = roomy any.queue room } };
 
-    ghost own_record = { λ seat call answer. own-record (λ mark. mark) seat call answer };
+    ghost own_record = { λ seat call answer. queue-record (λ mark. mark) seat call answer };
 
     ghost same_place = { λ any. refl };
 
-    ghost same_refusal = { λ any room seat call. roomy-refusal any.queue room seat call };
+    ghost same_refusal = { λ any room seat call. queue-refusal any.queue room seat call };
 
     ghost same_owed = { λ any room. refl };
 
-    ghost same_leads = { λ any room records leads. roomy-leads (λ mark. mark) any.order any.queue room records leads };
+    ghost same_leads = { λ any room records leads. roomy-leads (λ mark. mark) any.kind any.queue room records leads };
 
-    ghost same_steps = { λ any room seat call answer new need step. (step.0, roomy-steps (λ mark. mark) any.order any.queue room seat call answer new.queue need step.1) };
+    ghost same_steps = { λ any room seat call answer new need step. (step.0, queue-steps (λ mark. mark) any.kind any.queue room seat call answer new.queue need step.1) };
 
-    ghost fresh_owes = { λ any leads. roomy-fresh (λ mark. mark) any.order any.queue leads };
+    ghost fresh_owes = { λ any leads. roomy-fresh (λ mark. mark) any.kind any.queue leads };
 
-    fn admit(&self, seat: SeatNo, call: &DualCall<u64>) -> Result<(), Refusal> {
+    fn admit(&self, seat: SeatNo, call: &QueueCall<u64>) -> Result<(), Refusal> {
         match &self.queue {
-            ByOrder::Fair(queue) => Object::admit(queue, seat, call),
-            ByOrder::Unfair(queue) => Object::admit(queue, seat, call),
+            ByKind::Fair(queue) => put_waits::admit(queue, seat, call),
+            ByKind::Unfair(queue) => put_waits::admit(queue, seat, call),
+            ByKind::Transfer(queue) => Object::admit(queue, seat, call),
         }
     }
 
-    fn need(call: &DualCall<u64>) -> u64 {
-        <Dual<u64, FairLine<Entry<u64>>> as Object>::need(call)
+    fn need(call: &QueueCall<u64>) -> u64 {
+        call.need()
     }
 
     fn owed(&self) -> u64 {
         match &self.queue {
-            ByOrder::Fair(queue) => queue.owed(),
-            ByOrder::Unfair(queue) => queue.owed(),
+            ByKind::Fair(queue) => queue.owed(),
+            ByKind::Unfair(queue) => queue.owed(),
+            ByKind::Transfer(queue) => queue.owed(),
         }
     }
 
     fn reserve(&mut self, calls: u64) -> Result<(), Refusal> {
         match &mut self.queue {
-            ByOrder::Fair(queue) => queue.reserve(calls),
-            ByOrder::Unfair(queue) => queue.reserve(calls),
+            ByKind::Fair(queue) => queue.reserve(calls),
+            ByKind::Unfair(queue) => queue.reserve(calls),
+            ByKind::Transfer(queue) => queue.reserve(calls),
         }
     }
 
     fn step(
         &mut self,
         seat: SeatNo,
-        call: DualCall<u64>,
-    ) -> (DualAnswer<u64>, Option<Record<Deed>>) {
+        call: QueueCall<u64>,
+    ) -> (QueueAnswer<u64>, Option<Record<Deed>>) {
         match &mut self.queue {
-            ByOrder::Fair(queue) => return queue.step(seat, call),
-            ByOrder::Unfair(queue) => return queue.step(seat, call),
+            ByKind::Fair(queue) => return put_waits::step(queue, seat, call),
+            ByKind::Unfair(queue) => return put_waits::step(queue, seat, call),
+            ByKind::Transfer(queue) => return queue.step(seat, call),
         }
     }
 }
 
 impl Drains for AnyQueue {
-    ghost poll = { Poll };
+    ghost poll = { EachHas Poll };
 
     ghost available_of = { λ any. dual_available any.queue };
 
@@ -184,22 +262,25 @@ impl Drains for AnyQueue {
 
     fn available(&self) -> u64 {
         match &self.queue {
-            ByOrder::Fair(queue) => queue.available(),
-            ByOrder::Unfair(queue) => queue.available(),
+            ByKind::Fair(queue) => queue.available(),
+            ByKind::Unfair(queue) => queue.available(),
+            ByKind::Transfer(queue) => queue.available(),
         }
     }
 
     fn tickets_left(&self) -> u64 {
         match &self.queue {
-            ByOrder::Fair(queue) => queue.tickets_left(),
-            ByOrder::Unfair(queue) => queue.tickets_left(),
+            ByKind::Fair(queue) => queue.tickets_left(),
+            ByKind::Unfair(queue) => queue.tickets_left(),
+            ByKind::Transfer(queue) => queue.tickets_left(),
         }
     }
 
-    fn poll_call(&self) -> DualCall<u64> {
+    fn poll_call(&self) -> QueueCall<u64> {
         match &self.queue {
-            ByOrder::Fair(queue) => queue.poll_call(),
-            ByOrder::Unfair(queue) => queue.poll_call(),
+            ByKind::Fair(queue) => QueueCall::Dual(queue.poll_call()),
+            ByKind::Unfair(queue) => QueueCall::Dual(queue.poll_call()),
+            ByKind::Transfer(queue) => queue.poll_call(),
         }
     }
 }

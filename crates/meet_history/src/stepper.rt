@@ -10,7 +10,7 @@ use crate::queues::AnyQueue;
 use crate::replies::{Outcome, Reply, push_reserved};
 use crate::setups::Setup;
 use crate::steps::Step;
-use crate::told::{DualAnswer, DualCall};
+use crate::told::{DualAnswer, DualCall, QueueAnswer, QueueCall};
 use meet_tickets::{Deed, Record, Refusal, SeatNo};
 use std::alloc::Global;
 use std::marker::Model;
@@ -29,14 +29,14 @@ pub struct Stepper {
 
 impl Model for Stepper {
     ghost use Rattle.std.specs.Prelude.{◌≡◌};
-    ghost use Rattle.meet_core.specs.Queue.{count_of};
+    ghost use Rattle.meet_line.specs.Queue.{count_of};
     ghost use Rattle.meet_history.specs.Stepping.{Stepping};
 
     ghost Value = { Stepping };
 
     ghost view = { λ s. record { setup = s.setup; queue = s.book.object.queue; records = s.book.records } };
 
-    ghost invariant = { λ s. (s.book.object.order ≡ s.setup.kind.order) × (count_of s.book.object.queue ≡ s.setup.seats) × (s.book.cap ≡ s.setup.cap) };
+    ghost invariant = { λ s. (s.book.object.kind ≡ s.setup.kind) × (count_of s.book.object.queue ≡ s.setup.seats) × (s.book.cap ≡ s.setup.cap) };
 }
 
 /// The reply to a call that was refused; want of memory has none.
@@ -61,34 +61,44 @@ fn refused(seat: SeatNo, why: Refusal) -> Reply
     }
 }
 
+/// The reply to a probe that counts.
+fn counted(seat: SeatNo, number: u64) -> Reply
+    ensures { result ≡ record { seat = seat; outcome = Outcome.Count number } }
+{
+    Reply {
+        seat,
+        outcome: Outcome::Count(number),
+    }
+}
+
 impl Stepper {
     ghost use Rattle.meet_tickets.specs.ByLists.{IsLegal};
-    ghost use Rattle.meet_history.specs.DualSteps.{kind_of, dual_need, dual_refusal};
+    ghost use Rattle.meet_history.specs.DualSteps.{dual_need, dual_refusal};
     ghost use Rattle.meet_history.specs.OneThread.{start, turn, answer_of, standing_of};
-    ghost use Rattle.meet_history.specs.Served.{serves_place, serves, IsOne};
-    ghost use Rattle.meet_history.specs.Stepping.{place_of, Takes, TakesTurn, refusal_at, Makes};
+    ghost use Rattle.meet_history.specs.Served.{serves, IsOne};
+    ghost use Rattle.meet_history.specs.Stepping.{place_of, Takes, TakesTurn, refusal_at, Answers, Makes};
+    ghost use Rattle.meet_history.specs.QueueSteps.{dual_call, queue_need};
     ghost use Rattle.meet_history.specs.Limits.{IsInLimits};
 
     /// The place of this setup, before any call. The only refusal is Memory.
     pub fn new(alloc: Global, setup: Setup) -> Result<Self, Refusal>
-        requires served { IsTrue (serves_place setup.kind.order) }
-        requires limits { IsInLimits setup }
+        requires { IsInLimits setup }
         ensures place { IfOk result (λ stepper. place_of stepper ≡ start setup) }
         ensures setup { IfOk result (λ stepper. stepper.setup ≡ setup) }
         ensures records { IfOk result (λ stepper. stepper.records ≡ []) }
         ensures memory { IfErr result (λ why. why ≡ Memory) }
     {
-        let queue = AnyQueue::new(alloc, setup.kind.order, setup.seats, setup.first)?;
+        let queue = AnyQueue::new(alloc, setup.kind, setup.seats, setup.first)?;
         let book = Book::new(alloc, queue, setup.cap);
         Ok(Stepper { alloc, setup, book })
     }
 
     /// Makes a request or an interrupt.
-    fn call(&mut self, seat: SeatNo, call: DualCall<u64>) -> Result<DualAnswer<u64>, Refusal>
-        requires { 0 < dual_need call }
-        ensures admitted { IfOk result (λ _. refusal_at self.old.setup (place_of self.old) seat call ≡ None) }
-        ensures makes { IfOk result (λ answer. Makes self.old seat call answer self.new) }
-        ensures why { IfErr result (λ why. why ≢ Memory → refusal_at self.old.setup (place_of self.old) seat call ≡ Some why) }
+    fn ask(&mut self, seat: SeatNo, call: QueueCall<u64>) -> Result<QueueAnswer<u64>, Refusal>
+        requires { 0 < queue_need call }
+        ensures admitted { IfOk result (λ _. refusal_at self.old.setup (place_of self.old) seat (dual_call call) ≡ None) }
+        ensures answers { IfOk result (λ answer. Answers self.old seat call answer self.new) }
+        ensures why { IfErr result (λ why. why ≢ Memory → refusal_at self.old.setup (place_of self.old) seat (dual_call call) ≡ Some why) }
         ensures unchanged { IfErr result (λ _. self.new ≡ self.old) }
     {
         let (answer, _) = match self.book.step(seat, call) {
@@ -98,14 +108,30 @@ impl Stepper {
         Ok(answer)
     }
 
+    /// Makes a request that each queue has, or an interrupt.
+    fn call(&mut self, seat: SeatNo, call: DualCall<u64>) -> Result<DualAnswer<u64>, Refusal>
+        requires { 0 < dual_need call }
+        ensures admitted { IfOk result (λ _. refusal_at self.old.setup (place_of self.old) seat call ≡ None) }
+        ensures makes { IfOk result (λ answer. Makes self.old seat call answer self.new) }
+        ensures why { IfErr result (λ why. why ≢ Memory → refusal_at self.old.setup (place_of self.old) seat call ≡ Some why) }
+        ensures unchanged { IfErr result (λ _. self.new ≡ self.old) }
+    {
+        match self.ask(seat, QueueCall::Dual(call)) {
+            Ok(QueueAnswer::Dual(answer)) => Ok(answer),
+            Ok(QueueAnswer::Put(_)) => unreachable!(),
+            Err(why) => Err(why),
+        }
+    }
+
     /// Ends the seat's open ticket, or tells that it can't end so.
     fn end(&mut self, seat: SeatNo, call: DualCall<u64>) -> DualAnswer<u64>
         requires ending { dual_need call ≡ 0 }
         requires opened { dual_refusal self.old.queue seat call ≡ None }
         ensures { Makes self.old seat call result self.new }
     {
-        match self.book.step(seat, call) {
-            Ok((answer, _)) => answer,
+        match self.book.step(seat, QueueCall::Dual(call)) {
+            Ok((QueueAnswer::Dual(answer), _)) => answer,
+            Ok((QueueAnswer::Put(_), _)) => unreachable!(),
             Err(_) => unreachable!(),
         }
     }
@@ -133,18 +159,19 @@ impl Stepper {
             Verb::Offer(mark) => self.offer(seat, mark),
             Verb::Take => self.take(seat),
             Verb::Poll => self.poll(seat),
+            Verb::Transfer(mark) => self.give(seat, mark),
+            Verb::Try(mark) => self.give_now(seat, mark),
             Verb::Follow => Ok(self.follow(seat)),
             Verb::Cancel => Ok(self.cancel(seat)),
             Verb::Expire => Ok(self.expire(seat)),
             Verb::Interrupt(target) => self.interrupt(seat, target),
-            Verb::Size | Verb::Room => Ok(Reply {
-                seat,
-                outcome: Outcome::Count(0),
-            }),
+            Verb::Size => Ok(counted(seat, self.book.probe().size())),
+            Verb::Room => Ok(counted(seat, self.book.probe().remaining_capacity())),
             Verb::Peek => Ok(Reply {
                 seat,
-                outcome: Outcome::Peeked(None),
+                outcome: Outcome::Peeked(self.book.probe().peek_mark()),
             }),
+            Verb::Consumers => Ok(counted(seat, self.book.probe().waiting_consumers())),
             _ => unreachable!(),
         }
     }
@@ -180,7 +207,7 @@ impl Stepper {
         self.book.records().len() as u64
     }
 
-    /// Where the place's tickets and items are. Nothing is kept in a synchronous queue.
+    /// Where the place's tickets and items are.
     pub fn standing(&self) -> Standing
         ensures { result ≡ standing_of self.now.setup (place_of self.now) }
     {
@@ -188,14 +215,14 @@ impl Stepper {
         Standing {
             waiting: queue.waiting(),
             uncollected: queue.uncollected(),
-            kept: 0,
+            kept: queue.kept(),
         }
     }
 
     /// The records, in order. They are legal.
     pub fn into_records(self) -> Vec<Record<Deed>>
         ensures records { result.items ≡ self.records }
-        ensures legal { IsLegal (kind_of self.setup.kind.order) self.records }
+        ensures legal { IsLegal self.setup.kind self.records }
     {
         let Stepper {
             alloc: _,

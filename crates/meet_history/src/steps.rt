@@ -5,7 +5,7 @@ ghost use Rattle.meet_history.specs.OneThread.{cut_named};
 ghost use Rattle.meet_history.specs.Said.{ticket_of_interrupt};
 
 use crate::replies::Answer;
-use meet_core::{Followed, Gave, Interrupted, Offered, Polled, TakenBack, Took};
+use meet_line::{Followed, Gave, Interrupted, Offered, Polled, Put, TakenBack, Took};
 use meet_tickets::{Cause, Deed, Side, Ticket};
 
 /// A recorded step of one ticket, and the giver's item where it comes back.
@@ -18,7 +18,7 @@ pub struct Step {
 
 impl Step {
     ghost use Rattle.meet_history.specs.OneThread.{answer_of};
-    ghost use Rattle.meet_history.specs.Said.{step_of_give, step_of_take, step_of_offer, step_of_poll, step_of_follow, step_of_withdrawal};
+    ghost use Rattle.meet_history.specs.Said.{step_of_give, step_of_put, step_of_take, step_of_offer, step_of_poll, step_of_follow, step_of_withdrawal};
 
     /// The step of a give of this item.
     pub fn of_give(gave: Gave<u64>, mark: u64) -> Step
@@ -38,6 +38,29 @@ impl Step {
             Gave::EntryInterrupted(ticket, back) => Step {
                 ticket,
                 deed: Deed::EntryInterrupted(Side::Giver),
+                item: Some(back),
+            },
+        }
+    }
+
+    /// The step of a put of this item.
+    pub fn of_put(put: Put<u64>, mark: u64) -> Step
+        ensures { result ≡ step_of_put put mark }
+    {
+        match put {
+            Put::Kept(ticket) => Step {
+                ticket,
+                deed: Deed::GiveKept(mark),
+                item: Some(mark),
+            },
+            Put::Meets(ticket, with) => Step {
+                ticket,
+                deed: Deed::GiveMeets(mark, with),
+                item: Some(mark),
+            },
+            Put::Fails(ticket, back) => Step {
+                ticket,
+                deed: Deed::GiveFails(mark),
                 item: Some(back),
             },
         }

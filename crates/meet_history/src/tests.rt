@@ -3,6 +3,7 @@ mod cell;
 mod checker;
 mod parcel;
 mod queue;
+mod transfer;
 
 ghost use Rattle.std.specs.Prelude.{◌≡◌, ◌<◌, ◌≤◌};
 

@@ -1,11 +1,11 @@
-//! What a seat asks of a synchronous queue, and what it is answered.
+//! What a seat asks of a queue, and what it is answered.
 
 ghost use Rattle.std.specs.Prelude.{◌≡◌};
 
-use meet_core::{Followed, Gave, Interrupted, Offered, Polled, TakenBack, Took};
+use meet_line::{Followed, Gave, Interrupted, Offered, Polled, Put, TakenBack, Took};
 use meet_tickets::{SeatNo, Ticket};
 
-/// A call of `Dual`.
+/// A call that each queue has; a synchronous queue, `Dual`, has no other.
 #[derive(Drop)]
 pub enum DualCall<T> {
     /// A give that waits for a taker.
@@ -26,7 +26,22 @@ pub enum DualCall<T> {
     Interrupt(SeatNo),
 }
 
-/// Its answer, as `Dual` gives it.
+impl<T> DualCall<T> {
+    ghost use Rattle.meet_history.specs.DualSteps.{dual_need};
+
+    /// How many records this call may need.
+    pub(crate) fn need(&self) -> u64
+        ensures { result ≡ dual_need self.now }
+    {
+        match self {
+            DualCall::Give(_) | DualCall::Offer(_) | DualCall::Take | DualCall::Poll => 2,
+            DualCall::Interrupt(_) => 1,
+            DualCall::FollowUp(_) | DualCall::Cancel(_) | DualCall::Expire(_) => 0,
+        }
+    }
+}
+
+/// Its answer, as the queue gives it.
 #[derive(Drop)]
 pub enum DualAnswer<T> {
     /// To a give.
@@ -43,6 +58,38 @@ pub enum DualAnswer<T> {
     TakenBack(TakenBack<T>),
     /// To an interrupt.
     Interrupted(Interrupted),
+}
+
+/// A call of a queue of any kind.
+#[derive(Drop)]
+pub enum QueueCall<T> {
+    /// `BlockingQueue.put`: a transfer queue keeps the item, a synchronous queue waits for a taker.
+    Put(T),
+    /// A call that each queue has.
+    Dual(DualCall<T>),
+}
+
+impl<T> QueueCall<T> {
+    ghost use Rattle.meet_history.specs.QueueSteps.{queue_need};
+
+    /// How many records this call may need.
+    pub(crate) fn need(&self) -> u64
+        ensures { result ≡ queue_need self.now }
+    {
+        match self {
+            QueueCall::Put(_) => 2,
+            QueueCall::Dual(call) => call.need(),
+        }
+    }
+}
+
+/// Its answer, as the queue gives it.
+#[derive(Drop)]
+pub enum QueueAnswer<T> {
+    /// To a put, of a queue that keeps items.
+    Put(Put<T>),
+    /// To another call, or to a put that waits.
+    Dual(DualAnswer<T>),
 }
 
 /// What the answer is, where it is to a request of that kind, or to an interrupt.

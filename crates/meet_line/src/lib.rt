@@ -1,13 +1,19 @@
-//! What the queues of one thread are made of: the line of unmatched tickets, and the table of the seats.
+//! What the queues of one thread are made of: the line of unmatched tickets, the table of the seats, and the meetings of
+//! one line at one table.
 #![tactic(auto)]
 
+mod answers;
 mod fair;
 mod line;
+mod meeting;
+mod meetings;
 mod stack;
 mod table;
 
+pub use answers::{Followed, Gave, Interrupted, Offered, Polled, Put, TakenBack, Took};
 pub use fair::FairLine;
 pub use line::{Line, Ticketed};
+pub use meetings::Meetings;
 pub use stack::StackLine;
 pub use table::SeatTable;
 

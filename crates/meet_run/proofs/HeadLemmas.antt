@@ -1,16 +1,15 @@
 -- A trace's first line reads as a kind of place exactly where it is its one spelling.
-use Rattle.std.proofs.Common.{◌≡◌, ℕ, ◌≤◌, true, ltb, List, [], ◌∷◌, ◌++◌, length, Option, Some, refl, sym, ap, subst, ◌∙◌, arith, rules, length-append, lit<}
-use Rattle.std.specs.Prelude.{codes}
+use Rattle.std.proofs.Common.{◌≡◌, ℕ, ◌≤◌, true, ltb, List, [], ◌∷◌, ◌++◌, length, Option, Some, None, refl, sym, ap, subst, ◌∙◌, arith, rules, length-append, lit<}
+use Rattle.std.specs.Prelude.{codes, IfSome}
 use Rattle.std.proofs.lemmas.Bool.{le-ltb}
 use Rattle.std.proofs.lemmas.Option.{cond_some}
 use Rattle.meet_tickets.specs.declared.places.Order.{Order}
 use Rattle.meet_tickets.specs.declared.places.Kind.{Kind}
-use Rattle.meet_history.specs.Served.{serves_place}
 use Rattle.meet_history.specs.Limits.{FitsBound}
 use Rattle.meet_run.specs.Words.{word_of, rest_of, behind}
-use Rattle.meet_run.specs.Grammar.{◌>>=◌, order_of, option_in, may_have}
+use Rattle.meet_run.specs.Grammar.{order_of, option_in, may_have}
 use Rattle.meet_run.specs.Spelling.{place_text, option_text}
-use Rattle.meet_run.specs.TraceGrammar.{kind_at_end, kind_in, head_in, served_kind, head_of}
+use Rattle.meet_run.specs.TraceGrammar.{kind_at_end, kind_in, head_in, head_of}
 use Rattle.meet_run.specs.TraceSpelling.{head_text, FitsHead, HeadsHaveOneSpelling}
 use Rattle.meet_run.proofs.WordLemmas.{word-rest, behind-is}
 use Rattle.meet_run.proofs.CallLemmas.{bind-some, chosen-second}
@@ -71,22 +70,20 @@ head-short kind h =
 -- ---- the law
 
 reads : (line : List ℕ) (kind : Kind) → head_of line ≡ Some kind → (line ≡ head_text kind) × FitsHead kind
-unfolding head_of served_kind
+unfolding head_of
 reads line kind e =
-    let whole = chosen-second (ltb 128 (length line)) (head_in line >>= served_kind) kind e in
-    let b = bind-some (head_in line) served_kind kind whole.1 in
-    let served = cond_some (serves_place b.0.order) b.0 kind b.2 in
-    let is = head_in-is line b.0 b.1 in
-    subst (λ (k : Kind). (line ≡ head_text k) × FitsHead k) served.1 (is.0, record { bound = is.1; served = served.0 })
+    let whole = chosen-second (ltb 128 (length line)) (head_in line) kind e in
+    head_in-is line kind whole.1
 
 again : (kind : Kind) → FitsHead kind → head_of (head_text kind) ≡ Some kind
-unfolding head_of served_kind
+unfolding head_of
 again kind fits =
-    rw (le-ltb 128 (length (head_text kind)) (head-short kind fits.bound), head_in-again kind fits.bound, fits.served) refl
+    rw (le-ltb 128 (length (head_text kind)) (head-short kind fits), head_in-again kind fits) refl
 
 pub heads-have-one-spelling : HeadsHaveOneSpelling
 heads-have-one-spelling line kind = (reads line kind, λ p. ap (λ (l : List ℕ). head_of l) p.0 ∙ again kind p.1)
 
 -- what is read is in its limits
-pub head-fits : (line : List ℕ) (kind : Kind) → head_of line ≡ Some kind → FitsHead kind
-head-fits line kind e = (reads line kind e).1
+pub head-limits : (line : List ℕ) (o : Option Kind) → o ≡ head_in line → IfSome o FitsHead
+head-limits line None is = tt
+head-limits line (Some kind) is = (head_in-is line kind (sym is)).1

@@ -14,7 +14,7 @@ use Rattle.meet_run.specs.Script.{calls_from, replies_text, text_from, closing_f
 use Rattle.meet_history.specs.Standings.{standing_in}
 use Rattle.meet_history.proofs.RecordCounts.{turn-counted}
 use Rattle.meet_history.proofs.Recorded.{is_recorded}
-use Rattle.meet_run.specs.Spelling.{FitsSetup}
+use Rattle.meet_history.specs.Limits.{IsInLimits}
 use Rattle.meet_run.proofs.SetupLemmas.{setup-fits}
 
 -- ---- lines that are too long
@@ -130,8 +130,8 @@ scripts-are-answered line lines setup calls first h =
     let all : Listed Call = record { items = calls; fault = None } in
     let are : calls_behind setup lines ≡ all = are-calls setup.kind.order 2 lines calls h in
     let count : 0 + length (records setup calls) ≡ length (records setup calls) = omega arith in
-    let fits : FitsSetup setup = setup-fits line setup first in
-    let from : 1 ≤ setup.first = fits.limits.first.0 in
+    let limits : IsInLimits setup = setup-fits line setup first in
+    let from : 1 ≤ setup.first = limits.first.0 in
     let stands : standing_of setup (turns setup (start setup) calls).place ≡ standing_in (records setup calls) = (is_recorded setup calls (omega arith)).standing in
     let whole : output_from setup (start setup) all ≡ text setup calls ++ closing setup calls =
     (λ i. text setup calls ++ last_line (count i) (stands i)) in

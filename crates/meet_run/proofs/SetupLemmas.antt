@@ -1,6 +1,6 @@
 -- A first line reads as a place exactly where it spells it.
 use Rattle.std.proofs.Common.{◌≡◌, ℕ, ◌+◌, ◌^◌, ◌<◌, ◌≤◌, true, ◌&&◌, ltb, leb, List, [], ◌∷◌, ◌++◌, length, Option, Some, None, unwrap_or, refl, sym, ap, subst, ◌∙◌, append_assoc, arith, rules, length-append, lit<, lit≤}
-use Rattle.std.specs.Prelude.{decimal, codes, ⊤}
+use Rattle.std.specs.Prelude.{decimal, codes, ⊤, IfSome}
 use Rattle.std.specs.Option.{option_map_or}
 use Rattle.std.proofs.lemmas.Bool.{leb-true, le-leb, le-ltb, and_parts}
 use Rattle.std.proofs.lemmas.Fmt.{length-decimal-le}
@@ -9,11 +9,10 @@ use Rattle.meet_tickets.specs.declared.places.Order.{Order}
 use Rattle.meet_tickets.specs.declared.places.Order.TheVariants.{Fair, Unfair, Transfer}
 use Rattle.meet_run.specs.declared.first_line.Options.{Options}
 use Rattle.meet_history.specs.declared.setups.Setup.{Setup}
-use Rattle.meet_history.specs.Served.{serves_place}
 use Rattle.meet_run.specs.Words.{word_of, rest_of, behind, number_of}
-use Rattle.meet_run.specs.Grammar.{◌>>=◌, provided, order_of, option_value, option_in, written_in, may_have, setup_with, setup_at_end, setup_in, served_setup, setup_of}
+use Rattle.meet_run.specs.Grammar.{◌>>=◌, provided, order_of, option_value, option_in, written_in, may_have, setup_with, setup_at_end, setup_in, setup_of}
 use Rattle.meet_history.specs.Limits.{FitsBound, IsInLimits}
-use Rattle.meet_run.specs.Spelling.{place_text, option_text, written_text, SpellsSetup, FitsSetup, SetupsAreSpelled}
+use Rattle.meet_run.specs.Spelling.{place_text, option_text, written_text, SpellsSetup, SetupsAreSpelled}
 use Rattle.meet_run.proofs.WordLemmas.{HasNoSpace, number_of-is, number_of-decimal, behind-is, word-rest, IsTail, tail-none, tail-space, no_space-decimal}
 use Rattle.meet_run.proofs.CallLemmas.{bind-some, chosen, chosen-second}
 
@@ -270,29 +269,30 @@ line-short order o h =
 
 -- ---- the law
 
-reads : (line : List ℕ) (setup : Setup) → setup_of line ≡ Some setup → SpellsSetup line setup × FitsSetup setup
-unfolding setup_of served_setup
+reads : (line : List ℕ) (setup : Setup) → setup_of line ≡ Some setup → SpellsSetup line setup × IsInLimits setup
+unfolding setup_of
 reads line setup e =
-    let whole = chosen-second (ltb 128 (length line)) (setup_in line >>= served_setup) setup e in
-    let b = bind-some (setup_in line) served_setup setup whole.1 in
-    let served = cond_some (serves_place b.0.kind.order) b.0 setup b.2 in
-    let is = setup_in-is line b.0 b.1 in
-    subst (λ (s : Setup). SpellsSetup line s × FitsSetup s) served.1 (is.0, record { limits = is.1; served = served.0 })
+    let whole = chosen-second (ltb 128 (length line)) (setup_in line) setup e in
+    setup_in-is line setup whole.1
 
-again : (line : List ℕ) (setup : Setup) → SpellsSetup line setup → FitsSetup setup → setup_of line ≡ Some setup
-unfolding setup_of served_setup
+again : (line : List ℕ) (setup : Setup) → SpellsSetup line setup → IsInLimits setup → setup_of line ≡ Some setup
+unfolding setup_of
 again line setup spells fits =
     let order : Order = setup.kind.order in
     let o : Options = spells.0 in
-    let limits : IsInLimits (setup_with order o) = subst (λ (s : Setup). IsInLimits s) spells.2 fits.limits in
+    let limits : IsInLimits (setup_with order o) = subst (λ (s : Setup). IsInLimits s) spells.2 fits in
     let w = within order o limits in
     let short : length line ≤ 128 = subst (λ (l : List ℕ). length l ≤ 128) (sym spells.1) (line-short order o w) in
     let found : setup_in line ≡ Some setup = ap (λ (l : List ℕ). setup_in l) spells.1 ∙ (setup_in-again order o w (may-of order o.bound limits.bound).0 ∙ ap (λ (s : Setup). Some s) (sym spells.2)) in
-    rw (le-ltb 128 (length line) short, found, fits.served) refl
+    rw (le-ltb 128 (length line) short, found) refl
 
 pub setups-are-spelled : SetupsAreSpelled
 setups-are-spelled line setup = (reads line setup, λ p. again line setup p.0 p.1)
 
 -- what is read is in its limits
-pub setup-fits : (line : List ℕ) (setup : Setup) → setup_of line ≡ Some setup → FitsSetup setup
+pub setup-fits : (line : List ℕ) (setup : Setup) → setup_of line ≡ Some setup → IsInLimits setup
 setup-fits line setup e = (reads line setup e).1
+
+pub setup-limits : (line : List ℕ) (o : Option Setup) → o ≡ setup_in line → IfSome o IsInLimits
+setup-limits line None is = tt
+setup-limits line (Some setup) is = (setup_in-is line setup (sym is)).1

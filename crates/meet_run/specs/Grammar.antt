@@ -9,7 +9,7 @@ use Rattle.meet_history.specs.declared.calls.Verb.{Verb}
 use Rattle.meet_history.specs.declared.calls.Verb.TheVariants.{Put, Offer, Take, Poll, Transfer as TransferItem, Try, Follow, Cancel, Expire, Interrupt, Drain, Size, Room, Peek, Consumers}
 use Rattle.meet_run.specs.declared.first_line.Options.{Options}
 use Rattle.meet_history.specs.declared.setups.Setup.{Setup}
-use Rattle.meet_history.specs.Served.{serves_place, serves}
+use Rattle.meet_history.specs.Served.{serves}
 use Rattle.meet_run.specs.Words.{word_of, rest_of, behind, number_of}
 
 -- one step after another, where each may fail
@@ -129,17 +129,13 @@ unfoldable pub setup_at_end : Order → Options → (rest : List ℕ) → Option
 setup_at_end order written [] = provided (may_have order written.bound) (setup_with order written)
 setup_at_end order written (b ∷ rest) = None
 
--- the place of a first line, whatever is served
+-- the place of a first line, however long
 unfoldable pub setup_in : (line : List ℕ) → Option Setup
 setup_in line = do
   order ← order_of (word_of line)
   written ← written_in (rest_of line)
   setup_at_end order written.0 written.1
 
--- a place that is served
-unfoldable pub served_setup : Setup → Option Setup
-served_setup setup = provided (serves_place setup.kind.order) setup
-
 -- the place of a script's first line
 unfoldable pub setup_of : (line : List ℕ) → Option Setup
-setup_of line = if nat_lt 128 (length line) then None else (setup_in line >>= served_setup)
+setup_of line = if nat_lt 128 (length line) then None else setup_in line

@@ -7,7 +7,7 @@ use Rattle.meet_history.specs.declared.calls.Verb.{Verb}
 use Rattle.meet_history.specs.declared.calls.Verb.TheVariants.{Put, Offer, Take, Poll, Transfer as TransferItem, Try, Follow, Cancel, Expire, Interrupt, Drain, Size, Room, Peek, Consumers}
 use Rattle.meet_run.specs.declared.first_line.Options.{Options}
 use Rattle.meet_history.specs.declared.setups.Setup.{Setup}
-use Rattle.meet_history.specs.Served.{serves_place, serves}
+use Rattle.meet_history.specs.Served.{serves}
 use Rattle.meet_history.specs.Limits.{IsInLimits}
 use Rattle.meet_run.specs.Grammar.{setup_with, call_of, setup_of}
 
@@ -83,12 +83,7 @@ abbrev pub SpellsSetup : (line : List ℕ) → Setup → Type 0
 SpellsSetup line setup =
     (written : Options) × (line ≡ place_text setup.kind.order ++ written_text written) × (setup ≡ setup_with setup.kind.order written)
 
--- a place has its numbers in their limits, and is served
-pub record FitsSetup (setup : Setup) : Type 0 where
-  pub limits : IsInLimits setup
-  pub served : IsTrue (serves_place setup.kind.order)
-
--- a first line reads as a place exactly where it spells it
+-- a first line reads as a place exactly where it spells it, with its numbers in their limits
 abbrev pub SetupsAreSpelled : Type 0
 SetupsAreSpelled =
-    (line : List ℕ) (setup : Setup) → (setup_of line ≡ Some setup) ↔ (SpellsSetup line setup × FitsSetup setup)
+    (line : List ℕ) (setup : Setup) → (setup_of line ≡ Some setup) ↔ (SpellsSetup line setup × IsInLimits setup)

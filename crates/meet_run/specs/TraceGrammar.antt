@@ -10,7 +10,6 @@ use Rattle.meet_tickets.specs.declared.records.Cause.TheVariants.{Cancelled, Exp
 use Rattle.meet_tickets.specs.declared.records.Deed.{Deed}
 use Rattle.meet_tickets.specs.declared.records.Deed.TheVariants.{GiveWaits, GiveMeets, GiveFails, GiveKept, TakeWaits, TakeMeets, TakeFails, EntryInterrupted, Done, Got, Withdrawn, Interrupt}
 use Rattle.meet_tickets.specs.declared.records.Record.{Record}
-use Rattle.meet_history.specs.Served.{serves_place}
 use Rattle.meet_run.specs.Words.{word_of, rest_of, behind, number_of}
 use Rattle.meet_run.specs.Grammar.{◌>>=◌, provided, seat_of, order_of, option_in, may_have}
 
@@ -111,14 +110,10 @@ kind_in text = do
   bound ← option_in (codes " bound ") 1048576 (rest_of text)
   kind_at_end order bound.0 bound.1
 
--- the kind of place that a trace's first line names, whatever is served
+-- the kind of place that a trace's first line names, however long
 unfoldable pub head_in : (line : List ℕ) → Option Kind
 head_in line = behind (codes "trace 1 ") line >>= kind_in
 
--- a kind of place that is served
-unfoldable pub served_kind : Kind → Option Kind
-served_kind kind = provided (serves_place kind.order) kind
-
 -- the kind of place of a trace's first line
 unfoldable pub head_of : (line : List ℕ) → Option Kind
-head_of line = if nat_lt 128 (length line) then None else (head_in line >>= served_kind)
+head_of line = if nat_lt 128 (length line) then None else head_in line

@@ -1,12 +1,11 @@
 -- The one spelling of a record, and of a trace's first line (our choice of format).
-use Rattle.std.specs.Prelude.{◌≡◌, ◌↔◌, ℕ, ◌^◌, ◌<◌, IsTrue, Some, ⊤, List, ◌∷◌, ◌++◌, codes, decimal}
+use Rattle.std.specs.Prelude.{◌≡◌, ◌↔◌, ℕ, ◌^◌, ◌<◌, Some, ⊤, List, ◌∷◌, ◌++◌, codes, decimal}
 use Rattle.meet_tickets.specs.declared.places.Side.{Side}
 use Rattle.meet_tickets.specs.declared.places.Side.TheVariants.{Giver, Taker}
 use Rattle.meet_tickets.specs.declared.places.Kind.{Kind}
 use Rattle.meet_tickets.specs.declared.records.Deed.{Deed}
 use Rattle.meet_tickets.specs.declared.records.Deed.TheVariants.{GiveWaits, GiveMeets, GiveFails, GiveKept, TakeWaits, TakeMeets, TakeFails, EntryInterrupted, Done, Got, Withdrawn, Interrupt}
 use Rattle.meet_tickets.specs.declared.records.Record.{Record}
-use Rattle.meet_history.specs.Served.{serves_place}
 use Rattle.meet_history.specs.Limits.{FitsBound}
 use Rattle.meet_run.specs.Wording.{cause_text}
 use Rattle.meet_run.specs.Spelling.{place_text, option_text}
@@ -74,10 +73,9 @@ RecordsHaveOneSpelling =
 abbrev pub head_text : Kind → List ℕ
 head_text kind = codes "trace 1 " ++ (place_text kind.order ++ option_text (codes " bound ") kind.bound)
 
--- a kind of place has a bound that it may have, and is served
-pub record FitsHead (kind : Kind) : Type 0 where
-  pub bound : FitsBound kind.order kind.bound
-  pub served : IsTrue (serves_place kind.order)
+-- a kind of place has a bound that it may have
+abbrev pub FitsHead : Kind → Type 0
+FitsHead kind = FitsBound kind.order kind.bound
 
 -- a first line reads as a kind of place exactly where it is its one spelling
 abbrev pub HeadsHaveOneSpelling : Type 0

@@ -2,9 +2,8 @@
 
 ghost use Rattle.std.specs.Prelude.{◌≡◌, IfSome};
 ghost use Rattle.std.specs.Option.{option_map};
-ghost use Rattle.meet_history.specs.Served.{serves_place};
 ghost use Rattle.meet_run.specs.Words.{word_of, rest_of, behind};
-ghost use Rattle.meet_run.specs.Spelling.{FitsSetup};
+ghost use Rattle.meet_history.specs.Limits.{IsInLimits};
 ghost use Rattle.meet_run.specs.Grammar.{order_of, option_value, option_in, written_in, may_have, setup_at_end, setup_in, setup_of};
 
 use crate::grammar::LONGEST_LINE;
@@ -28,16 +27,6 @@ pub struct Options {
     pub cap: Option<u64>,
     pub first: Option<u64>,
     pub bound: Option<u64>,
-}
-
-/// Whether places of this order are served.
-pub fn is_place_served(order: Order) -> bool
-    ensures { result ≡ serves_place order }
-{
-    match order {
-        Order::Fair | Order::Unfair => true,
-        Order::Transfer => false,
-    }
 }
 
 /// The order of a place by its word.
@@ -137,9 +126,9 @@ fn finish_setup(order: Order, options: Options, rest: &[u8]) -> Option<Setup>
     })
 }
 
-/// The place of a first line, whatever is served.
+/// The place of a first line, however long.
 #[tactic(auto, unfolding(crate::specs::Grammar::setup_in))]
-pub(crate) fn read_any_setup(line: &[u8]) -> Option<Setup>
+fn read_long_setup(line: &[u8]) -> Option<Setup>
     ensures { result ≡ setup_in line.now }
 {
     let (word, rest) = split_word(line);
@@ -149,18 +138,13 @@ pub(crate) fn read_any_setup(line: &[u8]) -> Option<Setup>
 }
 
 /// The place of a script's first line, or none where the line is at fault.
-#[tactic(auto, unfolding(crate::specs::Grammar::setup_of, crate::specs::Grammar::served_setup))]
+#[tactic(auto, unfolding(crate::specs::Grammar::setup_of))]
 pub fn read_setup(line: &[u8]) -> Option<Setup>
     ensures read { result ≡ setup_of line.now }
-    ensures fits { IfSome result FitsSetup }
+    ensures fits { IfSome result IsInLimits }
 {
     if line.len() > LONGEST_LINE {
         return None;
     }
-    let setup = read_any_setup(line)?;
-    if is_place_served(setup.kind.order) {
-        Some(setup)
-    } else {
-        None
-    }
+    read_long_setup(line)
 }

@@ -32,7 +32,7 @@ pub fn is_served(order: Order, verb: Verb) -> bool
                 | Verb::Room
                 | Verb::Peek
         ),
-        Order::Transfer => false,
+        Order::Transfer => true,
     }
 }
 

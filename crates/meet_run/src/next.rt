@@ -5,7 +5,8 @@ ghost use Rattle.std.specs.Vec.{vec_capacity};
 ghost use Rattle.meet_run.specs.Grammar.{call_of, setup_of};
 ghost use Rattle.meet_run.specs.Reading.{UsesTurns};
 ghost use Rattle.meet_run.specs.Running.{IsNext, IfRead, next_from};
-ghost use Rattle.meet_run.specs.Spelling.{FitsCall, FitsSetup};
+ghost use Rattle.meet_history.specs.Limits.{IsInLimits};
+ghost use Rattle.meet_run.specs.Spelling.{FitsCall};
 ghost use Rattle.meet_run.specs.TraceGrammar.{head_of};
 ghost use Rattle.meet_run.specs.TraceSpelling.{FitsHead};
 ghost use Rattle.meet_run.specs.Traces.{record_at};
@@ -49,7 +50,7 @@ fn next_of<A: Copy>(came: LineRead, read: Option<A>) -> Next<A>
 /// Reads a script's first line.
 pub fn next_setup<R: Read>(reader: &mut R, turns: &mut u64, line: &mut Vec<u8>) -> Next<Setup>
     requires { LONGEST_LINE ≤ vec_capacity line.old }
-    ensures fits { IfRead result FitsSetup }
+    ensures fits { IfRead result IsInLimits }
     ensures next { IsNext setup_of result (R.remaining reader.old) (R.remaining reader.new) turns.old turns.new }
     ensures uses { UsesTurns (R.remaining reader.old) (R.remaining reader.new) turns.old turns.new }
     ensures room { LONGEST_LINE ≤ vec_capacity line.new }

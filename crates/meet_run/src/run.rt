@@ -9,7 +9,7 @@ ghost use Rattle.meet_run.specs.Reading.{UsesTurns, EndsInTurns};
 ghost use Rattle.meet_run.specs.Script.{fault_of, text_before, output_of, replies_text};
 ghost use Rattle.meet_history.specs.Stepping.{Takes, place_of};
 ghost use Rattle.meet_history.specs.Limits.{IsInLimits};
-ghost use Rattle.meet_history.specs.Served.{serves_place, serves};
+ghost use Rattle.meet_history.specs.Served.{serves};
 ghost use Rattle.meet_run.specs.Wording.{last_line};
 ghost use Rattle.meet_run.specs.Running.{IsCutShort, IsRunFault, RunsOn, RunEnds};
 ghost use Rattle.meet_run.specs.Writing.{AppendsFront};
@@ -99,7 +99,6 @@ fn run_calls<R: Read, W: Write>(
     line: &mut Vec<u8>,
     setup: Setup,
 ) -> Result<bool, RunFault>
-    requires served { IsTrue (serves_place setup.kind.order) }
     requires limits { IsInLimits setup }
     requires room { LONGEST_LINE ≤ vec_capacity line.old }
     requires turns { turns.old + 1 < 2 ^ 64 }

@@ -10,4 +10,5 @@ mod seeded;
 mod synchronous;
 mod trace_lines;
 mod traces;
+mod transfer;
 mod wording;

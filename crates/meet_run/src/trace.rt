@@ -5,7 +5,6 @@ ghost use Rattle.std.specs.Io.KnownBytes.{Appends};
 ghost use Rattle.std.specs.List.{flat_map};
 ghost use Rattle.std.specs.Vec.{vec_capacity};
 ghost use Rattle.meet_history.specs.Limits.{IsInLimits};
-ghost use Rattle.meet_history.specs.Served.{serves_place};
 ghost use Rattle.meet_run.specs.Reading.{UsesTurns, EndsInTurns, lines_of};
 ghost use Rattle.meet_run.specs.Running.{IsCutShort, IsRunFault, RunEnds};
 ghost use Rattle.meet_run.specs.Script.{fault_of};
@@ -77,7 +76,6 @@ fn record_calls<R: Read>(
     line: &mut Vec<u8>,
     setup: Setup,
 ) -> Result<(Vec<Record<Deed>>, Option<u64>), Refusal>
-    requires served { IsTrue (serves_place setup.kind.order) }
     requires limits { IsInLimits setup }
     requires room { LONGEST_LINE ≤ vec_capacity line.old }
     requires turns { turns.old + 1 < 2 ^ 64 }
@@ -113,7 +111,6 @@ fn trace_calls<R: Read, W: Write>(
     line: &mut Vec<u8>,
     setup: Setup,
 ) -> Result<bool, RunFault>
-    requires served { IsTrue (serves_place setup.kind.order) }
     requires limits { IsInLimits setup }
     requires room { LONGEST_LINE ≤ vec_capacity line.old }
     requires turns { turns.old + 1 < 2 ^ 64 }

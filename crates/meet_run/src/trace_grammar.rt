@@ -4,9 +4,7 @@ ghost use Rattle.std.specs.Prelude.{◌≡◌, IfSome};
 ghost use Rattle.meet_run.specs.TraceSpelling.{FitsRecord, FitsHead};
 ghost use Rattle.meet_run.specs.TraceGrammar.{ticket_of, side_of, cause_of, bare_deed_of, marked_deed_of, worded_deed_of, paired_deed_of, deed_with, deed_of, deed_behind, record_behind, record_in, record_of, kind_at_end, kind_in, head_in, head_of};
 
-use crate::first_line::{
-    MOST_KEPT, is_place_served, may_have_bound, read_option, read_order, strip_front,
-};
+use crate::first_line::{MOST_KEPT, may_have_bound, read_option, read_order, strip_front};
 use crate::grammar::{LONGEST_LINE, read_seat};
 use crate::words::{read_number, split_word};
 use meet_tickets::{Cause, Deed, Kind, Order, Record, SeatNo, Side, Ticket};
@@ -221,9 +219,9 @@ fn read_kind(text: &[u8]) -> Option<Kind>
     finish_kind(order, bound, rest)
 }
 
-/// The kind of place that a trace's first line names, whatever is served.
+/// The kind of place that a trace's first line names, however long.
 #[tactic(auto, unfolding(crate::specs::TraceGrammar::head_in))]
-pub(crate) fn read_any_head(line: &[u8]) -> Option<Kind>
+fn read_long_head(line: &[u8]) -> Option<Kind>
     ensures { result ≡ head_in line.now }
 {
     let text = strip_front(b"trace 1 ", line)?;
@@ -231,7 +229,7 @@ pub(crate) fn read_any_head(line: &[u8]) -> Option<Kind>
 }
 
 /// The kind of place of a trace's first line, or none where the line is at fault.
-#[tactic(auto, unfolding(crate::specs::TraceGrammar::head_of, crate::specs::TraceGrammar::served_kind))]
+#[tactic(auto, unfolding(crate::specs::TraceGrammar::head_of))]
 pub fn read_head(line: &[u8]) -> Option<Kind>
     ensures read { result ≡ head_of line.now }
     ensures fits { IfSome result FitsHead }
@@ -239,10 +237,5 @@ pub fn read_head(line: &[u8]) -> Option<Kind>
     if line.len() > LONGEST_LINE {
         return None;
     }
-    let kind = read_any_head(line)?;
-    if is_place_served(kind.order) {
-        Some(kind)
-    } else {
-        None
-    }
+    read_long_head(line)
 }

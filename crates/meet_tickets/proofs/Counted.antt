@@ -1,5 +1,5 @@
 -- How many givers stand in a line of one side.
-use Rattle.std.proofs.Common.{◌≡◌, ◌+◌, ◌-◌, ◌<◌, refl, sym, ap, ◌∙◌, Bool, true, false, cond, not, Option, Some, None, is_some, subst, List, [], ◌∷◌, length, length-take, get_or, arith}
+use Rattle.std.proofs.Common.{◌≡◌, ℕ, ◌+◌, ◌-◌, ◌<◌, refl, sym, ap, ◌∙◌, Bool, true, false, cond, not, Option, Some, None, is_some, is_none, subst, List, [], ◌∷◌, length, length-take, get_or, arith}
 use Rattle.std.specs.Prelude.{All}
 use Rattle.std.proofs.Math.Path.{ap₂}
 use Rattle.std.proofs.lemmas.List.Sums.{sum_by-cons}
@@ -33,6 +33,20 @@ givers-all {X} (x ∷ line) e one first is = count-same true (x ∷ line) (all_o
 pub givers-none : {X : Type 0} (line : List (Entry X)) (e : Entry X) → HasOneSide line → e ≡ get_or line 0 e → is_some e.item ≡ false → count_on Giver line ≡ 0
 givers-none [] e one first is = refl
 givers-none {X} (x ∷ line) e one first is = count-same false (x ∷ line) (all_of false x line one (ap (λ (f : Entry X). is_some f.item) (sym first) ∙ is))
+
+-- each entry is a giver or a taker
+pub sides-counted : {X : Type 0} (line : List (Entry X)) → count_on Giver line + count_on Taker line ≡ length line
+sides-counted [] = refl
+sides-counted {X} (e ∷ line) =
+    let rest : count_on Giver line + count_on Taker line ≡ length line = sides-counted line in
+    let giver : count_on Giver (e ∷ line) ≡ cond (is_on Giver e) 1 0 + count_on Giver line = sum_by-cons (λ f. cond (is_on Giver f) 1 0) e line in
+    let taker : count_on Taker (e ∷ line) ≡ cond (is_on Taker e) 1 0 + count_on Taker line = sum_by-cons (λ f. cond (is_on Taker f) 1 0) e line in
+    let either : cond (is_on Giver e) 1 0 + cond (is_on Taker e) 1 0 ≡ 1 = by_item e.item in
+    omega (arith, rest, giver, taker, either)
+  where
+    by_item : (o : Option X) → ◌≡◌ {A = ℕ} (cond (is_some o) 1 0 + cond (is_none o) 1 0) 1
+    by_item None = refl
+    by_item (Some x) = refl
 
 -- one leaves
 length-unmet : {X : Type 0} (order : Order) (e : Entry X) (line : List (Entry X)) → length (unmet order (e ∷ line)) + 1 ≡ length (e ∷ line)

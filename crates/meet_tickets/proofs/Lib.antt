@@ -6,6 +6,7 @@ pub mod Deeds
 pub mod Fated
 pub mod Histories
 pub mod Holding
+pub mod Keeping
 pub mod Members
 pub mod Partners
 pub mod Recorded

@@ -1,38 +1,16 @@
 //! The endings of an open ticket, and interrupts. None of them takes memory.
 
-ghost use Rattle.std.specs.Prelude.{◌≡◌, ◌↔◌, ◌<◌, Some, IsOk, IfOk, IfErr, IfSome, IfNone};
-ghost use Rattle.meet_tickets.specs.BySeat.{open_ticket, entry_of, left};
+ghost use Rattle.std.specs.Prelude.{◌≡◌, ◌↔◌, ◌<◌, Some, IsOk, IfOk, IfErr};
+ghost use Rattle.meet_tickets.specs.BySeat.{open_ticket};
 
-use crate::answers::{Followed, Interrupted, TakenBack};
 use crate::dual::Dual;
-use meet_line::Line;
-use meet_tickets::{Entry, Hold, Marked, Refusal, SeatNo, Ticket};
+use meet_line::{Followed, Interrupted, Line, TakenBack};
+use meet_tickets::{Entry, Marked, Refusal, SeatNo, Ticket};
 
 impl<T: Marked, L: Line<Entry<T>>> Dual<T, L> {
-    ghost use Rattle.meet_core.specs.Queue.{seats_of, count_of, places_of};
-    ghost use Rattle.meet_core.specs.Steps.{Leaves, FollowStep, WithdrawStep, InterruptStep};
+    ghost use Rattle.meet_line.specs.Queue.{seats_of, count_of, places_of};
+    ghost use Rattle.meet_line.specs.Steps.{FollowStep, WithdrawStep, InterruptStep};
     ghost use Rattle.meet_tickets.specs.declared.refusals.Refusal.TheVariants.{NoSuchSeat, NotOpen};
-
-    /// Takes what stands in the line for this seat out of it, and ends its ticket.
-    fn withdraw(&mut self, seat: SeatNo) -> Option<Entry<T>>
-        requires { seat < count_of self.old }
-        ensures entry { result ≡ entry_of self.old.line ((seats_of self.old).holds seat) }
-        ensures left { IfSome result (λ entry. Leaves self.old self.new (left (seats_of self.old) seat entry.ticket)) }
-        ensures places { places_of self.new ≡ places_of self.old }
-        ensures unchanged { IfNone result (self.new ≡ self.old) }
-    {
-        let ticket = match self.seats.hold(seat) {
-            Hold::Waiting(ticket) => *ticket,
-            _ => return None,
-        };
-        match self.line.remove(ticket) {
-            None => None,
-            Some(entry) => {
-                self.seats.put(seat, Hold::Free);
-                Some(entry)
-            }
-        }
-    }
 
     /// The follow-up of the seat's open ticket. Refuses NotOpen where the ticket isn't the open one of that seat, also for
     /// a seat that isn't there.
@@ -43,13 +21,7 @@ impl<T: Marked, L: Line<Entry<T>>> Dual<T, L> {
         ensures why { IfErr result (λ why. why ≡ NotOpen) }
         ensures unchanged { IfErr result (λ _. self.new ≡ self.old) }
     {
-        if self.open_ticket(seat) != Some(ticket) {
-            return Err(Refusal::NotOpen);
-        }
-        if !self.seats.hold(seat).is_settled() {
-            return Ok(Followed::NotYet);
-        }
-        Ok(Followed::of(self.seats.replace(seat, Hold::Free)))
+        self.meetings.follow_up(seat, ticket)
     }
 
     /// Takes the seat's open ticket back, with a giver's item, where it stands in the line; else it is late. Refuses
@@ -61,20 +33,7 @@ impl<T: Marked, L: Line<Entry<T>>> Dual<T, L> {
         ensures why { IfErr result (λ why. why ≡ NotOpen) }
         ensures unchanged { IfErr result (λ _. self.new ≡ self.old) }
     {
-        if self.open_ticket(seat) != Some(ticket) {
-            return Err(Refusal::NotOpen);
-        }
-        match self.withdraw(seat) {
-            Some(
-                Entry {
-                    ticket: _,
-                    seat: _,
-                    item,
-                    waits: _,
-                },
-            ) => Ok(TakenBack::Back(item)),
-            None => Ok(TakenBack::Late),
-        }
+        self.meetings.cancel(seat, ticket)
     }
 
     /// The time of the seat's open ticket ran out, as in timed `SynchronousQueue.offer` and `poll`: it is taken back as by
@@ -86,7 +45,7 @@ impl<T: Marked, L: Line<Entry<T>>> Dual<T, L> {
         ensures why { IfErr result (λ why. why ≡ NotOpen) }
         ensures unchanged { IfErr result (λ _. self.new ≡ self.old) }
     {
-        self.cancel(seat, ticket)
+        self.meetings.expire(seat, ticket)
     }
 
     /// `Thread.interrupt` of the target: its ticket is cut where it stands in the line, and awaits its follow-up; else the
@@ -98,24 +57,6 @@ impl<T: Marked, L: Line<Entry<T>>> Dual<T, L> {
         ensures why { IfErr result (λ why. why ≡ NoSuchSeat) }
         ensures unchanged { IfErr result (λ _. self.new ≡ self.old) }
     {
-        if target.number() >= self.seats.count() {
-            return Err(Refusal::NoSuchSeat);
-        }
-        match self.withdraw(target) {
-            Some(entry) => {
-                let Entry {
-                    ticket,
-                    seat: _,
-                    item,
-                    waits: _,
-                } = entry;
-                self.seats.put(target, Hold::Cut(ticket, item));
-                Ok(Interrupted::Cut(ticket))
-            }
-            None => {
-                self.seats.set_flag(target, true);
-                Ok(Interrupted::Flagged)
-            }
-        }
+        self.meetings.interrupt(target)
     }
 }

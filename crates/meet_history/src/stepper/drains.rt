@@ -12,7 +12,7 @@ use crate::receipt::Receipt;
 use crate::replies::{Outcome, Reply, push_reserved};
 use crate::stepper::{Stepper, refused_unless_memory};
 use crate::steps::Step;
-use crate::told::DualAnswer;
+use crate::told::QueueAnswer;
 use meet_tickets::{Deed, Refusal, SeatNo};
 
 impl Stepper {
@@ -58,7 +58,7 @@ impl Stepper {
 }
 
 /// Puts the replies of a drain's polls behind others, where there is room.
-fn push_polls(replies: &mut Vec<Reply>, seat: SeatNo, got: &[(DualAnswer<u64>, Receipt<Deed>)])
+fn push_polls(replies: &mut Vec<Reply>, seat: SeatNo, got: &[(QueueAnswer<u64>, Receipt<Deed>)])
     requires { vec_len replies.old + length got.now ≤ vec_capacity replies.old }
     ensures replies { replies.new.items ≡ replies.old.items ++ map (λ one. poll_reply seat one.1) got.now }
     ensures capacity { vec_capacity replies.new ≡ vec_capacity replies.old }

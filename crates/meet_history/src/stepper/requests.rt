@@ -6,15 +6,45 @@ ghost use Rattle.meet_tickets.specs.declared.refusals.Refusal.TheVariants.{Memor
 use crate::replies::Reply;
 use crate::stepper::{Stepper, refused_unless_memory};
 use crate::steps::Step;
-use crate::told::DualCall;
-use meet_tickets::{Refusal, SeatNo};
+use crate::told::{DualCall, QueueAnswer, QueueCall};
+use meet_tickets::{Order, Refusal, SeatNo};
 
 impl Stepper {
-    ghost use Rattle.meet_history.specs.OneThread.{give, take, waiting, immediate};
+    ghost use Rattle.meet_history.specs.OneThread.{give, take, waiting, immediate, put_form, offer_form};
     ghost use Rattle.meet_history.specs.Stepping.{place_of, TakesTurn};
 
-    /// A give that waits for a taker.
+    /// `BlockingQueue.put`: a transfer queue keeps the item, in a synchronous queue its giver waits.
     pub(super) fn put(&mut self, seat: SeatNo, mark: u64) -> Result<Reply, Refusal>
+        ensures turn { IfOk result (TakesTurn (give self.old.setup (place_of self.old) seat (put_form self.old.setup.kind.order) mark) self.old self.new) }
+        ensures memory { IfErr result (λ why. why ≡ Memory) }
+    {
+        let answer = match self.ask(seat, QueueCall::Put(mark)) {
+            Ok(answer) => answer,
+            Err(why) => return refused_unless_memory(seat, why),
+        };
+        match answer {
+            QueueAnswer::Put(put) => Ok(self.told(seat, Step::of_put(put, mark))),
+            QueueAnswer::Dual(answer) => match answer.gave() {
+                Some(gave) => Ok(self.told(seat, Step::of_give(gave, mark))),
+                None => unreachable!(),
+            },
+        }
+    }
+
+    /// `BlockingQueue.offer`: a transfer queue puts the item, a synchronous queue gives it to a taker that is there.
+    pub(super) fn offer(&mut self, seat: SeatNo, mark: u64) -> Result<Reply, Refusal>
+        ensures turn { IfOk result (TakesTurn (give self.old.setup (place_of self.old) seat (offer_form self.old.setup.kind.order) mark) self.old self.new) }
+        ensures memory { IfErr result (λ why. why ≡ Memory) }
+    {
+        match self.setup.kind.order {
+            Order::Fair => self.give_now(seat, mark),
+            Order::Unfair => self.give_now(seat, mark),
+            Order::Transfer => self.put(seat, mark),
+        }
+    }
+
+    /// A give that waits for a taker.
+    pub(super) fn give(&mut self, seat: SeatNo, mark: u64) -> Result<Reply, Refusal>
         ensures turn { IfOk result (TakesTurn (give self.old.setup (place_of self.old) seat waiting mark) self.old self.new) }
         ensures memory { IfErr result (λ why. why ≡ Memory) }
     {
@@ -29,7 +59,7 @@ impl Stepper {
     }
 
     /// A give to a taker that is there.
-    pub(super) fn offer(&mut self, seat: SeatNo, mark: u64) -> Result<Reply, Refusal>
+    pub(super) fn give_now(&mut self, seat: SeatNo, mark: u64) -> Result<Reply, Refusal>
         ensures turn { IfOk result (TakesTurn (give self.old.setup (place_of self.old) seat immediate mark) self.old self.new) }
         ensures memory { IfErr result (λ why. why ≡ Memory) }
     {

@@ -13,8 +13,8 @@ use std::test::Fail;
 /// An item with a serial number of its own beside its mark.
 #[derive(Drop)]
 pub struct Parcel {
-    mark: u64,
-    serial: u64,
+    pub mark: u64,
+    pub serial: u64,
 }
 
 impl Marked for Parcel {

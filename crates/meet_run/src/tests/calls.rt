@@ -61,6 +61,15 @@ fn served_calls(rt: HostRuntime) {
         assert!(rt; read_call(order, b"3 consumers").is_none());
         assert!(rt; !is_served(order, Verb::Consumers));
     }
+    let order = Order::Transfer;
+    assert_eq!(rt; read_call(order, b"3 put 17"), call(3, Verb::Put(17)));
+    assert_eq!(rt; read_call(order, b"3 offer 17"), call(3, Verb::Offer(17)));
+    assert_eq!(rt;
+        read_call(order, b"3 transfer 17"),
+        call(3, Verb::Transfer(17))
+    );
+    assert_eq!(rt; read_call(order, b"3 try 17"), call(3, Verb::Try(17)));
+    assert_eq!(rt; read_call(order, b"3 consumers"), call(3, Verb::Consumers));
 }
 
 #[test]

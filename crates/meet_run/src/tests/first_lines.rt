@@ -1,4 +1,4 @@
-use crate::first_line::{is_place_served, read_any_setup, read_setup};
+use crate::first_line::read_setup;
 use meet_history::Setup;
 use meet_tickets::{Kind, Order};
 
@@ -83,32 +83,20 @@ fn malformed_first_lines(rt: HostRuntime) {
 
 #[test]
 fn bounds(rt: HostRuntime) {
-    assert!(rt; read_any_setup(b"fair bound 1").is_none());
-    assert!(rt; read_any_setup(b"unfair bound 1").is_none());
-    assert_eq!(rt; read_any_setup(b"unfair"), plain(Order::Unfair, None));
-    assert_eq!(rt; read_any_setup(b"transfer"), plain(Order::Transfer, None));
+    assert!(rt; read_setup(b"fair bound 1").is_none());
+    assert!(rt; read_setup(b"unfair bound 1").is_none());
+    assert_eq!(rt; read_setup(b"unfair"), plain(Order::Unfair, None));
+    assert_eq!(rt; read_setup(b"transfer"), plain(Order::Transfer, None));
     assert_eq!(rt;
-        read_any_setup(b"transfer bound 1"),
+        read_setup(b"transfer bound 1"),
         plain(Order::Transfer, Some(1))
     );
     let most = Some(1048576);
     assert_eq!(rt;
-        read_any_setup(b"transfer bound 1048576"),
+        read_setup(b"transfer bound 1048576"),
         plain(Order::Transfer, most)
     );
-    assert!(rt; read_any_setup(b"transfer bound 0").is_none());
-    assert!(rt; read_any_setup(b"transfer bound 1048577").is_none());
-    assert!(rt; read_any_setup(b"transfer bound 1 first 1").is_none());
-}
-
-#[test]
-fn served_places(rt: HostRuntime) {
-    assert!(rt; is_place_served(Order::Fair));
-    assert_eq!(rt; read_setup(b"unfair"), plain(Order::Unfair, None));
-    assert_eq!(rt;
-        read_setup(b"transfer").is_some(),
-        is_place_served(Order::Transfer)
-    );
-    assert!(rt; read_setup(b"fair bound 1").is_none());
-    assert!(rt; read_setup(b"unfair bound 1").is_none());
+    assert!(rt; read_setup(b"transfer bound 0").is_none());
+    assert!(rt; read_setup(b"transfer bound 1048577").is_none());
+    assert!(rt; read_setup(b"transfer bound 1 first 1").is_none());
 }

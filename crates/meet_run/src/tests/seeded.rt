@@ -9,6 +9,14 @@ use std::alloc::{AllocError, Global};
 use std::str;
 use std::test::Fail;
 
+/// What a script is about.
+#[derive(Clone, Copy, PartialEq, Eq, Debug)]
+enum Place {
+    Fair,
+    Unfair,
+    Transfer,
+}
+
 /// A number below this many.
 fn below(random: &mut Pcg32, many: u32) -> u32
     requires { 0 < many }
@@ -21,10 +29,13 @@ fn push_number(text: &mut Vec<u8>, number: u64) -> Result<(), AllocError> {
     text.extend_from_slice(buffer.format(number).as_bytes())
 }
 
-/// A first line: four seats, few records, and few tickets left.
-fn push_place(text: &mut Vec<u8>, random: &mut Pcg32) -> Result<(), AllocError> {
-    let unfair = below(random, 2) == 0;
-    text.extend_from_slice(if unfair { b"unfair" } else { b"fair" })?;
+/// A first line: four seats, few records, few tickets left, and a small bound in most transfer queues.
+fn push_place(text: &mut Vec<u8>, random: &mut Pcg32, place: Place) -> Result<(), AllocError> {
+    text.extend_from_slice(match place {
+        Place::Fair => b"fair",
+        Place::Unfair => b"unfair",
+        Place::Transfer => b"transfer",
+    })?;
     text.extend_from_slice(b" seats 4 cap ")?;
     push_number(text, 1 + u64::from(below(random, 120)))?;
     text.extend_from_slice(b" first ")?;
@@ -32,12 +43,21 @@ fn push_place(text: &mut Vec<u8>, random: &mut Pcg32) -> Result<(), AllocError> 
         text,
         9_223_372_036_854_775_807 - u64::from(below(random, 120)),
     )?;
+    if matches!(place, Place::Transfer) && below(random, 3) > 0 {
+        text.extend_from_slice(b" bound ")?;
+        push_number(text, 1 + u64::from(below(random, 3)))?;
+    }
     text.extend_from_slice(b"\n")
 }
 
 /// A verb by chance, with its number.
-fn push_verb(text: &mut Vec<u8>, random: &mut Pcg32) -> Result<(), AllocError> {
-    let word: &[u8] = match below(random, 16) {
+fn push_verb(text: &mut Vec<u8>, random: &mut Pcg32, place: Place) -> Result<(), AllocError> {
+    let verbs = match place {
+        Place::Fair => 16,
+        Place::Unfair => 16,
+        Place::Transfer => 20,
+    };
+    let word: &[u8] = match below(random, verbs) {
         0 | 1 => b" put ",
         2 => b" offer ",
         3 | 4 => b" take",
@@ -47,7 +67,10 @@ fn push_verb(text: &mut Vec<u8>, random: &mut Pcg32) -> Result<(), AllocError> {
         11 => b" expire",
         12 | 13 => b" interrupt ",
         14 => b" drain ",
-        _ => b" size",
+        15 => b" size",
+        16 | 17 => b" transfer ",
+        18 => b" try ",
+        _ => b" consumers",
     };
     text.extend_from_slice(word)?;
     if word == b" interrupt ".as_slice() {
@@ -63,21 +86,27 @@ fn push_verb(text: &mut Vec<u8>, random: &mut Pcg32) -> Result<(), AllocError> {
 fn script_of(alloc: Global, seed: u64, calls: u32) -> Result<Vec<u8>, AllocError> {
     let mut random = Pcg32::new(seed, 54);
     let mut text = Vec::new(alloc);
-    push_place(&mut text, &mut random)?;
+    let place = match below(&mut random, 3) {
+        0 => Place::Fair,
+        1 => Place::Unfair,
+        _ => Place::Transfer,
+    };
+    push_place(&mut text, &mut random, place)?;
     for _ in 0..calls {
         let seat = below(&mut random, 20);
         push_number(&mut text, u64::from(if seat == 19 { 4 } else { seat % 4 }))?;
-        push_verb(&mut text, &mut random)?;
+        push_verb(&mut text, &mut random, place)?;
         text.extend_from_slice(b"\n")?;
     }
     Ok(text)
 }
 
 /// What every run is to show at least once: deeds in the traces, refusals in the replies.
-const DEEDS: [&str; 14] = [
+const DEEDS: [&str; 15] = [
     " give-waits ",
     " give-meets ",
     " give-fails ",
+    " give-kept ",
     " take-waits\n",
     " take-meets ",
     " take-fails\n",
@@ -105,7 +134,7 @@ const REPLIES: [&str; 8] = [
 #[test]
 fn what_chance_records_is_legal(rt: HostRuntime) -> Result<(), Fail> {
     let alloc = rt.alloc();
-    let mut deeds = [false; 14];
+    let mut deeds = [false; 15];
     let mut shown = [false; 8];
     let mut replies = Vec::new(alloc);
     let mut trace = Vec::new(alloc);
@@ -130,7 +159,7 @@ fn what_chance_records_is_legal(rt: HostRuntime) -> Result<(), Fail> {
             *seen = *seen || told.contains(*reply);
         }
     }
-    assert!(rt; deeds == [true; 14]);
+    assert!(rt; deeds == [true; 15]);
     assert!(rt; shown == [true; 8]);
     Ok(())
 }

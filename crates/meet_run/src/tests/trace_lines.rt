@@ -1,4 +1,4 @@
-use crate::trace_grammar::{read_any_head, read_head, read_record};
+use crate::trace_grammar::{read_head, read_record};
 use crate::trace_wording::{push_head, push_illegal, push_record};
 use meet_history::Why;
 use meet_tickets::{Cause, Deed, Kind, Order, Record, SeatNo, Side, Ticket};
@@ -141,13 +141,10 @@ fn bounded(bound: u64) -> Option<Kind> {
 fn heads(rt: HostRuntime) {
     assert_eq!(rt; read_head(b"trace 1 fair"), plain(Order::Fair));
     assert_eq!(rt; read_head(b"trace 1 unfair"), plain(Order::Unfair));
-    // These places aren't served.
-    assert!(rt; read_head(b"trace 1 transfer").is_none());
-    assert!(rt; read_head(b"trace 1 transfer bound 3").is_none());
-    assert_eq!(rt; read_any_head(b"trace 1 transfer"), plain(Order::Transfer));
-    assert_eq!(rt; read_any_head(b"trace 1 transfer bound 3"), bounded(3));
+    assert_eq!(rt; read_head(b"trace 1 transfer"), plain(Order::Transfer));
+    assert_eq!(rt; read_head(b"trace 1 transfer bound 3"), bounded(3));
     assert_eq!(rt;
-        read_any_head(b"trace 1 transfer bound 1048576"),
+        read_head(b"trace 1 transfer bound 1048576"),
         bounded(1048576)
     );
 }
@@ -163,11 +160,10 @@ fn bad_heads(rt: HostRuntime) {
     assert!(rt; read_head(b"trace  1 fair").is_none());
     assert!(rt; read_head(b"trace 1 Fair").is_none());
     assert!(rt; read_head(b"trace 1 fair bound 3").is_none());
-    assert!(rt; read_any_head(b"trace 1 fair bound 3").is_none());
-    assert!(rt; read_any_head(b"trace 1 transfer bound 0").is_none());
-    assert!(rt; read_any_head(b"trace 1 transfer bound 03").is_none());
-    assert!(rt; read_any_head(b"trace 1 transfer bound 1048577").is_none());
-    assert!(rt; read_any_head(b"trace 1 transfer bound 3 ").is_none());
+    assert!(rt; read_head(b"trace 1 transfer bound 0").is_none());
+    assert!(rt; read_head(b"trace 1 transfer bound 03").is_none());
+    assert!(rt; read_head(b"trace 1 transfer bound 1048577").is_none());
+    assert!(rt; read_head(b"trace 1 transfer bound 3 ").is_none());
 }
 
 /// Compares the first line of a trace of this kind with what it should be.

@@ -6,7 +6,13 @@ use std::process::Abort;
 use std::test::Fail;
 
 /// What is written of a trace, and how its check ends.
-fn check(rt: &impl Abort, alloc: Global, trace: &[u8], text: &[u8], end: Result<bool, RunFault>) {
+pub fn check(
+    rt: &impl Abort,
+    alloc: Global,
+    trace: &[u8],
+    text: &[u8],
+    end: Result<bool, RunFault>,
+) {
     let mut reader = trace;
     let mut written = Vec::new(alloc);
     let outcome = check_trace(alloc, &mut reader, &mut written);
@@ -15,7 +21,13 @@ fn check(rt: &impl Abort, alloc: Global, trace: &[u8], text: &[u8], end: Result<
 }
 
 /// The trace of a script, and how its run ends.
-fn run(rt: &impl Abort, alloc: Global, script: &[u8], trace: &[u8], end: Result<bool, RunFault>) {
+pub fn run(
+    rt: &impl Abort,
+    alloc: Global,
+    script: &[u8],
+    trace: &[u8],
+    end: Result<bool, RunFault>,
+) {
     let mut reader = script;
     let mut written = Vec::new(alloc);
     let outcome = run_trace(alloc, &mut reader, &mut written);
@@ -136,8 +148,8 @@ fn traces_that_are_none(rt: HostRuntime) {
     );
     check(&rt, alloc, b"", b"", bad_trace(1));
     check(&rt, alloc, b"fair\n", b"", bad_trace(1));
-    check(&rt, alloc, b"trace 1 transfer\n", b"", bad_trace(1));
-    check(&rt, alloc, b"trace 1 transfer bound 2\n", b"", bad_trace(1));
+    check(&rt, alloc, b"trace 1 fair bound 2\n", b"", bad_trace(1));
+    check(&rt, alloc, b"trace 1 transfer bound 0\n", b"", bad_trace(1));
     // It wins over an illegal record before it.
     check(
         &rt,
@@ -172,7 +184,7 @@ fn traces_of_scripts(rt: HostRuntime) {
 fn traces_of_faulty_scripts(rt: HostRuntime) {
     let alloc = rt.alloc();
     run(&rt, alloc, b"", b"", bad_line(1));
-    run(&rt, alloc, b"transfer\n", b"", bad_line(1));
+    run(&rt, alloc, b"unfair bound 2\n", b"", bad_line(1));
     run(&rt, alloc, b"fair\n0 put\n", b"trace 1 fair\n", bad_line(2));
     run(
         &rt,

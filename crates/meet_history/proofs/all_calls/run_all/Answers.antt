@@ -1,7 +1,6 @@
 use Rattle.std.proofs.Common.{◌≡◌, ◌∙◌, ap, refl, subst, sym}
 use Rattle.meet_tickets.specs.ByLists.{IsLegal}
-use Rattle.meet_history.specs.DualSteps.{kind_of}
-use Rattle.meet_history.proofs.Calling.{kind-is}
+use Rattle.meet_history.specs.declared.setups.Setup.{Setup}
 use Rattle.meet_history.proofs.ManyTurns.{part-step}
 use Rattle.meet_history.proofs.all_calls.run_all.Goals as goal
 
@@ -17,5 +16,5 @@ loop-call-preserved c =
 
 pub returns-clause-legal : goal.returns-clause-legal
 returns-clause-legal c =
-    let kind : kind_of c.loop-call.stepper.setup.kind.order ≡ c.args.setup.kind = ap (λ s. kind_of s.kind.order) c.loop-call.invariant.setup ∙ kind-is c.args.setup.kind c.requires.served c.requires.limits.bound in
-    subst (λ k. IsLegal k c.into_records.result.items) kind (subst (IsLegal (kind_of c.loop-call.stepper.setup.kind.order)) (sym c.into_records.ensures.records) c.into_records.ensures.legal)
+    let kind : c.loop-call.stepper.setup.kind ≡ c.args.setup.kind = ap (λ (s : Setup). s.kind) c.loop-call.invariant.setup in
+    subst (λ k. IsLegal k c.into_records.result.items) kind (subst (IsLegal c.loop-call.stepper.setup.kind) (sym c.into_records.ensures.records) c.into_records.ensures.legal)

@@ -1,12 +1,12 @@
 use Rattle.std.proofs.Common.{◌∙◌, ap}
 use Rattle.meet_run.specs.Grammar.{setup_of}
-use Rattle.meet_run.specs.Spelling.{FitsSetup}
+use Rattle.meet_history.specs.Limits.{IsInLimits}
 use Rattle.meet_run.proofs.ScriptLemmas.{setup-too_long}
 use Rattle.meet_run.proofs.NextLemmas.{next-is, fits-read}
 use Rattle.meet_run.proofs.next.next_setup.Goals as goal
 
 pub returns-clause-fits : goal.returns-clause-fits
-returns-clause-fits g c = fits-read FitsSetup c.next_of.result c.read_line-came.result c.read_setup.result c.next_of.ensures c.read_setup.ensures.fits
+returns-clause-fits g c = fits-read IsInLimits c.next_of.result c.read_line-came.result c.read_setup.result c.next_of.ensures c.read_setup.ensures.fits
 
 pub returns-clause-next : goal.returns-clause-next
 returns-clause-next g c =

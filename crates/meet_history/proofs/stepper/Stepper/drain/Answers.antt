@@ -1,7 +1,7 @@
 use Rattle.std.proofs.Common.{◌≡◌, ◌+◌, ◌++◌, ◌∷◌, [], ◌∙◌, refl, sym, ap, min, map, length, append_assoc, append-nil, length-append, Some, rules, ℕ}
 use Rattle.std.proofs.lemmas.List.{length-map}
 use Rattle.meet_tickets.specs.declared.records.Deed.{Deed}
-use Rattle.meet_history.specs.declared.told.DualAnswer.{DualAnswer}
+use Rattle.meet_history.specs.declared.told.QueueAnswer.{QueueAnswer}
 use Rattle.meet_history.specs.declared.replies.Outcome.TheVariants.{Drained}
 use Rattle.meet_history.specs.Received.{Received}
 use Rattle.meet_history.specs.OneThread.{Turn, drain, drain_refusal, refused}
@@ -41,7 +41,7 @@ invariant_of-self-2 c =
     let book = c.self.inside.book in
     let k = min c.args.most (dual_available book.object.queue) in
     let end = drained c.self.inside.setup c.args.seat book.object c.drain.new.self.object book.cap (length book.records) k c.in-Ok.got.items c.self.invariant.2 c.self.invariant.1 c.self.invariant.0 c.in-Ok.ensures.admitted c.in-Ok.ensures.count c.in-Ok.ensures.places c.in-Ok.ensures.polls in
-    (end.order, end.count, c.drain.ensures.cap ∙ c.self.invariant.2)
+    (end.kind, end.count, c.drain.ensures.cap ∙ c.self.invariant.2)
 
 pub returns-clause-replies : goal.returns-clause-replies
 returns-clause-replies c =
@@ -51,8 +51,8 @@ returns-clause-replies c =
     let count : c.min-count.result ≡ k = search rules in
     rw (← c.self.view_is) (c.push_reserved-2.ensures.items
     ∙ (λ i. c.push_polls.ensures.replies i ++ record { seat = c.args.seat; outcome = Drained (count i) } ∷ [])
-    ∙ (λ i. (c.reserve.ensures.items i ++ map (λ (one : DualAnswer ℕ × Received Deed). poll_reply c.args.seat one.1) (c.as_slice.ensures.value i)) ++ record { seat = c.args.seat; outcome = Drained k } ∷ [])
-    ∙ append_assoc c.args.replies.now.items (map (λ (one : DualAnswer ℕ × Received Deed). poll_reply c.args.seat one.1) c.in-Ok.got.items) (record { seat = c.args.seat; outcome = Drained k } ∷ [])
+    ∙ (λ i. (c.reserve.ensures.items i ++ map (λ (one : QueueAnswer ℕ × Received Deed). poll_reply c.args.seat one.1) (c.as_slice.ensures.value i)) ++ record { seat = c.args.seat; outcome = Drained k } ∷ [])
+    ∙ append_assoc c.args.replies.now.items (map (λ (one : QueueAnswer ℕ × Received Deed). poll_reply c.args.seat one.1) c.in-Ok.got.items) (record { seat = c.args.seat; outcome = Drained k } ∷ [])
     ∙ ap (λ (t : Turn). c.args.replies.now.items ++ t.replies) (sym end.turn))
 
 pub returns-clause-takes : goal.returns-clause-takes

@@ -1,0 +1,20 @@
+use Rattle.std.proofs.Common.{◌≡◌, ◌∙◌, ◌++◌, ◌∷◌, [], ap, sym, arith, subst, All, IsTrue}
+use Rattle.std.proofs.lemmas.List.Elements.{All-push}
+use Rattle.meet_history.specs.declared.calls.Call.{Call}
+use Rattle.std.proofs.lemmas.List.FromFn.{map-range_with_len_more}
+use Rattle.meet_history.specs.Served.{serves}
+use Rattle.meet_bench.specs.Calls.{call_of, calls_of}
+use Rattle.meet_bench.proofs.Served.{served-by}
+use Rattle.meet_bench.proofs.calls.make_calls.Goals as goal
+
+pub loop-number-preserved : goal.loop-number-preserved
+loop-number-preserved c =
+    let n = c.loop-number.number in
+    let call : Call = record { seat = c.call_of-seat.result.seat; verb = c.call_of-seat.result.verb } in
+    let pushed : c.push.new.self.items ≡ c.loop-number.calls.items ++ call ∷ [] = c.in_ok-push.ensures.items in
+    record {
+      calls = pushed ∙ ap (λ xs. xs ++ call ∷ []) c.loop-number.invariant.calls ∙ ap (λ call. calls_of c.args.shape n ++ call ∷ []) c.call_of-seat.ensures.call ∙ sym (map-range_with_len_more (call_of c.args.shape) 0 n n (omega arith));
+      served = λ order.
+          let P : Call → Type 0 = λ one. IsTrue (serves order one.verb) in
+          subst (All P) (sym pushed) (All-push P c.loop-number.calls.items call (c.loop-number.invariant.served order) (served-by order call.verb c.call_of-seat.ensures.served));
+    }

@@ -1,0 +1,90 @@
+//! What calls write, and what is found of it.
+
+ghost use Rattle.std.specs.Prelude.{◌≡◌, All, IsTrue, IfOk, IfErr};
+ghost use Rattle.meet_tickets.specs.ByLists.{IsLegal};
+ghost use Rattle.meet_tickets.specs.declared.refusals.Refusal.TheVariants.{Memory};
+ghost use Rattle.meet_history.specs.OneThread.{records};
+ghost use Rattle.meet_history.specs.Served.{serves};
+ghost use Rattle.meet_history.specs.Limits.{IsInLimits};
+ghost use Rattle.meet_history.specs.Standings.{standing_in};
+ghost use Rattle.meet_bench.specs.Findings.{recorded_of};
+
+use crate::calls::{Shape, make_calls};
+use crate::findings::Finding;
+use meet_history::{Call, CheckFault, Setup, Standing, check, run_all};
+use meet_tickets::{Deed, Kind, Record, Refusal};
+use std::alloc::Global;
+
+/// Makes these calls so many times, at least once, each time on a new place, and gives the records that they write.
+fn record_calls(
+    alloc: Global,
+    setup: Setup,
+    calls: &[Call],
+    times: u64,
+) -> Result<Vec<Record<Deed>>, Refusal>
+    requires verbs { All (λ call. IsTrue (serves setup.kind.order call.verb)) calls.now }
+    requires limits { IsInLimits setup }
+    ensures records { IfOk result (λ written. written.items ≡ records setup calls.now) }
+    ensures legal { IfOk result (λ written. IsLegal setup.kind written.items) }
+    ensures memory { IfErr result (λ why. why ≡ Memory) }
+{
+    for _ in 1..times {
+        run_all(alloc, setup, calls)?;
+    }
+    let (_, written) = run_all(alloc, setup, calls)?;
+    Ok(written)
+}
+
+/// Checks these records, which are legal: what stands at their end.
+fn check_once(alloc: Global, kind: Kind, records: &[Record<Deed>]) -> Result<Standing, Refusal>
+    requires { IsLegal kind records.now }
+    ensures standing { IfOk result (λ standing. standing ≡ standing_in records.now) }
+    ensures memory { IfErr result (λ why. why ≡ Memory) }
+{
+    match check(alloc, kind, records) {
+        Ok(standing) => Ok(standing),
+        Err(CheckFault::Illegal(_, _)) => unreachable!(),
+        Err(CheckFault::Memory) => Err(Refusal::Memory),
+    }
+}
+
+/// Checks these records, which are legal, so many times, at least once: what stands at their end.
+fn check_records(
+    alloc: Global,
+    kind: Kind,
+    records: &[Record<Deed>],
+    times: u64,
+) -> Result<Standing, Refusal>
+    requires { IsLegal kind records.now }
+    ensures standing { IfOk result (λ standing. standing ≡ standing_in records.now) }
+    ensures memory { IfErr result (λ why. why ≡ Memory) }
+{
+    for _ in 1..times {
+        check_once(alloc, kind, records)?;
+    }
+    check_once(alloc, kind, records)
+}
+
+/// Makes so many calls of this shape on a place of this setup, `runs` times, and checks what they write, `checks` times,
+/// each at least once. The only refusal is Memory.
+pub fn find_history(
+    alloc: Global,
+    setup: Setup,
+    shape: Shape,
+    count: u64,
+    runs: u64,
+    checks: u64,
+) -> Result<Finding, Refusal>
+    requires limits { IsInLimits setup }
+    ensures finding { IfOk result (λ finding. finding ≡ recorded_of setup shape count) }
+    ensures memory { IfErr result (λ why. why ≡ Memory) }
+{
+    let calls = match make_calls(alloc, shape, count) {
+        Ok(calls) => calls,
+        Err(_) => return Err(Refusal::Memory),
+    };
+    let written = record_calls(alloc, setup, calls.as_slice(), runs)?;
+    let records = written.as_slice();
+    let standing = check_records(alloc, setup.kind, records, checks)?;
+    Ok(Finding::Recorded(count, records.len() as u64, standing))
+}

@@ -1,5 +1,0 @@
-pub mod Counts
-pub mod Following
-pub mod Moves
-pub mod Removed
-pub mod Sound

@@ -1,3 +1,0 @@
-pub mod Answers
-pub mod Queue
-pub mod Steps

@@ -1,0 +1,18 @@
+use Rattle.std.proofs.Common.{◌∙◌, sym, refl}
+use Rattle.meet_tickets.proofs.Keeping.{kept-joined}
+use Rattle.meet_line.proofs.Sound.{IsSound-queued}
+use Rattle.meet_line.proofs.meetings.Meetings.wait.Goals as goal
+
+pub invariant_of-self : goal.invariant_of-self
+invariant_of-self g c = (
+  rw (c.push_back.ensures.entries, c.put.ensures.holds) (IsSound-queued g.L.Line.order c.args.seat c.args.ticket c.args.item c.self.invariant.0
+      (rw (← c.self.view_is) at c.requires.free)
+      (rw (← c.self.view_is) at c.requires.new)
+      (rw (← c.self.view_is) at c.requires.used)
+      (rw (← c.self.view_is) at c.requires.alone)),
+  c.self.invariant.1 ∙ sym (kept-joined _ _ _ c.push_back.ensures.entries refl),
+  c.self.invariant.2,
+)
+
+pub returns-clause-kept : goal.returns-clause-kept
+returns-clause-kept g c = rw (← c.self.view_is) (kept-joined _ _ _ c.push_back.ensures.entries refl)

@@ -1,0 +1,105 @@
+//! The requests of a queue, once they are admitted: none of them fails.
+
+ghost use Rattle.std.specs.Prelude.{◌≡◌, ◌<◌, ◌≤◌, None};
+ghost use Rattle.meet_tickets.specs.Meeting.{kept_count};
+ghost use Rattle.meet_tickets.specs.Refusals.{refusal_of};
+
+use crate::answers::{Gave, Offered, Polled, Put, Took};
+use crate::line::Line;
+use crate::meetings::Meetings;
+use meet_tickets::{Entry, Marked, SeatNo};
+
+impl<T: Marked, L: Line<Entry<T>>> Meetings<T, L> {
+    ghost use Rattle.meet_line.specs.Queue.{seats_of, count_of, places_of};
+    ghost use Rattle.meet_line.specs.Steps.{GiveStep, PutStep, TakeStep, OfferStep, PollStep};
+
+    /// A give that is admitted and has room.
+    pub fn give_admitted(&mut self, seat: SeatNo, item: T) -> Gave<T>
+        requires admitted { refusal_of (count_of self.old) self.old.next (seats_of self.old) seat ≡ None }
+        requires room { 0 < self.old.room }
+        ensures step { GiveStep T.mark_of L.order self.old seat item result self.new }
+        ensures places { places_of self.new ≡ places_of self.old }
+        ensures kept { kept_count self.new.line ≡ kept_count self.old.line }
+    {
+        let ticket = self.draw();
+        match self.hand(ticket, item) {
+            Ok(with) => Gave::Meets(ticket, with),
+            Err(item) if self.seats.is_flagged(seat) => {
+                self.seats.set_flag(seat, false);
+                Gave::EntryInterrupted(ticket, item)
+            }
+            Err(item) => {
+                self.wait(seat, ticket, Some(item));
+                Gave::Waits(ticket)
+            }
+        }
+    }
+
+    /// A put that is admitted and has room.
+    pub fn put_admitted(&mut self, seat: SeatNo, item: T, bound: Option<u64>) -> Put<T>
+        requires admitted { refusal_of (count_of self.old) self.old.next (seats_of self.old) seat ≡ None }
+        requires room { 0 < self.old.room }
+        ensures step { PutStep T.mark_of L.order bound self.old seat item result self.new }
+        ensures places { places_of self.new ≡ places_of self.old }
+    {
+        let ticket = self.draw();
+        match self.hand(ticket, item) {
+            Ok(with) => Put::Meets(ticket, with),
+            Err(item) if self.is_full(bound) => Put::Fails(ticket, item),
+            Err(item) => {
+                self.keep(seat, ticket, item);
+                Put::Kept(ticket)
+            }
+        }
+    }
+
+    /// A take that is admitted and has room.
+    pub fn take_admitted(&mut self, seat: SeatNo) -> Took<T>
+        requires admitted { refusal_of (count_of self.old) self.old.next (seats_of self.old) seat ≡ None }
+        requires room { 0 < self.old.room }
+        ensures step { TakeStep T.mark_of L.order self.old seat result self.new }
+        ensures places { places_of self.new ≡ places_of self.old }
+        ensures kept { kept_count self.new.line ≤ kept_count self.old.line }
+    {
+        let ticket = self.draw();
+        match self.fetch(ticket) {
+            Some((with, item)) => Took::Meets(ticket, with, item),
+            None if self.seats.is_flagged(seat) => {
+                self.seats.set_flag(seat, false);
+                Took::EntryInterrupted(ticket)
+            }
+            None => {
+                self.wait(seat, ticket, None);
+                Took::Waits(ticket)
+            }
+        }
+    }
+
+    /// An offer that is admitted.
+    pub fn offer_admitted(&mut self, seat: SeatNo, item: T) -> Offered<T>
+        requires { refusal_of (count_of self.old) self.old.next (seats_of self.old) seat ≡ None }
+        ensures step { OfferStep T.mark_of L.order self.old item result self.new }
+        ensures places { places_of self.new ≡ places_of self.old }
+        ensures kept { kept_count self.new.line ≡ kept_count self.old.line }
+    {
+        let ticket = self.draw();
+        match self.hand(ticket, item) {
+            Ok(with) => Offered::Meets(ticket, with),
+            Err(item) => Offered::Fails(ticket, item),
+        }
+    }
+
+    /// A poll that is admitted.
+    pub fn poll_admitted(&mut self, seat: SeatNo) -> Polled<T>
+        requires { refusal_of (count_of self.old) self.old.next (seats_of self.old) seat ≡ None }
+        ensures step { PollStep T.mark_of L.order self.old result self.new }
+        ensures places { places_of self.new ≡ places_of self.old }
+        ensures kept { kept_count self.new.line ≤ kept_count self.old.line }
+    {
+        let ticket = self.draw();
+        match self.fetch(ticket) {
+            Some((with, item)) => Polled::Meets(ticket, with, item),
+            None => Polled::Fails(ticket),
+        }
+    }
+}

@@ -1,0 +1,143 @@
+//! The moves that the steps of a queue are made of.
+
+ghost use Rattle.std.specs.Prelude.{◌≡◌, ◌≢◌, ℕ, ◌+◌, ◌^◌, ◌<◌, ◌≤◌, ⊤, Some, None, IfOk, IfErr, IfSome, IfNone, MatchOption, All, true, false};
+ghost use Rattle.meet_tickets.specs.Meeting.{partner, kept_count};
+ghost use Rattle.meet_tickets.specs.BySeat.{queued, paired, open_ticket, entry_of, left};
+ghost use Rattle.meet_tickets.specs.declared.lines.Entry.{Entry};
+ghost use Rattle.meet_tickets.specs.declared.lines.Hold.TheVariants.{Free};
+ghost use Rattle.meet_tickets.specs.declared.places.Side.TheVariants.{Giver, Taker};
+
+use crate::line::Line;
+use crate::meeting::{collect, meet, release, serve};
+use crate::meetings::Meetings;
+use meet_tickets::{Entry, Hold, Marked, SeatNo, Side, Ticket};
+
+impl<T: Marked, L: Line<Entry<T>>> Meetings<T, L> {
+    ghost use Rattle.meet_line.specs.Queue.{seats_of, count_of, places_of};
+    ghost use Rattle.meet_line.specs.Steps.{Leaves};
+
+    /// Uses up the next ticket.
+    pub(super) fn draw(&mut self) -> Ticket
+        requires { self.old.next < 2 ^ 63 }
+        ensures ticket { result ≡ self.old.next }
+        ensures newest { All (λ e. e.ticket < result) self.old.line }
+        ensures unopened { (seat : ℕ) → open_ticket ((seats_of self.old).holds seat) ≢ Some result }
+        ensures countable { kept_count self.old.line + 1 < self.new.next }
+        ensures next { self.new ≡ record self.old { next = self.old.next + 1 } }
+    {
+        let Some(ticket) = Ticket::new(self.next) else {
+            unreachable!()
+        };
+        self.next += 1;
+        ticket
+    }
+
+    /// Hands the item to the taker that is met, and answers its ticket; without one the item comes back.
+    pub(super) fn hand(&mut self, ticket: Ticket, item: T) -> Result<Ticket, T>
+        ensures met { IfOk result (λ with. (e : Entry T) × (partner L.order self.old.line Giver ≡ Some e) × (with ≡ e.ticket) × (e.item ≡ None) × Leaves self.old self.new (paired T.mark_of L.order (seats_of self.old) ticket (Some item) e)) }
+        ensures places { IfOk result (λ _. places_of self.new ≡ places_of self.old) }
+        ensures kept { kept_count self.new.line ≡ kept_count self.old.line }
+        ensures alone { IfErr result (λ _. partner L.order self.old.line Giver ≡ None) }
+        ensures back { IfErr result (λ back. back ≡ item) }
+        ensures unchanged { IfErr result (λ _. self.new ≡ self.old) }
+    {
+        match meet(&mut self.line, Side::Giver) {
+            Some(taker) => Ok(serve(&mut self.seats, taker, ticket, item)),
+            None => Err(item),
+        }
+    }
+
+    /// Fetches the item of the giver that is met, with its ticket.
+    pub(super) fn fetch(&mut self, ticket: Ticket) -> Option<(Ticket, T)>
+        ensures met { IfSome result (λ got. (e : Entry T) × (partner L.order self.old.line Taker ≡ Some e) × (got.0 ≡ e.ticket) × (e.item ≡ Some got.1) × Leaves self.old self.new (paired T.mark_of L.order (seats_of self.old) ticket None e)) }
+        ensures places { places_of self.new ≡ places_of self.old }
+        ensures kept { kept_count self.new.line ≤ kept_count self.old.line }
+        ensures alone { IfNone result (partner L.order self.old.line Taker ≡ None) }
+        ensures unchanged { IfNone result (self.new ≡ self.old) }
+    {
+        let giver = meet(&mut self.line, Side::Taker)?;
+        if giver.waits {
+            Some(collect(&mut self.seats, giver, ticket))
+        } else {
+            self.kept -= 1;
+            Some(release(giver))
+        }
+    }
+
+    /// The seat's new ticket goes to the line's end.
+    pub(super) fn wait(&mut self, seat: SeatNo, ticket: Ticket, item: Option<T>)
+        requires seat { seat < count_of self.old }
+        requires free { (seats_of self.old).holds seat ≡ Free }
+        requires room { 0 < self.old.room }
+        requires new { All (λ e. e.ticket < ticket) self.old.line }
+        requires used { ticket < self.old.next }
+        requires alone { MatchOption item (partner L.order self.old.line Taker ≡ None) (λ _. partner L.order self.old.line Giver ≡ None) }
+        ensures queued { Leaves self.old self.new (queued (seats_of self.old) seat ticket item true) }
+        ensures kept { kept_count self.new.line ≡ kept_count self.old.line }
+        ensures places { places_of self.new ≡ places_of self.old }
+    {
+        self.seats.put(seat, Hold::Waiting(ticket));
+        self.line.push_back(Entry {
+            ticket,
+            seat,
+            item,
+            waits: true,
+        });
+    }
+
+    /// The giver's item goes to the line's end and is kept there; its seat has nothing open.
+    pub(super) fn keep(&mut self, seat: SeatNo, ticket: Ticket, item: T)
+        requires room { 0 < self.old.room }
+        requires new { All (λ e. e.ticket < ticket) self.old.line }
+        requires unopened { (seat : ℕ) → open_ticket ((seats_of self.old).holds seat) ≢ Some ticket }
+        requires used { ticket < self.old.next }
+        requires countable { kept_count self.old.line + 1 < self.old.next }
+        requires alone { partner L.order self.old.line Giver ≡ None }
+        ensures queued { Leaves self.old self.new (queued (seats_of self.old) seat ticket (Some item) false) }
+        ensures places { places_of self.new ≡ places_of self.old }
+    {
+        self.kept += 1;
+        self.line.push_back(Entry {
+            ticket,
+            seat,
+            item: Some(item),
+            waits: false,
+        });
+    }
+
+    /// Whether as many items are kept as the bound says.
+    pub(super) fn is_full(&self, bound: Option<u64>) -> bool
+        ensures full { result ≡ true → MatchOption bound ⊥ (λ most. most ≤ kept_count self.now.line) }
+        ensures not_full { result ≡ false → MatchOption bound ⊤ (λ most. kept_count self.now.line < most) }
+    {
+        match bound {
+            None => false,
+            Some(most) => self.kept >= most,
+        }
+    }
+
+    /// Takes what stands in the line for this seat out of it, and ends its ticket.
+    pub(super) fn withdraw(&mut self, seat: SeatNo) -> Option<Entry<T>>
+        requires { seat < count_of self.old }
+        ensures entry { result ≡ entry_of self.old.line ((seats_of self.old).holds seat) }
+        ensures left { IfSome result (λ entry. Leaves self.old self.new (left (seats_of self.old) seat entry.ticket)) }
+        ensures places { places_of self.new ≡ places_of self.old }
+        ensures waited { IfSome result (λ entry. entry.waits ≡ true) }
+        ensures apart { IfSome result (λ entry. All (λ e. e.ticket ≢ entry.ticket) self.new.line) }
+        ensures used { IfSome result (λ entry. entry.ticket < self.new.next) }
+        ensures kept { kept_count self.new.line ≡ kept_count self.old.line }
+        ensures unchanged { IfNone result (self.new ≡ self.old) }
+    {
+        let ticket = match self.seats.hold(seat) {
+            Hold::Waiting(ticket) => *ticket,
+            _ => return None,
+        };
+        match self.line.remove(ticket) {
+            None => None,
+            Some(entry) => {
+                self.seats.put(seat, Hold::Free);
+                Some(entry)
+            }
+        }
+    }
+}

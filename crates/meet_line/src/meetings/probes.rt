@@ -1,0 +1,118 @@
+//! What a queue shows of itself, each at constant cost.
+
+ghost use Rattle.std.specs.Prelude.{◌≡◌, ◌^◌, ◌≤◌, ◌-◌, option_map, slice_get};
+ghost use Rattle.std.specs.Option.{option_and_then};
+ghost use Rattle.meet_tickets.specs.Meeting.{waiting_count, kept_count, count_on};
+ghost use Rattle.meet_tickets.specs.BySeat.{open_ticket, owed_of, settled_of};
+ghost use Rattle.meet_tickets.specs.declared.places.Side.TheVariants.{Giver, Taker};
+
+use crate::line::Line;
+use crate::meetings::Meetings;
+use meet_tickets::{Entry, Marked, SeatNo, Side, Ticket};
+
+impl<T: Marked, L: Line<Entry<T>>> Meetings<T, L> {
+    ghost use Rattle.meet_line.specs.Queue.{seats_of, count_of, IsSound};
+
+    /// The seat's open ticket, if it has one.
+    pub fn open_ticket(&self, seat: SeatNo) -> Option<Ticket>
+        ensures { result ≡ open_ticket ((seats_of self.now).holds seat) }
+    {
+        if seat.number() < self.seats.count() {
+            self.seats.hold(seat).open_ticket()
+        } else {
+            None
+        }
+    }
+
+    /// How many seats there are.
+    pub fn seats(&self) -> u64
+        ensures { result ≡ count_of self.now }
+    {
+        self.seats.count()
+    }
+
+    /// How many requests that wait have room.
+    pub fn room(&self) -> u64
+        ensures { result ≡ self.now.room }
+    {
+        self.line.room()
+    }
+
+    /// How many tickets are open.
+    pub fn owed(&self) -> u64
+        ensures value { result ≡ owed_of (count_of self.now) (seats_of self.now).holds }
+        ensures few { result ≤ 1024 }
+    {
+        self.seats.owed()
+    }
+
+    /// How many open tickets stand in the line.
+    pub fn waiting(&self) -> u64
+        ensures { result ≡ waiting_count self.now.line }
+    {
+        self.line.len() - self.kept
+    }
+
+    /// How many items are kept in the line: their givers went on.
+    pub fn kept(&self) -> u64
+        ensures { result ≡ kept_count self.now.line }
+    {
+        self.kept
+    }
+
+    /// How many open tickets were met or cut, and await their follow-up.
+    pub fn uncollected(&self) -> u64
+        ensures { result ≡ settled_of (count_of self.now) (seats_of self.now).holds }
+    {
+        self.seats.settled()
+    }
+
+    /// How many givers stand in the line.
+    pub fn givers(&self) -> u64
+        ensures { result ≡ count_on Giver self.now.line }
+    {
+        let first = match self.line.first() {
+            None => return 0,
+            Some(first) => first,
+        };
+        if first.is_on(Side::Giver) {
+            self.line.len()
+        } else {
+            0
+        }
+    }
+
+    /// How many takers stand in the line.
+    pub fn takers(&self) -> u64
+        ensures { result ≡ count_on Taker self.now.line }
+    {
+        self.line.len() - self.givers()
+    }
+
+    /// The mark of the item that came first, where givers stand in the line.
+    pub fn first_mark(&self) -> Option<u64>
+        ensures { result ≡ option_and_then (λ e. option_map T.mark_of e.item) (slice_get self.now.line 0) }
+    {
+        let first = self.line.first()?;
+        match &first.item {
+            None => None,
+            Some(item) => Some(item.mark()),
+        }
+    }
+
+    /// How many tickets are left.
+    pub fn tickets_left(&self) -> u64
+        ensures { result ≡ 2 ^ 63 - self.now.next }
+    {
+        (1 << 63) - self.next
+    }
+
+    /// What is always true of a queue: each entry of its line has a used ticket, and is what its seat holds where it waits;
+    /// where it is kept it has an item, and no seat has its ticket open; no two share a ticket, and all have one side. It
+    /// does nothing.
+    pub fn stays_sound(&self)
+        ensures { IsSound self.now.line (seats_of self.now).holds self.now.next }
+    {
+        let _ = &self.line;
+    }
+}

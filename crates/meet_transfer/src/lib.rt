@@ -1,0 +1,11 @@
+//! The transfer queue of one thread: `java.util.concurrent.LinkedTransferQueue`, with each waiting call split into its
+//! request and its ending.
+#![tactic(auto)]
+
+mod transfer;
+
+pub use meet_line::{Followed, Gave, Interrupted, Offered, Polled, Put, TakenBack, Took};
+pub use transfer::Transfer;
+
+#[cfg(test)]
+mod tests;

@@ -1,0 +1,166 @@
+//! The transfer queue: givers that wait or leave their item in the line, and takers.
+
+ghost use Rattle.std.specs.Prelude.{◌≡◌, ◌^◌, ◌≤◌, ◌<◌, Some, None, IsOk, IfOk, IfErr, OnOk, OnErr, MatchOption};
+ghost use Rattle.meet_tickets.specs.BySeat.{nobody};
+ghost use Rattle.meet_tickets.specs.Refusals.{refusal_of};
+ghost use Rattle.meet_tickets.specs.declared.places.Order.TheVariants.{Transfer as TransferOrder};
+
+use meet_line::{FairLine, Gave, Meetings, Offered, Polled, Put, Took};
+use meet_tickets::{Entry, Marked, Refusal, Refused, SeatNo, Ticket};
+use std::alloc::Global;
+use std::marker::Model;
+
+mod admitted;
+mod endings;
+mod probes;
+
+/// A transfer queue of one thread, with a bound on the items that it keeps, or none.
+#[derive(Drop)]
+pub struct Transfer<T: Marked> {
+    meetings: Meetings<T, FairLine<Entry<T>>>,
+    bound: Option<u64>,
+}
+
+impl<T: Marked> Model for Transfer<T> {
+    ghost use Rattle.meet_transfer.specs.Bounded.{Bounded};
+
+    ghost Value = { Bounded T };
+
+    ghost view = { λ transfer. record { queue = transfer.meetings; bound = transfer.bound } };
+}
+
+impl<T: Marked> Transfer<T> {
+    ghost use Rattle.meet_line.specs.Queue.{seats_of, count_of, places_of};
+    ghost use Rattle.meet_line.specs.Steps.{GiveStep, PutStep, TakeStep, OfferStep, PollStep};
+    ghost use Rattle.meet_tickets.specs.declared.refusals.Refusal.TheVariants.{Memory};
+
+    /// A queue without a bound, with this many seats, 1 to 1,024, and this first ticket, 1 to 2^63 - 1. The only refusal is
+    /// Memory.
+    pub fn new(alloc: Global, seats: u64, first: u64) -> Result<Self, Refusal>
+        requires seats { seats ≤ 1024 }
+        requires first_from { 0 < first }
+        requires first_to { first < 2 ^ 63 }
+        ensures fresh { IfOk result (λ made. seats_of made.queue ≡ nobody) }
+        ensures seats { IfOk result (λ made. count_of made.queue ≡ seats) }
+        ensures first { IfOk result (λ made. made.queue.next ≡ first) }
+        ensures bound { IfOk result (λ made. made.bound ≡ None) }
+        ensures memory { IfErr result (λ why. why ≡ Memory) }
+    {
+        let meetings = Meetings::new(alloc, seats, first)?;
+        Ok(Transfer {
+            meetings,
+            bound: None,
+        })
+    }
+
+    /// A queue that keeps at most this many items, any number of them: with 0 it keeps none. Seats, first ticket and refusal
+    /// as of `new`.
+    pub fn with_bound(alloc: Global, seats: u64, first: u64, bound: u64) -> Result<Self, Refusal>
+        requires seats { seats ≤ 1024 }
+        requires first_from { 0 < first }
+        requires first_to { first < 2 ^ 63 }
+        ensures fresh { IfOk result (λ made. seats_of made.queue ≡ nobody) }
+        ensures seats { IfOk result (λ made. count_of made.queue ≡ seats) }
+        ensures first { IfOk result (λ made. made.queue.next ≡ first) }
+        ensures bound { IfOk result (λ made. made.bound ≡ Some bound) }
+        ensures memory { IfErr result (λ why. why ≡ Memory) }
+    {
+        let meetings = Meetings::new(alloc, seats, first)?;
+        Ok(Transfer {
+            meetings,
+            bound: Some(bound),
+        })
+    }
+
+    /// The ticket that a request of this seat would use, or why it would be refused: NoSuchSeat, SeatOpen or
+    /// TicketsSpent, the first that applies.
+    pub fn admit(&self, seat: SeatNo) -> Result<Ticket, Refusal>
+        ensures admitted { IfOk result (λ ticket. (refusal_of (count_of self.now.queue) self.now.queue.next (seats_of self.now.queue) seat ≡ None) × (ticket ≡ self.now.queue.next)) }
+        ensures refused { IfErr result (λ why. refusal_of (count_of self.now.queue) self.now.queue.next (seats_of self.now.queue) seat ≡ Some why) }
+    {
+        self.meetings.admit(seat)
+    }
+
+    /// Makes room for this many requests that wait or keep their item. The only refusal is Memory.
+    pub fn reserve(&mut self, requests: u64) -> Result<(), Refusal>
+        ensures same { self.new.queue ≡ record self.old.queue { room = self.new.queue.room } }
+        ensures room { OnOk result (requests ≤ self.new.queue.room) }
+        ensures more { self.old.queue.room ≤ self.new.queue.room }
+        ensures bound { self.new.bound ≡ self.old.bound }
+        ensures unchanged { OnErr result (self.new ≡ self.old) }
+        ensures memory { IfErr result (λ why. why ≡ Memory) }
+        ensures enough { requests ≤ self.old.queue.room → IsOk result }
+    {
+        self.meetings.reserve(requests)
+    }
+
+    /// `LinkedTransferQueue.put`, `offer` and timed `offer`, which are one: the item goes to the taker that is met, or is kept
+    /// in the line, and its giver goes on, or fails where as many items are kept as the bound says. It looks at no flag.
+    /// Refuses what `admit` does, then Memory; the item comes back.
+    pub fn put(&mut self, seat: SeatNo, item: T) -> Result<Put<T>, Refused<T>>
+        ensures step { IfOk result (λ answer. PutStep T.mark_of TransferOrder self.old.bound self.old.queue seat item answer self.new.queue) }
+        ensures admitted { IfOk result (λ _. refusal_of (count_of self.old.queue) self.old.queue.next (seats_of self.old.queue) seat ≡ None) }
+        ensures places { places_of self.old.queue ≤ places_of self.new.queue }
+        ensures bound { self.new.bound ≡ self.old.bound }
+        ensures why { IfErr result (λ refused. MatchOption (refusal_of (count_of self.old.queue) self.old.queue.next (seats_of self.old.queue) seat) (refused.why ≡ Memory) (λ first. refused.why ≡ first)) }
+        ensures back { IfErr result (λ refused. refused.back ≡ item) }
+        ensures unchanged { IfErr result (λ _. self.new ≡ self.old) }
+    {
+        self.meetings.put(seat, item, self.bound)
+    }
+
+    /// `LinkedTransferQueue.transfer` up to its wait: the item goes to the taker that is met, or its giver goes to the line
+    /// behind who stands there, or is refused at entry where it is flagged. Refuses what `admit` does, then Memory; the item
+    /// comes back.
+    pub fn transfer(&mut self, seat: SeatNo, item: T) -> Result<Gave<T>, Refused<T>>
+        ensures step { IfOk result (λ answer. GiveStep T.mark_of TransferOrder self.old.queue seat item answer self.new.queue) }
+        ensures admitted { IfOk result (λ _. refusal_of (count_of self.old.queue) self.old.queue.next (seats_of self.old.queue) seat ≡ None) }
+        ensures places { places_of self.old.queue ≤ places_of self.new.queue }
+        ensures bound { self.new.bound ≡ self.old.bound }
+        ensures why { IfErr result (λ refused. MatchOption (refusal_of (count_of self.old.queue) self.old.queue.next (seats_of self.old.queue) seat) (refused.why ≡ Memory) (λ first. refused.why ≡ first)) }
+        ensures back { IfErr result (λ refused. refused.back ≡ item) }
+        ensures unchanged { IfErr result (λ _. self.new ≡ self.old) }
+    {
+        self.meetings.give(seat, item)
+    }
+
+    /// `LinkedTransferQueue.tryTransfer`: the item goes to the taker that is met, or comes back. It takes no memory, and
+    /// refuses what `admit` does; the item comes back then too.
+    pub fn try_transfer(&mut self, seat: SeatNo, item: T) -> Result<Offered<T>, Refused<T>>
+        ensures step { IfOk result (λ answer. OfferStep T.mark_of TransferOrder self.old.queue item answer self.new.queue) }
+        ensures admitted { IfOk result (λ _. refusal_of (count_of self.old.queue) self.old.queue.next (seats_of self.old.queue) seat ≡ None) }
+        ensures places { places_of self.new.queue ≡ places_of self.old.queue }
+        ensures bound { self.new.bound ≡ self.old.bound }
+        ensures why { IfErr result (λ refused. refusal_of (count_of self.old.queue) self.old.queue.next (seats_of self.old.queue) seat ≡ Some refused.why) }
+        ensures back { IfErr result (λ refused. refused.back ≡ item) }
+        ensures unchanged { IfErr result (λ _. self.new ≡ self.old) }
+    {
+        self.meetings.offer(seat, item)
+    }
+
+    /// `LinkedTransferQueue.take` up to its wait: the item comes from the giver that stands there longest, kept or waiting,
+    /// or the taker goes to the line, or is refused at entry where it is flagged. Refuses what `admit` does, then Memory.
+    pub fn take(&mut self, seat: SeatNo) -> Result<Took<T>, Refusal>
+        ensures step { IfOk result (λ answer. TakeStep T.mark_of TransferOrder self.old.queue seat answer self.new.queue) }
+        ensures admitted { IfOk result (λ _. refusal_of (count_of self.old.queue) self.old.queue.next (seats_of self.old.queue) seat ≡ None) }
+        ensures places { places_of self.old.queue ≤ places_of self.new.queue }
+        ensures bound { self.new.bound ≡ self.old.bound }
+        ensures why { IfErr result (λ why. MatchOption (refusal_of (count_of self.old.queue) self.old.queue.next (seats_of self.old.queue) seat) (why ≡ Memory) (λ first. why ≡ first)) }
+        ensures unchanged { IfErr result (λ _. self.new ≡ self.old) }
+    {
+        self.meetings.take(seat)
+    }
+
+    /// `LinkedTransferQueue.poll`: the item comes from the giver that stands there longest, kept or waiting, if one is there.
+    /// It takes no memory, and refuses what `admit` does.
+    pub fn poll(&mut self, seat: SeatNo) -> Result<Polled<T>, Refusal>
+        ensures step { IfOk result (λ answer. PollStep T.mark_of TransferOrder self.old.queue answer self.new.queue) }
+        ensures admitted { IfOk result (λ _. refusal_of (count_of self.old.queue) self.old.queue.next (seats_of self.old.queue) seat ≡ None) }
+        ensures places { places_of self.new.queue ≡ places_of self.old.queue }
+        ensures bound { self.new.bound ≡ self.old.bound }
+        ensures why { IfErr result (λ why. refusal_of (count_of self.old.queue) self.old.queue.next (seats_of self.old.queue) seat ≡ Some why) }
+        ensures unchanged { IfErr result (λ _. self.new ≡ self.old) }
+    {
+        self.meetings.poll(seat)
+    }
+}

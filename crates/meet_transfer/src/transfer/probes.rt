@@ -1,0 +1,122 @@
+//! What a queue shows of itself, each at constant cost. None of these calls takes memory.
+
+ghost use Rattle.std.specs.Prelude.{◌≡◌, ◌^◌, ◌≤◌, ◌-◌, nat_lt, option_map, slice_get};
+ghost use Rattle.std.specs.Option.{option_and_then};
+ghost use Rattle.meet_tickets.specs.Meeting.{waiting_count, kept_count, count_on};
+ghost use Rattle.meet_tickets.specs.BySeat.{open_ticket, owed_of, settled_of};
+ghost use Rattle.meet_tickets.specs.declared.places.Side.TheVariants.{Giver, Taker};
+
+use crate::transfer::Transfer;
+use meet_tickets::{Marked, SeatNo, Ticket};
+
+impl<T: Marked> Transfer<T> {
+    ghost use Rattle.meet_line.specs.Queue.{seats_of, count_of, IsSound};
+
+    /// `LinkedTransferQueue.size`: how many givers stand in the line, kept or waiting.
+    pub fn size(&self) -> u64
+        ensures { result ≡ count_on Giver self.now.queue.line }
+    {
+        self.meetings.givers()
+    }
+
+    /// `LinkedTransferQueue.peek`, by its mark: that of the item which stands in the line longest, kept or waiting.
+    pub fn peek_mark(&self) -> Option<u64>
+        ensures { result ≡ option_and_then (λ e. option_map T.mark_of e.item) (slice_get self.now.queue.line 0) }
+    {
+        self.meetings.first_mark()
+    }
+
+    /// `LinkedTransferQueue.getWaitingConsumerCount`: how many takers stand in the line, exactly.
+    pub fn waiting_consumers(&self) -> u64
+        ensures { result ≡ count_on Taker self.now.queue.line }
+    {
+        self.meetings.takers()
+    }
+
+    /// `LinkedTransferQueue.hasWaitingConsumer`: whether a taker stands in the line.
+    pub fn has_waiting_consumer(&self) -> bool
+        ensures { result ≡ nat_lt 0 (count_on Taker self.now.queue.line) }
+    {
+        self.meetings.takers() > 0
+    }
+
+    /// `LinkedTransferQueue.remainingCapacity`: always 2,147,483,647, with a bound too (our choice).
+    pub fn remaining_capacity(&self) -> u64
+        ensures { result ≡ 2147483647 }
+    {
+        2_147_483_647
+    }
+
+    /// How many items are kept at most, or none.
+    pub fn bound(&self) -> Option<u64>
+        ensures { result ≡ self.now.bound }
+    {
+        self.bound
+    }
+
+    /// The seat's open ticket, if it has one. That of a kept item never is.
+    pub fn open_ticket(&self, seat: SeatNo) -> Option<Ticket>
+        ensures { result ≡ open_ticket ((seats_of self.now.queue).holds seat) }
+    {
+        self.meetings.open_ticket(seat)
+    }
+
+    /// How many seats there are.
+    pub fn seats(&self) -> u64
+        ensures { result ≡ count_of self.now.queue }
+    {
+        self.meetings.seats()
+    }
+
+    /// How many requests that wait or keep their item have room.
+    pub fn room(&self) -> u64
+        ensures { result ≡ self.now.queue.room }
+    {
+        self.meetings.room()
+    }
+
+    /// How many tickets are open. A kept item owes nothing.
+    pub fn owed(&self) -> u64
+        ensures value { result ≡ owed_of (count_of self.now.queue) (seats_of self.now.queue).holds }
+        ensures few { result ≤ 1024 }
+    {
+        self.meetings.owed()
+    }
+
+    /// How many open tickets stand in the line.
+    pub fn waiting(&self) -> u64
+        ensures { result ≡ waiting_count self.now.queue.line }
+    {
+        self.meetings.waiting()
+    }
+
+    /// How many open tickets were met or cut, and await their follow-up.
+    pub fn uncollected(&self) -> u64
+        ensures { result ≡ settled_of (count_of self.now.queue) (seats_of self.now.queue).holds }
+    {
+        self.meetings.uncollected()
+    }
+
+    /// How many items are kept in the line: their givers went on.
+    pub fn kept(&self) -> u64
+        ensures { result ≡ kept_count self.now.queue.line }
+    {
+        self.meetings.kept()
+    }
+
+    /// How many tickets are left.
+    pub fn tickets_left(&self) -> u64
+        ensures { result ≡ 2 ^ 63 - self.now.queue.next }
+    {
+        self.meetings.tickets_left()
+    }
+
+    /// What is always true of a queue: each entry of its line has a used ticket, and is what its seat holds where it waits;
+    /// where it is kept it has an item, and no seat has its ticket open; no two share a ticket, and all have one side. It
+    /// does nothing.
+    pub fn stays_sound(&self)
+        ensures { IsSound self.now.queue.line (seats_of self.now.queue).holds self.now.queue.next }
+    {
+        self.meetings.stays_sound();
+    }
+}
