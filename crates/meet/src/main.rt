@@ -2,9 +2,10 @@
 //! standard input, what is found of it on standard output.
 #![tactic(auto)]
 
-ghost use Rattle.std.specs.Prelude.{◌≡◌};
+ghost use Rattle.std.specs.Prelude.{◌≡◌, IfSome};
 ghost use Rattle.std.specs.Process.{exit_status};
 ghost use Rattle.meet_run.specs.Faults.{status_of};
+ghost use Rattle.meet.specs.Tasks.{Performs};
 
 mod command_line;
 
@@ -12,8 +13,8 @@ use clap::error::ErrorKind;
 use command_line::{Task, task_of};
 use meet_run::{RunFault, check_trace, report_of, run_script, run_trace};
 use meet_tickets::Refusal;
-use std::alloc::AllocError;
-use std::io::{BufReader, Write};
+use std::alloc::{AllocError, Global};
+use std::io::{BufReader, Read, Write};
 use std::process::ExitCode;
 use std::{env, io};
 
@@ -29,16 +30,28 @@ fn words(rt: &HostRuntime) -> io::Result<Vec<String>> {
     Ok(words)
 }
 
+/// Does what is asked, with what this reader gives.
+fn perform<R: Read, W: Write>(
+    alloc: Global,
+    reader: &mut R,
+    writer: &mut W,
+    task: Task,
+) -> Result<bool, RunFault>
+    ensures { IfSome (R.remaining reader.old) (λ input. Performs task input result (W.contents writer.old) (W.contents writer.new)) }
+{
+    match task {
+        Task::Run => run_script(alloc, reader, writer),
+        Task::Trace => run_trace(alloc, reader, writer),
+        Task::Check => check_trace(alloc, reader, writer),
+    }
+}
+
 /// Does what is asked with standard input and standard output.
-fn perform(rt: &HostRuntime, task: Task) -> Result<bool, RunFault> {
+fn perform_here(rt: &HostRuntime, task: Task) -> Result<bool, RunFault> {
     let Ok(mut reader) = BufReader::new(rt.alloc(), rt.stdin()) else {
         return Err(MEMORY);
     };
-    match task {
-        Task::Run => run_script(rt.alloc(), &mut reader, &mut rt.stdout()),
-        Task::Trace => run_trace(rt.alloc(), &mut reader, &mut rt.stdout()),
-        Task::Check => check_trace(rt.alloc(), &mut reader, &mut rt.stdout()),
-    }
+    perform(rt.alloc(), &mut reader, &mut rt.stdout(), task)
 }
 
 /// Says on standard error how a run failed, if it did, and gives the exit status.
@@ -62,7 +75,7 @@ fn main(rt: HostRuntime) -> ExitCode {
         }
     };
     match task_of(rt.alloc(), words.as_slice()) {
-        Ok(task) => finish(&rt, &perform(&rt, task)),
+        Ok(task) => finish(&rt, &perform_here(&rt, task)),
         Err(error) if error.kind() == ErrorKind::OutOfMemory => finish(&rt, &Err(MEMORY)),
         Err(error) => {
             let _ = eprint!(rt; "{error}");

@@ -17,6 +17,11 @@ abbrev pub IsTaken : (takes : ℕ) → Finding → Type 0
 IsTaken takes (Recorded calls records standing) = ⊥
 IsTaken takes (Taken met waiting) = met ≤ takes
 
+-- so many givers wait at the end, or so many items are kept
+abbrev pub LeavesGivers : (givers : ℕ) → Finding → Type 0
+LeavesGivers givers (Recorded calls records standing) = ⊥
+LeavesGivers givers (Taken met waiting) = waiting ≡ givers
+
 -- what is found of a task: exactly what its calls write, checked; or what its takes came to
 abbrev pub IsFound : Setup → Task → Finding → Type 0
 IsFound setup (History shape calls runs checks) finding = finding ≡ recorded_of setup shape calls

@@ -1,7 +1,9 @@
 //! Takes from a transfer queue that keeps as many items as before.
 
 ghost use Rattle.std.specs.Prelude.{◌≡◌, ◌+◌, ◌≤◌, IfOk, OnOk, if◌then◌else◌};
-ghost use Rattle.meet_bench.specs.Tasks.{IsTaken};
+ghost use Rattle.meet_tickets.specs.Meeting.{count_on};
+ghost use Rattle.meet_tickets.specs.declared.places.Side.TheVariants.{Giver};
+ghost use Rattle.meet_bench.specs.Tasks.{IsTaken, LeavesGivers};
 
 use crate::findings::Finding;
 use meet_tickets::{Refusal, SeatNo};
@@ -61,7 +63,8 @@ fn take_all(
 
 /// Fills a line by the first seat, and takes from it by the second.
 pub fn take_kept(queue: &mut Transfer<u64>, kept: u64, takes: u64) -> Result<Finding, Refusal>
-    ensures { IfOk result (IsTaken takes) }
+    ensures taken { IfOk result (IsTaken takes) }
+    ensures givers { IfOk result (LeavesGivers (count_on Giver queue.new.queue.line)) }
 {
     let giver = SeatNo::new(0).ok_or(Refusal::NoSuchSeat)?;
     let taker = SeatNo::new(1).ok_or(Refusal::NoSuchSeat)?;

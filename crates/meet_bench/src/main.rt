@@ -2,7 +2,7 @@
 //! whoever runs it measures the time.
 #![tactic(auto)]
 
-ghost use Rattle.std.specs.Prelude.{◌≡◌, ◌≤◌, IsTrue, IfOk, OnOk};
+ghost use Rattle.std.specs.Prelude.{◌≡◌, ◌≤◌, IsTrue, IfSome, IfOk, IfErr, OnOk};
 ghost use Rattle.std.specs.Io.KnownBytes.{Appends};
 ghost use Rattle.std.specs.Process.{exit_status};
 ghost use Rattle.std.specs.Vec.{vec_capacity};
@@ -78,7 +78,8 @@ fn serve<R: Read, W: Write>(
 ) -> Result<bool, RunFault>
     requires limits { IsInLimits setup }
     requires room { LONGEST_LINE ≤ vec_capacity line.old }
-    ensures { IfOk result IsTrue }
+    ensures done { IfOk result IsTrue }
+    ensures line { IfErr result (λ fault. IfSome fault.line (λ n. (2 ≤ n) × (n ≤ 1000))) }
 {
     for number in 2..MOST_LINES {
         match next_task(reader, turns, line) {

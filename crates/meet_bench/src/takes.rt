@@ -3,7 +3,9 @@
 ghost use Rattle.std.specs.Prelude.{◌≡◌, ◌+◌, ◌*◌, ◌≤◌, ◌^◌, ◌<◌, IsTrue, IfOk, IfErr, OnOk, if◌then◌else◌};
 ghost use Rattle.meet_tickets.specs.declared.refusals.Refusal.TheVariants.{NoSuchSeat};
 ghost use Rattle.meet_history.specs.Limits.{IsInLimits};
-ghost use Rattle.meet_bench.specs.Tasks.{IsTaken};
+ghost use Rattle.meet_tickets.specs.Meeting.{count_on};
+ghost use Rattle.meet_tickets.specs.declared.places.Side.TheVariants.{Giver};
+ghost use Rattle.meet_bench.specs.Tasks.{IsTaken, LeavesGivers};
 
 use crate::findings::Finding;
 use crate::keeps::take_kept;
@@ -81,7 +83,8 @@ fn take_from<L: Line<Entry<u64>>>(
     waiting: u64,
     takes: u64,
 ) -> Result<Finding, Refusal>
-    ensures { IfOk result (IsTaken takes) }
+    ensures taken { IfOk result (IsTaken takes) }
+    ensures givers { IfOk result (LeavesGivers (count_on Giver queue.new.line)) }
 {
     let taker = seat(waiting)?;
     fill(queue, waiting)?;

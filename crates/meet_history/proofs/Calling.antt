@@ -1,10 +1,11 @@
 -- A call of the stepper's queue, in the words of one thread's replies.
-use Rattle.std.proofs.Common.{◌≡◌, ◌≢◌, ℕ, ◌+◌, ◌<◌, sym, ap, ◌∙◌, cond, Option, Some, None, arith}
+use Rattle.std.proofs.Common.{◌≡◌, ◌≢◌, ℕ, ◌+◌, ◌<◌, refl, sym, ap, ◌∙◌, Bool, true, false, cond, Option, Some, None, arith}
 use Rattle.std.specs.Prelude.{nat_lt, nat_le, ◌||◌, MatchOption}
+use Rattle.std.specs.Option.{option_map_or}
 use Rattle.meet_tickets.specs.declared.refusals.Refusal.{Refusal}
-use Rattle.meet_tickets.specs.declared.refusals.Refusal.TheVariants.{Memory, NoSuchSeat}
+use Rattle.meet_tickets.specs.declared.refusals.Refusal.TheVariants.{Memory, NoSuchSeat, SeatOpen, TicketsSpent}
 use Rattle.meet_tickets.specs.BySeat.{owed_of}
-use Rattle.meet_tickets.specs.Refusals.{refusal_of}
+use Rattle.meet_tickets.specs.Refusals.{number_of, refusal_of}
 use Rattle.meet_line.specs.Queue.{Queue, seats_of, count_of}
 use Rattle.meet_history.specs.declared.setups.Setup.{Setup}
 use Rattle.meet_history.specs.declared.told.DualCall.{DualCall}
@@ -33,3 +34,35 @@ refusal_at-is setup q cap written seat call same count need =
 pub refused-so : (first : Option Refusal) (why : Refusal) → MatchOption first (why ≡ Memory) (λ own. why ≡ own) → why ≢ Memory → first ≡ Some why
 refused-so None why memory other = absurd (other memory)
 refused-so (Some own) why same other = ap Some (sym same)
+
+-- no place refuses a request for want of memory,
+request-own : (a b c full : Bool) → call_refusal (cond a (Some NoSuchSeat) (cond b (Some SeatOpen) (cond c (Some TicketsSpent) None))) full ≢ Some Memory
+request-own true b c full is = absurd (omega (arith, ap (λ o. option_map_or number_of o 0) is))
+request-own false true c full is = absurd (omega (arith, ap (λ o. option_map_or number_of o 0) is))
+request-own false false true full is = absurd (omega (arith, ap (λ o. option_map_or number_of o 0) is))
+request-own false false false true is = absurd (omega (arith, ap (λ o. option_map_or number_of o 0) is))
+request-own false false false false is = absurd (omega (arith, ap (λ o. option_map_or number_of o 1000) is))
+
+-- nor an interrupt
+interrupt-own : (a full : Bool) → call_refusal (cond a (Some NoSuchSeat) None) full ≢ Some Memory
+interrupt-own true full is = absurd (omega (arith, ap (λ o. option_map_or number_of o 0) is))
+interrupt-own false true is = absurd (omega (arith, ap (λ o. option_map_or number_of o 0) is))
+interrupt-own false false is = absurd (omega (arith, ap (λ o. option_map_or number_of o 1000) is))
+
+place-own : (q : Queue ℕ) (seat : ℕ) (call : DualCall ℕ) (full : Bool) → 0 < dual_need call → call_refusal (dual_refusal q seat call) full ≢ Some Memory
+place-own q seat (Give mark) full need = request-own _ _ _ full
+place-own q seat (Offer mark) full need = request-own _ _ _ full
+place-own q seat Take full need = request-own _ _ _ full
+place-own q seat Poll full need = request-own _ _ _ full
+place-own q seat (FollowUp t) full need = absurd (omega arith)
+place-own q seat (Cancel t) full need = absurd (omega arith)
+place-own q seat (Expire t) full need = absurd (omega arith)
+place-own q seat (Interrupt j) full need = interrupt-own _ full
+
+refused-alone : (first : Option Refusal) (why : Refusal) → MatchOption first (why ≡ Memory) (λ own. why ≡ own) → first ≢ Some Memory → why ≡ Memory → first ≡ None
+refused-alone None why memory own is = refl
+refused-alone (Some first) why same own is = absurd (own (ap Some (sym same ∙ is)))
+
+-- a call that was refused for want of memory wasn't refused by the place
+pub memory-alone : (q : Queue ℕ) (seat : ℕ) (call : DualCall ℕ) (full : Bool) (why : Refusal) → 0 < dual_need call → MatchOption (call_refusal (dual_refusal q seat call) full) (why ≡ Memory) (λ own. why ≡ own) → why ≡ Memory → call_refusal (dual_refusal q seat call) full ≡ None
+memory-alone q seat call full why need told is = refused-alone _ why told (place-own q seat call full need) is

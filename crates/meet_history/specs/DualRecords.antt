@@ -29,20 +29,24 @@ use Rattle.meet_history.specs.declared.told.DualAnswer.TheVariants.{Gave as ToGi
 abbrev pub made : (seat ticket : ℕ) → Deed → Record Deed
 made i t deed = record { seat = i; ticket = t; deed = deed }
 
+-- a give that waits, meets or is refused at entry
 abbrev pub give_record : {T : Type 0} → (seat mark : ℕ) → Gave T → Record Deed
 give_record i m (GiverWaits t) = made i t (GiveWaits m)
 give_record i m (GiverMeets t u) = made i t (GiveMeets m u)
 give_record i m (GiverInterrupted t back) = made i t (EntryInterrupted Giver)
 
+-- an offer that meets or fails
 abbrev pub offer_record : {T : Type 0} → (seat mark : ℕ) → Offered T → Record Deed
 offer_record i m (OfferMeets t u) = made i t (GiveMeets m u)
 offer_record i m (OfferFails t back) = made i t (GiveFails m)
 
+-- a take that waits, meets or is refused at entry
 abbrev pub take_record : {T : Type 0} → (T → ℕ) → (seat : ℕ) → Took T → Record Deed
 take_record mark i (TakerWaits t) = made i t TakeWaits
 take_record mark i (TakerMeets t u item) = made i t (TakeMeets (mark item) u)
 take_record mark i (TakerInterrupted t) = made i t (EntryInterrupted Taker)
 
+-- a poll that meets or fails
 abbrev pub poll_record : {T : Type 0} → (T → ℕ) → (seat : ℕ) → Polled T → Record Deed
 poll_record mark i (PollMeets t u item) = made i t (TakeMeets (mark item) u)
 poll_record mark i (PollFails t) = made i t TakeFails

@@ -84,6 +84,7 @@ dual_left q = 2 ^ 63 - q.next
 abbrev pub marked_entry : {T : Type 0} → (T → ℕ) → Entry T → Entry ℕ
 marked_entry mark e = record { ticket = e.ticket; seat = e.seat; item = option_map mark e.item; waits = e.waits }
 
+-- what a seat holds, an item by its mark
 abbrev pub marked_hold : {T : Type 0} → (T → ℕ) → Hold T → Hold ℕ
 marked_hold mark Free = Free
 marked_hold mark (Waiting t) = Waiting t
@@ -91,6 +92,7 @@ marked_hold mark (Handed t u m) = Handed t u m
 marked_hold mark (Served t u item) = Served t u (mark item)
 marked_hold mark (Cut t item) = Cut t (option_map mark item)
 
+-- all of it: the line, what the seats hold, and their flags
 abbrev pub marked : {T : Type 0} → (T → ℕ) → Seats T → Seats ℕ
 marked mark s = record { line = map (marked_entry mark) s.line; holds = λ i. marked_hold mark (s.holds i); flags = s.flags }
 

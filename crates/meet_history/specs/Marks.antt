@@ -6,6 +6,7 @@ use Rattle.meet_tickets.specs.declared.places.Order.TheVariants.{Fair, Unfair}
 use Rattle.meet_history.specs.declared.checker.line.ByEnd.{ByEnd}
 use Rattle.meet_history.specs.declared.checker.line.ByEnd.TheVariants.{Front, Back}
 
+-- an order, and the entries that stand in it
 pub record MarkedLine : Type 0 where
   pub order : Order  -- which entry is met
   pub entries : List (Entry ℕ)
@@ -17,10 +18,12 @@ abbrev pub end_order : ByEnd → Order
 end_order (Front line) = Fair
 end_order (Back line) = Unfair
 
+-- the entries, at whichever end they are met
 abbrev pub entries_of : ByEnd → List (Entry ℕ)
 entries_of (Front line) = line.entries
 entries_of (Back line) = line.entries
 
+-- the room, at whichever end they are met
 abbrev pub room_of : ByEnd → ℕ
 room_of (Front line) = line.room
 room_of (Back line) = line.room

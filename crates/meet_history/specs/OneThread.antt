@@ -37,6 +37,7 @@ pub record Place : Type 0 where
   pub seats : Seats ℕ
   pub records : ℕ  -- how many records were written
 
+-- before the first call
 abbrev pub start : Setup → Place
 start setup = record { next = setup.first; seats = nobody; records = 0 }
 
@@ -50,6 +51,7 @@ pub record Turn : Type 0 where
 abbrev pub silent : Place → (seat : ℕ) → Outcome → Turn
 silent p seat outcome = record { replies = record { seat = seat; outcome = outcome } ∷ []; records = []; place = p }
 
+-- a refusal is such a turn
 abbrev pub refused : Place → (seat : ℕ) → Refusal → Turn
 refused p seat why = silent p seat (Refused why)
 
@@ -87,22 +89,24 @@ pub data Form : Type 0 where
 abbrev pub may_keep : Kind → List (Entry ℕ) → Bool
 may_keep k line = option_map_or (λ most. nat_lt (kept_count line) most) k.bound true
 
--- the deed of a give: a partner is met; without one it goes by the form, and a flag stops only one that would wait
+-- the deed of a give without a partner: it goes by the form, and a flag stops only one that would wait
 abbrev pub give_alone : Kind → Seats ℕ → (seat : ℕ) → Form → (mark : ℕ) → Deed
 give_alone k s seat waiting mark = if s.flags seat then EntryInterrupted Giver else GiveWaits mark
 give_alone k s seat immediate mark = GiveFails mark
 give_alone k s seat keeping mark = if may_keep k s.line then GiveKept mark else GiveFails mark
 
+-- the deed of a give: the partner is met, if there is one
 abbrev pub give_deed : Kind → Seats ℕ → (seat : ℕ) → Form → (mark : ℕ) → Deed
 give_deed k s seat form mark =
     option_map_or (λ e. GiveMeets mark e.ticket) (partner k.order s.line Giver) (give_alone k s seat form mark)
 
--- the deed of a take
+-- the deed of a take without a partner
 abbrev pub take_alone : Seats ℕ → (seat : ℕ) → Form → Deed
 take_alone s seat waiting = if s.flags seat then EntryInterrupted Taker else TakeWaits
 take_alone s seat immediate = TakeFails
 take_alone s seat keeping = TakeFails
 
+-- the deed of a take: the partner is met, if there is one
 abbrev pub take_deed : Kind → Seats ℕ → (seat : ℕ) → Form → Deed
 take_deed k s seat form =
     option_map_or (λ e. TakeMeets (unwrap_or e.item 0) e.ticket) (partner k.order s.line Taker) (take_alone s seat form)
@@ -136,9 +140,11 @@ abbrev pub request : Setup → Place → (seat : ℕ) → Deed → (item : Optio
 request setup p seat deed item =
     option_map_or (refused p seat) (request_refusal setup p seat) (stepped setup p seat p.next deed item)
 
+-- a give of this form (SynchronousQueue.put and offer, LinkedTransferQueue.put, transfer and tryTransfer)
 abbrev pub give : Setup → Place → (seat : ℕ) → Form → (mark : ℕ) → Turn
 give setup p seat form mark = request setup p seat (give_deed setup.kind p.seats seat form mark) (Some mark)
 
+-- a take of this form (take and poll of either queue)
 abbrev pub take : Setup → Place → (seat : ℕ) → Form → Turn
 take setup p seat form = request setup p seat (take_deed setup.kind p.seats seat form) None
 
@@ -169,6 +175,7 @@ abbrev pub cut_named : ℕ → Option ℕ
 cut_named zero = None
 cut_named (suc t) = Some (suc t)
 
+-- an interrupt of the target (Thread.interrupt): one record, or a refusal
 abbrev pub interrupt : Setup → Place → (seat target : ℕ) → Turn
 interrupt setup p seat target =
     option_map_or (refused p seat) (interrupt_refusal setup p seat target)
@@ -186,37 +193,42 @@ abbrev pub drain_refusal : Setup → Place → (seat k : ℕ) → Option Refusal
 drain_refusal setup p seat k =
     drain_refusal_by (refusal_of setup.seats p.next p.seats seat) (2 ^ 63 - p.next) k (is_full setup p (k + 1))
 
+-- a drain of k items (drainTo of either queue): all of it, or a refusal
 abbrev pub drain : Setup → Place → (seat k : ℕ) → Turn
 drain setup p seat k =
     option_map_or (refused p seat) (drain_refusal setup p seat k) (joined (polls setup p seat k) (λ q. silent q seat (Drained k)))
 
--- what a probe answers: a synchronous queue is always empty
+-- SynchronousQueue.size is 0; LinkedTransferQueue.size counts the givers, kept or waiting
 abbrev pub size_of : Order → List (Entry ℕ) → ℕ
 size_of Fair line = 0
 size_of Unfair line = 0
 size_of Transfer line = count_on Giver line
 
+-- SynchronousQueue.remainingCapacity, and that of LinkedTransferQueue
 abbrev pub room_of : Order → ℕ
 room_of Fair = 0
 room_of Unfair = 0
 room_of Transfer = 2147483647
 
+-- SynchronousQueue.peek is always empty; LinkedTransferQueue.peek is the first giver's item
 abbrev pub peek_of : Order → List (Entry ℕ) → Option ℕ
 peek_of Fair line = None
 peek_of Unfair line = None
 peek_of Transfer line = option_and_then (λ e. e.item) (slice_get line 0)
 
--- the form of `put` and of `offer`
+-- SynchronousQueue.put waits; LinkedTransferQueue.put keeps its item
 abbrev pub put_form : Order → Form
 put_form Fair = waiting
 put_form Unfair = waiting
 put_form Transfer = keeping
 
+-- SynchronousQueue.offer fails at once; LinkedTransferQueue.offer is its put
 abbrev pub offer_form : Order → Form
 offer_form Fair = immediate
 offer_form Unfair = immediate
 offer_form Transfer = keeping
 
+-- the turn of each verb
 abbrev pub turn_of : Setup → Place → (seat : ℕ) → Verb → Turn
 turn_of setup p seat (Put m) = give setup p seat (put_form setup.kind.order) m
 turn_of setup p seat (Offer m) = give setup p seat (offer_form setup.kind.order) m
@@ -243,10 +255,11 @@ abbrev pub turns : Setup → Place → List Call → Turn
 turns setup p [] = record { replies = []; records = []; place = p }
 turns setup p (call ∷ calls) = joined (turn setup p call) (λ q. turns setup q calls)
 
--- the replies to the calls of one thread, and the records that they write
+-- the replies to the calls of one thread
 abbrev pub replies : Setup → List Call → List Reply
 replies setup calls = (turns setup (start setup) calls).replies
 
+-- the records of the calls of one thread
 abbrev pub records : Setup → List Call → List (Record Deed)
 records setup calls = (turns setup (start setup) calls).records
 
@@ -259,5 +272,6 @@ standing_at count s = record {
   kept = kept_count s.line;
 }
 
+-- the same of a place
 abbrev pub standing_of : Setup → Place → Standing
 standing_of setup p = standing_at setup.seats p.seats

@@ -42,6 +42,7 @@ queue_refusal q i call = dual_refusal q i (dual_call call)
 abbrev pub queue_need : {T : Type 0} → QueueCall T → ℕ
 queue_need call = dual_need (dual_call call)
 
+-- a put that is kept, meets or fails
 abbrev pub put_record : {T : Type 0} → (seat mark : ℕ) → PutAnswer T → Record Deed
 put_record i m (Kept t) = made i t (GiveKept m)
 put_record i m (Meets t u) = made i t (GiveMeets m u)

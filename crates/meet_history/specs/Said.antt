@@ -69,23 +69,27 @@ abbrev pub ticket_of_interrupt : Struck → ℕ
 ticket_of_interrupt (Cut t) = t
 ticket_of_interrupt Flagged = 0
 
--- the answer, where it is to a request of this kind, or to an interrupt
+-- the answer to a give, where it is one
 abbrev pub gave_of : DualAnswer ℕ → Option (Gave ℕ)
 gave_of (ToGive gave) = Some gave
 gave_of answer = None
 
+-- the answer to an offer
 abbrev pub offered_of : DualAnswer ℕ → Option (Offered ℕ)
 offered_of (ToOffer offered) = Some offered
 offered_of answer = None
 
+-- the answer to a take
 abbrev pub took_of : DualAnswer ℕ → Option (Took ℕ)
 took_of (ToTake took) = Some took
 took_of answer = None
 
+-- the answer to a poll
 abbrev pub polled_of : DualAnswer ℕ → Option (Polled ℕ)
 polled_of (ToPoll polled) = Some polled
 polled_of answer = None
 
+-- the answer to an interrupt
 abbrev pub struck_of : DualAnswer ℕ → Option Struck
 struck_of (ToInterrupt struck) = Some struck
 struck_of answer = None

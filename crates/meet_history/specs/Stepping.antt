@@ -18,6 +18,7 @@ use Rattle.meet_history.specs.declared.told.QueueAnswer.TheVariants.{Dual as ToD
 use Rattle.meet_history.specs.QueueSteps.{QueueStep, queue_record}
 use Rattle.meet_history.specs.OneThread.{Place, Turn, answer_of, request_refusal, interrupt_refusal}
 
+-- what a run over a place shows of itself
 pub record Stepping : Type 0 where
   pub setup : Setup
   pub queue : Queue ℕ

@@ -43,7 +43,7 @@ impl Model for Stepper {
 fn refused_unless_memory(seat: SeatNo, why: Refusal) -> Result<Reply, Refusal>
     ensures reply { IfOk result (λ reply. reply ≡ record { seat = seat; outcome = Outcome.Refused why }) }
     ensures other { IfOk result (λ _. why ≢ Memory) }
-    ensures memory { IfErr result (λ why. why ≡ Memory) }
+    ensures memory { IfErr result (λ given. (given ≡ Memory) × (why ≡ Memory)) }
 {
     if why == Refusal::Memory {
         return Err(Refusal::Memory);
@@ -99,6 +99,7 @@ impl Stepper {
         ensures admitted { IfOk result (λ _. refusal_at self.old.setup (place_of self.old) seat (dual_call call) ≡ None) }
         ensures answers { IfOk result (λ answer. Answers self.old seat call answer self.new) }
         ensures why { IfErr result (λ why. why ≢ Memory → refusal_at self.old.setup (place_of self.old) seat (dual_call call) ≡ Some why) }
+        ensures alone { IfErr result (λ why. why ≡ Memory → refusal_at self.old.setup (place_of self.old) seat (dual_call call) ≡ None) }
         ensures unchanged { IfErr result (λ _. self.new ≡ self.old) }
     {
         let (answer, _) = match self.book.step(seat, call) {
@@ -114,6 +115,7 @@ impl Stepper {
         ensures admitted { IfOk result (λ _. refusal_at self.old.setup (place_of self.old) seat call ≡ None) }
         ensures makes { IfOk result (λ answer. Makes self.old seat call answer self.new) }
         ensures why { IfErr result (λ why. why ≢ Memory → refusal_at self.old.setup (place_of self.old) seat call ≡ Some why) }
+        ensures alone { IfErr result (λ why. why ≡ Memory → refusal_at self.old.setup (place_of self.old) seat call ≡ None) }
         ensures unchanged { IfErr result (λ _. self.new ≡ self.old) }
     {
         match self.ask(seat, QueueCall::Dual(call)) {
@@ -151,6 +153,7 @@ impl Stepper {
         requires served { IsTrue (serves self.old.setup.kind.order call.verb) }
         requires one { IsOne call.verb }
         ensures turn { IfOk result (TakesTurn (turn self.old.setup (place_of self.old) call) self.old self.new) }
+        ensures unchanged { IfErr result (λ _. self.new ≡ self.old) }
         ensures memory { IfErr result (λ why. why ≡ Memory) }
     {
         let Call { seat, verb } = call;
@@ -176,12 +179,14 @@ impl Stepper {
         }
     }
 
-    /// Makes a call, and puts its replies behind `replies`. The only refusal is Memory; the replies so far stay.
+    /// Makes a call, and puts its replies behind `replies`. The only refusal is Memory; then nothing has changed, and the
+    /// replies so far stay.
     pub fn answer(&mut self, call: Call, replies: &mut Vec<Reply>) -> Result<(), Refusal>
         requires served { IsTrue (serves self.old.setup.kind.order call.verb) }
         ensures replies { OnOk result (replies.new.items ≡ replies.old.items ++ (turn self.old.setup (place_of self.old) call).replies) }
         ensures takes { OnOk result (Takes (turn self.old.setup (place_of self.old) call) self.old self.new) }
         ensures stay { OnErr result (replies.new.items ≡ replies.old.items) }
+        ensures unchanged { OnErr result (self.new ≡ self.old) }
         ensures memory { IfErr result (λ why. why ≡ Memory) }
     {
         let Call { seat, verb } = call;

@@ -1,6 +1,7 @@
 mod all_calls;
 mod cell;
 mod checker;
+mod growth;
 mod parcel;
 mod queue;
 mod transfer;

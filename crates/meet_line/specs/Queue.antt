@@ -6,6 +6,7 @@ use Rattle.meet_tickets.specs.declared.lines.Hold.TheVariants.{Waiting}
 use Rattle.meet_tickets.specs.BySeat.{Seats, open_ticket}
 use Rattle.meet_line.specs.Table.{Table, hold_at, flag_at}
 
+-- the line and the seats, with the next ticket
 pub record Queue (T : Type 0) : Type 0 where
   pub line : List (Entry T)  -- the unmatched tickets in order of request
   pub room : ℕ  -- how many more may come without growth

@@ -44,7 +44,8 @@ impl<T: Marked, L: Line<Entry<T>>> Meetings<T, L> {
     ghost use Rattle.meet_line.specs.Steps.{GiveStep, PutStep, TakeStep, OfferStep, PollStep};
     ghost use Rattle.meet_tickets.specs.declared.refusals.Refusal.TheVariants.{Memory};
 
-    /// A queue with this many seats, 1 to 1,024, and this first ticket, 1 to 2^63 - 1. The only refusal is Memory.
+    /// A queue with no room yet, with this many seats, 1 to 1,024, and this first ticket, 1 to 2^63 - 1. The only refusal is
+    /// Memory.
     pub fn new(alloc: Global, seats: u64, first: u64) -> Result<Self, Refusal>
         requires seats { seats ≤ 1024 }
         requires first_from { 0 < first }
@@ -52,6 +53,7 @@ impl<T: Marked, L: Line<Entry<T>>> Meetings<T, L> {
         ensures fresh { IfOk result (λ queue. seats_of queue ≡ nobody) }
         ensures seats { IfOk result (λ queue. count_of queue ≡ seats) }
         ensures first { IfOk result (λ queue. queue.next ≡ first) }
+        ensures room { IfOk result (λ queue. queue.room ≡ 0) }
         ensures nothing_kept { IfOk result (λ queue. kept_count queue.line ≡ 0) }
         ensures memory { IfErr result (λ why. why ≡ Memory) }
     {
@@ -95,10 +97,12 @@ impl<T: Marked, L: Line<Entry<T>>> Meetings<T, L> {
     }
 
     /// `SynchronousQueue.put` up to its wait: the item goes to the taker that is met, or its giver goes to the line, or is
-    /// refused at entry where it is flagged. Refuses what `admit` does, then Memory; the item comes back.
+    /// refused at entry where it is flagged. Refuses what `admit` does, then Memory, never where there is room; the item
+    /// comes back.
     pub fn give(&mut self, seat: SeatNo, item: T) -> Result<Gave<T>, Refused<T>>
         ensures step { IfOk result (λ answer. GiveStep T.mark_of L.order self.old seat item answer self.new) }
         ensures admitted { IfOk result (λ _. refusal_of (count_of self.old) self.old.next (seats_of self.old) seat ≡ None) }
+        ensures enough { 0 < self.old.room → refusal_of (count_of self.old) self.old.next (seats_of self.old) seat ≡ None → IsOk result }
         ensures places { places_of self.old ≤ places_of self.new }
         ensures kept { kept_count self.new.line ≡ kept_count self.old.line }
         ensures why { IfErr result (λ refused. MatchOption (refusal_of (count_of self.old) self.old.next (seats_of self.old) seat) (refused.why ≡ Memory) (λ first. refused.why ≡ first)) }
@@ -115,10 +119,12 @@ impl<T: Marked, L: Line<Entry<T>>> Meetings<T, L> {
     }
 
     /// `LinkedTransferQueue.put`: the item goes to the taker that is met, or is kept in the line, and its giver goes on; it
-    /// fails where as many items are kept as the bound says. Refuses what `admit` does, then Memory; the item comes back.
+    /// fails where as many items are kept as the bound says. Refuses what `admit` does, then Memory, never where there is
+    /// room; the item comes back.
     pub fn put(&mut self, seat: SeatNo, item: T, bound: Option<u64>) -> Result<Put<T>, Refused<T>>
         ensures step { IfOk result (λ answer. PutStep T.mark_of L.order bound self.old seat item answer self.new) }
         ensures admitted { IfOk result (λ _. refusal_of (count_of self.old) self.old.next (seats_of self.old) seat ≡ None) }
+        ensures enough { 0 < self.old.room → refusal_of (count_of self.old) self.old.next (seats_of self.old) seat ≡ None → IsOk result }
         ensures places { places_of self.old ≤ places_of self.new }
         ensures why { IfErr result (λ refused. MatchOption (refusal_of (count_of self.old) self.old.next (seats_of self.old) seat) (refused.why ≡ Memory) (λ first. refused.why ≡ first)) }
         ensures back { IfErr result (λ refused. refused.back ≡ item) }
@@ -134,10 +140,11 @@ impl<T: Marked, L: Line<Entry<T>>> Meetings<T, L> {
     }
 
     /// `SynchronousQueue.take` up to its wait: the item comes from the giver that is met, or the taker goes to the line, or
-    /// is refused at entry where it is flagged. Refuses what `admit` does, then Memory.
+    /// is refused at entry where it is flagged. Refuses what `admit` does, then Memory, never where there is room.
     pub fn take(&mut self, seat: SeatNo) -> Result<Took<T>, Refusal>
         ensures step { IfOk result (λ answer. TakeStep T.mark_of L.order self.old seat answer self.new) }
         ensures admitted { IfOk result (λ _. refusal_of (count_of self.old) self.old.next (seats_of self.old) seat ≡ None) }
+        ensures enough { 0 < self.old.room → refusal_of (count_of self.old) self.old.next (seats_of self.old) seat ≡ None → IsOk result }
         ensures places { places_of self.old ≤ places_of self.new }
         ensures kept { kept_count self.new.line ≤ kept_count self.old.line }
         ensures why { IfErr result (λ why. MatchOption (refusal_of (count_of self.old) self.old.next (seats_of self.old) seat) (why ≡ Memory) (λ first. why ≡ first)) }

@@ -1,3 +1,5 @@
+mod growth;
+
 ghost use Rattle.std.specs.Prelude.{◌≡◌, ◌+◌, ◌<◌, All, IfOk, OnOk, length};
 
 use crate::{FairLine, Line, SeatTable, StackLine};

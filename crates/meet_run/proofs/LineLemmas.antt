@@ -1,8 +1,8 @@
 -- The lines of a text, by reading its bytes one by one.
-use Rattle.std.proofs.Common.{◌≡◌, ℕ, ◌<◌, ◌≤◌, false, eqb, List, [], ◌∷◌, ◌++◌, length, Option, Some, None, refl, sym, ap, ◌∙◌, append_assoc, arith, rules, length-append}
+use Rattle.std.proofs.Common.{◌≡◌, inl, inr, ℕ, ◌+◌, ◌<◌, ◌≤◌, false, eqb, List, [], ◌∷◌, ◌++◌, length, Option, Some, None, refl, sym, ap, ◌∙◌, append_assoc, arith, rules, length-append}
 use Rattle.std.specs.Prelude.{⊤, IfSome}
 use Rattle.std.specs.Io.KnownBytes.{Consumes, IsAtEnd}
-use Rattle.meet_run.specs.Reading.{lines_of, TakesLine, BeginsTooLong, UsesTurns, EndsInTurns}
+use Rattle.meet_run.specs.Reading.{lines_of, TakesLine, BeginsTooLong, UsesTurns, EndsInTurns, FailsBehind}
 
 -- no byte ends a line
 abbrev pub HasNoEnd : List ℕ → Type 0
@@ -130,3 +130,13 @@ ends-more (Some xs) (Some ys) turns left h ends =
 pub uses-none : (r : Option (List ℕ)) (turns left : ℕ) → left ≤ turns → UsesTurns r r turns left
 uses-none None turns left le = ([], tt, omega arith)
 uses-none (Some xs) turns left le = ([], refl, omega arith)
+
+-- a read that failed where so many turns were left failed behind the bytes before it
+pub fails-behind : (bytes all turns left : ℕ) → bytes + turns ≡ all → FailsBehind 0 turns left → FailsBehind bytes all left
+fails-behind bytes all turns left before (inl cost) = inl (omega arith)
+fails-behind bytes all turns left before (inr none) = inr (omega (arith, none.0), none.1)
+
+-- it used no more turns than there were
+pub fails-within : (bytes turns left : ℕ) → FailsBehind bytes turns left → bytes + left ≤ turns
+fails-within bytes turns left (inl cost) = omega arith
+fails-within bytes turns left (inr none) = omega (arith, none.0, none.1)

@@ -1,5 +1,5 @@
 -- The lines of a text, and what reading one of them takes.
-use Rattle.std.specs.Prelude.{◌≡◌, ℕ, ◌+◌, ◌<◌, ◌≤◌, ◌==◌, Option, Some, None, IfSome, ⊤, List, [], ◌∷◌, length, if◌then◌else◌}
+use Rattle.std.specs.Prelude.{◌≡◌, ◌⊎◌, ℕ, ◌+◌, ◌<◌, ◌≤◌, ◌==◌, Option, Some, None, IfSome, ⊤, List, [], ◌∷◌, length, if◌then◌else◌}
 use Rattle.std.specs.Option.{option_map_or}
 use Rattle.std.specs.Io.KnownBytes.{Consumes, IsAtEnd}
 use Rattle.meet_run.specs.declared.reading.ByteRead.{ByteRead}
@@ -58,18 +58,23 @@ BeginsTooLong old =
 abbrev pub UsesTurns : (old new : Option (List ℕ)) → (turns left : ℕ) → Type 0
 UsesTurns old new turns left = (seen : List ℕ) × Consumes old new seen × (length seen + left ≤ turns)
 
+-- a read that failed behind so many bytes, each of which cost a turn: it cost one more, or none was left for it
+abbrev pub FailsBehind : (bytes : ℕ) → (turns left : ℕ) → Type 0
+FailsBehind bytes turns left = (bytes + left + 1 ≡ turns) ⊎ ((bytes ≡ turns) × (left ≡ 0))
+
 -- what reading a byte did to the known bytes, and to the turns
 abbrev pub ReadsByte : ByteRead → (old new : Option (List ℕ)) → (turns left : ℕ) → Type 0
 ReadsByte (Byte b) old new turns left = Consumes old new (b ∷ []) × (left + 1 ≡ turns)
 ReadsByte EndOfBytes old new turns left = Consumes old new [] × IsAtEnd new × (left + 1 ≡ turns)
-ReadsByte ByteFailed old new turns left = Consumes old new [] × (left ≤ turns)
+ReadsByte ByteFailed old new turns left = Consumes old new [] × FailsBehind 0 turns left
 
 -- what reading a line did to the known bytes: a line was taken; there was none; the first is too long; or a read failed
+-- behind these bytes
 abbrev pub ReadsLine : LineRead → (old new : Option (List ℕ)) → (turns left : ℕ) → (line : List ℕ) → Type 0
 ReadsLine Line old new turns left line = TakesLine old new line × (length line ≤ 128)
 ReadsLine End old new turns left line = Consumes old new [] × IsAtEnd new × (left + 1 ≤ turns)
 ReadsLine TooLong old new turns left line = BeginsTooLong old
-ReadsLine Failed old new turns left line = ⊤
+ReadsLine Failed old new turns left line = Consumes old new line × FailsBehind (length line) turns left
 
 -- the known bytes ended within the turns: each byte cost one, and so did seeing the end
 abbrev pub EndsInTurns : (old : Option (List ℕ)) → (turns : ℕ) → Type 0

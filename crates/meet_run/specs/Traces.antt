@@ -87,6 +87,7 @@ TraceFaultIs ReadFault None = Unit {0}
 TraceFaultIs WriteFault None = Unit {0}
 TraceFaultIs _ _ = ⊥
 
+-- such a fault, with the line that it names
 abbrev pub IsTraceFault : RunFault → Type 0
 IsTraceFault f = TraceFaultIs f.why f.line
 
@@ -100,6 +101,7 @@ trace_in [] = []
 trace_in (line ∷ lines) =
     option_map_or (λ setup. trace_behind setup lines) (setup_of line) []
 
+-- the same of a whole input
 abbrev pub trace_of : (input : List ℕ) → List ℕ
 trace_of input = trace_in (lines_of input)
 

@@ -17,21 +17,9 @@ pub fn is_served(order: Order, verb: Verb) -> bool
     ensures { result ≡ serves order verb }
 {
     match order {
-        Order::Fair | Order::Unfair => matches!(
-            verb,
-            Verb::Put(_)
-                | Verb::Offer(_)
-                | Verb::Take
-                | Verb::Poll
-                | Verb::Follow
-                | Verb::Cancel
-                | Verb::Expire
-                | Verb::Interrupt(_)
-                | Verb::Drain(_)
-                | Verb::Size
-                | Verb::Room
-                | Verb::Peek
-        ),
+        Order::Fair | Order::Unfair => {
+            !matches!(verb, Verb::Transfer(_) | Verb::Try(_) | Verb::Consumers)
+        }
         Order::Transfer => true,
     }
 }

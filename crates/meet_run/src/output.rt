@@ -1,18 +1,19 @@
 //! Writing a text whole.
 
-ghost use Rattle.std.specs.Prelude.{◌≡◌, OnOk, IfErr};
+ghost use Rattle.std.specs.Prelude.{◌≡◌, [], IsOk, OnOk, IfErr};
 ghost use Rattle.std.specs.Io.KnownBytes.{Appends};
 ghost use Rattle.meet_run.specs.Writing.{AppendsFront};
 
 use meet_tickets::Refusal;
 use std::io::Write;
 
-/// Writes these bytes, as often as it takes. A write that fails, or that takes no byte, is a fault; what was written
-/// until then stays written.
+/// Writes these bytes, as often as it takes, and for none of them not once. A write that fails, or that takes no byte, is a
+/// fault; what was written until then stays written.
 pub fn write_whole<W: Write>(writer: &mut W, bytes: &[u8]) -> Result<(), Refusal>
     ensures ok { OnOk result (Appends (W.contents writer.old) (W.contents writer.new) bytes.now) }
     ensures front { AppendsFront (W.contents writer.old) (W.contents writer.new) bytes.now }
     ensures fault { IfErr result (λ why. why ≡ Refusal.WriteFault) }
+    ensures nothing { bytes.now ≡ [] → IsOk result }
 {
     let mut written = 0;
     while written < bytes.len() {

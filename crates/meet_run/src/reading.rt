@@ -26,7 +26,7 @@ pub enum LineRead {
     End,
     /// The line has more than 128 bytes. The first 129 were read.
     TooLong,
-    /// A read failed, or no turn was left for it.
+    /// A read failed, or no turn was left for it. The bytes before it stand in the line.
     Failed,
 }
 

@@ -3,6 +3,7 @@ mod doubles;
 mod drains;
 mod faults;
 mod first_lines;
+mod growth;
 mod input;
 mod output;
 mod runs;

@@ -24,6 +24,7 @@ pub record Open : Type 0 where
   pub ticket : ℕ
   pub seat : ℕ
 
+-- what the records so far left
 pub record State : Type 0 where
   pub last : ℕ  -- the greatest ticket so far
   pub line : List (Entry ℕ)  -- the unmatched tickets in order of request, items by their marks
@@ -32,6 +33,7 @@ pub record State : Type 0 where
   pub unended : List Open  -- the open tickets
   pub flags : List ℕ  -- the flagged seats, as a set
 
+-- no record yet
 abbrev pub empty : State
 empty = record { last = 0; line = []; pairs = []; cut = []; unended = []; flags = [] }
 
@@ -39,6 +41,7 @@ empty = record { last = 0; line = []; pairs = []; cut = []; unended = []; flags 
 abbrev pub IsOpen : State → ℕ → ℕ → Type 0
 IsOpen s seat ticket = Contains s.unended (record { ticket = ticket; seat = seat })
 
+-- a ticket stands in the line
 abbrev pub IsInLine : State → ℕ → Type 0
 IsInLine s ticket = (e : Entry ℕ) × Contains s.line e × (e.ticket ≡ ticket)
 

@@ -17,6 +17,7 @@ use Rattle.meet_tickets.specs.declared.records.Deed.{Deed}
 use Rattle.meet_tickets.specs.declared.records.Deed.TheVariants.{GiveWaits, GiveMeets, GiveFails, GiveKept, TakeWaits, TakeMeets, TakeFails, EntryInterrupted, Done, Got, Withdrawn, Interrupt}
 use Rattle.meet_tickets.specs.Meeting.{partner, Alone, Finds, MayKeep}
 
+-- the line, and what each seat has open
 pub record Seats (X : Type 0) : Type 0 where
   pub line : List (Entry X)  -- the unmatched tickets in order of request
   pub holds : ℕ → Hold X  -- what each seat has open
@@ -190,6 +191,7 @@ pub record Moment : Type 0 where
   pub last : ℕ
   pub seats : Seats ℕ
 
+-- no record yet
 abbrev pub beginning : Moment
 beginning = record { last = 0; seats = nobody }
 
@@ -205,10 +207,12 @@ moment_after k m r = record {
   seats = seats_after k m.seats r.seat r.ticket r.deed;
 }
 
+-- each record fits what the earlier ones left
 abbrev pub IsLegalBySeatFrom : Kind → Moment → List (Record Deed) → Type 0
 IsLegalBySeatFrom k m [] = Unit {0}
 IsLegalBySeatFrom k m (r ∷ history) = Fits k m r × IsLegalBySeatFrom k (moment_after k m r) history
 
+-- a history is legal where it is so from the beginning
 abbrev pub IsLegalBySeat : Kind → List (Record Deed) → Type 0
 IsLegalBySeat k history = IsLegalBySeatFrom k beginning history
 

@@ -83,10 +83,12 @@ fate history t = option_map_or (fate_asked history t) (request_of history t) Nev
 abbrev pub tickets_of : List (Record Deed) → List ℕ
 tickets_of history = map (λ r. r.ticket) (filter (λ r. is_request r.deed) history)
 
+-- the ticket stands in the line, and is open
 abbrev pub is_waiting : Fate → Bool
 is_waiting Waiting = true
 is_waiting fate = false
 
+-- the item stands in the line, and its giver went on
 abbrev pub is_kept : Fate → Bool
 is_kept Kept = true
 is_kept fate = false

@@ -4,6 +4,7 @@ use Rattle.meet_tickets.specs.BySeat.{Seats, is_open}
 use Rattle.meet_tickets.specs.declared.refusals.Refusal.{Refusal}
 use Rattle.meet_tickets.specs.declared.refusals.Refusal.TheVariants.{Memory, HistoryFull, TicketsSpent, SeatOpen, NoSuchSeat, NotOpen, Differs, SeatMissing, Contended, Worn, BadSizes, PolicyNeedsBuffer, NoThread, BadLine, BadTrace, ReadFault, WriteFault}
 
+-- its number
 abbrev pub number_of : Refusal → ℕ
 number_of Memory = 1
 number_of HistoryFull = 2
@@ -23,6 +24,7 @@ number_of BadTrace = 15
 number_of ReadFault = 16
 number_of WriteFault = 17
 
+-- its name, as scripts and faults tell it
 abbrev pub name_of : Refusal → List ℕ
 name_of Memory = codes "Memory"
 name_of HistoryFull = codes "HistoryFull"

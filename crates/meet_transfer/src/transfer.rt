@@ -34,8 +34,8 @@ impl<T: Marked> Transfer<T> {
     ghost use Rattle.meet_line.specs.Steps.{GiveStep, PutStep, TakeStep, OfferStep, PollStep};
     ghost use Rattle.meet_tickets.specs.declared.refusals.Refusal.TheVariants.{Memory};
 
-    /// A queue without a bound, with this many seats, 1 to 1,024, and this first ticket, 1 to 2^63 - 1. The only refusal is
-    /// Memory.
+    /// A queue without a bound and with no room yet, with this many seats, 1 to 1,024, and this first ticket, 1 to 2^63 - 1.
+    /// The only refusal is Memory.
     pub fn new(alloc: Global, seats: u64, first: u64) -> Result<Self, Refusal>
         requires seats { seats ≤ 1024 }
         requires first_from { 0 < first }
@@ -43,6 +43,7 @@ impl<T: Marked> Transfer<T> {
         ensures fresh { IfOk result (λ made. seats_of made.queue ≡ nobody) }
         ensures seats { IfOk result (λ made. count_of made.queue ≡ seats) }
         ensures first { IfOk result (λ made. made.queue.next ≡ first) }
+        ensures room { IfOk result (λ made. made.queue.room ≡ 0) }
         ensures bound { IfOk result (λ made. made.bound ≡ None) }
         ensures memory { IfErr result (λ why. why ≡ Memory) }
     {
@@ -62,6 +63,7 @@ impl<T: Marked> Transfer<T> {
         ensures fresh { IfOk result (λ made. seats_of made.queue ≡ nobody) }
         ensures seats { IfOk result (λ made. count_of made.queue ≡ seats) }
         ensures first { IfOk result (λ made. made.queue.next ≡ first) }
+        ensures room { IfOk result (λ made. made.queue.room ≡ 0) }
         ensures bound { IfOk result (λ made. made.bound ≡ Some bound) }
         ensures memory { IfErr result (λ why. why ≡ Memory) }
     {
@@ -96,10 +98,11 @@ impl<T: Marked> Transfer<T> {
 
     /// `LinkedTransferQueue.put`, `offer` and timed `offer`, which are one: the item goes to the taker that is met, or is kept
     /// in the line, and its giver goes on, or fails where as many items are kept as the bound says. It looks at no flag.
-    /// Refuses what `admit` does, then Memory; the item comes back.
+    /// Refuses what `admit` does, then Memory, never where there is room; the item comes back.
     pub fn put(&mut self, seat: SeatNo, item: T) -> Result<Put<T>, Refused<T>>
         ensures step { IfOk result (λ answer. PutStep T.mark_of TransferOrder self.old.bound self.old.queue seat item answer self.new.queue) }
         ensures admitted { IfOk result (λ _. refusal_of (count_of self.old.queue) self.old.queue.next (seats_of self.old.queue) seat ≡ None) }
+        ensures enough { 0 < self.old.queue.room → refusal_of (count_of self.old.queue) self.old.queue.next (seats_of self.old.queue) seat ≡ None → IsOk result }
         ensures places { places_of self.old.queue ≤ places_of self.new.queue }
         ensures bound { self.new.bound ≡ self.old.bound }
         ensures why { IfErr result (λ refused. MatchOption (refusal_of (count_of self.old.queue) self.old.queue.next (seats_of self.old.queue) seat) (refused.why ≡ Memory) (λ first. refused.why ≡ first)) }
@@ -110,11 +113,12 @@ impl<T: Marked> Transfer<T> {
     }
 
     /// `LinkedTransferQueue.transfer` up to its wait: the item goes to the taker that is met, or its giver goes to the line
-    /// behind who stands there, or is refused at entry where it is flagged. Refuses what `admit` does, then Memory; the item
-    /// comes back.
+    /// behind who stands there, or is refused at entry where it is flagged. Refuses what `admit` does, then Memory, never
+    /// where there is room; the item comes back.
     pub fn transfer(&mut self, seat: SeatNo, item: T) -> Result<Gave<T>, Refused<T>>
         ensures step { IfOk result (λ answer. GiveStep T.mark_of TransferOrder self.old.queue seat item answer self.new.queue) }
         ensures admitted { IfOk result (λ _. refusal_of (count_of self.old.queue) self.old.queue.next (seats_of self.old.queue) seat ≡ None) }
+        ensures enough { 0 < self.old.queue.room → refusal_of (count_of self.old.queue) self.old.queue.next (seats_of self.old.queue) seat ≡ None → IsOk result }
         ensures places { places_of self.old.queue ≤ places_of self.new.queue }
         ensures bound { self.new.bound ≡ self.old.bound }
         ensures why { IfErr result (λ refused. MatchOption (refusal_of (count_of self.old.queue) self.old.queue.next (seats_of self.old.queue) seat) (refused.why ≡ Memory) (λ first. refused.why ≡ first)) }
@@ -139,10 +143,12 @@ impl<T: Marked> Transfer<T> {
     }
 
     /// `LinkedTransferQueue.take` up to its wait: the item comes from the giver that stands there longest, kept or waiting,
-    /// or the taker goes to the line, or is refused at entry where it is flagged. Refuses what `admit` does, then Memory.
+    /// or the taker goes to the line, or is refused at entry where it is flagged. Refuses what `admit` does, then Memory,
+    /// never where there is room.
     pub fn take(&mut self, seat: SeatNo) -> Result<Took<T>, Refusal>
         ensures step { IfOk result (λ answer. TakeStep T.mark_of TransferOrder self.old.queue seat answer self.new.queue) }
         ensures admitted { IfOk result (λ _. refusal_of (count_of self.old.queue) self.old.queue.next (seats_of self.old.queue) seat ≡ None) }
+        ensures enough { 0 < self.old.queue.room → refusal_of (count_of self.old.queue) self.old.queue.next (seats_of self.old.queue) seat ≡ None → IsOk result }
         ensures places { places_of self.old.queue ≤ places_of self.new.queue }
         ensures bound { self.new.bound ≡ self.old.bound }
         ensures why { IfErr result (λ why. MatchOption (refusal_of (count_of self.old.queue) self.old.queue.next (seats_of self.old.queue) seat) (why ≡ Memory) (λ first. why ≡ first)) }

@@ -29,6 +29,7 @@ impl Stepper {
         ensures replies { OnOk result (replies.new.items ≡ replies.old.items ++ (drain self.old.setup (place_of self.old) seat (min most (count_on Giver self.old.queue.line))).replies) }
         ensures takes { OnOk result (Takes (drain self.old.setup (place_of self.old) seat (min most (count_on Giver self.old.queue.line))) self.old self.new) }
         ensures stay { OnErr result (replies.new.items ≡ replies.old.items) }
+        ensures unchanged { OnErr result (self.new ≡ self.old) }
         ensures memory { IfErr result (λ why. why ≡ Memory) }
     {
         let count = most.min(self.book.probe().available());

@@ -10,12 +10,14 @@ use crate::told::{DualCall, QueueAnswer, QueueCall};
 use meet_tickets::{Order, Refusal, SeatNo};
 
 impl Stepper {
-    ghost use Rattle.meet_history.specs.OneThread.{give, take, waiting, immediate, put_form, offer_form};
+    ghost use Rattle.meet_history.specs.OneThread.{request_refusal, give, take, waiting, immediate, put_form, offer_form};
     ghost use Rattle.meet_history.specs.Stepping.{place_of, TakesTurn};
 
     /// `BlockingQueue.put`: a transfer queue keeps the item, in a synchronous queue its giver waits.
     pub(super) fn put(&mut self, seat: SeatNo, mark: u64) -> Result<Reply, Refusal>
         ensures turn { IfOk result (TakesTurn (give self.old.setup (place_of self.old) seat (put_form self.old.setup.kind.order) mark) self.old self.new) }
+        ensures unchanged { IfErr result (λ _. self.new ≡ self.old) }
+        ensures alone { IfErr result (λ _. request_refusal self.old.setup (place_of self.old) seat ≡ None) }
         ensures memory { IfErr result (λ why. why ≡ Memory) }
     {
         let answer = match self.ask(seat, QueueCall::Put(mark)) {
@@ -34,6 +36,8 @@ impl Stepper {
     /// `BlockingQueue.offer`: a transfer queue puts the item, a synchronous queue gives it to a taker that is there.
     pub(super) fn offer(&mut self, seat: SeatNo, mark: u64) -> Result<Reply, Refusal>
         ensures turn { IfOk result (TakesTurn (give self.old.setup (place_of self.old) seat (offer_form self.old.setup.kind.order) mark) self.old self.new) }
+        ensures unchanged { IfErr result (λ _. self.new ≡ self.old) }
+        ensures alone { IfErr result (λ _. request_refusal self.old.setup (place_of self.old) seat ≡ None) }
         ensures memory { IfErr result (λ why. why ≡ Memory) }
     {
         match self.setup.kind.order {
@@ -46,6 +50,8 @@ impl Stepper {
     /// A give that waits for a taker.
     pub(super) fn give(&mut self, seat: SeatNo, mark: u64) -> Result<Reply, Refusal>
         ensures turn { IfOk result (TakesTurn (give self.old.setup (place_of self.old) seat waiting mark) self.old self.new) }
+        ensures unchanged { IfErr result (λ _. self.new ≡ self.old) }
+        ensures alone { IfErr result (λ _. request_refusal self.old.setup (place_of self.old) seat ≡ None) }
         ensures memory { IfErr result (λ why. why ≡ Memory) }
     {
         let answer = match self.call(seat, DualCall::Give(mark)) {
@@ -61,6 +67,8 @@ impl Stepper {
     /// A give to a taker that is there.
     pub(super) fn give_now(&mut self, seat: SeatNo, mark: u64) -> Result<Reply, Refusal>
         ensures turn { IfOk result (TakesTurn (give self.old.setup (place_of self.old) seat immediate mark) self.old self.new) }
+        ensures unchanged { IfErr result (λ _. self.new ≡ self.old) }
+        ensures alone { IfErr result (λ _. request_refusal self.old.setup (place_of self.old) seat ≡ None) }
         ensures memory { IfErr result (λ why. why ≡ Memory) }
     {
         let answer = match self.call(seat, DualCall::Offer(mark)) {
@@ -76,6 +84,8 @@ impl Stepper {
     /// A take that waits for a giver.
     pub(super) fn take(&mut self, seat: SeatNo) -> Result<Reply, Refusal>
         ensures turn { IfOk result (TakesTurn (take self.old.setup (place_of self.old) seat waiting) self.old self.new) }
+        ensures unchanged { IfErr result (λ _. self.new ≡ self.old) }
+        ensures alone { IfErr result (λ _. request_refusal self.old.setup (place_of self.old) seat ≡ None) }
         ensures memory { IfErr result (λ why. why ≡ Memory) }
     {
         let answer = match self.call(seat, DualCall::Take) {
@@ -91,6 +101,8 @@ impl Stepper {
     /// A take from a giver that is there.
     pub(super) fn poll(&mut self, seat: SeatNo) -> Result<Reply, Refusal>
         ensures turn { IfOk result (TakesTurn (take self.old.setup (place_of self.old) seat immediate) self.old self.new) }
+        ensures unchanged { IfErr result (λ _. self.new ≡ self.old) }
+        ensures alone { IfErr result (λ _. request_refusal self.old.setup (place_of self.old) seat ≡ None) }
         ensures memory { IfErr result (λ why. why ≡ Memory) }
     {
         let answer = match self.call(seat, DualCall::Poll) {

@@ -15,7 +15,7 @@ fn seat(number: u64) -> Result<SeatNo, Fail> {
 }
 
 /// The record of this seat and this ticket.
-fn row(number: u64, own: u64, deed: Deed) -> Result<Record<Deed>, Fail> {
+pub fn row(number: u64, own: u64, deed: Deed) -> Result<Record<Deed>, Fail> {
     Ok(Record {
         seat: seat(number)?,
         ticket: ticket(own)?,
@@ -23,7 +23,7 @@ fn row(number: u64, own: u64, deed: Deed) -> Result<Record<Deed>, Fail> {
     })
 }
 
-fn kind(order: Order, bound: Option<u64>) -> Kind {
+pub fn kind(order: Order, bound: Option<u64>) -> Kind {
     Kind { order, bound }
 }
 

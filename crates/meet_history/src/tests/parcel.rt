@@ -216,7 +216,7 @@ fn place<L: Line<Entry<Parcel>>>(
 }
 
 /// A seat asks: the number of its record, and what it is told. What is refused comes back whole.
-fn answer<L: Line<Entry<Parcel>>>(
+pub fn answer<L: Line<Entry<Parcel>>>(
     rt: &impl Abort,
     book: &mut Book<Dual<Parcel, L>>,
     number: u64,
@@ -262,6 +262,21 @@ fn drained(answer: &DualAnswer<Parcel>) -> Option<(u64, u64, u64)> {
     }
 }
 
+/// One item of a seat's drain: the number of its record, the tickets, and the serial number.
+pub fn is_taken(
+    rt: &impl Abort,
+    one: &(DualAnswer<Parcel>, Receipt<Deed>),
+    number: u64,
+    wanted: (u64, u64, u64, u64),
+) -> Result<(), Fail> {
+    let (place, own, with, serial) = wanted;
+    assert_eq!(rt; one.1.place(), place);
+    assert_eq!(rt; drained(&one.0), Some((own, with, serial)));
+    let row = record(number, own, Deed::TakeMeets(7, ticket(with)?))?;
+    assert_eq!(rt; one.1.entry(), row);
+    Ok(())
+}
+
 /// A seat's drain takes these parcels: the number of the record, the tickets, and the serial number.
 pub fn takes<L: Line<Entry<Parcel>>>(
     rt: &impl Abort,
@@ -273,17 +288,14 @@ pub fn takes<L: Line<Entry<Parcel>>>(
 ) -> Result<(), Fail> {
     let got = book.drain(alloc, seat(number)?, max).ok().ok_or("refused")?;
     assert_eq!(rt; got.len(), rows.len());
-    for (one, (place, own, with, serial)) in got.iter().zip(rows) {
-        assert_eq!(rt; one.1.place(), *place);
-        assert_eq!(rt; drained(&one.0), Some((*own, *with, *serial)));
-        let row = record(number, *own, Deed::TakeMeets(7, ticket(*with)?))?;
-        assert_eq!(rt; one.1.entry(), row);
+    for (one, wanted) in got.iter().zip(rows) {
+        is_taken(rt, one, number, *wanted)?;
     }
     Ok(())
 }
 
 /// What is seen of a queue: how many tickets wait, are open and are left, its room, and the number of records.
-fn seen<L: Line<Entry<Parcel>>>(book: &Book<Dual<Parcel, L>>) -> (u64, u64, u64, u64, usize) {
+pub fn seen<L: Line<Entry<Parcel>>>(book: &Book<Dual<Parcel, L>>) -> (u64, u64, u64, u64, usize) {
     let queue = book.probe();
     (
         queue.waiting(),

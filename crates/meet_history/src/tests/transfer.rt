@@ -11,14 +11,14 @@ use std::test::Fail;
 
 /// What a seat asks; a parcel by its serial number.
 #[derive(Clone, Copy, PartialEq, Eq, Debug)]
-enum Ask {
+pub enum Ask {
     Put(u64),
     Poll,
 }
 
 /// What it is told: its own ticket, its partner's, and then a parcel's serial number.
 #[derive(Clone, Copy, PartialEq, Eq, Debug)]
-enum Told {
+pub enum Told {
     Kept(u64),
     Gave(u64, u64),
     Fails(u64, u64),
@@ -80,7 +80,7 @@ fn place(receipt: Option<Receipt<Deed>>) -> u64 {
 }
 
 /// A seat asks: the number of its record, and what it is told. What is refused comes back whole.
-fn answer(
+pub fn answer(
     rt: &impl Abort,
     book: &mut Book<Transfer<Parcel>>,
     number: u64,

@@ -1,6 +1,6 @@
 use Rattle.std.proofs.Common.{rules, ◌≡◌, ◌≤◌, ℕ, ◌+◌, ◌<◌, false, eqb, List, [], ◌∷◌, ◌++◌, length, length-append, subst, sym, arith}
 use Rattle.std.specs.Io.KnownBytes.{Consumes}
-use Rattle.meet_run.proofs.LineLemmas.{HasNoEnd, plain-push, consumes-more, takes-ended, takes-last, begins-too-long}
+use Rattle.meet_run.proofs.LineLemmas.{HasNoEnd, plain-push, consumes-more, takes-ended, takes-last, begins-too-long, fails-behind, fails-within}
 use Rattle.meet_run.proofs.reading.read_line.Goals as goal
 
 pub returns-in-Byte-eq10-clause-read : goal.returns-in-Byte-eq10-clause-read
@@ -68,3 +68,21 @@ returns-else-is_empty-clause-read g c =
     let taken = consumes-more old (g.R.Read.remaining c.loop-byte.reader) new line [] c.loop-byte.invariant.taken c.in-End.ensures.0 in
     let same : line ++ [] ≡ line = search rules in
     (takes-last old new line c.loop-byte.invariant.plain some (subst (λ (t : List ℕ). Consumes old new t) same taken) c.in-End.ensures.1, c.loop-byte.invariant.short)
+
+pub returns-in-Failed-clause-read : goal.returns-in-Failed-clause-read
+returns-in-Failed-clause-read g c =
+    let old = g.R.Read.remaining c.args.reader.now in
+    let new = g.R.Read.remaining c.read_byte.new.reader in
+    let line = c.loop-byte.line.items in
+    let taken = consumes-more old (g.R.Read.remaining c.loop-byte.reader) new line [] c.loop-byte.invariant.taken c.in-Failed.ensures.0 in
+    let same : line ++ [] ≡ line = search rules in
+    (subst (λ (t : List ℕ). Consumes old new t) same taken, fails-behind (length line) c.args.turns.now c.loop-byte.turns c.read_byte.new.turns c.loop-byte.invariant.turns c.in-Failed.ensures.1)
+
+pub returns-in-Failed-clause-uses : goal.returns-in-Failed-clause-uses
+returns-in-Failed-clause-uses g c =
+    let old = g.R.Read.remaining c.args.reader.now in
+    let new = g.R.Read.remaining c.read_byte.new.reader in
+    let line = c.loop-byte.line.items in
+    let taken = consumes-more old (g.R.Read.remaining c.loop-byte.reader) new line [] c.loop-byte.invariant.taken c.in-Failed.ensures.0 in
+    let same : line ++ [] ≡ line = search rules in
+    (line, subst (λ (t : List ℕ). Consumes old new t) same taken, fails-within (length line) c.args.turns.now c.read_byte.new.turns (fails-behind (length line) c.args.turns.now c.loop-byte.turns c.read_byte.new.turns c.loop-byte.invariant.turns c.in-Failed.ensures.1))

@@ -1,0 +1,76 @@
+//! Lines and tables bear one refusal of memory: nothing is lost by it, and the call that is made again succeeds. `bin/refuse` runs
+//! these tests with each allocation refused in turn.
+
+ghost use Rattle.std.specs.Prelude.{◌≡◌, ◌≤◌, OnOk};
+
+use crate::tests::{Parcel, first_serial, join, meets_in_order};
+use crate::{FairLine, Line, SeatTable, StackLine};
+use meet_tickets::{Entry, Refusal};
+use std::alloc::Global;
+use std::process::Abort;
+use std::test::Fail;
+
+/// Room for so many entries more, at the second try where there was no memory at first.
+fn reserves<L: Line<Entry<Parcel>>>(rt: &impl Abort, line: &mut L, count: u64) -> Result<(), Fail>
+    ensures room { OnOk result (count ≤ L.spare line.new) }
+    ensures same { L.entries line.new ≡ L.entries line.old }
+{
+    let length = line.len();
+    let room = line.room();
+    let first = first_serial(line);
+    if let Err(why) = line.reserve(count) {
+        assert!(rt; why == Refusal::Memory);
+        assert_eq!(rt; line.len(), length);
+        assert_eq!(rt; line.room(), room);
+        assert_eq!(rt; first_serial(line), first);
+        line.reserve(count).ok().ok_or("memory")?;
+    }
+    Ok(())
+}
+
+/// A line that grows three times, and meets in this order.
+fn grows<L: Line<Entry<Parcel>> + Drop>(
+    rt: &impl Abort,
+    alloc: Global,
+    serials: &[u64],
+) -> Result<(), Fail> {
+    let mut line = L::empty(alloc);
+    reserves(rt, &mut line, 1)?;
+    join(&mut line, 1, 10)?;
+    reserves(rt, &mut line, 2)?;
+    join(&mut line, 2, 20)?;
+    reserves(rt, &mut line, 30)?;
+    join(&mut line, 3, 30)?;
+    assert_eq!(rt; line.len(), 3);
+    assert_eq!(rt; first_serial(&line), Some(10));
+    meets_in_order(rt, &mut line, serials);
+    Ok(())
+}
+
+#[test]
+fn a_fair_line_grows(rt: HostRuntime) -> Result<(), Fail> {
+    grows::<FairLine<Entry<Parcel>>>(&rt, rt.alloc(), &[10, 20, 30])
+}
+
+#[test]
+fn a_stack_grows(rt: HostRuntime) -> Result<(), Fail> {
+    grows::<StackLine<Entry<Parcel>>>(&rt, rt.alloc(), &[30, 20, 10])
+}
+
+/// A table of so many seats, at the second try where there was no memory at first.
+fn table(alloc: Global, count: u64) -> Result<SeatTable<Parcel>, Fail>
+    requires { count ≤ 1024 }
+{
+    match SeatTable::new(alloc, count) {
+        Ok(table) => Ok(table),
+        Err(_) => Ok(SeatTable::new(alloc, count).ok().ok_or("memory")?),
+    }
+}
+
+#[test]
+fn a_table_of_seats(rt: HostRuntime) -> Result<(), Fail> {
+    let table = table(rt.alloc(), 1024)?;
+    assert_eq!(rt; table.count(), 1024);
+    assert_eq!(rt; table.owed(), 0);
+    Ok(())
+}
