@@ -22,7 +22,7 @@ abbrev pub LeavesGivers : (givers : ℕ) → Finding → Type 0
 LeavesGivers givers (Recorded calls records standing) = ⊥
 LeavesGivers givers (Taken met waiting) = waiting ≡ givers
 
--- what is found of a task: exactly what its calls write, checked; or what its takes came to
+-- what is found of a task: exactly what its calls write, checked; or, of takes, that no more met a giver than there were
 abbrev pub IsFound : Setup → Task → Finding → Type 0
 IsFound setup (History shape calls runs checks) finding = finding ≡ recorded_of setup shape calls
 IsFound setup (Takes waiting takes) finding = IsTaken takes finding

@@ -11,5 +11,5 @@ abbrev pub call_refusal : (first : Option Refusal) → (full : Bool) → Option 
 call_refusal first full = option_map_or Some first (if full then Some HistoryFull else None)
 
 -- the record of a receipt, where there is one
-abbrev pub entry_of : {D : Type 0} → Option (Received D) → Option (Record D)
-entry_of receipt = option_map (λ r. r.entry) receipt
+abbrev pub record_of_receipt : {D : Type 0} → Option (Received D) → Option (Record D)
+record_of_receipt receipt = option_map (λ r. r.entry) receipt

@@ -36,10 +36,10 @@ IsFaulty k m r NotOpen = (is_ending r.deed ≡ true) × (open_ticket (m.seats.ho
 IsFaulty k m r WrongReply = IsTimely m r × (Allows k m.seats r.seat r.ticket r.deed → ⊥)
 
 -- why a request of this seat with this ticket comes at the wrong time
-abbrev pub IsLateRequest : Moment → (seat ticket : ℕ) → Why → Type 0
-IsLateRequest m i t SeatOpen = is_open (m.seats.holds i) ≡ true
-IsLateRequest m i t TicketOrder = IsFree m.seats i × (t ≤ m.last)
-IsLateRequest m i t why = ⊥
+abbrev pub IsUntimely : Moment → (seat ticket : ℕ) → Why → Type 0
+IsUntimely m i t SeatOpen = is_open (m.seats.holds i) ≡ true
+IsUntimely m i t TicketOrder = IsFree m.seats i × (t ≤ m.last)
+IsUntimely m i t why = ⊥
 
 -- the record of this number is the last of the shortest front that isn't legal
 pub record IsIllegalAt (k : Kind) (records : List (Record Deed)) (place : ℕ) (why : Why) : Type 0 where

@@ -1,4 +1,4 @@
--- The record of a call of a synchronous queue that was answered so. Items are named by their marks.
+-- The records of the calls that each queue has. Items are named by their marks.
 use Rattle.std.specs.Prelude.{ℕ, Option, Some, None}
 use Rattle.meet_tickets.specs.declared.places.Side.TheVariants.{Giver, Taker}
 use Rattle.meet_tickets.specs.declared.records.Record.{Record}
@@ -51,14 +51,14 @@ abbrev pub poll_record : {T : Type 0} → (T → ℕ) → (seat : ℕ) → Polle
 poll_record mark i (PollMeets t u item) = made i t (TakeMeets (mark item) u)
 poll_record mark i (PollFails t) = made i t TakeFails
 
--- a ticket that still stands in the line ends by no follow-up
+-- the record of a follow-up; none where the ticket still stands in the line
 abbrev pub follow_record : {T : Type 0} → (T → ℕ) → (seat ticket : ℕ) → Followed T → Option (Record Deed)
 follow_record mark i t WasMet = Some (made i t Done)
 follow_record mark i t (HasGot u item) = Some (made i t (Got (mark item) u))
 follow_record mark i t (WasCut item) = Some (made i t (Withdrawn Interrupted))
 follow_record mark i t NotYet = None
 
--- and one that doesn't, by no cancel and no expiry
+-- the record of a cancel or an expiry; none where it came too late
 abbrev pub back_record : {T : Type 0} → (seat ticket : ℕ) → Cause → TakenBack T → Option (Record Deed)
 back_record i t cause (Back item) = Some (made i t (Withdrawn cause))
 back_record i t cause Late = None
@@ -68,7 +68,7 @@ abbrev pub interrupt_record : (seat target : ℕ) → Struck → Record Deed
 interrupt_record i j (CutOff t) = made i t (Interrupt j)
 interrupt_record i j Flagged = made i 0 (Interrupt j)
 
--- a call and an answer to another have none
+-- the record of a call that was answered so; none where the answer is to another call
 abbrev pub dual_record : {T : Type 0} → (T → ℕ) → (seat : ℕ) → DualCall T → DualAnswer T → Option (Record Deed)
 dual_record mark i (Give item) (ToGive answer) = Some (give_record i (mark item) answer)
 dual_record mark i (Offer item) (ToOffer answer) = Some (offer_record i (mark item) answer)

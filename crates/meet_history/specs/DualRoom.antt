@@ -1,4 +1,4 @@
--- Room in the line changes no call of a synchronous queue, and a record is of the seat that called.
+-- Room in the line changes no call that each queue has, and a record is of the seat that called.
 use Rattle.std.proofs.Common.{◌≡◌, refl, sym, ap, ◌∙◌, ℕ, zero, suc, ◌+◌, ◌<◌, cond, List, [], arith}
 use Rattle.std.specs.Prelude.{count_by, MatchOption, ⊤}
 use Rattle.std.specs.List.{range_with_len}

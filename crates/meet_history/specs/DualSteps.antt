@@ -1,4 +1,4 @@
--- A synchronous queue as a book's place: its steps, refusals and costs, and the histories that lead to it.
+-- The calls that each queue has, as a book makes them: their steps, refusals and costs, and the histories that lead to a queue.
 use Rattle.std.specs.Prelude.{◌≡◌, ℕ, ◌+◌, ◌-◌, ◌^◌, ◌<◌, ◌≤◌, nat_eq, nat_le, ◌||◌, true, false, Option, Some, None, option_map, List, map, length, MatchOption, if◌then◌else◌}
 use Rattle.std.specs.Option.{option_map_or}
 use Rattle.meet_tickets.specs.declared.lines.Entry.{Entry}
@@ -80,7 +80,7 @@ dual_available q = count_on Giver q.line
 abbrev pub dual_left : {T : Type 0} → Queue T → ℕ
 dual_left q = 2 ^ 63 - q.next
 
--- the seats as histories see them, items by their marks
+-- an entry as histories see it, its item by its mark
 abbrev pub marked_entry : {T : Type 0} → (T → ℕ) → Entry T → Entry ℕ
 marked_entry mark e = record { ticket = e.ticket; seat = e.seat; item = option_map mark e.item; waits = e.waits }
 
@@ -92,7 +92,7 @@ marked_hold mark (Handed t u m) = Handed t u m
 marked_hold mark (Served t u item) = Served t u (mark item)
 marked_hold mark (Cut t item) = Cut t (option_map mark item)
 
--- all of it: the line, what the seats hold, and their flags
+-- the seats as histories see them: the line, what they hold, and their flags
 abbrev pub marked : {T : Type 0} → (T → ℕ) → Seats T → Seats ℕ
 marked mark s = record { line = map (marked_entry mark) s.line; holds = λ i. marked_hold mark (s.holds i); flags = s.flags }
 

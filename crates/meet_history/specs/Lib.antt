@@ -1,10 +1,10 @@
+pub mod Booked
 pub mod Booking
 pub mod Checking
 pub mod Draining
 pub mod DualRecords
 pub mod DualRoom
 pub mod DualSteps
-pub mod Kept
 pub mod Limits
 pub mod Marks
 pub mod OneThread

@@ -6,7 +6,7 @@ use Rattle.meet_tickets.specs.declared.places.Order.TheVariants.{Fair, Unfair}
 use Rattle.meet_history.specs.declared.checker.line.ByEnd.{ByEnd}
 use Rattle.meet_history.specs.declared.checker.line.ByEnd.TheVariants.{Front, Back}
 
--- an order, and the entries that stand in it
+-- an order, the entries that stand in it, and room for more
 pub record MarkedLine : Type 0 where
   pub order : Order  -- which entry is met
   pub entries : List (Entry ℕ)

@@ -111,7 +111,7 @@ abbrev pub take_deed : Kind → Seats ℕ → (seat : ℕ) → Form → Deed
 take_deed k s seat form =
     option_map_or (λ e. TakeMeets (unwrap_or e.item 0) e.ticket) (partner k.order s.line Taker) (take_alone s seat form)
 
--- the answer to a deed; `item` is the giver's item, where it comes back
+-- the answer to a deed; `item` is the giver's item, where it comes back; an interrupt is told otherwise, and its row is never used
 abbrev pub answer_of : Deed → (item : Option ℕ) → Answer
 answer_of (GiveWaits m) item = Waits
 answer_of (GiveMeets m u) item = Gave m u
@@ -170,7 +170,7 @@ abbrev pub interrupt_refusal : Setup → Place → (seat target : ℕ) → Optio
 interrupt_refusal setup p seat target =
     call_refusal (if nat_le setup.seats seat || nat_le setup.seats target then Some NoSuchSeat else None) (is_full setup p 1)
 
--- an interrupt's record names the ticket that it cut, or 0
+-- the ticket of this number, where it names one: 0 names none
 abbrev pub cut_named : ℕ → Option ℕ
 cut_named zero = None
 cut_named (suc t) = Some (suc t)
@@ -205,10 +205,10 @@ size_of Unfair line = 0
 size_of Transfer line = count_on Giver line
 
 -- SynchronousQueue.remainingCapacity, and that of LinkedTransferQueue
-abbrev pub room_of : Order → ℕ
-room_of Fair = 0
-room_of Unfair = 0
-room_of Transfer = 2147483647
+abbrev pub remaining_of : Order → ℕ
+remaining_of Fair = 0
+remaining_of Unfair = 0
+remaining_of Transfer = 2147483647
 
 -- SynchronousQueue.peek is always empty; LinkedTransferQueue.peek is the first giver's item
 abbrev pub peek_of : Order → List (Entry ℕ) → Option ℕ
@@ -242,7 +242,7 @@ turn_of setup p seat Expire = withdraw setup p seat Expired (p.seats.holds seat)
 turn_of setup p seat (InterruptSeat target) = interrupt setup p seat target
 turn_of setup p seat (Drain most) = drain setup p seat (min most (count_on Giver p.seats.line))
 turn_of setup p seat Size = silent p seat (Count (size_of setup.kind.order p.seats.line))
-turn_of setup p seat Room = silent p seat (Count (room_of setup.kind.order))
+turn_of setup p seat Room = silent p seat (Count (remaining_of setup.kind.order))
 turn_of setup p seat Peek = silent p seat (Peeked (peek_of setup.kind.order p.seats.line))
 turn_of setup p seat Consumers = silent p seat (Count (count_on Taker p.seats.line))
 

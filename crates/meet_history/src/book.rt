@@ -2,7 +2,7 @@
 
 ghost use Rattle.std.specs.Prelude.{◌≡◌, ◌+◌, ◌<◌, ◌≤◌, ◌^◌, Option, Some, None, [], ◌∷◌, ◌++◌, length, option_to_list, vec_len, nat_lt, ⊤, IfNone, IsOk, IfOk, IfErr, OnOk, OnErr, MatchOption};
 ghost use Rattle.std.specs.Vec.{vec_capacity};
-ghost use Rattle.meet_history.specs.Booking.{call_refusal, entry_of};
+ghost use Rattle.meet_history.specs.Booking.{call_refusal, record_of_receipt};
 ghost use Rattle.meet_tickets.specs.declared.refusals.Refusal.TheVariants.{Memory, HistoryFull};
 
 mod drain;
@@ -25,9 +25,9 @@ pub struct Book<O: Object> {
 impl<O: Object> Model for Book<O> {
     ghost use Rattle.std.specs.Prelude.{◌+◌, ◌≤◌, vec_len, length};
     ghost use Rattle.std.specs.Vec.{vec_capacity};
-    ghost use Rattle.meet_history.specs.Kept.{Kept};
+    ghost use Rattle.meet_history.specs.Booked.{Booked};
 
-    ghost Value = { Kept O O.Deed };
+    ghost Value = { Booked O O.Deed };
 
     ghost view = { λ book. record { object = book.object; records = book.records.items; cap = book.cap } };
 
@@ -90,10 +90,10 @@ impl<O: Object> Book<O> {
         call: O::Call,
     ) -> Result<(O::Answer, Option<Receipt<O::Deed>>), Refused<O::Call>>
         ensures step { IfOk result (λ made. O.steps self.old.object seat call made.0 self.new.object) }
-        ensures record { IfOk result (λ made. entry_of made.1 ≡ O.record_of seat call made.0) }
+        ensures record { IfOk result (λ made. record_of_receipt made.1 ≡ O.record_of seat call made.0) }
         ensures place { IfOk result (λ made. MatchOption made.1 ⊤ (λ receipt. receipt.place ≡ length self.old.records + 1)) }
         ensures seat { IfOk result (λ made. MatchOption made.1 ⊤ (λ receipt. receipt.entry.seat ≡ seat)) }
-        ensures records { IfOk result (λ made. self.new.records ≡ self.old.records ++ option_to_list (entry_of made.1)) }
+        ensures records { IfOk result (λ made. self.new.records ≡ self.old.records ++ option_to_list (record_of_receipt made.1)) }
         ensures admitted { IfOk result (λ _. call_refusal (O.refusal_of self.old.object seat call) (nat_lt self.old.cap (length self.old.records + O.owed_of self.old.object + O.need_of call)) ≡ None) }
         ensures why { IfErr result (λ refused. MatchOption (call_refusal (O.refusal_of self.old.object seat call) (nat_lt self.old.cap (length self.old.records + O.owed_of self.old.object + O.need_of call))) (refused.why ≡ Memory) (λ first. refused.why ≡ first)) }
         ensures back { IfErr result (λ refused. refused.back ≡ call) }
@@ -161,7 +161,7 @@ fn make_room<O: Object>(
 /// Puts a record behind the others, where there is one, and answers its receipt.
 fn write<D: Copy>(records: &mut Vec<Record<D>>, made: Option<Record<D>>) -> Option<Receipt<D>>
     requires { vec_len records.old + length (option_to_list made) ≤ vec_capacity records.old }
-    ensures entry { entry_of result ≡ made }
+    ensures entry { record_of_receipt result ≡ made }
     ensures place { MatchOption result ⊤ (λ receipt. receipt.place ≡ length records.old.items + 1) }
     ensures records { records.new.items ≡ records.old.items ++ option_to_list made }
     ensures capacity { vec_capacity records.new ≡ vec_capacity records.old }

@@ -5,7 +5,7 @@ ghost use Rattle.meet_tickets.specs.Meeting.{partner};
 ghost use Rattle.meet_tickets.specs.ByLists.{IsLegal};
 ghost use Rattle.meet_tickets.specs.BySeat.{beginning, IsFree, Fits, moment_after};
 ghost use Rattle.meet_tickets.specs.declared.refusals.Refusal.TheVariants.{Memory};
-ghost use Rattle.meet_history.specs.Checking.{IsFaulty, IsLateRequest, IsCheckFault, moment_at};
+ghost use Rattle.meet_history.specs.Checking.{IsFaulty, IsUntimely, IsCheckFault, moment_at};
 ghost use Rattle.meet_history.specs.OneThread.{standing_at};
 ghost use Rattle.meet_history.specs.Standings.{standing_in};
 
@@ -125,7 +125,7 @@ impl Checker {
     /// Whether a request of this seat with this ticket may come now.
     fn requests(&self, seat: SeatNo, ticket: Ticket) -> Result<(), Why>
         ensures timely { IfOk result (λ _. IsFree (moment_at self.now).seats seat × ((moment_at self.now).last < ticket)) }
-        ensures faulty { IfErr result (λ why. IsLateRequest (moment_at self.now) seat ticket why) }
+        ensures faulty { IfErr result (λ why. IsUntimely (moment_at self.now) seat ticket why) }
     {
         if self.hold(seat).is_open() {
             return Err(Why::SeatOpen);

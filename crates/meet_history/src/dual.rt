@@ -117,7 +117,7 @@ impl<T: Marked, L: Line<Entry<T>>> Drains for Dual<T, L> {
 impl<T: Marked, L: Line<Entry<T>>> Book<Dual<T, L>> {
     ghost use Rattle.meet_tickets.specs.declared.refusals.Refusal.TheVariants.{Memory};
 
-    /// The book of a new queue with this many seats, 1 to 1,024, this first ticket, 1 to 2^63 - 1, and at most this many
+    /// The book of a new queue with this many seats, at most 1,024, this first ticket, 1 to 2^63 - 1, and at most this many
     /// records, 1 to 1,048,576. The only refusal is Memory.
     pub fn of_queue(alloc: Global, seats: u64, first: u64, cap: u64) -> Result<Self, Refusal>
         requires seats { seats ≤ 1024 }

@@ -82,16 +82,16 @@ pub trait Object {
     /// A place that has the room that it has is the same.
     ghost same_place: { (o : Self) → with_room o (spare o) ≡ o };
 
-    /// Room changes no refusal,
+    /// Room changes no refusal.
     ghost same_refusal: { (o : Self) (room seat : ℕ) (call : Self.Call) → refusal_of (with_room o room) seat call ≡ refusal_of o seat call };
 
-    /// nothing that is owed,
+    /// Room changes nothing that is owed.
     ghost same_owed: { (o : Self) (room : ℕ) → owed_of (with_room o room) ≡ owed_of o };
 
-    /// no history,
+    /// Room changes no history.
     ghost same_leads: { (o : Self) (room : ℕ) (records : List (Record Self.Deed)) → leads records o → leads records (with_room o room) };
 
-    /// and no step of a call that asks for room.
+    /// Room changes no step of a call that asks for it.
     ghost same_steps: { (o : Self) (room seat : ℕ) (call : Self.Call) (answer : Self.Answer) (new : Self) → 0 < need_of call → steps (with_room o room) seat call answer new → steps o seat call answer new };
 
     /// A place without a history owes nothing.
@@ -126,9 +126,9 @@ pub trait Drains: Object {
     /// A poll's record needs a place, and another for the ending that a request may owe.
     ghost poll_needs: { Self.need_of poll ≡ 2 };
 
-    /// Room changes nothing of what is there,
+    /// Room changes nothing of what is there.
     ghost same_available: { (o : Self) (room : ℕ) → available_of (Self.with_room o room) ≡ available_of o };
 
-    /// and no ticket.
+    /// Room changes no number of tickets.
     ghost same_left: { (o : Self) (room : ℕ) → left_of (Self.with_room o room) ≡ left_of o };
 }

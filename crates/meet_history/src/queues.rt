@@ -9,7 +9,7 @@ ghost use Rattle.meet_line.specs.Queue.{seats_of, count_of, places_of};
 ghost use Rattle.meet_history.specs.DualSteps.{LeadsTo, dual_refusal, dual_owed, dual_available, dual_left};
 ghost use Rattle.meet_history.specs.DualRoom.{roomy, roomy-leads, roomy-fresh};
 ghost use Rattle.meet_history.specs.QueueSteps.{QueueStep, queue_refusal, queue_need, queue_record};
-ghost use Rattle.meet_history.specs.QueueRoom.{queue-refusal, queue-steps, queue-record};
+ghost use Rattle.meet_history.specs.QueueRoom.{roomy-queue-refusal, roomy-queue-steps, own-queue-record};
 ghost use Rattle.meet_history.specs.declared.told.DualCall.TheVariants.{Poll};
 ghost use Rattle.meet_history.specs.declared.told.QueueCall.TheVariants.{Dual as EachHas};
 
@@ -48,9 +48,9 @@ impl Model for AnyQueue {
 impl AnyQueue {
     ghost use Rattle.meet_tickets.specs.declared.refusals.Refusal.TheVariants.{Memory};
     ghost use Rattle.meet_history.specs.Limits.{FitsBound};
-    ghost use Rattle.meet_history.specs.OneThread.{size_of, room_of, peek_of};
+    ghost use Rattle.meet_history.specs.OneThread.{size_of, remaining_of, peek_of};
 
-    /// A queue of this kind, with this many seats, 1 to 1,024, and this first ticket, 1 to 2^63 - 1. Only a transfer queue
+    /// A queue of this kind, with this many seats, at most 1,024, and this first ticket, 1 to 2^63 - 1. Only a transfer queue
     /// may have a bound, 1 to 1,048,576. The only refusal is Memory.
     pub fn new(alloc: Global, kind: Kind, seats: u64, first: u64) -> Result<Self, Refusal>
         requires bound { FitsBound kind.order kind.bound }
@@ -137,7 +137,7 @@ impl AnyQueue {
 
     /// `BlockingQueue.remainingCapacity`: a synchronous queue has none, a transfer queue is said to be unbounded.
     pub fn remaining_capacity(&self) -> u64
-        ensures { result ≡ room_of self.now.kind.order }
+        ensures { result ≡ remaining_of self.now.kind.order }
     {
         match &self.queue {
             ByKind::Fair(_) => 0,
@@ -192,17 +192,17 @@ impl Object for AnyQueue {
 
     ghost with_room = { λ any room. record any { queue = roomy any.queue room } };
 
-    ghost own_record = { λ seat call answer. queue-record (λ mark. mark) seat call answer };
+    ghost own_record = { λ seat call answer. own-queue-record (λ mark. mark) seat call answer };
 
     ghost same_place = { λ any. refl };
 
-    ghost same_refusal = { λ any room seat call. queue-refusal any.queue room seat call };
+    ghost same_refusal = { λ any room seat call. roomy-queue-refusal any.queue room seat call };
 
     ghost same_owed = { λ any room. refl };
 
     ghost same_leads = { λ any room records leads. roomy-leads (λ mark. mark) any.kind any.queue room records leads };
 
-    ghost same_steps = { λ any room seat call answer new need step. (step.0, queue-steps (λ mark. mark) any.kind any.queue room seat call answer new.queue need step.1) };
+    ghost same_steps = { λ any room seat call answer new need step. (step.0, roomy-queue-steps (λ mark. mark) any.kind any.queue room seat call answer new.queue need step.1) };
 
     ghost fresh_owes = { λ any leads. roomy-fresh (λ mark. mark) any.kind any.queue leads };
 

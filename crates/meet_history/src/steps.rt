@@ -8,7 +8,7 @@ use crate::replies::Answer;
 use meet_line::{Followed, Gave, Interrupted, Offered, Polled, Put, TakenBack, Took};
 use meet_tickets::{Cause, Deed, Side, Ticket};
 
-/// A recorded step of one ticket, and the giver's item where it comes back.
+/// A recorded step of one ticket, and the giver's item, which the answer tells where it comes back.
 #[derive(Clone, Copy, PartialEq, Eq, Debug)]
 pub struct Step {
     pub ticket: Ticket,

@@ -10,7 +10,7 @@ ghost use Rattle.meet_history.specs.DualRecords.{dual_record};
 ghost use Rattle.meet_history.specs.DualSteps.{DualStep, LeadsTo, dual_refusal, dual_need, dual_owed, dual_available, dual_left};
 ghost use Rattle.meet_history.specs.QueueSteps.{BoundedStep, bounded_kind, queue_refusal, queue_need, queue_record};
 ghost use Rattle.meet_history.specs.DualRoom.{roomy, roomy-leads, roomy-fresh};
-ghost use Rattle.meet_history.specs.QueueRoom.{queue-refusal, queue-steps, queue-record};
+ghost use Rattle.meet_history.specs.QueueRoom.{roomy-queue-refusal, roomy-queue-steps, own-queue-record};
 ghost use Rattle.meet_history.specs.declared.told.DualCall.TheVariants.{Poll};
 ghost use Rattle.meet_history.specs.declared.told.QueueCall.TheVariants.{Dual as EachHas};
 
@@ -45,17 +45,17 @@ impl<T: Marked> Object for Transfer<T> {
 
     ghost with_room = { λ b room. record b { queue = roomy b.queue room } };
 
-    ghost own_record = { λ seat call answer. queue-record T.mark_of seat call answer };
+    ghost own_record = { λ seat call answer. own-queue-record T.mark_of seat call answer };
 
     ghost same_place = { λ b. refl };
 
-    ghost same_refusal = { λ b room seat call. queue-refusal b.queue room seat call };
+    ghost same_refusal = { λ b room seat call. roomy-queue-refusal b.queue room seat call };
 
     ghost same_owed = { λ b room. refl };
 
     ghost same_leads = { λ b room records leads. roomy-leads T.mark_of (bounded_kind b.bound) b.queue room records leads };
 
-    ghost same_steps = { λ b room seat call answer new need step. (step.0, queue-steps T.mark_of (bounded_kind b.bound) b.queue room seat call answer new.queue need step.1) };
+    ghost same_steps = { λ b room seat call answer new need step. (step.0, roomy-queue-steps T.mark_of (bounded_kind b.bound) b.queue room seat call answer new.queue need step.1) };
 
     ghost fresh_owes = { λ b leads. roomy-fresh T.mark_of (bounded_kind b.bound) b.queue leads };
 
@@ -119,7 +119,7 @@ impl<T: Marked> Drains for Transfer<T> {
 }
 
 impl<T: Marked> Book<Transfer<T>> {
-    /// The book of a new queue with this many seats, 1 to 1,024, this first ticket, 1 to 2^63 - 1, this bound on the items
+    /// The book of a new queue with this many seats, at most 1,024, this first ticket, 1 to 2^63 - 1, this bound on the items
     /// that it keeps, or none, and at most this many records, 1 to 1,048,576. The only refusal is Memory.
     pub fn of_transfer(
         alloc: Global,

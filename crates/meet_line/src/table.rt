@@ -33,7 +33,8 @@ impl<T> SeatTable<T> {
     ghost use Rattle.meet_line.specs.Table.{hold_at, flag_at, HasNoItem};
     ghost use Rattle.meet_tickets.specs.declared.lines.Hold.TheVariants.{Free};
 
-    /// A table of this many seats, 1 to 1,024, none of which holds anything or is flagged.
+    /// A table of this many seats, at most 1,024, none of which holds anything or is flagged. The only error is want of
+    /// memory.
     pub fn new(alloc: Global, count: u64) -> Result<Self, AllocError>
         requires { count ≤ 1024 }
         ensures count { IfOk result (λ table. length table.holds ≡ count) }

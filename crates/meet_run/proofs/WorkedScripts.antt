@@ -1,4 +1,4 @@
--- Worked scripts, computed by the definitions: also of the places and verbs that no code serves yet.
+-- Worked scripts about places of each kind, computed by the definitions.
 use Rattle.std.proofs.Common.{◌≡◌, ℕ, refl, List, [], ◌∷◌, Option, Some, None, length}
 use Rattle.meet_tickets.specs.declared.places.Order.{Order}
 use Rattle.meet_tickets.specs.declared.places.Order.TheVariants.{Fair, Unfair, Transfer}

@@ -32,13 +32,13 @@ status_of (Ok false) = 1
 status_of (Err fault) = fault_status fault.why
 
 -- where a fault is, if it is in a line
-unfoldable pub place_of : (line : Option ℕ) → List ℕ
-place_of None = []
-place_of (Some n) = codes "line " ++ decimal n ++ codes ": "
+unfoldable pub line_text : (line : Option ℕ) → List ℕ
+line_text None = []
+line_text (Some n) = codes "line " ++ decimal n ++ codes ": "
 
 -- a fault's line
 unfoldable pub fault_text : RunFault → List ℕ
-fault_text fault = codes "meet: " ++ place_of fault.line ++ name_of fault.why ++ codes "\n"
+fault_text fault = codes "meet: " ++ line_text fault.line ++ name_of fault.why ++ codes "\n"
 
 -- the line of a run on standard error, if it has one
 unfoldable pub fault_line : Result Bool RunFault → List ℕ

@@ -2,7 +2,7 @@
 
 ghost use Rattle.std.specs.Prelude.{◌≡◌, ◌+◌, ◌≤◌, ◌++◌, length, decimal};
 ghost use Rattle.arrayvec.specs.ArrayVec.{array_vec_len};
-ghost use Rattle.meet_run.specs.Faults.{fault_status, status_of, place_of, fault_text, fault_line};
+ghost use Rattle.meet_run.specs.Faults.{fault_status, status_of, line_text, fault_text, fault_line};
 
 use arrayvec::ArrayVec;
 use itoa::Buffer;
@@ -23,12 +23,12 @@ pub struct RunFault {
 #[derive(Clone, Copy)]
 struct InLine(Option<u64>);
 
-#[tactic(auto, unfolding(crate::specs::Faults::place_of))]
+#[tactic(auto, unfolding(crate::specs::Faults::line_text))]
 impl Display for InLine {
     ghost use Rattle.std.specs.Prelude.{Some};
-    ghost use Rattle.meet_run.specs.Faults.{place_of};
+    ghost use Rattle.meet_run.specs.Faults.{line_text};
 
-    ghost output = { λ place. Some (place_of place.0) };
+    ghost output = { λ place. Some (line_text place.0) };
 
     fn fmt<W: Write>(&self, f: &mut Formatter<W>) -> fmt::Result {
         match self.0 {
@@ -69,10 +69,10 @@ fn push_text(line: &mut ArrayVec<u8, ROOM>, text: &[u8])
 }
 
 /// Appends where a fault is.
-#[tactic(auto, unfolding(crate::specs::Faults::place_of))]
+#[tactic(auto, unfolding(crate::specs::Faults::line_text))]
 fn push_place(line: &mut ArrayVec<u8, ROOM>, place: Option<u64>)
     requires { array_vec_len line.old ≤ 6 }
-    ensures text { line.new.items ≡ line.old.items ++ place_of place }
+    ensures text { line.new.items ≡ line.old.items ++ line_text place }
     ensures room { array_vec_len line.new ≤ 33 }
 {
     if let Some(number) = place {

@@ -8,8 +8,8 @@ pub fn calls_have_one_spelling()
     ensures { CallsHaveOneSpelling }
 {}
 
-/// A first line reads as a place exactly where it spells it, with any options at their default left out, the place is
-/// in its limits, and it is served.
+/// A first line reads as a place exactly where it spells it, with any options at their default left out, and the place
+/// is in its limits.
 pub fn setups_are_spelled()
     ensures { SetupsAreSpelled }
 {}

@@ -8,8 +8,7 @@ pub fn records_have_one_spelling()
     ensures { RecordsHaveOneSpelling }
 {}
 
-/// A first line reads as a kind of place exactly where it is its one spelling, and the place may have that bound and
-/// is served.
+/// A first line reads as a kind of place exactly where it is its one spelling, and the place may have that bound.
 pub fn heads_have_one_spelling()
     ensures { HeadsHaveOneSpelling }
 {}

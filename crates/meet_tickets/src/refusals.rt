@@ -3,12 +3,13 @@
 ghost use Rattle.std.specs.Prelude.{◌≡◌};
 ghost use Rattle.meet_tickets.specs.Refusals.{number_of, name_of};
 
-/// Each reason for which a call of this workspace is refused.
+/// Each reason for which a call of this workspace is refused. `Differs` to `NoThread` are named for places that aren't here
+/// yet; no call answers them.
 #[derive(Clone, Copy, PartialEq, Eq, Hash, Debug)]
 pub enum Refusal {
     /// Memory was wanted and not there.
     Memory,
-    /// The record that this call and the open tickets need would not fit.
+    /// The records that this call and the open tickets may need would not fit.
     HistoryFull,
     /// No ticket is left.
     TicketsSpent,

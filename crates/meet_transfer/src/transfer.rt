@@ -34,7 +34,7 @@ impl<T: Marked> Transfer<T> {
     ghost use Rattle.meet_line.specs.Steps.{GiveStep, PutStep, TakeStep, OfferStep, PollStep};
     ghost use Rattle.meet_tickets.specs.declared.refusals.Refusal.TheVariants.{Memory};
 
-    /// A queue without a bound and with no room yet, with this many seats, 1 to 1,024, and this first ticket, 1 to 2^63 - 1.
+    /// A queue without a bound and with no room yet, with this many seats, at most 1,024, and this first ticket, 1 to 2^63 - 1.
     /// The only refusal is Memory.
     pub fn new(alloc: Global, seats: u64, first: u64) -> Result<Self, Refusal>
         requires seats { seats ≤ 1024 }

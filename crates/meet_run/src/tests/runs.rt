@@ -34,7 +34,7 @@ pub fn bad_line(line: u64) -> Result<bool, RunFault> {
     })
 }
 
-fn fault(why: Refusal) -> Result<bool, RunFault> {
+pub fn fault(why: Refusal) -> Result<bool, RunFault> {
     Err(RunFault { why, line: None })
 }
 

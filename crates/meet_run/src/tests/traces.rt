@@ -1,4 +1,5 @@
 use crate::tests::doubles::{feed_of, sink_by};
+use crate::tests::runs::{bad_line, fault};
 use crate::{RunFault, check_trace, check_trace_within, run_trace, run_trace_within};
 use meet_tickets::Refusal;
 use std::alloc::Global;
@@ -40,17 +41,6 @@ fn bad_trace(line: u64) -> Result<bool, RunFault> {
         why: Refusal::BadTrace,
         line: Some(line),
     })
-}
-
-fn bad_line(line: u64) -> Result<bool, RunFault> {
-    Err(RunFault {
-        why: Refusal::BadLine,
-        line: Some(line),
-    })
-}
-
-fn fault(why: Refusal) -> Result<bool, RunFault> {
-    Err(RunFault { why, line: None })
 }
 
 #[test]

@@ -3,7 +3,7 @@ use Rattle.std.specs.Prelude.{ℕ, List}
 use Rattle.meet_tickets.specs.declared.records.Record.{Record}
 
 -- its object, the records of the object's steps in order, and its cap
-pub record Kept (O D : Type 0) : Type 0 where
+pub record Booked (O D : Type 0) : Type 0 where
   pub object : O
   pub records : List (Record D)
   pub cap : ℕ  -- how many records it may have
