@@ -1,2 +1,4 @@
+pub mod AskedLemmas
 pub mod Fronts
 pub mod Served
+pub mod TaskLemmas

@@ -1,20 +1,27 @@
 -- What is found of a task, and its line.
 use Rattle.std.specs.Prelude.{ℕ, List, ◌++◌, length, codes, decimal}
+use Rattle.meet_history.specs.declared.calls.Call.{Call}
 use Rattle.meet_history.specs.declared.setups.Setup.{Setup}
 use Rattle.meet_history.specs.OneThread.{records}
 use Rattle.meet_history.specs.Standings.{standing_in}
 use Rattle.meet_run.specs.Wording.{last_line}
-use Rattle.meet_bench.specs.declared.calls.Shape.{Shape}
 use Rattle.meet_bench.specs.declared.findings.Finding.{Finding}
-use Rattle.meet_bench.specs.declared.findings.Finding.TheVariants.{Recorded, Taken}
+use Rattle.meet_bench.specs.declared.tasks.Task.{Task}
 use Rattle.meet_bench.specs.Calls.{calls_of}
 
--- what so many calls write on a place of this setup, and what stands there at the end
-abbrev pub recorded_of : Setup → Shape → (calls : ℕ) → Finding
-recorded_of setup shape calls =
-    Recorded calls (length (records setup (calls_of shape calls))) (standing_in (records setup (calls_of shape calls)))
+-- these calls on a place of this setup, counted, the records that they write, and what stands there at the end
+abbrev pub found_of : Setup → List Call → Finding
+found_of setup calls = record {
+  calls = length calls;
+  records = length (records setup calls);
+  standing = standing_in (records setup calls);
+}
+
+-- what is found of a task
+abbrev pub finding_of : Setup → Task → Finding
+finding_of setup task = found_of setup (calls_of setup.kind.order task.shape task.waiting task.calls)
 
 -- its line
 unfoldable pub finding_text : Finding → List ℕ
-finding_text (Recorded calls count standing) = codes "calls " ++ decimal calls ++ codes " " ++ last_line count standing
-finding_text (Taken met waiting) = codes "takes " ++ decimal met ++ codes " waiting " ++ decimal waiting ++ codes "\n"
+finding_text finding =
+    codes "calls " ++ decimal finding.calls ++ codes " " ++ last_line finding.records finding.standing

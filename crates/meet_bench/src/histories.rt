@@ -7,10 +7,12 @@ ghost use Rattle.meet_history.specs.OneThread.{records};
 ghost use Rattle.meet_history.specs.Served.{serves};
 ghost use Rattle.meet_history.specs.Limits.{IsInLimits};
 ghost use Rattle.meet_history.specs.Standings.{standing_in};
-ghost use Rattle.meet_bench.specs.Findings.{recorded_of};
+ghost use Rattle.meet_bench.specs.Findings.{found_of, finding_of};
+ghost use Rattle.meet_bench.specs.Tasks.{FitsTask};
 
-use crate::calls::{Shape, make_calls};
+use crate::calls::make_calls;
 use crate::findings::Finding;
+use crate::tasks::Task;
 use meet_history::{Call, CheckFault, Setup, Standing, check, run_all};
 use meet_tickets::{Deed, Kind, Record, Refusal};
 use std::alloc::Global;
@@ -65,26 +67,46 @@ fn check_records(
     check_once(alloc, kind, records)
 }
 
-/// Makes so many calls of this shape on a place of this setup, `runs` times, and checks what they write, `checks` times,
-/// each at least once. The only refusal is Memory.
-pub fn find_history(
+/// Makes these calls on a place of this setup, `runs` times, and checks what they write, `checks` times, each at least once.
+/// The only refusal is Memory.
+fn find_history(
     alloc: Global,
     setup: Setup,
-    shape: Shape,
-    count: u64,
+    calls: &[Call],
     runs: u64,
     checks: u64,
 ) -> Result<Finding, Refusal>
+    requires verbs { All (λ call. IsTrue (serves setup.kind.order call.verb)) calls.now }
     requires limits { IsInLimits setup }
-    ensures finding { IfOk result (λ finding. finding ≡ recorded_of setup shape count) }
+    ensures finding { IfOk result (λ finding. finding ≡ found_of setup calls.now) }
     ensures memory { IfErr result (λ why. why ≡ Memory) }
 {
-    let calls = match make_calls(alloc, shape, count) {
-        Ok(calls) => calls,
-        Err(_) => return Err(Refusal::Memory),
-    };
-    let written = record_calls(alloc, setup, calls.as_slice(), runs)?;
+    let written = record_calls(alloc, setup, calls, runs)?;
     let records = written.as_slice();
     let standing = check_records(alloc, setup.kind, records, checks)?;
-    Ok(Finding::Recorded(count, records.len() as u64, standing))
+    Ok(Finding {
+        calls: calls.len() as u64,
+        records: records.len() as u64,
+        standing,
+    })
+}
+
+/// Does a task on a place of this setup. The only refusal is Memory.
+pub fn perform(alloc: Global, setup: Setup, task: Task) -> Result<Finding, Refusal>
+    requires limits { IsInLimits setup }
+    requires task { FitsTask task }
+    ensures finding { IfOk result (λ finding. finding ≡ finding_of setup task) }
+    ensures memory { IfErr result (λ why. why ≡ Memory) }
+{
+    let made = make_calls(
+        alloc,
+        setup.kind.order,
+        task.shape,
+        task.waiting,
+        task.calls,
+    );
+    match made {
+        Ok(calls) => find_history(alloc, setup, calls.as_slice(), task.runs, task.checks),
+        Err(_) => Err(Refusal::Memory),
+    }
 }

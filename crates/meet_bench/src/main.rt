@@ -1,28 +1,27 @@
-//! The program `meet_bench`: a place and tasks on standard input, what is found of each on standard output. It has no clock:
+//! The program `meet_bench`: a place and a task on standard input, what is found of it on standard output. It has no clock:
 //! whoever runs it measures the time.
 #![tactic(auto)]
 
-ghost use Rattle.std.specs.Prelude.{◌≡◌, ◌≤◌, IsTrue, IfSome, IfOk, IfErr, OnOk};
-ghost use Rattle.std.specs.Io.KnownBytes.{Appends};
+ghost use Rattle.std.specs.Prelude.{◌≡◌, [], IfSome};
 ghost use Rattle.std.specs.Process.{exit_status};
-ghost use Rattle.std.specs.Vec.{vec_capacity};
 ghost use Rattle.meet_history.specs.Limits.{IsInLimits};
 ghost use Rattle.meet_run.specs.Faults.{status_of};
-ghost use Rattle.meet_bench.specs.Findings.{finding_text};
-ghost use Rattle.meet_bench.specs.Tasks.{IsFound};
+ghost use Rattle.meet_run.specs.Reading.{lines_of};
+ghost use Rattle.meet_run.specs.Running.{RunEnds};
+ghost use Rattle.meet_bench.specs.Asked.{asked_in, fault_told, output_told};
+ghost use Rattle.meet_bench.specs.Findings.{finding_of, finding_text};
+ghost use Rattle.meet_bench.specs.Tasks.{FitsTask};
 
+mod asked;
 mod calls;
 mod findings;
 mod histories;
-mod keeps;
-mod takes;
 mod tasks;
 
-use findings::{Finding, push_finding};
-use histories::find_history;
+use asked::{broken, read_asked};
+use findings::push_finding;
+use histories::perform;
 use meet_history::Setup;
-use meet_run::grammar::LONGEST_LINE;
-use meet_run::next::{Next, next_setup};
 use meet_run::output::write_whole;
 use meet_run::run::MOST_READS;
 use meet_run::{RunFault, report_of};
@@ -30,88 +29,40 @@ use meet_tickets::Refusal;
 use std::alloc::Global;
 use std::io::{BufReader, Read, Write};
 use std::process::ExitCode;
-use takes::find_takes;
-use tasks::{Task, next_task};
+use tasks::Task;
 
-/// The most lines: the place, and a task each.
-const MOST_LINES: u64 = 1000;
-
-/// Does a task on a place of this setup.
-fn perform(alloc: Global, setup: Setup, task: Task) -> Result<Finding, Refusal>
-    requires limits { IsInLimits setup }
-    ensures { IfOk result (IsFound setup task) }
-{
-    match task {
-        Task::History(shape, calls, runs, checks) => {
-            find_history(alloc, setup, shape, calls, runs, checks)
-        }
-        Task::Takes(waiting, takes) => find_takes(alloc, setup, waiting, takes),
-    }
-}
-
-/// Writes the line of a finding.
-fn tell<W: Write>(alloc: Global, finding: Finding, writer: &mut W) -> Result<(), Refusal>
-    ensures { OnOk result (Appends (W.contents writer.old) (W.contents writer.new) (finding_text finding)) }
-{
-    let mut out = Vec::new(alloc);
-    match push_finding(&mut out, finding) {
-        Ok(()) => write_whole(writer, out.as_slice()),
-        Err(_) => Err(Refusal::Memory),
-    }
-}
-
-/// A fault of this line, or outside any line.
-fn fault(why: Refusal, line: Option<u64>) -> RunFault
-    ensures { result ≡ record { why = why; line = line } }
-{
-    RunFault { why, line }
-}
-
-/// Does the tasks behind the first line. The answer is true; a task that is refused is a fault of its line.
-fn serve<R: Read, W: Write>(
+/// Does a task on a place of this setup, and writes the line of what is found. The answer is true.
+fn find_and_tell<W: Write>(
     alloc: Global,
-    reader: &mut R,
-    writer: &mut W,
-    turns: &mut u64,
-    line: &mut Vec<u8>,
     setup: Setup,
+    task: Task,
+    writer: &mut W,
 ) -> Result<bool, RunFault>
     requires limits { IsInLimits setup }
-    requires room { LONGEST_LINE ≤ vec_capacity line.old }
-    ensures done { IfOk result IsTrue }
-    ensures line { IfErr result (λ fault. IfSome fault.line (λ n. (2 ≤ n) × (n ≤ 1000))) }
+    requires task { FitsTask task }
+    ensures { RunEnds None [] (finding_text (finding_of setup task)) result (W.contents writer.old) (W.contents writer.new) }
 {
-    for number in 2..MOST_LINES {
-        match next_task(reader, turns, line) {
-            Next::Read(task) => match perform(alloc, setup, task) {
-                Ok(finding) => match tell(alloc, finding, writer) {
-                    Ok(()) => {}
-                    Err(why) => return Err(fault(why, None)),
-                },
-                Err(why) => return Err(fault(why, Some(number))),
-            },
-            Next::Ended => return Ok(true),
-            Next::Faulty => return Err(fault(Refusal::BadLine, Some(number))),
-            Next::Broken => return Err(fault(Refusal::ReadFault, None)),
-        }
+    let finding = match perform(alloc, setup, task) {
+        Ok(finding) => finding,
+        Err(why) => return Err(broken(why)),
+    };
+    let mut text = Vec::new(alloc);
+    if push_finding(&mut text, finding).is_err() {
+        return Err(broken(Refusal::Memory));
     }
-    Err(fault(Refusal::BadLine, Some(MOST_LINES)))
+    match write_whole(writer, text.as_slice()) {
+        Ok(()) => Ok(true),
+        Err(why) => Err(broken(why)),
+    }
 }
 
-/// Reads the place, as the first line of a script says it, and does the tasks behind it. The answer is true.
+/// Does what a text asks for, and writes the line of what is found. The answer is true.
 fn run<R: Read, W: Write>(alloc: Global, reader: &mut R, writer: &mut W) -> Result<bool, RunFault>
-    ensures { IfOk result IsTrue }
+    ensures { IfSome (R.remaining reader.old) (λ input. RunEnds (fault_told (asked_in (lines_of input))) [] (output_told (asked_in (lines_of input))) result (W.contents writer.old) (W.contents writer.new)) }
 {
-    let mut turns = MOST_READS;
-    let mut line = match Vec::with_capacity(alloc, LONGEST_LINE) {
-        Ok(line) => line,
-        Err(_) => return Err(fault(Refusal::Memory, None)),
-    };
-    match next_setup(reader, &mut turns, &mut line) {
-        Next::Read(setup) => serve(alloc, reader, writer, &mut turns, &mut line, setup),
-        Next::Ended => Err(fault(Refusal::BadLine, Some(1))),
-        Next::Faulty => Err(fault(Refusal::BadLine, Some(1))),
-        Next::Broken => Err(fault(Refusal::ReadFault, None)),
+    match read_asked(alloc, reader, MOST_READS) {
+        Ok((setup, task)) => find_and_tell(alloc, setup, task, writer),
+        Err(fault) => Err(fault),
     }
 }
 
@@ -126,7 +77,7 @@ fn finish(rt: &HostRuntime, outcome: &Result<bool, RunFault>) -> ExitCode
 
 fn main(rt: HostRuntime) -> ExitCode {
     let Ok(mut reader) = BufReader::new(rt.alloc(), rt.stdin()) else {
-        return finish(&rt, &Err(fault(Refusal::Memory, None)));
+        return finish(&rt, &Err(broken(Refusal::Memory)));
     };
     let outcome = run(rt.alloc(), &mut reader, &mut rt.stdout());
     finish(&rt, &outcome)

@@ -1,94 +1,110 @@
 //! Tasks, as their lines say them.
 
-ghost use Rattle.std.specs.Prelude.{◌≡◌, ◌≤◌, ◌↔◌, IfSome, IsSome, IsNone};
-ghost use Rattle.std.specs.Vec.{vec_capacity};
-ghost use Rattle.meet_run.specs.Running.{IfRead};
-ghost use Rattle.meet_bench.specs.Tasks.{FitsTask};
+ghost use Rattle.std.specs.Prelude.{◌≡◌, ◌≤◌, IfSome};
+ghost use Rattle.std.specs.Option.{option_map};
+ghost use Rattle.meet_bench.specs.Tasks.{FitsTask, shape_of, number_in, task_at_end, task_with, task_in, task_of};
 
-use crate::calls::Shape;
+use meet_run::first_line::read_option;
 use meet_run::grammar::LONGEST_LINE;
-use meet_run::next::Next;
-use meet_run::reading::{LineRead, read_line};
-use meet_run::words::read_number;
-use std::io::Read;
-use std::str;
+use meet_run::words::split_word;
 
-/// A task.
+/// What calls do again and again.
 #[derive(Clone, Copy, PartialEq, Eq, Debug)]
-pub enum Task {
-    /// Calls of this shape, this many, made and checked so many times.
-    History(Shape, u64, u64, u64),
-    /// From a line in which so many givers wait, or so many items are kept, so many takes.
-    Takes(u64, u64),
+pub enum Shape {
+    /// Givers wait; a taker meets one of them, which is told so, and gives anew.
+    Meetings,
+    /// Takers wait; one of them, anywhere in the line, takes its ticket back, and waits anew.
+    Withdrawals,
 }
 
-/// The most calls, and the most givers.
+/// A task: calls that are made and checked.
+#[derive(Clone, Copy, PartialEq, Eq, Debug)]
+pub struct Task {
+    pub shape: Shape,
+    /// How many givers or takers wait at first.
+    pub waiting: u64,
+    /// How many calls there are, with those of who waits at first.
+    pub calls: u64,
+    /// How often they are made, each time on a new place.
+    pub runs: u64,
+    /// How often their records are checked.
+    pub checks: u64,
+}
+
+/// The most that wait, and the most calls.
 const MOST: u64 = 1_048_576;
 
 /// How often calls are made or checked at most.
 const MOST_TIMES: u64 = 1000;
 
-/// The most takes.
-const MOST_TAKES: u64 = 1_073_741_824;
-
-/// The number of a word, where it is at most this.
-fn number_within(word: Option<&str>, most: u64) -> Option<u64>
-    ensures { IfSome result (λ number. number ≤ most) }
+/// The shape of a word.
+#[tactic(auto, unfolding(crate::specs::Tasks::shape_of))]
+fn read_shape(word: &[u8]) -> Option<Shape>
+    ensures { result ≡ shape_of word.now }
 {
-    let number = read_number(word?.as_bytes())?;
-    if number <= most { Some(number) } else { None }
-}
-
-/// A task, where no word is left behind it.
-fn end_of(task: Task, rest: Option<&str>) -> Option<Task>
-    ensures task { IfSome result (λ ended. ended ≡ task) }
-    ensures ended { IsSome result ↔ IsNone rest.entry }
-{
-    match rest {
-        None => Some(task),
-        Some(_) => None,
+    if word == b"meetings".as_slice() {
+        Some(Shape::Meetings)
+    } else if word == b"withdrawals".as_slice() {
+        Some(Shape::Withdrawals)
+    } else {
+        None
     }
 }
 
-/// The task of a line: `history SHAPE CALLS RUNS CHECKS`, where the shape is `short` or `long`, or `takes WAITING TAKES`.
-fn task_of(line: &[u8]) -> Option<Task>
-    ensures { IfSome result FitsTask }
+/// A number by its name with a space on either side, 1 where it isn't there, and the rest of its line.
+#[tactic(auto, unfolding(crate::specs::Tasks::number_in))]
+fn read_named<'a>(name: &[u8], most: u64, rest: &'a [u8]) -> Option<(u64, &'a [u8])>
+    ensures read { option_map (λ found. (found.0, found.1.now)) result ≡ number_in name.now most rest.now }
 {
-    let mut words = str::from_utf8(line).ok()?.split(' ');
-    match words.next()? {
-        "history" => {
-            let shape = match words.next()? {
-                "short" => Shape::Short,
-                "long" => Shape::Long,
-                _ => return None,
-            };
-            let calls = number_within(words.next(), MOST)?;
-            let runs = number_within(words.next(), MOST_TIMES)?;
-            let checks = number_within(words.next(), MOST_TIMES)?;
-            end_of(Task::History(shape, calls, runs, checks), words.next())
-        }
-        "takes" => {
-            let waiting = number_within(words.next(), MOST)?;
-            let takes = number_within(words.next(), MOST_TAKES)?;
-            end_of(Task::Takes(waiting, takes), words.next())
-        }
-        _ => None,
-    }
+    let (number, rest) = read_option(name, most, rest)?;
+    Some((number.unwrap_or(1), rest))
 }
 
-/// Reads the line of a task.
-pub fn next_task<R: Read>(reader: &mut R, turns: &mut u64, line: &mut Vec<u8>) -> Next<Task>
-    requires { LONGEST_LINE ≤ vec_capacity line.old }
-    ensures fits { IfRead result FitsTask }
-    ensures room { LONGEST_LINE ≤ vec_capacity line.new }
+/// The task, where nothing is left of the line.
+#[tactic(auto, unfolding(crate::specs::Tasks::task_at_end))]
+fn finish_task(task: Task, rest: &[u8]) -> Option<Task>
+    ensures { result ≡ task_at_end task rest.now }
 {
-    match read_line(reader, turns, line) {
-        LineRead::Line => match task_of(line.as_slice()) {
-            Some(task) => Next::Read(task),
-            None => Next::Faulty,
-        },
-        LineRead::End => Next::Ended,
-        LineRead::TooLong => Next::Faulty,
-        LineRead::Failed => Next::Broken,
+    if rest.is_empty() { Some(task) } else { None }
+}
+
+/// The task of a shape, by the rest of its line.
+#[tactic(auto, unfolding(crate::specs::Tasks::task_with))]
+fn read_numbers(shape: Shape, rest: &[u8]) -> Option<Task>
+    ensures { result ≡ task_with shape rest.now }
+{
+    let (waiting, rest) = read_named(b" waiting ", MOST, rest)?;
+    let (calls, rest) = read_named(b" calls ", MOST, rest)?;
+    let (runs, rest) = read_named(b" runs ", MOST_TIMES, rest)?;
+    let (checks, rest) = read_named(b" checks ", MOST_TIMES, rest)?;
+    let task = Task {
+        shape,
+        waiting,
+        calls,
+        runs,
+        checks,
+    };
+    finish_task(task, rest)
+}
+
+/// The task of a line, however long.
+#[tactic(auto, unfolding(crate::specs::Tasks::task_in))]
+fn read_long_task(line: &[u8]) -> Option<Task>
+    ensures { result ≡ task_in line.now }
+{
+    let (word, rest) = split_word(line);
+    let shape = read_shape(word)?;
+    read_numbers(shape, rest)
+}
+
+/// The task of a line, or none where the line is at fault.
+#[tactic(auto, unfolding(crate::specs::Tasks::task_of))]
+pub fn read_task(line: &[u8]) -> Option<Task>
+    ensures read { result ≡ task_of line.now }
+    ensures fits { IfSome result FitsTask }
+{
+    if line.len() > LONGEST_LINE {
+        return None;
     }
+    read_long_task(line)
 }

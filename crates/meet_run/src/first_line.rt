@@ -69,11 +69,7 @@ fn read_value(most: u64, text: &[u8]) -> Option<(Option<u64>, &[u8])>
 
 /// An option by its name with a space on either side: its number, if it stands there, and the rest of its line.
 #[tactic(auto, unfolding(crate::specs::Grammar::option_in))]
-pub(crate) fn read_option<'a>(
-    name: &[u8],
-    most: u64,
-    rest: &'a [u8],
-) -> Option<(Option<u64>, &'a [u8])>
+pub fn read_option<'a>(name: &[u8], most: u64, rest: &'a [u8]) -> Option<(Option<u64>, &'a [u8])>
     ensures { option_map (λ found. (found.0, found.1.now)) result ≡ option_in name.now most rest.now }
 {
     match strip_front(name, rest) {

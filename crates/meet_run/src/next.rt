@@ -33,7 +33,7 @@ pub enum Next<A> {
 }
 
 /// What the next line is, by what came of reading it and what it then reads as.
-fn next_of<A: Copy>(came: LineRead, read: Option<A>) -> Next<A>
+pub fn next_of<A: Copy>(came: LineRead, read: Option<A>) -> Next<A>
     ensures { result ≡ next_from came read }
 {
     match came {

@@ -29,12 +29,12 @@ fn push_marked(out: &mut Vec<u8>, word: &[u8], mark: Option<u64>) -> Result<(), 
     Ok(())
 }
 
-/// Appends a number behind a word.
-pub(crate) fn push_numbered(out: &mut Vec<u8>, word: &[u8], number: u64) -> Result<(), AllocError>
-    ensures { OnOk result (out.new.items ≡ out.old.items ++ (word.now ++ decimal number)) }
+/// Appends a number behind a word. Where memory runs out, nothing is said of what was appended.
+pub fn push_numbered(out: &mut Vec<u8>, word: &[u8], value: u64) -> Result<(), AllocError>
+    ensures { OnOk result (out.new.items ≡ out.old.items ++ (word.now ++ decimal value)) }
 {
     out.extend_from_slice(word)?;
-    push_number(out, number)
+    push_number(out, value)
 }
 
 /// Appends a word, a number, another word and a second number.

@@ -7,7 +7,7 @@ use itoa::Buffer;
 use std::str;
 
 /// Cuts a text at its first space: what stands before it, and what is left from it on.
-pub(crate) fn split_word(text: &[u8]) -> (&[u8], &[u8])
+pub fn split_word(text: &[u8]) -> (&[u8], &[u8])
     ensures word { result.0.now ≡ word_of text.now }
     ensures rest { result.1.now ≡ rest_of text.now }
 {

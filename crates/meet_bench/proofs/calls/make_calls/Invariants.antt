@@ -1,5 +1,4 @@
 use Rattle.std.proofs.Common.{◌≡◌, All, IsTrue}
-use Rattle.meet_tickets.specs.declared.places.Order.{Order}
 use Rattle.meet_history.specs.Served.{serves}
 use Rattle.meet_bench.specs.Calls.{calls_of}
 use Rattle.meet_bench.proofs.calls.make_calls.Given as goal
@@ -7,6 +6,6 @@ use Rattle.meet_bench.proofs.calls.make_calls.Given as goal
 -- so many calls are made, and served
 abbrev pub invariant-loop-number : goal.invariant-loop-number
 invariant-loop-number l = record {
-  calls : l.calls.items ≡ calls_of l.fn.shape l.number;
-  served : (order : Order) → All (λ call. IsTrue (serves order call.verb)) l.calls.items;
+  calls : l.calls.items ≡ calls_of l.fn.order l.fn.shape l.fn.waiting l.number;
+  served : All (λ call. IsTrue (serves l.fn.order call.verb)) l.calls.items;
 }
