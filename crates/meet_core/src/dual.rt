@@ -1,9 +1,10 @@
 //! The dual queue: givers and takers that meet.
 
-ghost use Rattle.std.specs.Prelude.{◌≡◌, ◌^◌, ◌≤◌, ◌<◌, ◌-◌, Some, None, IsOk, IfOk, IfErr, OnOk, OnErr, MatchOption};
+ghost use Rattle.std.specs.Prelude.{◌≡◌, ◌^◌, ◌≤◌, ◌<◌, ◌-◌, Some, None, IsOk, IfOk, IfErr, OnOk, OnErr};
 ghost use Rattle.meet_tickets.specs.Meeting.{waiting_count, kept_count, count_on};
 ghost use Rattle.meet_tickets.specs.BySeat.{nobody, open_ticket, owed_of, settled_of};
 ghost use Rattle.meet_tickets.specs.declared.places.Side.TheVariants.{Giver};
+ghost use Rattle.meet_tickets.specs.Refusals.{IsWhy};
 
 use meet_line::{Gave, Line, Meetings, Offered, Polled, Took};
 use meet_tickets::{Entry, Marked, Refusal, Refused, SeatNo, Ticket};
@@ -81,7 +82,7 @@ impl<T: Marked, L: Line<Entry<T>>> Dual<T, L> {
         ensures admitted { IfOk result (λ _. admit_refusal self.old seat ≡ None) }
         ensures enough { 0 < self.old.room → admit_refusal self.old seat ≡ None → IsOk result }
         ensures places { places_of self.old ≤ places_of self.new }
-        ensures why { IfErr result (λ refused. MatchOption (admit_refusal self.old seat) (refused.why ≡ Memory) (λ first. refused.why ≡ first)) }
+        ensures why { IfErr result (λ refused. IsWhy (admit_refusal self.old seat) refused.why) }
         ensures back { IfErr result (λ refused. refused.back ≡ item) }
         ensures unchanged { IfErr result (λ _. self.new ≡ self.old) }
     {
@@ -95,7 +96,7 @@ impl<T: Marked, L: Line<Entry<T>>> Dual<T, L> {
         ensures admitted { IfOk result (λ _. admit_refusal self.old seat ≡ None) }
         ensures enough { 0 < self.old.room → admit_refusal self.old seat ≡ None → IsOk result }
         ensures places { places_of self.old ≤ places_of self.new }
-        ensures why { IfErr result (λ why. MatchOption (admit_refusal self.old seat) (why ≡ Memory) (λ first. why ≡ first)) }
+        ensures why { IfErr result (IsWhy (admit_refusal self.old seat)) }
         ensures unchanged { IfErr result (λ _. self.new ≡ self.old) }
     {
         self.meetings.take(seat)

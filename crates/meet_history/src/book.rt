@@ -3,6 +3,7 @@
 ghost use Rattle.std.specs.Prelude.{◌≡◌, ◌+◌, ◌<◌, ◌≤◌, ◌^◌, Option, Some, None, [], ◌∷◌, ◌++◌, length, option_to_list, vec_len, nat_lt, ⊤, IfNone, IsOk, IfOk, IfErr, OnOk, OnErr, MatchOption};
 ghost use Rattle.std.specs.Vec.{vec_capacity};
 ghost use Rattle.meet_history.specs.Booking.{call_refusal, record_of_receipt};
+ghost use Rattle.meet_tickets.specs.Refusals.{IsWhy};
 ghost use Rattle.meet_tickets.specs.declared.refusals.Refusal.TheVariants.{Memory, HistoryFull};
 
 mod drain;
@@ -95,7 +96,7 @@ impl<O: Object> Book<O> {
         ensures seat { IfOk result (λ made. MatchOption made.1 ⊤ (λ receipt. receipt.entry.seat ≡ seat)) }
         ensures records { IfOk result (λ made. self.new.records ≡ self.old.records ++ option_to_list (record_of_receipt made.1)) }
         ensures admitted { IfOk result (λ _. call_refusal (O.refusal_of self.old.object seat call) (nat_lt self.old.cap (length self.old.records + O.owed_of self.old.object + O.need_of call)) ≡ None) }
-        ensures why { IfErr result (λ refused. MatchOption (call_refusal (O.refusal_of self.old.object seat call) (nat_lt self.old.cap (length self.old.records + O.owed_of self.old.object + O.need_of call))) (refused.why ≡ Memory) (λ first. refused.why ≡ first)) }
+        ensures why { IfErr result (λ refused. IsWhy (call_refusal (O.refusal_of self.old.object seat call) (nat_lt self.old.cap (length self.old.records + O.owed_of self.old.object + O.need_of call))) refused.why) }
         ensures back { IfErr result (λ refused. refused.back ≡ call) }
         ensures unchanged { IfErr result (λ _. self.new ≡ self.old) }
         ensures cap { self.new.cap ≡ self.old.cap }

@@ -1,8 +1,9 @@
 //! What the queues of one thread share: givers and takers that meet in one line, and items that are kept there.
 
-ghost use Rattle.std.specs.Prelude.{◌≡◌, ◌^◌, ◌≤◌, ◌<◌, Some, None, IsOk, IfOk, IfErr, OnOk, OnErr, MatchOption};
+ghost use Rattle.std.specs.Prelude.{◌≡◌, ◌^◌, ◌≤◌, ◌<◌, Some, None, IsOk, IfOk, IfErr, OnOk, OnErr};
 ghost use Rattle.meet_tickets.specs.Meeting.{kept_count};
 ghost use Rattle.meet_tickets.specs.BySeat.{nobody};
+ghost use Rattle.meet_tickets.specs.Refusals.{IsWhy};
 
 use crate::answers::{Gave, Offered, Polled, Put, Took};
 use crate::line::Line;
@@ -104,7 +105,7 @@ impl<T: Marked, L: Line<Entry<T>>> Meetings<T, L> {
         ensures enough { 0 < self.old.room → admit_refusal self.old seat ≡ None → IsOk result }
         ensures places { places_of self.old ≤ places_of self.new }
         ensures kept { kept_count self.new.line ≡ kept_count self.old.line }
-        ensures why { IfErr result (λ refused. MatchOption (admit_refusal self.old seat) (refused.why ≡ Memory) (λ first. refused.why ≡ first)) }
+        ensures why { IfErr result (λ refused. IsWhy (admit_refusal self.old seat) refused.why) }
         ensures back { IfErr result (λ refused. refused.back ≡ item) }
         ensures unchanged { IfErr result (λ _. self.new ≡ self.old) }
     {
@@ -125,7 +126,7 @@ impl<T: Marked, L: Line<Entry<T>>> Meetings<T, L> {
         ensures admitted { IfOk result (λ _. admit_refusal self.old seat ≡ None) }
         ensures enough { 0 < self.old.room → admit_refusal self.old seat ≡ None → IsOk result }
         ensures places { places_of self.old ≤ places_of self.new }
-        ensures why { IfErr result (λ refused. MatchOption (admit_refusal self.old seat) (refused.why ≡ Memory) (λ first. refused.why ≡ first)) }
+        ensures why { IfErr result (λ refused. IsWhy (admit_refusal self.old seat) refused.why) }
         ensures back { IfErr result (λ refused. refused.back ≡ item) }
         ensures unchanged { IfErr result (λ _. self.new ≡ self.old) }
     {
@@ -146,7 +147,7 @@ impl<T: Marked, L: Line<Entry<T>>> Meetings<T, L> {
         ensures enough { 0 < self.old.room → admit_refusal self.old seat ≡ None → IsOk result }
         ensures places { places_of self.old ≤ places_of self.new }
         ensures kept { kept_count self.new.line ≤ kept_count self.old.line }
-        ensures why { IfErr result (λ why. MatchOption (admit_refusal self.old seat) (why ≡ Memory) (λ first. why ≡ first)) }
+        ensures why { IfErr result (IsWhy (admit_refusal self.old seat)) }
         ensures unchanged { IfErr result (λ _. self.new ≡ self.old) }
     {
         self.admit(seat)?;

@@ -1,7 +1,8 @@
 //! The transfer queue: givers that wait or leave their item in the line, and takers.
 
-ghost use Rattle.std.specs.Prelude.{◌≡◌, ◌^◌, ◌≤◌, ◌<◌, Some, None, IsOk, IfOk, IfErr, OnOk, OnErr, MatchOption};
+ghost use Rattle.std.specs.Prelude.{◌≡◌, ◌^◌, ◌≤◌, ◌<◌, Some, None, IsOk, IfOk, IfErr, OnOk, OnErr};
 ghost use Rattle.meet_tickets.specs.BySeat.{nobody};
+ghost use Rattle.meet_tickets.specs.Refusals.{IsWhy};
 ghost use Rattle.meet_tickets.specs.declared.places.Order.TheVariants.{Transfer as TransferOrder};
 
 use meet_line::{FairLine, Gave, Meetings, Offered, Polled, Put, Took};
@@ -104,7 +105,7 @@ impl<T: Marked> Transfer<T> {
         ensures enough { 0 < self.old.queue.room → admit_refusal self.old.queue seat ≡ None → IsOk result }
         ensures places { places_of self.old.queue ≤ places_of self.new.queue }
         ensures bound { self.new.bound ≡ self.old.bound }
-        ensures why { IfErr result (λ refused. MatchOption (admit_refusal self.old.queue seat) (refused.why ≡ Memory) (λ first. refused.why ≡ first)) }
+        ensures why { IfErr result (λ refused. IsWhy (admit_refusal self.old.queue seat) refused.why) }
         ensures back { IfErr result (λ refused. refused.back ≡ item) }
         ensures unchanged { IfErr result (λ _. self.new ≡ self.old) }
     {
@@ -120,7 +121,7 @@ impl<T: Marked> Transfer<T> {
         ensures enough { 0 < self.old.queue.room → admit_refusal self.old.queue seat ≡ None → IsOk result }
         ensures places { places_of self.old.queue ≤ places_of self.new.queue }
         ensures bound { self.new.bound ≡ self.old.bound }
-        ensures why { IfErr result (λ refused. MatchOption (admit_refusal self.old.queue seat) (refused.why ≡ Memory) (λ first. refused.why ≡ first)) }
+        ensures why { IfErr result (λ refused. IsWhy (admit_refusal self.old.queue seat) refused.why) }
         ensures back { IfErr result (λ refused. refused.back ≡ item) }
         ensures unchanged { IfErr result (λ _. self.new ≡ self.old) }
     {
@@ -150,7 +151,7 @@ impl<T: Marked> Transfer<T> {
         ensures enough { 0 < self.old.queue.room → admit_refusal self.old.queue seat ≡ None → IsOk result }
         ensures places { places_of self.old.queue ≤ places_of self.new.queue }
         ensures bound { self.new.bound ≡ self.old.bound }
-        ensures why { IfErr result (λ why. MatchOption (admit_refusal self.old.queue seat) (why ≡ Memory) (λ first. why ≡ first)) }
+        ensures why { IfErr result (IsWhy (admit_refusal self.old.queue seat)) }
         ensures unchanged { IfErr result (λ _. self.new ≡ self.old) }
     {
         self.meetings.take(seat)

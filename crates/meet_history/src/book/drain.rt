@@ -1,8 +1,9 @@
 //! A drain: one recorded poll after another, all under one hold.
 
-ghost use Rattle.std.specs.Prelude.{◌≡◌, ◌≢◌, ◌+◌, ◌<◌, ◌≤◌, ◌^◌, Some, None, [], ◌∷◌, ◌++◌, length, map, min, vec_len, nat_lt, IfNone, IfOk, IfErr, MatchOption};
+ghost use Rattle.std.specs.Prelude.{◌≡◌, ◌≢◌, ◌+◌, ◌<◌, ◌≤◌, ◌^◌, Some, None, [], ◌∷◌, ◌++◌, length, map, min, vec_len, nat_lt, IfNone, IfOk, IfErr};
 ghost use Rattle.std.specs.Vec.{vec_capacity};
 ghost use Rattle.meet_history.specs.Draining.{drain_refusal_by, TakesOne, TakingStep, Polls, AreNumbered};
+ghost use Rattle.meet_tickets.specs.Refusals.{IsWhy};
 ghost use Rattle.meet_tickets.specs.declared.refusals.Refusal.TheVariants.{Memory};
 
 use super::{Book, make_room, write};
@@ -57,7 +58,7 @@ where
         ensures records { IfOk result (λ got. self.new.records ≡ self.old.records ++ map (λ one. one.1.entry) got.items) }
         ensures places { IfOk result (λ got. AreNumbered (length self.old.records) got.items) }
         ensures admitted { IfOk result (λ _. drain_refusal_by (O.refusal_of self.old.object seat O.poll) (O.left_of self.old.object) (min max (O.available_of self.old.object)) (nat_lt self.old.cap (length self.old.records + O.owed_of self.old.object + min max (O.available_of self.old.object) + 1)) ≡ None) }
-        ensures why { IfErr result (λ why. MatchOption (drain_refusal_by (O.refusal_of self.old.object seat O.poll) (O.left_of self.old.object) (min max (O.available_of self.old.object)) (nat_lt self.old.cap (length self.old.records + O.owed_of self.old.object + min max (O.available_of self.old.object) + 1))) (why ≡ Memory) (λ first. why ≡ first)) }
+        ensures why { IfErr result (IsWhy (drain_refusal_by (O.refusal_of self.old.object seat O.poll) (O.left_of self.old.object) (min max (O.available_of self.old.object)) (nat_lt self.old.cap (length self.old.records + O.owed_of self.old.object + min max (O.available_of self.old.object) + 1)))) }
         ensures unchanged { IfErr result (λ _. self.new ≡ self.old) }
         ensures cap { self.new.cap ≡ self.old.cap }
     {
