@@ -17,7 +17,8 @@ is_book_full book owed need = nat_lt book.cap (length book.records + owed + need
 
 -- why a book refuses a seat's call, Memory aside: its place's own reason, or else that the book is full (the first three are
 -- what its place says of itself: the trait Object)
-abbrev pub book_refusal : {O C D : Type 0} → (refusal_of : O → ℕ → C → Option Refusal) → (owed_of : O → ℕ) → (need_of : C → ℕ) → Booked O D → (seat : ℕ) → C → Option Refusal
+abbrev pub book_refusal : {O C D : Type 0}
+    → (refusal_of : O → ℕ → C → Option Refusal) → (owed_of : O → ℕ) → (need_of : C → ℕ) → Booked O D → (seat : ℕ) → C → Option Refusal
 book_refusal refusal_of owed_of need_of book seat call =
     call_refusal (refusal_of book.object seat call) (is_book_full book (owed_of book.object) (need_of call))
 

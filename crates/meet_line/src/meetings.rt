@@ -36,7 +36,10 @@ impl<T: Marked, L: Line<Entry<T>>> Model for Meetings<T, L> {
 
     ghost view = { λ meetings. record { line = L.entries meetings.line; room = L.spare meetings.line; table = meetings.seats; next = meetings.next } };
 
-    ghost invariant = { λ meetings. IsSound (L.entries meetings.line) (hold_at meetings.seats.holds) meetings.next × (meetings.kept ≡ kept_count (L.entries meetings.line)) × (meetings.kept < meetings.next) };
+    ghost invariant = { λ meetings.
+        IsSound (L.entries meetings.line) (hold_at meetings.seats.holds) meetings.next
+        × (meetings.kept ≡ kept_count (L.entries meetings.line))
+        × (meetings.kept < meetings.next) };
 }
 
 impl<T: Marked, L: Line<Entry<T>>> Meetings<T, L> {
