@@ -3,6 +3,7 @@ use Rattle.std.specs.Prelude.{◌≡◌, ℕ, Option, None, option_to_list, List
 use Rattle.meet_tickets.specs.declared.records.Record.{Record}
 use Rattle.meet_tickets.specs.declared.records.Deed.{Deed}
 use Rattle.meet_tickets.specs.declared.refusals.Refusal.{Refusal}
+use Rattle.meet_tickets.specs.declared.refusals.Refusal.TheVariants.{Memory}
 use Rattle.meet_line.specs.Queue.{Queue, seats_of}
 use Rattle.meet_history.specs.declared.setups.Setup.{Setup}
 use Rattle.meet_history.specs.Received.{Received}
@@ -47,6 +48,12 @@ refusal_at setup p i Take = request_refusal setup p i
 refusal_at setup p i Poll = request_refusal setup p i
 refusal_at setup p i (Interrupt j) = interrupt_refusal setup p i j
 refusal_at setup p i call = None
+
+-- a call was refused for want of memory alone: `first` says that the place has no reason against it, and nothing changed
+pub record LacksMemory (first : Option Refusal) (old new : Stepping) (why : Refusal) : Type 0 where
+  pub memory : why ≡ Memory
+  pub alone : first ≡ None
+  pub unchanged : new ≡ old
 
 -- the queue made a call's step, and its record was written
 pub record Answers (old : Stepping) (seat : ℕ) (call : QueueCall ℕ) (answer : QueueAnswer ℕ) (new : Stepping) : Type 0 where
