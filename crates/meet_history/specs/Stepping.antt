@@ -49,7 +49,7 @@ refusal_at setup p i Poll = request_refusal setup p i
 refusal_at setup p i (Interrupt j) = interrupt_refusal setup p i j
 refusal_at setup p i call = None
 
--- a call was refused for want of memory alone: `first` says that the place has no reason against it, and nothing changed
+-- a call was refused for want of memory alone: `first`, the place's own reason against it, is none, and nothing changed
 pub record LacksMemory (first : Option Refusal) (old new : Stepping) (why : Refusal) : Type 0 where
   pub memory : why ≡ Memory
   pub alone : first ≡ None
