@@ -8,7 +8,9 @@ use Rattle.meet_line.specs.Queue.{Queue, seats_of}
 use Rattle.meet_history.specs.declared.setups.Setup.{Setup}
 use Rattle.meet_history.specs.Received.{Received}
 use Rattle.meet_history.specs.declared.replies.Reply.{Reply}
+use Rattle.meet_history.specs.declared.replies.Outcome.{Outcome}
 use Rattle.meet_history.specs.declared.replies.Outcome.TheVariants.{Recorded}
+use Rattle.meet_history.specs.declared.steps.Step.{Step}
 use Rattle.meet_history.specs.declared.told.DualCall.{DualCall}
 use Rattle.meet_history.specs.declared.told.DualCall.TheVariants.{Give, Offer, Take, Poll, Interrupt}
 use Rattle.meet_history.specs.declared.told.DualAnswer.{DualAnswer}
@@ -68,3 +70,7 @@ Makes old seat call answer new = Answers old seat (Dual call) (ToDual answer) ne
 -- the reply of the poll that a receipt is for
 abbrev pub poll_reply : (seat : ℕ) → Received Deed → Reply
 poll_reply i r = record { seat = i; outcome = Recorded r.place r.entry.ticket (answer_of r.entry.deed None) }
+
+-- what a reply tells of a step whose record is the nth
+abbrev pub told_as : (n : ℕ) → Step → Outcome
+told_as n step = Recorded n step.ticket (answer_of step.deed step.item)

@@ -11,8 +11,8 @@ use meet_tickets::{Cause, Refusal, SeatNo};
 
 impl Stepper {
     ghost use Rattle.meet_tickets.specs.declared.records.Cause.TheVariants.{Cancelled, Expired};
-    ghost use Rattle.meet_history.specs.OneThread.{follow, withdraw, interrupt, interrupt_refusal, answer_of};
-    ghost use Rattle.meet_history.specs.Stepping.{place_of, TakesTurn, LacksMemory};
+    ghost use Rattle.meet_history.specs.OneThread.{follow, withdraw, interrupt, interrupt_refusal};
+    ghost use Rattle.meet_history.specs.Stepping.{place_of, TakesTurn, LacksMemory, told_as};
 
     /// The follow-up of the seat's open ticket.
     pub(super) fn follow(&mut self, seat: SeatNo) -> Reply
@@ -63,7 +63,7 @@ impl Stepper {
 
     /// The reply that tells the last record, where it was of a step; else this.
     fn told_or(&self, seat: SeatNo, step: Option<Step>, otherwise: Outcome) -> Reply
-        ensures { result ≡ record { seat = seat; outcome = option_map_or (λ step. Outcome.Recorded (length self.now.records) step.ticket (answer_of step.deed step.item)) step otherwise } }
+        ensures { result ≡ record { seat = seat; outcome = option_map_or (told_as (length self.now.records)) step otherwise } }
     {
         match step {
             Some(step) => self.told(seat, step),
