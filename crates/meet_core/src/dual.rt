@@ -1,10 +1,10 @@
 //! The dual queue: givers and takers that meet.
 
-ghost use Rattle.std.specs.Prelude.{◌≡◌, ◌^◌, ◌≤◌, ◌<◌, ◌-◌, Some, None, IsOk, IfOk, IfErr, OnOk, OnErr, MatchOption};
+ghost use Rattle.std.specs.Prelude.{◌≡◌, ◌^◌, ◌≤◌, ◌<◌, ◌-◌, Some, None, IsOk, IfOk, IfErr, OnOk, OnErr};
 ghost use Rattle.meet_tickets.specs.Meeting.{waiting_count, kept_count, count_on};
 ghost use Rattle.meet_tickets.specs.BySeat.{nobody, open_ticket, owed_of, settled_of};
-ghost use Rattle.meet_tickets.specs.Refusals.{refusal_of};
 ghost use Rattle.meet_tickets.specs.declared.places.Side.TheVariants.{Giver};
+ghost use Rattle.meet_tickets.specs.Refusals.{IsWhy};
 
 use meet_line::{Gave, Line, Meetings, Offered, Polled, Took};
 use meet_tickets::{Entry, Marked, Refusal, Refused, SeatNo, Ticket};
@@ -33,7 +33,7 @@ impl<T: Marked, L: Line<Entry<T>>> Model for Dual<T, L> {
 }
 
 impl<T: Marked, L: Line<Entry<T>>> Dual<T, L> {
-    ghost use Rattle.meet_line.specs.Queue.{seats_of, count_of, places_of, IsSound};
+    ghost use Rattle.meet_line.specs.Queue.{seats_of, count_of, places_of, admit_refusal, IsSound};
     ghost use Rattle.meet_line.specs.Steps.{GiveStep, TakeStep, OfferStep, PollStep};
     ghost use Rattle.meet_tickets.specs.declared.refusals.Refusal.TheVariants.{Memory};
 
@@ -56,8 +56,8 @@ impl<T: Marked, L: Line<Entry<T>>> Dual<T, L> {
     /// The ticket that a request of this seat would use, or why it would be refused: NoSuchSeat, SeatOpen or
     /// TicketsSpent, the first that applies.
     pub fn admit(&self, seat: SeatNo) -> Result<Ticket, Refusal>
-        ensures admitted { IfOk result (λ ticket. (refusal_of (count_of self.now) self.now.next (seats_of self.now) seat ≡ None) × (ticket ≡ self.now.next)) }
-        ensures refused { IfErr result (λ why. refusal_of (count_of self.now) self.now.next (seats_of self.now) seat ≡ Some why) }
+        ensures admitted { IfOk result (λ ticket. (admit_refusal self.now seat ≡ None) × (ticket ≡ self.now.next)) }
+        ensures refused { IfErr result (λ why. admit_refusal self.now seat ≡ Some why) }
     {
         self.meetings.admit(seat)
     }
@@ -79,10 +79,10 @@ impl<T: Marked, L: Line<Entry<T>>> Dual<T, L> {
     /// comes back.
     pub fn give(&mut self, seat: SeatNo, item: T) -> Result<Gave<T>, Refused<T>>
         ensures step { IfOk result (λ answer. GiveStep T.mark_of L.order self.old seat item answer self.new) }
-        ensures admitted { IfOk result (λ _. refusal_of (count_of self.old) self.old.next (seats_of self.old) seat ≡ None) }
-        ensures enough { 0 < self.old.room → refusal_of (count_of self.old) self.old.next (seats_of self.old) seat ≡ None → IsOk result }
+        ensures admitted { IfOk result (λ _. admit_refusal self.old seat ≡ None) }
+        ensures enough { 0 < self.old.room → admit_refusal self.old seat ≡ None → IsOk result }
         ensures places { places_of self.old ≤ places_of self.new }
-        ensures why { IfErr result (λ refused. MatchOption (refusal_of (count_of self.old) self.old.next (seats_of self.old) seat) (refused.why ≡ Memory) (λ first. refused.why ≡ first)) }
+        ensures why { IfErr result (λ refused. IsWhy (admit_refusal self.old seat) refused.why) }
         ensures back { IfErr result (λ refused. refused.back ≡ item) }
         ensures unchanged { IfErr result (λ _. self.new ≡ self.old) }
     {
@@ -93,10 +93,10 @@ impl<T: Marked, L: Line<Entry<T>>> Dual<T, L> {
     /// is refused at entry where it is flagged. Refuses what `admit` does, then Memory, never where there is room.
     pub fn take(&mut self, seat: SeatNo) -> Result<Took<T>, Refusal>
         ensures step { IfOk result (λ answer. TakeStep T.mark_of L.order self.old seat answer self.new) }
-        ensures admitted { IfOk result (λ _. refusal_of (count_of self.old) self.old.next (seats_of self.old) seat ≡ None) }
-        ensures enough { 0 < self.old.room → refusal_of (count_of self.old) self.old.next (seats_of self.old) seat ≡ None → IsOk result }
+        ensures admitted { IfOk result (λ _. admit_refusal self.old seat ≡ None) }
+        ensures enough { 0 < self.old.room → admit_refusal self.old seat ≡ None → IsOk result }
         ensures places { places_of self.old ≤ places_of self.new }
-        ensures why { IfErr result (λ why. MatchOption (refusal_of (count_of self.old) self.old.next (seats_of self.old) seat) (why ≡ Memory) (λ first. why ≡ first)) }
+        ensures why { IfErr result (IsWhy (admit_refusal self.old seat)) }
         ensures unchanged { IfErr result (λ _. self.new ≡ self.old) }
     {
         self.meetings.take(seat)
@@ -106,9 +106,9 @@ impl<T: Marked, L: Line<Entry<T>>> Dual<T, L> {
     /// what `admit` does; the item comes back then too.
     pub fn offer(&mut self, seat: SeatNo, item: T) -> Result<Offered<T>, Refused<T>>
         ensures step { IfOk result (λ answer. OfferStep T.mark_of L.order self.old item answer self.new) }
-        ensures admitted { IfOk result (λ _. refusal_of (count_of self.old) self.old.next (seats_of self.old) seat ≡ None) }
+        ensures admitted { IfOk result (λ _. admit_refusal self.old seat ≡ None) }
         ensures places { places_of self.new ≡ places_of self.old }
-        ensures why { IfErr result (λ refused. refusal_of (count_of self.old) self.old.next (seats_of self.old) seat ≡ Some refused.why) }
+        ensures why { IfErr result (λ refused. admit_refusal self.old seat ≡ Some refused.why) }
         ensures back { IfErr result (λ refused. refused.back ≡ item) }
         ensures unchanged { IfErr result (λ _. self.new ≡ self.old) }
     {
@@ -119,9 +119,9 @@ impl<T: Marked, L: Line<Entry<T>>> Dual<T, L> {
     /// what `admit` does.
     pub fn poll(&mut self, seat: SeatNo) -> Result<Polled<T>, Refusal>
         ensures step { IfOk result (λ answer. PollStep T.mark_of L.order self.old answer self.new) }
-        ensures admitted { IfOk result (λ _. refusal_of (count_of self.old) self.old.next (seats_of self.old) seat ≡ None) }
+        ensures admitted { IfOk result (λ _. admit_refusal self.old seat ≡ None) }
         ensures places { places_of self.new ≡ places_of self.old }
-        ensures why { IfErr result (λ why. refusal_of (count_of self.old) self.old.next (seats_of self.old) seat ≡ Some why) }
+        ensures why { IfErr result (λ why. admit_refusal self.old seat ≡ Some why) }
         ensures unchanged { IfErr result (λ _. self.new ≡ self.old) }
     {
         self.meetings.poll(seat)

@@ -1,11 +1,11 @@
 -- A call of the stepper's queue, in the words of one thread's replies.
 use Rattle.std.proofs.Common.{◌≡◌, ◌≢◌, ℕ, ◌+◌, ◌<◌, refl, sym, ap, ◌∙◌, Bool, true, false, cond, Option, Some, None, arith}
-use Rattle.std.specs.Prelude.{nat_lt, nat_le, ◌||◌, MatchOption}
+use Rattle.std.specs.Prelude.{nat_lt, nat_le, ◌||◌}
 use Rattle.std.specs.Option.{option_map_or}
 use Rattle.meet_tickets.specs.declared.refusals.Refusal.{Refusal}
 use Rattle.meet_tickets.specs.declared.refusals.Refusal.TheVariants.{Memory, NoSuchSeat, SeatOpen, TicketsSpent}
 use Rattle.meet_tickets.specs.BySeat.{owed_of}
-use Rattle.meet_tickets.specs.Refusals.{number_of, refusal_of}
+use Rattle.meet_tickets.specs.Refusals.{number_of, refusal_of, IsWhy}
 use Rattle.meet_line.specs.Queue.{Queue, seats_of, count_of}
 use Rattle.meet_history.specs.declared.setups.Setup.{Setup}
 use Rattle.meet_history.specs.declared.told.DualCall.{DualCall}
@@ -31,7 +31,7 @@ refusal_at-is setup q cap written seat call same count need =
     ap (λ n. call_refusal (dual_refusal q seat call) (nat_lt n (written + dual_owed q + dual_need call))) same ∙ refusal-there setup q written seat call count need
 
 -- a call that was refused for another reason than Memory was refused for the place's
-pub refused-so : (first : Option Refusal) (why : Refusal) → MatchOption first (why ≡ Memory) (λ own. why ≡ own) → why ≢ Memory → first ≡ Some why
+pub refused-so : (first : Option Refusal) (why : Refusal) → IsWhy first why → why ≢ Memory → first ≡ Some why
 refused-so None why memory other = absurd (other memory)
 refused-so (Some own) why same other = ap Some (sym same)
 
@@ -59,10 +59,10 @@ place-own q seat (Cancel t) full need = absurd (omega arith)
 place-own q seat (Expire t) full need = absurd (omega arith)
 place-own q seat (Interrupt j) full need = interrupt-own _ full
 
-refused-alone : (first : Option Refusal) (why : Refusal) → MatchOption first (why ≡ Memory) (λ own. why ≡ own) → first ≢ Some Memory → why ≡ Memory → first ≡ None
+refused-alone : (first : Option Refusal) (why : Refusal) → IsWhy first why → first ≢ Some Memory → why ≡ Memory → first ≡ None
 refused-alone None why memory own is = refl
 refused-alone (Some first) why same own is = absurd (own (ap Some (sym same ∙ is)))
 
 -- a call that was refused for want of memory wasn't refused by the place
-pub memory-alone : (q : Queue ℕ) (seat : ℕ) (call : DualCall ℕ) (full : Bool) (why : Refusal) → 0 < dual_need call → MatchOption (call_refusal (dual_refusal q seat call) full) (why ≡ Memory) (λ own. why ≡ own) → why ≡ Memory → call_refusal (dual_refusal q seat call) full ≡ None
+pub memory-alone : (q : Queue ℕ) (seat : ℕ) (call : DualCall ℕ) (full : Bool) (why : Refusal) → 0 < dual_need call → IsWhy (call_refusal (dual_refusal q seat call) full) why → why ≡ Memory → call_refusal (dual_refusal q seat call) full ≡ None
 memory-alone q seat call full why need told is = refused-alone _ why told (place-own q seat call full need) is

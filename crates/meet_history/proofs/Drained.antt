@@ -180,11 +180,10 @@ module _ (setup : Setup) (seat : ℕ) where
       by_first (Some TicketsSpent) is false are none = absurd (not-spent q seat (omega (arith, ltb-false (dual_left q) (suc k) are)) is)
 
   -- the book's reason against a drain is that of the place
-  pub drain_refusal-is : (q : Queue ℕ) (cap written k : ℕ) → cap ≡ setup.cap → count_of q ≡ setup.seats → drain_refusal_by (dual_refusal q seat Poll) (dual_left q) k (nat_lt cap (written + dual_owed q + k + 1)) ≡ drain_refusal setup (place_at q written) seat k
+  pub drain_refusal-is : (q : Queue ℕ) (cap written k : ℕ) → cap ≡ setup.cap → count_of q ≡ setup.seats → drain_refusal_by (dual_refusal q seat Poll) (dual_left q) k (nat_lt cap (written + dual_owed q + (k + 1))) ≡ drain_refusal setup (place_at q written) seat k
   drain_refusal-is q cap written k same count =
-      ap (λ n. drain_refusal_by (refusal_of n q.next (seats_of q) seat) (2 ^ 63 - q.next) k (nat_lt cap (written + owed_of n (seats_of q).holds + k + 1))) count
-      ∙ (let sum : written + owed_of setup.seats (seats_of q).holds + k + 1 ≡ written + owed_of setup.seats (seats_of q).holds + (k + 1) = omega arith in
-      λ i. drain_refusal_by (refusal_of setup.seats q.next (seats_of q) seat) (2 ^ 63 - q.next) k (nat_lt (same i) (sum i)))
+      ap (λ n. drain_refusal_by (refusal_of n q.next (seats_of q) seat) (2 ^ 63 - q.next) k (nat_lt cap (written + owed_of n (seats_of q).holds + (k + 1)))) count
+      ∙ ap (λ n. drain_refusal_by (refusal_of setup.seats q.next (seats_of q) seat) (2 ^ 63 - q.next) k (nat_lt n (written + owed_of setup.seats (seats_of q).holds + (k + 1)))) same
 
   -- a drain that is refused, and one that isn't
   pub drain-refused : (p : Place) (k : ℕ) (why : Refusal) → drain_refusal setup p seat k ≡ Some why → drain setup p seat k ≡ refused p seat why
@@ -199,11 +198,11 @@ module _ (setup : Setup) (seat : ℕ) where
     pub kind : new.kind ≡ setup.kind
     pub count : count_of new.queue ≡ setup.seats
 
-  pub drained : (old new : QueueOfKind) (cap written k : ℕ) (got : List (QueueAnswer ℕ × Received Deed)) → cap ≡ setup.cap → count_of old.queue ≡ setup.seats → old.kind ≡ setup.kind → drain_refusal_by (dual_refusal old.queue seat Poll) (dual_left old.queue) k (nat_lt cap (written + dual_owed old.queue + k + 1)) ≡ None → length got ≡ k → AreNumbered written got → Polls Poll_of (λ answer. queue_record (λ m. m) seat (Dual Poll) answer) old got new → IsDrained old.queue written k got new
+  pub drained : (old new : QueueOfKind) (cap written k : ℕ) (got : List (QueueAnswer ℕ × Received Deed)) → cap ≡ setup.cap → count_of old.queue ≡ setup.seats → old.kind ≡ setup.kind → drain_refusal_by (dual_refusal old.queue seat Poll) (dual_left old.queue) k (nat_lt cap (written + dual_owed old.queue + (k + 1))) ≡ None → length got ≡ k → AreNumbered written got → Polls Poll_of (λ answer. queue_record (λ m. m) seat (Dual Poll) answer) old got new → IsDrained old.queue written k got new
   drained old new cap written k got same count kind none long numbered steps =
-      let may : MayDrain old.queue k (nat_lt cap (written + dual_owed old.queue + k + 1)) = may-drain old.queue k (nat_lt cap (written + dual_owed old.queue + k + 1)) none in
+      let may : MayDrain old.queue k (nat_lt cap (written + dual_owed old.queue + (k + 1))) = may-drain old.queue k (nat_lt cap (written + dual_owed old.queue + (k + 1))) none in
       let are : ArePolls old.queue written got new = are-polls old new written got kind count (λ some. may.free (omega (arith, long, some))) (omega (arith, long, may.left))
-      (λ some. omega (arith, long, same, ltb-false cap (written + dual_owed old.queue + k + 1) (may.fits (omega (arith, long, some))))) numbered steps in
+      (λ some. omega (arith, long, same, ltb-false cap (written + dual_owed old.queue + (k + 1)) (may.fits (omega (arith, long, some))))) numbered steps in
       record {
         turn = drain-made (place_at old.queue written) k (sym (drain_refusal-is old.queue cap written k same count) ∙ none)
             ∙ ap (λ n. joined (polls setup (place_at old.queue written) seat n) (λ q. silent q seat (Drained k))) (sym long)

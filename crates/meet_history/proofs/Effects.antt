@@ -17,9 +17,8 @@ use Rattle.meet_tickets.specs.declared.records.Deed.{Deed}
 use Rattle.meet_tickets.specs.declared.records.Deed.TheVariants.{GiveWaits, GiveMeets, GiveFails, GiveKept, TakeWaits, TakeMeets, TakeFails, EntryInterrupted, Done, Got, Withdrawn, Interrupt}
 use Rattle.meet_tickets.specs.Meeting.{partner, kept_count}
 use Rattle.meet_tickets.specs.BySeat.{Seats, put_at, is_open, open_ticket, owed_of, unmet, without_first, entry_of, queued, paired, paired_hold, released, flagged, left, cut_off, is_request, Allows, seats_after, meets}
-use Rattle.meet_tickets.specs.Refusals.{refusal_of}
 use Rattle.meet_tickets.proofs.Admitted.{IsAdmitted-from}
-use Rattle.meet_line.specs.Queue.{Queue, seats_of, count_of, places_of, Stands, IsSound}
+use Rattle.meet_line.specs.Queue.{Queue, seats_of, count_of, places_of, admit_refusal, Stands, IsSound}
 use Rattle.meet_line.specs.Steps.{Uses, Leaves, HandsTo, GetsFrom, GiveStep, OfferStep, PutStep, TakeStep, PollStep, FollowStep, WithdrawStep, InterruptStep}
 use Rattle.meet_line.specs.declared.answers.Gave.{Gave}
 use Rattle.meet_line.specs.declared.answers.Gave.TheVariants.{Waits as GiverWaits, Meets as GiverMeets, EntryInterrupted as GiverInterrupted}
@@ -131,7 +130,7 @@ module _ {T : Type 0} (mark : T → ℕ) (k : Kind) (old new : Queue T) where
       by_bound None may = tt
       by_bound (Some most) may = subst (λ n. n < most) (sym (kept-marked mark old.line)) may
 
-  free-seat : (i : ℕ) → refusal_of (count_of old) old.next (seats_of old) i ≡ None → (seats_of old).holds i ≡ Free
+  free-seat : (i : ℕ) → admit_refusal old i ≡ None → (seats_of old).holds i ≡ Free
   free-seat i none = (IsAdmitted-from (count_of old) old.next (seats_of old) i none).free
 
   free-marked : (i : ℕ) → (seats_of old).holds i ≡ Free → now.holds i ≡ Free

@@ -14,8 +14,7 @@ use Rattle.meet_tickets.specs.declared.refusals.Refusal.TheVariants.{NotOpen, No
 use Rattle.meet_tickets.specs.Meeting.{count_on}
 use Rattle.meet_tickets.specs.ByLists.{IsLegal}
 use Rattle.meet_tickets.specs.BySeat.{Seats, beginning, moment_of, open_ticket, owed_of, is_request, Allows, seats_after}
-use Rattle.meet_tickets.specs.Refusals.{refusal_of}
-use Rattle.meet_line.specs.Queue.{Queue, seats_of, count_of}
+use Rattle.meet_line.specs.Queue.{Queue, seats_of, count_of, admit_refusal}
 use Rattle.meet_line.specs.Steps.{GiveStep, OfferStep, TakeStep, PollStep, FollowStep, WithdrawStep, InterruptStep}
 use Rattle.meet_history.specs.declared.told.DualCall.{DualCall}
 use Rattle.meet_history.specs.declared.told.DualCall.TheVariants.{Give, Offer, Take, Poll, FollowUp, Cancel, Expire, Interrupt}
@@ -48,10 +47,10 @@ ending_refusal q i t = refusal_unless (open_ticket ((seats_of q).holds i)) t
 
 -- why a call is refused, HistoryFull and Memory aside
 abbrev pub dual_refusal : {T : Type 0} → Queue T → (seat : ℕ) → DualCall T → Option Refusal
-dual_refusal q i (Give item) = refusal_of (count_of q) q.next (seats_of q) i
-dual_refusal q i (Offer item) = refusal_of (count_of q) q.next (seats_of q) i
-dual_refusal q i Take = refusal_of (count_of q) q.next (seats_of q) i
-dual_refusal q i Poll = refusal_of (count_of q) q.next (seats_of q) i
+dual_refusal q i (Give item) = admit_refusal q i
+dual_refusal q i (Offer item) = admit_refusal q i
+dual_refusal q i Take = admit_refusal q i
+dual_refusal q i Poll = admit_refusal q i
 dual_refusal q i (FollowUp t) = ending_refusal q i t
 dual_refusal q i (Cancel t) = ending_refusal q i t
 dual_refusal q i (Expire t) = ending_refusal q i t

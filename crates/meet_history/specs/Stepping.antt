@@ -3,11 +3,14 @@ use Rattle.std.specs.Prelude.{◌≡◌, ℕ, Option, None, option_to_list, List
 use Rattle.meet_tickets.specs.declared.records.Record.{Record}
 use Rattle.meet_tickets.specs.declared.records.Deed.{Deed}
 use Rattle.meet_tickets.specs.declared.refusals.Refusal.{Refusal}
+use Rattle.meet_tickets.specs.declared.refusals.Refusal.TheVariants.{Memory}
 use Rattle.meet_line.specs.Queue.{Queue, seats_of}
 use Rattle.meet_history.specs.declared.setups.Setup.{Setup}
 use Rattle.meet_history.specs.Received.{Received}
 use Rattle.meet_history.specs.declared.replies.Reply.{Reply}
+use Rattle.meet_history.specs.declared.replies.Outcome.{Outcome}
 use Rattle.meet_history.specs.declared.replies.Outcome.TheVariants.{Recorded}
+use Rattle.meet_history.specs.declared.steps.Step.{Step}
 use Rattle.meet_history.specs.declared.told.DualCall.{DualCall}
 use Rattle.meet_history.specs.declared.told.DualCall.TheVariants.{Give, Offer, Take, Poll, Interrupt}
 use Rattle.meet_history.specs.declared.told.DualAnswer.{DualAnswer}
@@ -48,6 +51,12 @@ refusal_at setup p i Poll = request_refusal setup p i
 refusal_at setup p i (Interrupt j) = interrupt_refusal setup p i j
 refusal_at setup p i call = None
 
+-- a call was refused for want of memory alone: `first`, the place's own reason against it, is none, and nothing changed
+pub record LacksMemory (first : Option Refusal) (old new : Stepping) (why : Refusal) : Type 0 where
+  pub memory : why ≡ Memory
+  pub alone : first ≡ None
+  pub unchanged : new ≡ old
+
 -- the queue made a call's step, and its record was written
 pub record Answers (old : Stepping) (seat : ℕ) (call : QueueCall ℕ) (answer : QueueAnswer ℕ) (new : Stepping) : Type 0 where
   pub setup : new.setup ≡ old.setup
@@ -61,3 +70,7 @@ Makes old seat call answer new = Answers old seat (Dual call) (ToDual answer) ne
 -- the reply of the poll that a receipt is for
 abbrev pub poll_reply : (seat : ℕ) → Received Deed → Reply
 poll_reply i r = record { seat = i; outcome = Recorded r.place r.entry.ticket (answer_of r.entry.deed None) }
+
+-- what a reply tells of a step whose record is the nth
+abbrev pub told_as : (n : ℕ) → Step → Outcome
+told_as n step = Recorded n step.ticket (answer_of step.deed step.item)

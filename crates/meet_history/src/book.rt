@@ -1,8 +1,9 @@
 //! The book that a place keeps of its steps.
 
-ghost use Rattle.std.specs.Prelude.{◌≡◌, ◌+◌, ◌<◌, ◌≤◌, ◌^◌, Option, Some, None, [], ◌∷◌, ◌++◌, length, option_to_list, vec_len, nat_lt, ⊤, IfNone, IsOk, IfOk, IfErr, OnOk, OnErr, MatchOption};
+ghost use Rattle.std.specs.Prelude.{◌≡◌, ◌+◌, ◌<◌, ◌≤◌, ◌^◌, Option, Some, None, [], ◌∷◌, ◌++◌, length, option_to_list, vec_len, ⊤, IfNone, IsOk, IfOk, IfErr, OnOk, OnErr, MatchOption};
 ghost use Rattle.std.specs.Vec.{vec_capacity};
-ghost use Rattle.meet_history.specs.Booking.{call_refusal, record_of_receipt};
+ghost use Rattle.meet_history.specs.Booking.{book_refusal, record_of_receipt};
+ghost use Rattle.meet_tickets.specs.Refusals.{IsWhy};
 ghost use Rattle.meet_tickets.specs.declared.refusals.Refusal.TheVariants.{Memory, HistoryFull};
 
 mod drain;
@@ -31,7 +32,10 @@ impl<O: Object> Model for Book<O> {
 
     ghost view = { λ book. record { object = book.object; records = book.records.items; cap = book.cap } };
 
-    ghost invariant = { λ book. O.leads book.records.items book.object × (length book.records.items + O.owed_of book.object ≤ book.cap) × (vec_len book.records + O.owed_of book.object ≤ vec_capacity book.records) };
+    ghost invariant = { λ book.
+        O.leads book.records.items book.object
+        × (length book.records.items + O.owed_of book.object ≤ book.cap)
+        × (vec_len book.records + O.owed_of book.object ≤ vec_capacity book.records) };
 }
 
 impl<O: Object> Book<O> {
@@ -67,7 +71,7 @@ impl<O: Object> Book<O> {
 
     /// Why a call is refused, Memory aside: the first that applies.
     fn refusal(&self, seat: SeatNo, call: &O::Call) -> Option<Refusal>
-        ensures first { result ≡ call_refusal (O.refusal_of self.now.object seat call.now) (nat_lt self.now.cap (length self.now.records + O.owed_of self.now.object + O.need_of call.now)) }
+        ensures first { result ≡ book_refusal O.refusal_of O.owed_of O.need_of self.now seat call.now }
         ensures few { IfNone result (O.owed_of self.now.object + O.need_of call.now < 2 ^ 64) }
     {
         if let Err(why) = self.object.admit(seat, call) {
@@ -94,8 +98,8 @@ impl<O: Object> Book<O> {
         ensures place { IfOk result (λ made. MatchOption made.1 ⊤ (λ receipt. receipt.place ≡ length self.old.records + 1)) }
         ensures seat { IfOk result (λ made. MatchOption made.1 ⊤ (λ receipt. receipt.entry.seat ≡ seat)) }
         ensures records { IfOk result (λ made. self.new.records ≡ self.old.records ++ option_to_list (record_of_receipt made.1)) }
-        ensures admitted { IfOk result (λ _. call_refusal (O.refusal_of self.old.object seat call) (nat_lt self.old.cap (length self.old.records + O.owed_of self.old.object + O.need_of call)) ≡ None) }
-        ensures why { IfErr result (λ refused. MatchOption (call_refusal (O.refusal_of self.old.object seat call) (nat_lt self.old.cap (length self.old.records + O.owed_of self.old.object + O.need_of call))) (refused.why ≡ Memory) (λ first. refused.why ≡ first)) }
+        ensures admitted { IfOk result (λ _. book_refusal O.refusal_of O.owed_of O.need_of self.old seat call ≡ None) }
+        ensures why { IfErr result (λ refused. IsWhy (book_refusal O.refusal_of O.owed_of O.need_of self.old seat call) refused.why) }
         ensures back { IfErr result (λ refused. refused.back ≡ call) }
         ensures unchanged { IfErr result (λ _. self.new ≡ self.old) }
         ensures cap { self.new.cap ≡ self.old.cap }

@@ -74,9 +74,9 @@ fn counted(seat: SeatNo, number: u64) -> Reply
 impl Stepper {
     ghost use Rattle.meet_tickets.specs.ByLists.{IsLegal};
     ghost use Rattle.meet_history.specs.DualSteps.{dual_need, dual_refusal};
-    ghost use Rattle.meet_history.specs.OneThread.{start, turn, answer_of, standing_of};
+    ghost use Rattle.meet_history.specs.OneThread.{start, turn, standing_of};
     ghost use Rattle.meet_history.specs.Served.{serves, IsOne};
-    ghost use Rattle.meet_history.specs.Stepping.{place_of, Takes, TakesTurn, refusal_at, Answers, Makes};
+    ghost use Rattle.meet_history.specs.Stepping.{place_of, Takes, TakesTurn, refusal_at, Answers, Makes, told_as};
     ghost use Rattle.meet_history.specs.QueueSteps.{dual_call, queue_need};
     ghost use Rattle.meet_history.specs.Limits.{IsInLimits};
 
@@ -140,7 +140,7 @@ impl Stepper {
 
     /// The reply that tells the last record, which was of this step.
     fn told(&self, seat: SeatNo, step: Step) -> Reply
-        ensures { result ≡ record { seat = seat; outcome = Outcome.Recorded (length self.now.records) step.ticket (answer_of step.deed step.item) } }
+        ensures { result ≡ record { seat = seat; outcome = told_as (length self.now.records) step } }
     {
         Reply {
             seat,

@@ -3,9 +3,8 @@
 ghost use Rattle.std.specs.Prelude.{◌≡◌, ◌+◌, ◌^◌, ◌<◌, ◌≢◌, ◌≤◌, Some, None, refl, [], option_to_list, length, IfOk, IfErr, Option};
 ghost use Rattle.meet_tickets.specs.declared.places.Order.TheVariants.{Transfer as TransferOrder};
 ghost use Rattle.meet_tickets.specs.BySeat.{nobody};
-ghost use Rattle.meet_tickets.specs.Refusals.{refusal_of};
 ghost use Rattle.meet_tickets.specs.declared.refusals.Refusal.TheVariants.{Memory, HistoryFull};
-ghost use Rattle.meet_line.specs.Queue.{seats_of, count_of, places_of};
+ghost use Rattle.meet_line.specs.Queue.{seats_of, count_of, places_of, admit_refusal};
 ghost use Rattle.meet_history.specs.DualRecords.{dual_record};
 ghost use Rattle.meet_history.specs.DualSteps.{DualStep, LeadsTo, dual_refusal, dual_need, dual_owed, dual_available, dual_left};
 ghost use Rattle.meet_history.specs.QueueSteps.{BoundedStep, bounded_kind, queue_refusal, queue_need, queue_record};
@@ -156,8 +155,8 @@ impl<T: Marked> Book<Transfer<T>> {
 
 /// Whether this seat's request is admitted, or why it is refused.
 fn admit_request<T: Marked>(queue: &Transfer<T>, seat: SeatNo) -> Result<(), Refusal>
-    ensures admitted { IfOk result (λ _. refusal_of (count_of queue.now.queue) queue.now.queue.next (seats_of queue.now.queue) seat ≡ None) }
-    ensures why { IfErr result (λ why. refusal_of (count_of queue.now.queue) queue.now.queue.next (seats_of queue.now.queue) seat ≡ Some why) }
+    ensures admitted { IfOk result (λ _. admit_refusal queue.now.queue seat ≡ None) }
+    ensures why { IfErr result (λ why. admit_refusal queue.now.queue seat ≡ Some why) }
     ensures own { IfErr result (λ why. (why ≢ Memory) × (why ≢ HistoryFull)) }
 {
     match queue.admit(seat) {

@@ -1,9 +1,11 @@
 -- What a queue shows of itself.
-use Rattle.std.specs.Prelude.{◌≡◌, ◌≢◌, ℕ, ◌+◌, ◌^◌, ◌<◌, ◌≤◌, true, false, Some, is_some, IsSome, List, length, All, AllPairs}
+use Rattle.std.specs.Prelude.{◌≡◌, ◌≢◌, ℕ, ◌+◌, ◌^◌, ◌<◌, ◌≤◌, true, false, Option, Some, is_some, IsSome, List, length, All, AllPairs}
 use Rattle.meet_tickets.specs.declared.lines.Entry.{Entry}
 use Rattle.meet_tickets.specs.declared.lines.Hold.{Hold}
 use Rattle.meet_tickets.specs.declared.lines.Hold.TheVariants.{Waiting}
+use Rattle.meet_tickets.specs.declared.refusals.Refusal.{Refusal}
 use Rattle.meet_tickets.specs.BySeat.{Seats, open_ticket}
+use Rattle.meet_tickets.specs.Refusals.{refusal_of}
 use Rattle.meet_line.specs.Table.{Table, hold_at, flag_at}
 
 -- the line and the seats, with the next ticket
@@ -24,6 +26,10 @@ count_of q = length q.table.holds
 -- how many places the line has, taken or not
 abbrev pub places_of : {T : Type 0} → Queue T → ℕ
 places_of q = length q.line + q.room
+
+-- why the queue refuses a request of this seat, Memory aside: the first that applies
+abbrev pub admit_refusal : {T : Type 0} → Queue T → (seat : ℕ) → Option Refusal
+admit_refusal q seat = refusal_of (count_of q) q.next (seats_of q) seat
 
 -- an entry that waits is what its seat holds; one that is kept has an item, and is open at no seat (LinkedTransferQueue:
 -- the giver of a kept item went on); its ticket was used

@@ -47,6 +47,16 @@ abbrev pub GetsFrom : {T : Type 0} → (T → ℕ) → Order → Queue T → (t 
 GetsFrom {T} mark order old t u item new =
     (e : Entry T) × (partner order old.line Taker ≡ Some e) × (u ≡ e.ticket) × (e.item ≡ Some item) × Uses old new t (paired mark order (seats_of old) t None e)
 
+-- the same of a giver whose ticket t was drawn before
+abbrev pub HandsOver : {T : Type 0} → (T → ℕ) → Order → Queue T → (item : T) → (t u : ℕ) → Queue T → Type 0
+HandsOver {T} mark order old item t u new =
+    (e : Entry T) × (partner order old.line Giver ≡ Some e) × (u ≡ e.ticket) × (e.item ≡ None) × Leaves old new (paired mark order (seats_of old) t (Some item) e)
+
+-- and of such a taker
+abbrev pub Fetches : {T : Type 0} → (T → ℕ) → Order → Queue T → (t u : ℕ) → (item : T) → Queue T → Type 0
+Fetches {T} mark order old t u item new =
+    (e : Entry T) × (partner order old.line Taker ≡ Some e) × (u ≡ e.ticket) × (e.item ≡ Some item) × Leaves old new (paired mark order (seats_of old) t None e)
+
 -- a give that waits: with a partner they meet; without one it goes to the line, or is refused at entry
 abbrev pub GiveStep : {T : Type 0} → (T → ℕ) → Order → Queue T → (seat : ℕ) → (item : T) → Gave T → Queue T → Type 0
 GiveStep mark order old seat item (Waits t) new =

@@ -1,9 +1,9 @@
 //! What the queues of one thread share: givers and takers that meet in one line, and items that are kept there.
 
-ghost use Rattle.std.specs.Prelude.{◌≡◌, ◌^◌, ◌≤◌, ◌<◌, Some, None, IsOk, IfOk, IfErr, OnOk, OnErr, MatchOption};
+ghost use Rattle.std.specs.Prelude.{◌≡◌, ◌^◌, ◌≤◌, ◌<◌, Some, None, IsOk, IfOk, IfErr, OnOk, OnErr};
 ghost use Rattle.meet_tickets.specs.Meeting.{kept_count};
 ghost use Rattle.meet_tickets.specs.BySeat.{nobody};
-ghost use Rattle.meet_tickets.specs.Refusals.{refusal_of};
+ghost use Rattle.meet_tickets.specs.Refusals.{IsWhy};
 
 use crate::answers::{Gave, Offered, Polled, Put, Took};
 use crate::line::Line;
@@ -36,11 +36,14 @@ impl<T: Marked, L: Line<Entry<T>>> Model for Meetings<T, L> {
 
     ghost view = { λ meetings. record { line = L.entries meetings.line; room = L.spare meetings.line; table = meetings.seats; next = meetings.next } };
 
-    ghost invariant = { λ meetings. IsSound (L.entries meetings.line) (hold_at meetings.seats.holds) meetings.next × (meetings.kept ≡ kept_count (L.entries meetings.line)) × (meetings.kept < meetings.next) };
+    ghost invariant = { λ meetings.
+        IsSound (L.entries meetings.line) (hold_at meetings.seats.holds) meetings.next
+        × (meetings.kept ≡ kept_count (L.entries meetings.line))
+        × (meetings.kept < meetings.next) };
 }
 
 impl<T: Marked, L: Line<Entry<T>>> Meetings<T, L> {
-    ghost use Rattle.meet_line.specs.Queue.{seats_of, count_of, places_of};
+    ghost use Rattle.meet_line.specs.Queue.{seats_of, count_of, places_of, admit_refusal};
     ghost use Rattle.meet_line.specs.Steps.{GiveStep, PutStep, TakeStep, OfferStep, PollStep};
     ghost use Rattle.meet_tickets.specs.declared.refusals.Refusal.TheVariants.{Memory};
 
@@ -72,8 +75,8 @@ impl<T: Marked, L: Line<Entry<T>>> Meetings<T, L> {
     /// The ticket that a request of this seat would use, or why it would be refused: NoSuchSeat, SeatOpen or
     /// TicketsSpent, the first that applies.
     pub fn admit(&self, seat: SeatNo) -> Result<Ticket, Refusal>
-        ensures admitted { IfOk result (λ ticket. (refusal_of (count_of self.now) self.now.next (seats_of self.now) seat ≡ None) × (ticket ≡ self.now.next)) }
-        ensures refused { IfErr result (λ why. refusal_of (count_of self.now) self.now.next (seats_of self.now) seat ≡ Some why) }
+        ensures admitted { IfOk result (λ ticket. (admit_refusal self.now seat ≡ None) × (ticket ≡ self.now.next)) }
+        ensures refused { IfErr result (λ why. admit_refusal self.now seat ≡ Some why) }
     {
         if seat.number() >= self.seats.count() {
             return Err(Refusal::NoSuchSeat);
@@ -101,11 +104,11 @@ impl<T: Marked, L: Line<Entry<T>>> Meetings<T, L> {
     /// comes back.
     pub fn give(&mut self, seat: SeatNo, item: T) -> Result<Gave<T>, Refused<T>>
         ensures step { IfOk result (λ answer. GiveStep T.mark_of L.order self.old seat item answer self.new) }
-        ensures admitted { IfOk result (λ _. refusal_of (count_of self.old) self.old.next (seats_of self.old) seat ≡ None) }
-        ensures enough { 0 < self.old.room → refusal_of (count_of self.old) self.old.next (seats_of self.old) seat ≡ None → IsOk result }
+        ensures admitted { IfOk result (λ _. admit_refusal self.old seat ≡ None) }
+        ensures enough { 0 < self.old.room → admit_refusal self.old seat ≡ None → IsOk result }
         ensures places { places_of self.old ≤ places_of self.new }
         ensures kept { kept_count self.new.line ≡ kept_count self.old.line }
-        ensures why { IfErr result (λ refused. MatchOption (refusal_of (count_of self.old) self.old.next (seats_of self.old) seat) (refused.why ≡ Memory) (λ first. refused.why ≡ first)) }
+        ensures why { IfErr result (λ refused. IsWhy (admit_refusal self.old seat) refused.why) }
         ensures back { IfErr result (λ refused. refused.back ≡ item) }
         ensures unchanged { IfErr result (λ _. self.new ≡ self.old) }
     {
@@ -123,10 +126,10 @@ impl<T: Marked, L: Line<Entry<T>>> Meetings<T, L> {
     /// room; the item comes back.
     pub fn put(&mut self, seat: SeatNo, item: T, bound: Option<u64>) -> Result<Put<T>, Refused<T>>
         ensures step { IfOk result (λ answer. PutStep T.mark_of L.order bound self.old seat item answer self.new) }
-        ensures admitted { IfOk result (λ _. refusal_of (count_of self.old) self.old.next (seats_of self.old) seat ≡ None) }
-        ensures enough { 0 < self.old.room → refusal_of (count_of self.old) self.old.next (seats_of self.old) seat ≡ None → IsOk result }
+        ensures admitted { IfOk result (λ _. admit_refusal self.old seat ≡ None) }
+        ensures enough { 0 < self.old.room → admit_refusal self.old seat ≡ None → IsOk result }
         ensures places { places_of self.old ≤ places_of self.new }
-        ensures why { IfErr result (λ refused. MatchOption (refusal_of (count_of self.old) self.old.next (seats_of self.old) seat) (refused.why ≡ Memory) (λ first. refused.why ≡ first)) }
+        ensures why { IfErr result (λ refused. IsWhy (admit_refusal self.old seat) refused.why) }
         ensures back { IfErr result (λ refused. refused.back ≡ item) }
         ensures unchanged { IfErr result (λ _. self.new ≡ self.old) }
     {
@@ -143,11 +146,11 @@ impl<T: Marked, L: Line<Entry<T>>> Meetings<T, L> {
     /// is refused at entry where it is flagged. Refuses what `admit` does, then Memory, never where there is room.
     pub fn take(&mut self, seat: SeatNo) -> Result<Took<T>, Refusal>
         ensures step { IfOk result (λ answer. TakeStep T.mark_of L.order self.old seat answer self.new) }
-        ensures admitted { IfOk result (λ _. refusal_of (count_of self.old) self.old.next (seats_of self.old) seat ≡ None) }
-        ensures enough { 0 < self.old.room → refusal_of (count_of self.old) self.old.next (seats_of self.old) seat ≡ None → IsOk result }
+        ensures admitted { IfOk result (λ _. admit_refusal self.old seat ≡ None) }
+        ensures enough { 0 < self.old.room → admit_refusal self.old seat ≡ None → IsOk result }
         ensures places { places_of self.old ≤ places_of self.new }
         ensures kept { kept_count self.new.line ≤ kept_count self.old.line }
-        ensures why { IfErr result (λ why. MatchOption (refusal_of (count_of self.old) self.old.next (seats_of self.old) seat) (why ≡ Memory) (λ first. why ≡ first)) }
+        ensures why { IfErr result (IsWhy (admit_refusal self.old seat)) }
         ensures unchanged { IfErr result (λ _. self.new ≡ self.old) }
     {
         self.admit(seat)?;
@@ -159,10 +162,10 @@ impl<T: Marked, L: Line<Entry<T>>> Meetings<T, L> {
     /// what `admit` does; the item comes back then too.
     pub fn offer(&mut self, seat: SeatNo, item: T) -> Result<Offered<T>, Refused<T>>
         ensures step { IfOk result (λ answer. OfferStep T.mark_of L.order self.old item answer self.new) }
-        ensures admitted { IfOk result (λ _. refusal_of (count_of self.old) self.old.next (seats_of self.old) seat ≡ None) }
+        ensures admitted { IfOk result (λ _. admit_refusal self.old seat ≡ None) }
         ensures places { places_of self.new ≡ places_of self.old }
         ensures kept { kept_count self.new.line ≡ kept_count self.old.line }
-        ensures why { IfErr result (λ refused. refusal_of (count_of self.old) self.old.next (seats_of self.old) seat ≡ Some refused.why) }
+        ensures why { IfErr result (λ refused. admit_refusal self.old seat ≡ Some refused.why) }
         ensures back { IfErr result (λ refused. refused.back ≡ item) }
         ensures unchanged { IfErr result (λ _. self.new ≡ self.old) }
     {
@@ -176,10 +179,10 @@ impl<T: Marked, L: Line<Entry<T>>> Meetings<T, L> {
     /// what `admit` does.
     pub fn poll(&mut self, seat: SeatNo) -> Result<Polled<T>, Refusal>
         ensures step { IfOk result (λ answer. PollStep T.mark_of L.order self.old answer self.new) }
-        ensures admitted { IfOk result (λ _. refusal_of (count_of self.old) self.old.next (seats_of self.old) seat ≡ None) }
+        ensures admitted { IfOk result (λ _. admit_refusal self.old seat ≡ None) }
         ensures places { places_of self.new ≡ places_of self.old }
         ensures kept { kept_count self.new.line ≤ kept_count self.old.line }
-        ensures why { IfErr result (λ why. refusal_of (count_of self.old) self.old.next (seats_of self.old) seat ≡ Some why) }
+        ensures why { IfErr result (λ why. admit_refusal self.old seat ≡ Some why) }
         ensures unchanged { IfErr result (λ _. self.new ≡ self.old) }
     {
         self.admit(seat)?;

@@ -26,7 +26,11 @@ impl<T> Model for SeatTable<T> {
 
     ghost view = { λ table. record { holds = table.holds.items; flags = table.flags.items } };
 
-    ghost invariant = { λ table. (length table.flags.items ≡ length table.holds.items) × (length table.holds.items ≤ 1024) × (table.owed ≡ count_by is_open table.holds.items) × (table.settled ≡ count_by is_settled table.holds.items) };
+    ghost invariant = { λ table.
+        (length table.flags.items ≡ length table.holds.items)
+        × (length table.holds.items ≤ 1024)
+        × (table.owed ≡ count_by is_open table.holds.items)
+        × (table.settled ≡ count_by is_settled table.holds.items) };
 }
 
 impl<T> SeatTable<T> {

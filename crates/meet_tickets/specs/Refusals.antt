@@ -1,5 +1,5 @@
 -- The number and the name of each refusal, and which one a request gets (our choice).
-use Rattle.std.specs.Prelude.{ℕ, ◌^◌, nat_le, Option, Some, None, List, codes, if◌then◌else◌}
+use Rattle.std.specs.Prelude.{◌≡◌, ℕ, ◌^◌, nat_le, Option, Some, None, MatchOption, List, codes, if◌then◌else◌}
 use Rattle.meet_tickets.specs.BySeat.{Seats, is_open}
 use Rattle.meet_tickets.specs.declared.refusals.Refusal.{Refusal}
 use Rattle.meet_tickets.specs.declared.refusals.Refusal.TheVariants.{Memory, HistoryFull, TicketsSpent, SeatOpen, NoSuchSeat, NotOpen, Differs, SeatMissing, Contended, Worn, BadSizes, PolicyNeedsBuffer, NoThread, BadLine, BadTrace, ReadFault, WriteFault}
@@ -48,3 +48,7 @@ name_of WriteFault = codes "WriteFault"
 abbrev pub refusal_of : {X : Type 0} → (count next : ℕ) → Seats X → (seat : ℕ) → Option Refusal
 refusal_of count next s seat =
     if nat_le count seat then Some NoSuchSeat else (if is_open (s.holds seat) then Some SeatOpen else (if nat_le (2 ^ 63) next then Some TicketsSpent else None))
+
+-- this is why a call is refused: the first reason that applies, or Memory where there is none
+abbrev pub IsWhy : (first : Option Refusal) → (why : Refusal) → Type 0
+IsWhy first why = MatchOption first (why ≡ Memory) (λ own. why ≡ own)

@@ -1,8 +1,8 @@
 //! The transfer queue: givers that wait or leave their item in the line, and takers.
 
-ghost use Rattle.std.specs.Prelude.{◌≡◌, ◌^◌, ◌≤◌, ◌<◌, Some, None, IsOk, IfOk, IfErr, OnOk, OnErr, MatchOption};
+ghost use Rattle.std.specs.Prelude.{◌≡◌, ◌^◌, ◌≤◌, ◌<◌, Some, None, IsOk, IfOk, IfErr, OnOk, OnErr};
 ghost use Rattle.meet_tickets.specs.BySeat.{nobody};
-ghost use Rattle.meet_tickets.specs.Refusals.{refusal_of};
+ghost use Rattle.meet_tickets.specs.Refusals.{IsWhy};
 ghost use Rattle.meet_tickets.specs.declared.places.Order.TheVariants.{Transfer as TransferOrder};
 
 use meet_line::{FairLine, Gave, Meetings, Offered, Polled, Put, Took};
@@ -30,7 +30,7 @@ impl<T: Marked> Model for Transfer<T> {
 }
 
 impl<T: Marked> Transfer<T> {
-    ghost use Rattle.meet_line.specs.Queue.{seats_of, count_of, places_of};
+    ghost use Rattle.meet_line.specs.Queue.{seats_of, count_of, places_of, admit_refusal};
     ghost use Rattle.meet_line.specs.Steps.{GiveStep, PutStep, TakeStep, OfferStep, PollStep};
     ghost use Rattle.meet_tickets.specs.declared.refusals.Refusal.TheVariants.{Memory};
 
@@ -77,8 +77,8 @@ impl<T: Marked> Transfer<T> {
     /// The ticket that a request of this seat would use, or why it would be refused: NoSuchSeat, SeatOpen or
     /// TicketsSpent, the first that applies.
     pub fn admit(&self, seat: SeatNo) -> Result<Ticket, Refusal>
-        ensures admitted { IfOk result (λ ticket. (refusal_of (count_of self.now.queue) self.now.queue.next (seats_of self.now.queue) seat ≡ None) × (ticket ≡ self.now.queue.next)) }
-        ensures refused { IfErr result (λ why. refusal_of (count_of self.now.queue) self.now.queue.next (seats_of self.now.queue) seat ≡ Some why) }
+        ensures admitted { IfOk result (λ ticket. (admit_refusal self.now.queue seat ≡ None) × (ticket ≡ self.now.queue.next)) }
+        ensures refused { IfErr result (λ why. admit_refusal self.now.queue seat ≡ Some why) }
     {
         self.meetings.admit(seat)
     }
@@ -101,11 +101,11 @@ impl<T: Marked> Transfer<T> {
     /// Refuses what `admit` does, then Memory, never where there is room; the item comes back.
     pub fn put(&mut self, seat: SeatNo, item: T) -> Result<Put<T>, Refused<T>>
         ensures step { IfOk result (λ answer. PutStep T.mark_of TransferOrder self.old.bound self.old.queue seat item answer self.new.queue) }
-        ensures admitted { IfOk result (λ _. refusal_of (count_of self.old.queue) self.old.queue.next (seats_of self.old.queue) seat ≡ None) }
-        ensures enough { 0 < self.old.queue.room → refusal_of (count_of self.old.queue) self.old.queue.next (seats_of self.old.queue) seat ≡ None → IsOk result }
+        ensures admitted { IfOk result (λ _. admit_refusal self.old.queue seat ≡ None) }
+        ensures enough { 0 < self.old.queue.room → admit_refusal self.old.queue seat ≡ None → IsOk result }
         ensures places { places_of self.old.queue ≤ places_of self.new.queue }
         ensures bound { self.new.bound ≡ self.old.bound }
-        ensures why { IfErr result (λ refused. MatchOption (refusal_of (count_of self.old.queue) self.old.queue.next (seats_of self.old.queue) seat) (refused.why ≡ Memory) (λ first. refused.why ≡ first)) }
+        ensures why { IfErr result (λ refused. IsWhy (admit_refusal self.old.queue seat) refused.why) }
         ensures back { IfErr result (λ refused. refused.back ≡ item) }
         ensures unchanged { IfErr result (λ _. self.new ≡ self.old) }
     {
@@ -117,11 +117,11 @@ impl<T: Marked> Transfer<T> {
     /// where there is room; the item comes back.
     pub fn transfer(&mut self, seat: SeatNo, item: T) -> Result<Gave<T>, Refused<T>>
         ensures step { IfOk result (λ answer. GiveStep T.mark_of TransferOrder self.old.queue seat item answer self.new.queue) }
-        ensures admitted { IfOk result (λ _. refusal_of (count_of self.old.queue) self.old.queue.next (seats_of self.old.queue) seat ≡ None) }
-        ensures enough { 0 < self.old.queue.room → refusal_of (count_of self.old.queue) self.old.queue.next (seats_of self.old.queue) seat ≡ None → IsOk result }
+        ensures admitted { IfOk result (λ _. admit_refusal self.old.queue seat ≡ None) }
+        ensures enough { 0 < self.old.queue.room → admit_refusal self.old.queue seat ≡ None → IsOk result }
         ensures places { places_of self.old.queue ≤ places_of self.new.queue }
         ensures bound { self.new.bound ≡ self.old.bound }
-        ensures why { IfErr result (λ refused. MatchOption (refusal_of (count_of self.old.queue) self.old.queue.next (seats_of self.old.queue) seat) (refused.why ≡ Memory) (λ first. refused.why ≡ first)) }
+        ensures why { IfErr result (λ refused. IsWhy (admit_refusal self.old.queue seat) refused.why) }
         ensures back { IfErr result (λ refused. refused.back ≡ item) }
         ensures unchanged { IfErr result (λ _. self.new ≡ self.old) }
     {
@@ -132,10 +132,10 @@ impl<T: Marked> Transfer<T> {
     /// refuses what `admit` does; the item comes back then too.
     pub fn try_transfer(&mut self, seat: SeatNo, item: T) -> Result<Offered<T>, Refused<T>>
         ensures step { IfOk result (λ answer. OfferStep T.mark_of TransferOrder self.old.queue item answer self.new.queue) }
-        ensures admitted { IfOk result (λ _. refusal_of (count_of self.old.queue) self.old.queue.next (seats_of self.old.queue) seat ≡ None) }
+        ensures admitted { IfOk result (λ _. admit_refusal self.old.queue seat ≡ None) }
         ensures places { places_of self.new.queue ≡ places_of self.old.queue }
         ensures bound { self.new.bound ≡ self.old.bound }
-        ensures why { IfErr result (λ refused. refusal_of (count_of self.old.queue) self.old.queue.next (seats_of self.old.queue) seat ≡ Some refused.why) }
+        ensures why { IfErr result (λ refused. admit_refusal self.old.queue seat ≡ Some refused.why) }
         ensures back { IfErr result (λ refused. refused.back ≡ item) }
         ensures unchanged { IfErr result (λ _. self.new ≡ self.old) }
     {
@@ -147,11 +147,11 @@ impl<T: Marked> Transfer<T> {
     /// never where there is room.
     pub fn take(&mut self, seat: SeatNo) -> Result<Took<T>, Refusal>
         ensures step { IfOk result (λ answer. TakeStep T.mark_of TransferOrder self.old.queue seat answer self.new.queue) }
-        ensures admitted { IfOk result (λ _. refusal_of (count_of self.old.queue) self.old.queue.next (seats_of self.old.queue) seat ≡ None) }
-        ensures enough { 0 < self.old.queue.room → refusal_of (count_of self.old.queue) self.old.queue.next (seats_of self.old.queue) seat ≡ None → IsOk result }
+        ensures admitted { IfOk result (λ _. admit_refusal self.old.queue seat ≡ None) }
+        ensures enough { 0 < self.old.queue.room → admit_refusal self.old.queue seat ≡ None → IsOk result }
         ensures places { places_of self.old.queue ≤ places_of self.new.queue }
         ensures bound { self.new.bound ≡ self.old.bound }
-        ensures why { IfErr result (λ why. MatchOption (refusal_of (count_of self.old.queue) self.old.queue.next (seats_of self.old.queue) seat) (why ≡ Memory) (λ first. why ≡ first)) }
+        ensures why { IfErr result (IsWhy (admit_refusal self.old.queue seat)) }
         ensures unchanged { IfErr result (λ _. self.new ≡ self.old) }
     {
         self.meetings.take(seat)
@@ -161,10 +161,10 @@ impl<T: Marked> Transfer<T> {
     /// It takes no memory, and refuses what `admit` does.
     pub fn poll(&mut self, seat: SeatNo) -> Result<Polled<T>, Refusal>
         ensures step { IfOk result (λ answer. PollStep T.mark_of TransferOrder self.old.queue answer self.new.queue) }
-        ensures admitted { IfOk result (λ _. refusal_of (count_of self.old.queue) self.old.queue.next (seats_of self.old.queue) seat ≡ None) }
+        ensures admitted { IfOk result (λ _. admit_refusal self.old.queue seat ≡ None) }
         ensures places { places_of self.new.queue ≡ places_of self.old.queue }
         ensures bound { self.new.bound ≡ self.old.bound }
-        ensures why { IfErr result (λ why. refusal_of (count_of self.old.queue) self.old.queue.next (seats_of self.old.queue) seat ≡ Some why) }
+        ensures why { IfErr result (λ why. admit_refusal self.old.queue seat ≡ Some why) }
         ensures unchanged { IfErr result (λ _. self.new ≡ self.old) }
     {
         self.meetings.poll(seat)

@@ -1,19 +1,18 @@
 //! The requests of a queue, once they are admitted: none of them fails.
 
 ghost use Rattle.std.specs.Prelude.{◌≡◌, ◌<◌, None};
-ghost use Rattle.meet_tickets.specs.Refusals.{refusal_of};
 
 use crate::dual::Dual;
 use meet_line::{Gave, Line, Offered, Polled, Took};
 use meet_tickets::{Entry, Marked, SeatNo};
 
 impl<T: Marked, L: Line<Entry<T>>> Dual<T, L> {
-    ghost use Rattle.meet_line.specs.Queue.{seats_of, count_of, places_of};
+    ghost use Rattle.meet_line.specs.Queue.{places_of, admit_refusal};
     ghost use Rattle.meet_line.specs.Steps.{GiveStep, TakeStep, OfferStep, PollStep};
 
     /// A give that is admitted and has room.
     pub fn give_admitted(&mut self, seat: SeatNo, item: T) -> Gave<T>
-        requires admitted { refusal_of (count_of self.old) self.old.next (seats_of self.old) seat ≡ None }
+        requires admitted { admit_refusal self.old seat ≡ None }
         requires room { 0 < self.old.room }
         ensures step { GiveStep T.mark_of L.order self.old seat item result self.new }
         ensures places { places_of self.new ≡ places_of self.old }
@@ -23,7 +22,7 @@ impl<T: Marked, L: Line<Entry<T>>> Dual<T, L> {
 
     /// A take that is admitted and has room.
     pub fn take_admitted(&mut self, seat: SeatNo) -> Took<T>
-        requires admitted { refusal_of (count_of self.old) self.old.next (seats_of self.old) seat ≡ None }
+        requires admitted { admit_refusal self.old seat ≡ None }
         requires room { 0 < self.old.room }
         ensures step { TakeStep T.mark_of L.order self.old seat result self.new }
         ensures places { places_of self.new ≡ places_of self.old }
@@ -33,7 +32,7 @@ impl<T: Marked, L: Line<Entry<T>>> Dual<T, L> {
 
     /// An offer that is admitted.
     pub fn offer_admitted(&mut self, seat: SeatNo, item: T) -> Offered<T>
-        requires { refusal_of (count_of self.old) self.old.next (seats_of self.old) seat ≡ None }
+        requires { admit_refusal self.old seat ≡ None }
         ensures step { OfferStep T.mark_of L.order self.old item result self.new }
         ensures places { places_of self.new ≡ places_of self.old }
     {
@@ -42,7 +41,7 @@ impl<T: Marked, L: Line<Entry<T>>> Dual<T, L> {
 
     /// A poll that is admitted.
     pub fn poll_admitted(&mut self, seat: SeatNo) -> Polled<T>
-        requires { refusal_of (count_of self.old) self.old.next (seats_of self.old) seat ≡ None }
+        requires { admit_refusal self.old seat ≡ None }
         ensures step { PollStep T.mark_of L.order self.old result self.new }
         ensures places { places_of self.new ≡ places_of self.old }
     {

@@ -1,8 +1,9 @@
 //! A drain: one recorded poll after another, all under one hold.
 
-ghost use Rattle.std.specs.Prelude.{◌≡◌, ◌≢◌, ◌+◌, ◌<◌, ◌≤◌, ◌^◌, Some, None, [], ◌∷◌, ◌++◌, length, map, min, vec_len, nat_lt, IfNone, IfOk, IfErr, MatchOption};
+ghost use Rattle.std.specs.Prelude.{◌≡◌, ◌≢◌, ◌+◌, ◌<◌, ◌≤◌, ◌^◌, Some, None, [], ◌∷◌, ◌++◌, length, map, min, vec_len, IfNone, IfOk, IfErr};
 ghost use Rattle.std.specs.Vec.{vec_capacity};
-ghost use Rattle.meet_history.specs.Draining.{drain_refusal_by, TakesOne, TakingStep, Polls, AreNumbered};
+ghost use Rattle.meet_history.specs.Draining.{book_drain_refusal, TakesOne, TakingPolls, AreNumbered};
+ghost use Rattle.meet_tickets.specs.Refusals.{IsWhy};
 ghost use Rattle.meet_tickets.specs.declared.refusals.Refusal.TheVariants.{Memory};
 
 use super::{Book, make_room, write};
@@ -18,7 +19,7 @@ where
 {
     /// Why a drain of k items is refused, Memory aside: the first that applies.
     fn drain_refusal(&self, seat: SeatNo, k: u64) -> Option<Refusal>
-        ensures first { result ≡ drain_refusal_by (O.refusal_of self.now.object seat O.poll) (O.left_of self.now.object) k (nat_lt self.now.cap (length self.now.records + O.owed_of self.now.object + k + 1)) }
+        ensures first { result ≡ book_drain_refusal O.refusal_of O.left_of O.owed_of O.poll self.now seat k }
         ensures fits { IfNone result (0 < k → length self.now.records + O.owed_of self.now.object + k < self.now.cap) }
         ensures free { IfNone result (0 < k → O.refusal_of self.now.object seat O.poll ≡ None) }
         ensures left { IfNone result (k ≤ O.left_of self.now.object) }
@@ -53,11 +54,11 @@ where
         max: u64,
     ) -> Result<Vec<(O::Answer, Receipt<O::Deed>)>, Refusal>
         ensures count { IfOk result (λ got. length got.items ≡ min max (O.available_of self.old.object)) }
-        ensures polls { IfOk result (λ got. Polls (TakingStep (λ old answer new. O.steps old seat O.poll answer new) O.available_of O.left_of O.owed_of (λ o. O.refusal_of o seat O.poll) (O.record_of seat O.poll)) (O.record_of seat O.poll) self.old.object got.items self.new.object) }
+        ensures polls { IfOk result (λ got. TakingPolls O.steps O.record_of O.refusal_of O.available_of O.left_of O.owed_of O.poll seat self.old.object got.items self.new.object) }
         ensures records { IfOk result (λ got. self.new.records ≡ self.old.records ++ map (λ one. one.1.entry) got.items) }
         ensures places { IfOk result (λ got. AreNumbered (length self.old.records) got.items) }
-        ensures admitted { IfOk result (λ _. drain_refusal_by (O.refusal_of self.old.object seat O.poll) (O.left_of self.old.object) (min max (O.available_of self.old.object)) (nat_lt self.old.cap (length self.old.records + O.owed_of self.old.object + min max (O.available_of self.old.object) + 1)) ≡ None) }
-        ensures why { IfErr result (λ why. MatchOption (drain_refusal_by (O.refusal_of self.old.object seat O.poll) (O.left_of self.old.object) (min max (O.available_of self.old.object)) (nat_lt self.old.cap (length self.old.records + O.owed_of self.old.object + min max (O.available_of self.old.object) + 1))) (why ≡ Memory) (λ first. why ≡ first)) }
+        ensures admitted { IfOk result (λ _. book_drain_refusal O.refusal_of O.left_of O.owed_of O.poll self.old seat (min max (O.available_of self.old.object)) ≡ None) }
+        ensures why { IfErr result (IsWhy (book_drain_refusal O.refusal_of O.left_of O.owed_of O.poll self.old seat (min max (O.available_of self.old.object)))) }
         ensures unchanged { IfErr result (λ _. self.new ≡ self.old) }
         ensures cap { self.new.cap ≡ self.old.cap }
     {
@@ -95,7 +96,7 @@ fn poll_all<O: Drains>(
     requires free { O.refusal_of object.old seat O.poll ≡ None }
     requires places { vec_len records.old + count ≤ vec_capacity records.old }
     ensures count { length result.items ≡ count }
-    ensures polls { Polls (TakingStep (λ old answer new. O.steps old seat O.poll answer new) O.available_of O.left_of O.owed_of (λ o. O.refusal_of o seat O.poll) (O.record_of seat O.poll)) (O.record_of seat O.poll) object.old result.items object.new }
+    ensures polls { TakingPolls O.steps O.record_of O.refusal_of O.available_of O.left_of O.owed_of O.poll seat object.old result.items object.new }
     ensures records { records.new.items ≡ records.old.items ++ map (λ one. one.1.entry) result.items }
     ensures places { AreNumbered (length records.old.items) result.items }
     ensures len { vec_len records.new ≡ vec_len records.old + count }

@@ -3,8 +3,6 @@
 ghost use Rattle.std.specs.Prelude.{◌≡◌, ◌≢◌, ◌+◌, ◌≤◌, ◌++◌, ◌∷◌, [], length, map, min, vec_len, OnOk, OnErr, IfErr};
 ghost use Rattle.std.specs.Vec.{vec_capacity};
 ghost use Rattle.meet_history.specs.Stepping.{poll_reply};
-ghost use Rattle.meet_tickets.specs.Meeting.{count_on};
-ghost use Rattle.meet_tickets.specs.declared.places.Side.TheVariants.{Giver};
 ghost use Rattle.meet_tickets.specs.declared.refusals.Refusal.TheVariants.{Memory};
 
 use crate::object::Drains;
@@ -16,7 +14,8 @@ use crate::told::QueueAnswer;
 use meet_tickets::{Deed, Refusal, SeatNo};
 
 impl Stepper {
-    ghost use Rattle.meet_history.specs.OneThread.{drain, drain_refusal};
+    ghost use Rattle.meet_history.specs.declared.calls.Verb.TheVariants.{Drain};
+    ghost use Rattle.meet_history.specs.OneThread.{turn_of};
     ghost use Rattle.meet_history.specs.Stepping.{place_of, Takes};
 
     /// Takes up to so many items, one poll after another: a reply for each, and then their number.
@@ -26,8 +25,8 @@ impl Stepper {
         most: u64,
         replies: &mut Vec<Reply>,
     ) -> Result<(), Refusal>
-        ensures replies { OnOk result (replies.new.items ≡ replies.old.items ++ (drain self.old.setup (place_of self.old) seat (min most (count_on Giver self.old.queue.line))).replies) }
-        ensures takes { OnOk result (Takes (drain self.old.setup (place_of self.old) seat (min most (count_on Giver self.old.queue.line))) self.old self.new) }
+        ensures replies { OnOk result (replies.new.items ≡ replies.old.items ++ (turn_of self.old.setup (place_of self.old) seat (Drain most)).replies) }
+        ensures takes { OnOk result (Takes (turn_of self.old.setup (place_of self.old) seat (Drain most)) self.old self.new) }
         ensures stay { OnErr result (replies.new.items ≡ replies.old.items) }
         ensures unchanged { OnErr result (self.new ≡ self.old) }
         ensures memory { IfErr result (λ why. why ≡ Memory) }

@@ -2,7 +2,6 @@
 
 ghost use Rattle.std.specs.Prelude.{◌≡◌, ◌+◌, length, IfOk, IfErr};
 ghost use Rattle.std.specs.Option.{option_map_or};
-ghost use Rattle.meet_tickets.specs.declared.refusals.Refusal.TheVariants.{Memory};
 
 use crate::replies::{Outcome, Reply};
 use crate::stepper::{Stepper, refused, refused_unless_memory};
@@ -12,8 +11,8 @@ use meet_tickets::{Cause, Refusal, SeatNo};
 
 impl Stepper {
     ghost use Rattle.meet_tickets.specs.declared.records.Cause.TheVariants.{Cancelled, Expired};
-    ghost use Rattle.meet_history.specs.OneThread.{follow, withdraw, interrupt, interrupt_refusal, answer_of};
-    ghost use Rattle.meet_history.specs.Stepping.{place_of, TakesTurn};
+    ghost use Rattle.meet_history.specs.OneThread.{follow, withdraw, interrupt, interrupt_refusal};
+    ghost use Rattle.meet_history.specs.Stepping.{place_of, TakesTurn, LacksMemory, told_as};
 
     /// The follow-up of the seat's open ticket.
     pub(super) fn follow(&mut self, seat: SeatNo) -> Reply
@@ -64,7 +63,7 @@ impl Stepper {
 
     /// The reply that tells the last record, where it was of a step; else this.
     fn told_or(&self, seat: SeatNo, step: Option<Step>, otherwise: Outcome) -> Reply
-        ensures { result ≡ record { seat = seat; outcome = option_map_or (λ step. Outcome.Recorded (length self.now.records) step.ticket (answer_of step.deed step.item)) step otherwise } }
+        ensures { result ≡ record { seat = seat; outcome = option_map_or (told_as (length self.now.records)) step otherwise } }
     {
         match step {
             Some(step) => self.told(seat, step),
@@ -78,9 +77,7 @@ impl Stepper {
     /// Interrupts the target: its ticket is cut where it stands in the line, and else it is flagged.
     pub(super) fn interrupt(&mut self, seat: SeatNo, target: SeatNo) -> Result<Reply, Refusal>
         ensures turn { IfOk result (TakesTurn (interrupt self.old.setup (place_of self.old) seat target) self.old self.new) }
-        ensures unchanged { IfErr result (λ _. self.new ≡ self.old) }
-        ensures alone { IfErr result (λ _. interrupt_refusal self.old.setup (place_of self.old) seat target ≡ None) }
-        ensures memory { IfErr result (λ why. why ≡ Memory) }
+        ensures memory { IfErr result (LacksMemory (interrupt_refusal self.old.setup (place_of self.old) seat target) self.old self.new) }
     {
         let answer = match self.call(seat, DualCall::Interrupt(target)) {
             Ok(answer) => answer,

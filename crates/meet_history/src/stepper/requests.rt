@@ -1,7 +1,6 @@
 //! The requests of a stepper.
 
-ghost use Rattle.std.specs.Prelude.{◌≡◌, IfOk, IfErr};
-ghost use Rattle.meet_tickets.specs.declared.refusals.Refusal.TheVariants.{Memory};
+ghost use Rattle.std.specs.Prelude.{IfOk, IfErr};
 
 use crate::replies::Reply;
 use crate::stepper::{Stepper, refused_unless_memory};
@@ -11,14 +10,12 @@ use meet_tickets::{Order, Refusal, SeatNo};
 
 impl Stepper {
     ghost use Rattle.meet_history.specs.OneThread.{request_refusal, give, take, waiting, immediate, put_form, offer_form};
-    ghost use Rattle.meet_history.specs.Stepping.{place_of, TakesTurn};
+    ghost use Rattle.meet_history.specs.Stepping.{place_of, TakesTurn, LacksMemory};
 
     /// `BlockingQueue.put`: a transfer queue keeps the item, in a synchronous queue its giver waits.
     pub(super) fn put(&mut self, seat: SeatNo, mark: u64) -> Result<Reply, Refusal>
         ensures turn { IfOk result (TakesTurn (give self.old.setup (place_of self.old) seat (put_form self.old.setup.kind.order) mark) self.old self.new) }
-        ensures unchanged { IfErr result (λ _. self.new ≡ self.old) }
-        ensures alone { IfErr result (λ _. request_refusal self.old.setup (place_of self.old) seat ≡ None) }
-        ensures memory { IfErr result (λ why. why ≡ Memory) }
+        ensures memory { IfErr result (LacksMemory (request_refusal self.old.setup (place_of self.old) seat) self.old self.new) }
     {
         let answer = match self.ask(seat, QueueCall::Put(mark)) {
             Ok(answer) => answer,
@@ -36,9 +33,7 @@ impl Stepper {
     /// `BlockingQueue.offer`: a transfer queue puts the item, a synchronous queue gives it to a taker that is there.
     pub(super) fn offer(&mut self, seat: SeatNo, mark: u64) -> Result<Reply, Refusal>
         ensures turn { IfOk result (TakesTurn (give self.old.setup (place_of self.old) seat (offer_form self.old.setup.kind.order) mark) self.old self.new) }
-        ensures unchanged { IfErr result (λ _. self.new ≡ self.old) }
-        ensures alone { IfErr result (λ _. request_refusal self.old.setup (place_of self.old) seat ≡ None) }
-        ensures memory { IfErr result (λ why. why ≡ Memory) }
+        ensures memory { IfErr result (LacksMemory (request_refusal self.old.setup (place_of self.old) seat) self.old self.new) }
     {
         match self.setup.kind.order {
             Order::Fair => self.give_now(seat, mark),
@@ -50,9 +45,7 @@ impl Stepper {
     /// A give that waits for a taker.
     pub(super) fn give(&mut self, seat: SeatNo, mark: u64) -> Result<Reply, Refusal>
         ensures turn { IfOk result (TakesTurn (give self.old.setup (place_of self.old) seat waiting mark) self.old self.new) }
-        ensures unchanged { IfErr result (λ _. self.new ≡ self.old) }
-        ensures alone { IfErr result (λ _. request_refusal self.old.setup (place_of self.old) seat ≡ None) }
-        ensures memory { IfErr result (λ why. why ≡ Memory) }
+        ensures memory { IfErr result (LacksMemory (request_refusal self.old.setup (place_of self.old) seat) self.old self.new) }
     {
         let answer = match self.call(seat, DualCall::Give(mark)) {
             Ok(answer) => answer,
@@ -67,9 +60,7 @@ impl Stepper {
     /// A give to a taker that is there.
     pub(super) fn give_now(&mut self, seat: SeatNo, mark: u64) -> Result<Reply, Refusal>
         ensures turn { IfOk result (TakesTurn (give self.old.setup (place_of self.old) seat immediate mark) self.old self.new) }
-        ensures unchanged { IfErr result (λ _. self.new ≡ self.old) }
-        ensures alone { IfErr result (λ _. request_refusal self.old.setup (place_of self.old) seat ≡ None) }
-        ensures memory { IfErr result (λ why. why ≡ Memory) }
+        ensures memory { IfErr result (LacksMemory (request_refusal self.old.setup (place_of self.old) seat) self.old self.new) }
     {
         let answer = match self.call(seat, DualCall::Offer(mark)) {
             Ok(answer) => answer,
@@ -84,9 +75,7 @@ impl Stepper {
     /// A take that waits for a giver.
     pub(super) fn take(&mut self, seat: SeatNo) -> Result<Reply, Refusal>
         ensures turn { IfOk result (TakesTurn (take self.old.setup (place_of self.old) seat waiting) self.old self.new) }
-        ensures unchanged { IfErr result (λ _. self.new ≡ self.old) }
-        ensures alone { IfErr result (λ _. request_refusal self.old.setup (place_of self.old) seat ≡ None) }
-        ensures memory { IfErr result (λ why. why ≡ Memory) }
+        ensures memory { IfErr result (LacksMemory (request_refusal self.old.setup (place_of self.old) seat) self.old self.new) }
     {
         let answer = match self.call(seat, DualCall::Take) {
             Ok(answer) => answer,
@@ -101,9 +90,7 @@ impl Stepper {
     /// A take from a giver that is there.
     pub(super) fn poll(&mut self, seat: SeatNo) -> Result<Reply, Refusal>
         ensures turn { IfOk result (TakesTurn (take self.old.setup (place_of self.old) seat immediate) self.old self.new) }
-        ensures unchanged { IfErr result (λ _. self.new ≡ self.old) }
-        ensures alone { IfErr result (λ _. request_refusal self.old.setup (place_of self.old) seat ≡ None) }
-        ensures memory { IfErr result (λ why. why ≡ Memory) }
+        ensures memory { IfErr result (LacksMemory (request_refusal self.old.setup (place_of self.old) seat) self.old self.new) }
     {
         let answer = match self.call(seat, DualCall::Poll) {
             Ok(answer) => answer,

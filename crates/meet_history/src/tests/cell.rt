@@ -195,7 +195,15 @@ impl Object for Cell {
 
     ghost record_of = { λ seat call made. option_map (λ m. record { seat = seat; ticket = m.ticket; deed = m.deed }) made };
 
-    ghost refusal_of = { λ cell seat call. if nat_lt seat 2 then (elim call [ End ↦ None | _ ↦ (if option_map_or (λ wait. nat_eq wait.seat seat) cell.wait false then Some SeatOpen else (if nat_lt 0 cell.left then None else Some TicketsSpent)) ]) else Some NoSuchSeat };
+    ghost refusal_of = { λ cell seat call.
+        if nat_lt seat 2
+        then (elim call [
+          | End ↦ None
+          | _ ↦
+              (if option_map_or (λ wait. nat_eq wait.seat seat) cell.wait false then Some SeatOpen
+              else (if nat_lt 0 cell.left then None else Some TicketsSpent))
+        ])
+        else Some NoSuchSeat };
 
     ghost owed_of = { λ cell. length (option_to_list cell.wait) };
 

@@ -2,7 +2,6 @@
 
 ghost use Rattle.std.specs.Prelude.{◌≡◌, ◌<◌, ◌≤◌, None};
 ghost use Rattle.meet_tickets.specs.Meeting.{kept_count};
-ghost use Rattle.meet_tickets.specs.Refusals.{refusal_of};
 
 use crate::answers::{Gave, Offered, Polled, Put, Took};
 use crate::line::Line;
@@ -10,12 +9,12 @@ use crate::meetings::Meetings;
 use meet_tickets::{Entry, Marked, SeatNo};
 
 impl<T: Marked, L: Line<Entry<T>>> Meetings<T, L> {
-    ghost use Rattle.meet_line.specs.Queue.{seats_of, count_of, places_of};
+    ghost use Rattle.meet_line.specs.Queue.{places_of, admit_refusal};
     ghost use Rattle.meet_line.specs.Steps.{GiveStep, PutStep, TakeStep, OfferStep, PollStep};
 
     /// A give that is admitted and has room.
     pub fn give_admitted(&mut self, seat: SeatNo, item: T) -> Gave<T>
-        requires admitted { refusal_of (count_of self.old) self.old.next (seats_of self.old) seat ≡ None }
+        requires admitted { admit_refusal self.old seat ≡ None }
         requires room { 0 < self.old.room }
         ensures step { GiveStep T.mark_of L.order self.old seat item result self.new }
         ensures places { places_of self.new ≡ places_of self.old }
@@ -37,7 +36,7 @@ impl<T: Marked, L: Line<Entry<T>>> Meetings<T, L> {
 
     /// A put that is admitted and has room.
     pub fn put_admitted(&mut self, seat: SeatNo, item: T, bound: Option<u64>) -> Put<T>
-        requires admitted { refusal_of (count_of self.old) self.old.next (seats_of self.old) seat ≡ None }
+        requires admitted { admit_refusal self.old seat ≡ None }
         requires room { 0 < self.old.room }
         ensures step { PutStep T.mark_of L.order bound self.old seat item result self.new }
         ensures places { places_of self.new ≡ places_of self.old }
@@ -55,7 +54,7 @@ impl<T: Marked, L: Line<Entry<T>>> Meetings<T, L> {
 
     /// A take that is admitted and has room.
     pub fn take_admitted(&mut self, seat: SeatNo) -> Took<T>
-        requires admitted { refusal_of (count_of self.old) self.old.next (seats_of self.old) seat ≡ None }
+        requires admitted { admit_refusal self.old seat ≡ None }
         requires room { 0 < self.old.room }
         ensures step { TakeStep T.mark_of L.order self.old seat result self.new }
         ensures places { places_of self.new ≡ places_of self.old }
@@ -77,7 +76,7 @@ impl<T: Marked, L: Line<Entry<T>>> Meetings<T, L> {
 
     /// An offer that is admitted.
     pub fn offer_admitted(&mut self, seat: SeatNo, item: T) -> Offered<T>
-        requires { refusal_of (count_of self.old) self.old.next (seats_of self.old) seat ≡ None }
+        requires { admit_refusal self.old seat ≡ None }
         ensures step { OfferStep T.mark_of L.order self.old item result self.new }
         ensures places { places_of self.new ≡ places_of self.old }
         ensures kept { kept_count self.new.line ≡ kept_count self.old.line }
@@ -91,7 +90,7 @@ impl<T: Marked, L: Line<Entry<T>>> Meetings<T, L> {
 
     /// A poll that is admitted.
     pub fn poll_admitted(&mut self, seat: SeatNo) -> Polled<T>
-        requires { refusal_of (count_of self.old) self.old.next (seats_of self.old) seat ≡ None }
+        requires { admit_refusal self.old seat ≡ None }
         ensures step { PollStep T.mark_of L.order self.old result self.new }
         ensures places { places_of self.new ≡ places_of self.old }
         ensures kept { kept_count self.new.line ≤ kept_count self.old.line }

@@ -2,8 +2,7 @@
 
 ghost use Rattle.std.specs.Prelude.{◌≡◌, ◌≢◌, ℕ, ◌+◌, ◌^◌, ◌<◌, ◌≤◌, ⊤, Some, None, IfOk, IfErr, IfSome, IfNone, MatchOption, All, true, false};
 ghost use Rattle.meet_tickets.specs.Meeting.{partner, kept_count};
-ghost use Rattle.meet_tickets.specs.BySeat.{queued, paired, open_ticket, entry_of, left};
-ghost use Rattle.meet_tickets.specs.declared.lines.Entry.{Entry};
+ghost use Rattle.meet_tickets.specs.BySeat.{queued, open_ticket, entry_of, left};
 ghost use Rattle.meet_tickets.specs.declared.lines.Hold.TheVariants.{Free};
 ghost use Rattle.meet_tickets.specs.declared.places.Side.TheVariants.{Giver, Taker};
 
@@ -14,7 +13,7 @@ use meet_tickets::{Entry, Hold, Marked, SeatNo, Side, Ticket};
 
 impl<T: Marked, L: Line<Entry<T>>> Meetings<T, L> {
     ghost use Rattle.meet_line.specs.Queue.{seats_of, count_of, places_of};
-    ghost use Rattle.meet_line.specs.Steps.{Leaves};
+    ghost use Rattle.meet_line.specs.Steps.{Leaves, HandsOver, Fetches};
 
     /// Uses up the next ticket.
     pub(super) fn draw(&mut self) -> Ticket
@@ -34,7 +33,7 @@ impl<T: Marked, L: Line<Entry<T>>> Meetings<T, L> {
 
     /// Hands the item to the taker that is met, and answers its ticket; without one the item comes back.
     pub(super) fn hand(&mut self, ticket: Ticket, item: T) -> Result<Ticket, T>
-        ensures met { IfOk result (λ with. (e : Entry T) × (partner L.order self.old.line Giver ≡ Some e) × (with ≡ e.ticket) × (e.item ≡ None) × Leaves self.old self.new (paired T.mark_of L.order (seats_of self.old) ticket (Some item) e)) }
+        ensures met { IfOk result (λ with. HandsOver T.mark_of L.order self.old item ticket with self.new) }
         ensures places { IfOk result (λ _. places_of self.new ≡ places_of self.old) }
         ensures kept { kept_count self.new.line ≡ kept_count self.old.line }
         ensures alone { IfErr result (λ _. partner L.order self.old.line Giver ≡ None) }
@@ -49,7 +48,7 @@ impl<T: Marked, L: Line<Entry<T>>> Meetings<T, L> {
 
     /// Fetches the item of the giver that is met, with its ticket.
     pub(super) fn fetch(&mut self, ticket: Ticket) -> Option<(Ticket, T)>
-        ensures met { IfSome result (λ got. (e : Entry T) × (partner L.order self.old.line Taker ≡ Some e) × (got.0 ≡ e.ticket) × (e.item ≡ Some got.1) × Leaves self.old self.new (paired T.mark_of L.order (seats_of self.old) ticket None e)) }
+        ensures met { IfSome result (λ got. Fetches T.mark_of L.order self.old ticket got.0 got.1 self.new) }
         ensures places { places_of self.new ≡ places_of self.old }
         ensures kept { kept_count self.new.line ≤ kept_count self.old.line }
         ensures alone { IfNone result (partner L.order self.old.line Taker ≡ None) }

@@ -1,7 +1,6 @@
 //! The requests of a queue, once they are admitted: none of them fails.
 
 ghost use Rattle.std.specs.Prelude.{◌≡◌, ◌<◌, None};
-ghost use Rattle.meet_tickets.specs.Refusals.{refusal_of};
 ghost use Rattle.meet_tickets.specs.declared.places.Order.TheVariants.{Transfer as TransferOrder};
 
 use crate::transfer::Transfer;
@@ -9,12 +8,12 @@ use meet_line::{Gave, Offered, Polled, Put, Took};
 use meet_tickets::{Marked, SeatNo};
 
 impl<T: Marked> Transfer<T> {
-    ghost use Rattle.meet_line.specs.Queue.{seats_of, count_of, places_of};
+    ghost use Rattle.meet_line.specs.Queue.{places_of, admit_refusal};
     ghost use Rattle.meet_line.specs.Steps.{GiveStep, PutStep, TakeStep, OfferStep, PollStep};
 
     /// A put that is admitted and has room.
     pub fn put_admitted(&mut self, seat: SeatNo, item: T) -> Put<T>
-        requires admitted { refusal_of (count_of self.old.queue) self.old.queue.next (seats_of self.old.queue) seat ≡ None }
+        requires admitted { admit_refusal self.old.queue seat ≡ None }
         requires room { 0 < self.old.queue.room }
         ensures step { PutStep T.mark_of TransferOrder self.old.bound self.old.queue seat item result self.new.queue }
         ensures places { places_of self.new.queue ≡ places_of self.old.queue }
@@ -25,7 +24,7 @@ impl<T: Marked> Transfer<T> {
 
     /// A transfer that is admitted and has room.
     pub fn transfer_admitted(&mut self, seat: SeatNo, item: T) -> Gave<T>
-        requires admitted { refusal_of (count_of self.old.queue) self.old.queue.next (seats_of self.old.queue) seat ≡ None }
+        requires admitted { admit_refusal self.old.queue seat ≡ None }
         requires room { 0 < self.old.queue.room }
         ensures step { GiveStep T.mark_of TransferOrder self.old.queue seat item result self.new.queue }
         ensures places { places_of self.new.queue ≡ places_of self.old.queue }
@@ -36,7 +35,7 @@ impl<T: Marked> Transfer<T> {
 
     /// An immediate transfer that is admitted.
     pub fn try_transfer_admitted(&mut self, seat: SeatNo, item: T) -> Offered<T>
-        requires { refusal_of (count_of self.old.queue) self.old.queue.next (seats_of self.old.queue) seat ≡ None }
+        requires { admit_refusal self.old.queue seat ≡ None }
         ensures step { OfferStep T.mark_of TransferOrder self.old.queue item result self.new.queue }
         ensures places { places_of self.new.queue ≡ places_of self.old.queue }
         ensures bound { self.new.bound ≡ self.old.bound }
@@ -46,7 +45,7 @@ impl<T: Marked> Transfer<T> {
 
     /// A take that is admitted and has room.
     pub fn take_admitted(&mut self, seat: SeatNo) -> Took<T>
-        requires admitted { refusal_of (count_of self.old.queue) self.old.queue.next (seats_of self.old.queue) seat ≡ None }
+        requires admitted { admit_refusal self.old.queue seat ≡ None }
         requires room { 0 < self.old.queue.room }
         ensures step { TakeStep T.mark_of TransferOrder self.old.queue seat result self.new.queue }
         ensures places { places_of self.new.queue ≡ places_of self.old.queue }
@@ -57,7 +56,7 @@ impl<T: Marked> Transfer<T> {
 
     /// A poll that is admitted.
     pub fn poll_admitted(&mut self, seat: SeatNo) -> Polled<T>
-        requires { refusal_of (count_of self.old.queue) self.old.queue.next (seats_of self.old.queue) seat ≡ None }
+        requires { admit_refusal self.old.queue seat ≡ None }
         ensures step { PollStep T.mark_of TransferOrder self.old.queue result self.new.queue }
         ensures places { places_of self.new.queue ≡ places_of self.old.queue }
         ensures bound { self.new.bound ≡ self.old.bound }

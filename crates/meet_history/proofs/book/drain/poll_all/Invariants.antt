@@ -1,5 +1,5 @@
 use Rattle.std.proofs.Common.{◌≡◌, ◌+◌, ◌<◌, ◌≤◌, ◌++◌, None, length, map, vec_len, vec_capacity}
-use Rattle.meet_history.specs.Draining.{TakingStep, Polls, AreNumbered}
+use Rattle.meet_history.specs.Draining.{TakingPolls, AreNumbered}
 use Rattle.meet_history.proofs.book.drain.poll_all.Given as goal
 
 -- so many polls were made, and for the others all is there
@@ -10,7 +10,7 @@ invariant-loop g l =
     record {
       count : length l.got.items ≡ l.counter;
       room : vec_capacity l.got ≡ vec_capacity l.fn.empty;
-      polls : Polls (TakingStep (λ old answer new. o.steps old l.seat d.poll answer new) d.available_of d.left_of o.owed_of (λ p. o.refusal_of p l.seat d.poll) (o.record_of l.seat d.poll)) (o.record_of l.seat d.poll) l.fn.object l.got.items l.object;
+      polls : TakingPolls o.steps o.record_of o.refusal_of d.available_of d.left_of o.owed_of d.poll l.seat l.fn.object l.got.items l.object;
       records : l.records.items ≡ l.fn.records.items ++ map (λ one. one.1.entry) l.got.items;
       numbered : AreNumbered (length l.fn.records.items) l.got.items;
       leads : o.leads l.fn.records.items l.fn.object → o.leads l.records.items l.object;
