@@ -10,29 +10,13 @@ ghost use Rattle.meet_bench.specs.Asked.{at_end, task_asked, asked_in, IsAsked};
 use crate::tasks::{Task, read_task};
 use meet_history::Setup;
 use meet_run::RunFault;
+use meet_run::faults::{at_line, cut_short};
 use meet_run::grammar::LONGEST_LINE;
 use meet_run::next::{Next, next_of, next_setup};
 use meet_run::reading::read_line;
 use meet_tickets::Refusal;
 use std::alloc::Global;
 use std::io::Read;
-
-/// A line is at fault.
-fn bad_line(number: u64) -> RunFault
-    ensures { result ≡ record { why = Refusal.BadLine; line = Some number } }
-{
-    RunFault {
-        why: Refusal::BadLine,
-        line: Some(number),
-    }
-}
-
-/// A fault outside any line.
-pub fn broken(why: Refusal) -> RunFault
-    ensures { result ≡ record { why = why; line = None } }
-{
-    RunFault { why, line: None }
-}
 
 /// Reads the line of a task.
 fn next_task<R: Read>(reader: &mut R, turns: &mut u64, line: &mut Vec<u8>) -> Next<Task>
@@ -59,9 +43,9 @@ fn end_of<R: Read>(
 {
     match next_task(reader, turns, line) {
         Next::Ended => Ok((setup, task)),
-        Next::Read(_) => Err(bad_line(3)),
-        Next::Faulty => Err(bad_line(3)),
-        Next::Broken => Err(broken(Refusal::ReadFault)),
+        Next::Read(_) => Err(at_line(Refusal::BadLine, 3)),
+        Next::Faulty => Err(at_line(Refusal::BadLine, 3)),
+        Next::Broken => Err(cut_short(Refusal::ReadFault)),
     }
 }
 
@@ -79,9 +63,9 @@ fn task_behind<R: Read>(
 {
     match next_task(reader, turns, line) {
         Next::Read(task) => end_of(reader, turns, line, setup, task),
-        Next::Ended => Err(bad_line(2)),
-        Next::Faulty => Err(bad_line(2)),
-        Next::Broken => Err(broken(Refusal::ReadFault)),
+        Next::Ended => Err(at_line(Refusal::BadLine, 2)),
+        Next::Faulty => Err(at_line(Refusal::BadLine, 2)),
+        Next::Broken => Err(cut_short(Refusal::ReadFault)),
     }
 }
 
@@ -99,12 +83,12 @@ pub fn read_asked<R: Read>(
     let mut turns = turns;
     let mut line = match Vec::with_capacity(alloc, LONGEST_LINE) {
         Ok(line) => line,
-        Err(_) => return Err(broken(Refusal::Memory)),
+        Err(_) => return Err(cut_short(Refusal::Memory)),
     };
     match next_setup(reader, &mut turns, &mut line) {
         Next::Read(setup) => task_behind(reader, &mut turns, &mut line, setup),
-        Next::Ended => Err(bad_line(1)),
-        Next::Faulty => Err(bad_line(1)),
-        Next::Broken => Err(broken(Refusal::ReadFault)),
+        Next::Ended => Err(at_line(Refusal::BadLine, 1)),
+        Next::Faulty => Err(at_line(Refusal::BadLine, 1)),
+        Next::Broken => Err(cut_short(Refusal::ReadFault)),
     }
 }

@@ -18,10 +18,11 @@ mod findings;
 mod histories;
 mod tasks;
 
-use asked::{broken, read_asked};
+use asked::read_asked;
 use findings::push_finding;
 use histories::perform;
 use meet_history::Setup;
+use meet_run::faults::cut_short;
 use meet_run::output::write_whole;
 use meet_run::run::MOST_READS;
 use meet_run::{RunFault, report_of};
@@ -44,15 +45,15 @@ fn find_and_tell<W: Write>(
 {
     let finding = match perform(alloc, setup, task) {
         Ok(finding) => finding,
-        Err(why) => return Err(broken(why)),
+        Err(why) => return Err(cut_short(why)),
     };
     let mut text = Vec::new(alloc);
     if push_finding(&mut text, finding).is_err() {
-        return Err(broken(Refusal::Memory));
+        return Err(cut_short(Refusal::Memory));
     }
     match write_whole(writer, text.as_slice()) {
         Ok(()) => Ok(true),
-        Err(why) => Err(broken(why)),
+        Err(why) => Err(cut_short(why)),
     }
 }
 
@@ -77,7 +78,7 @@ fn finish(rt: &HostRuntime, outcome: &Result<bool, RunFault>) -> ExitCode
 
 fn main(rt: HostRuntime) -> ExitCode {
     let Ok(mut reader) = BufReader::new(rt.alloc(), rt.stdin()) else {
-        return finish(&rt, &Err(broken(Refusal::Memory)));
+        return finish(&rt, &Err(cut_short(Refusal::Memory)));
     };
     let outcome = run(rt.alloc(), &mut reader, &mut rt.stdout());
     finish(&rt, &outcome)

@@ -1,11 +1,12 @@
 -- A call of the stepper's queue, in the words of one thread's replies.
-use Rattle.std.proofs.Common.{◌≡◌, ◌≢◌, ℕ, ◌+◌, ◌<◌, refl, sym, ap, ◌∙◌, Bool, true, false, cond, Option, Some, None, arith}
-use Rattle.std.specs.Prelude.{nat_lt, nat_le, ◌||◌}
+use Rattle.std.proofs.Common.{◌≡◌, ◌≢◌, ℕ, ◌+◌, ◌<◌, refl, sym, ap, ◌∙◌, Bool, true, false, Option, Some, None, arith}
+use Rattle.std.specs.Prelude.{nat_lt}
 use Rattle.std.specs.Option.{option_map_or}
 use Rattle.meet_tickets.specs.declared.refusals.Refusal.{Refusal}
-use Rattle.meet_tickets.specs.declared.refusals.Refusal.TheVariants.{Memory, NoSuchSeat, SeatOpen, TicketsSpent}
+use Rattle.meet_tickets.specs.declared.refusals.Refusal.TheVariants.{Memory}
 use Rattle.meet_tickets.specs.BySeat.{owed_of}
-use Rattle.meet_tickets.specs.Refusals.{number_of, refusal_of, IsWhy}
+use Rattle.meet_tickets.specs.Refusals.{number_of, refusal_of, absent_refusal, IsWhy}
+use Rattle.meet_tickets.proofs.Refusing.{request-own, interrupt-own}
 use Rattle.meet_line.specs.Queue.{Queue, seats_of, count_of}
 use Rattle.meet_history.specs.declared.setups.Setup.{Setup}
 use Rattle.meet_history.specs.declared.told.DualCall.{DualCall}
@@ -23,7 +24,7 @@ refusal-there setup q written seat Poll count need = ap (λ n. call_refusal (ref
 refusal-there setup q written seat (FollowUp t) count need = absurd (omega arith)
 refusal-there setup q written seat (Cancel t) count need = absurd (omega arith)
 refusal-there setup q written seat (Expire t) count need = absurd (omega arith)
-refusal-there setup q written seat (Interrupt j) count need = ap (λ n. call_refusal (cond (nat_le n seat || nat_le n j) (Some NoSuchSeat) None) (nat_lt setup.cap (written + owed_of n (seats_of q).holds + 1))) count
+refusal-there setup q written seat (Interrupt j) count need = ap (λ n. call_refusal (absent_refusal n seat j) (nat_lt setup.cap (written + owed_of n (seats_of q).holds + 1))) count
 
 -- whatever the book's cap is called
 pub refusal_at-is : (setup : Setup) (q : Queue ℕ) (cap written seat : ℕ) (call : DualCall ℕ) → cap ≡ setup.cap → count_of q ≡ setup.seats → 0 < dual_need call → call_refusal (dual_refusal q seat call) (nat_lt cap (written + dual_owed q + dual_need call)) ≡ refusal_at setup (record { next = q.next; seats = seats_of q; records = written }) seat call
@@ -35,29 +36,21 @@ pub refused-so : (first : Option Refusal) (why : Refusal) → IsWhy first why �
 refused-so None why memory other = absurd (other memory)
 refused-so (Some own) why same other = ap Some (sym same)
 
--- no place refuses a request for want of memory,
-request-own : (a b c full : Bool) → call_refusal (cond a (Some NoSuchSeat) (cond b (Some SeatOpen) (cond c (Some TicketsSpent) None))) full ≢ Some Memory
-request-own true b c full is = absurd (omega (arith, ap (λ o. option_map_or number_of o 0) is))
-request-own false true c full is = absurd (omega (arith, ap (λ o. option_map_or number_of o 0) is))
-request-own false false true full is = absurd (omega (arith, ap (λ o. option_map_or number_of o 0) is))
-request-own false false false true is = absurd (omega (arith, ap (λ o. option_map_or number_of o 0) is))
-request-own false false false false is = absurd (omega (arith, ap (λ o. option_map_or number_of o 1000) is))
-
--- nor an interrupt
-interrupt-own : (a full : Bool) → call_refusal (cond a (Some NoSuchSeat) None) full ≢ Some Memory
-interrupt-own true full is = absurd (omega (arith, ap (λ o. option_map_or number_of o 0) is))
-interrupt-own false true is = absurd (omega (arith, ap (λ o. option_map_or number_of o 0) is))
-interrupt-own false false is = absurd (omega (arith, ap (λ o. option_map_or number_of o 1000) is))
+-- where the place doesn't refuse for want of memory, nor does the book
+call-own : (first : Option Refusal) (full : Bool) → first ≢ Some Memory → call_refusal first full ≢ Some Memory
+call-own None true own is = absurd (omega (arith, ap (λ o. option_map_or number_of o 0) is))
+call-own None false own is = absurd (omega (arith, ap (λ o. option_map_or number_of o 0) is))
+call-own (Some why) full own is = own is
 
 place-own : (q : Queue ℕ) (seat : ℕ) (call : DualCall ℕ) (full : Bool) → 0 < dual_need call → call_refusal (dual_refusal q seat call) full ≢ Some Memory
-place-own q seat (Give mark) full need = request-own _ _ _ full
-place-own q seat (Offer mark) full need = request-own _ _ _ full
-place-own q seat Take full need = request-own _ _ _ full
-place-own q seat Poll full need = request-own _ _ _ full
+place-own q seat (Give mark) full need = call-own _ full (request-own (count_of q) q.next (seats_of q) seat)
+place-own q seat (Offer mark) full need = call-own _ full (request-own (count_of q) q.next (seats_of q) seat)
+place-own q seat Take full need = call-own _ full (request-own (count_of q) q.next (seats_of q) seat)
+place-own q seat Poll full need = call-own _ full (request-own (count_of q) q.next (seats_of q) seat)
 place-own q seat (FollowUp t) full need = absurd (omega arith)
 place-own q seat (Cancel t) full need = absurd (omega arith)
 place-own q seat (Expire t) full need = absurd (omega arith)
-place-own q seat (Interrupt j) full need = interrupt-own _ full
+place-own q seat (Interrupt j) full need = call-own _ full (interrupt-own (count_of q) seat j)
 
 refused-alone : (first : Option Refusal) (why : Refusal) → IsWhy first why → first ≢ Some Memory → why ≡ Memory → first ≡ None
 refused-alone None why memory own is = refl

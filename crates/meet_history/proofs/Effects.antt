@@ -49,9 +49,25 @@ use Rattle.meet_history.specs.declared.told.QueueAnswer.TheVariants.{Put as ToPu
 use Rattle.meet_history.specs.OneThread.{put_form, keeping}
 use Rattle.meet_history.specs.QueueSteps.{QueueStep, queue_refusal, queue_need, put_record, queue_record}
 use Rattle.meet_history.specs.DualRecords.{made, give_record, offer_record, take_record, poll_record, follow_record, back_record, interrupt_record, dual_record}
-use Rattle.meet_history.specs.DualSteps.{DualStep, dual_refusal, dual_need, dual_owed, marked_entry, marked_hold, marked, Writes, Costs, HasEffect}
+use Rattle.meet_history.specs.DualSteps.{DualStep, dual_refusal, dual_need, dual_owed, marked_entry, marked_hold, marked}
 use Rattle.meet_history.proofs.Marking.{partner-marked, entry_of-marked, kept-marked, queued-marked, paired-marked, released-marked, left-marked, cut_off-marked}
 use Rattle.meet_history.proofs.Owed.{owed-same, owed-more, owed-fewer}
+
+-- what a step that writes this record does to the queue, in the words of histories
+pub record Writes {T : Type 0} (mark : T → ℕ) (k : Kind) (old new : Queue T) (r : Record Deed) : Type 0 where
+  pub used : is_request r.deed ≡ true → r.ticket ≡ old.next
+  pub next : new.next ≡ cond (is_request r.deed) (old.next + 1) old.next
+  pub allowed : Allows k (marked mark (seats_of old)) r.seat r.ticket r.deed
+  pub after : marked mark (seats_of new) ≡ seats_after k (marked mark (seats_of old)) r.seat r.ticket r.deed
+
+-- what a call costs: the records that it writes and leaves owed, and its place in the line
+pub record Costs {T : Type 0} (old new : Queue T) (need : ℕ) (written : ℕ) : Type 0 where
+  pub owed : written + dual_owed new ≤ dual_owed old + need
+  pub line : length new.line ≤ length old.line + 1
+
+-- a step that writes this record, or none and then changes nothing
+abbrev pub HasEffect : {T : Type 0} → (T → ℕ) → Kind → Queue T → Queue T → (need : ℕ) → Option (Record Deed) → Type 0
+HasEffect mark k old new need r = MatchOption r (new ≡ old) (λ r. Writes mark k old new r × Costs old new need 1)
 
 -- what leaves a line doesn't lengthen it
 unmet-short : {X : Type 0} (order : Order) (line : List (Entry X)) → length (unmet order line) ≤ length line

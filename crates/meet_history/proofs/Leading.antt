@@ -9,7 +9,8 @@ use Rattle.meet_tickets.proofs.Continued.{legal-append, moment_of-append}
 use Rattle.meet_tickets.proofs.Histories.{tellings_are_one}
 use Rattle.meet_line.specs.Queue.{Queue, seats_of}
 use Rattle.meet_history.specs.QueueSteps.{bounded_kind}
-use Rattle.meet_history.specs.DualSteps.{marked, LeadsTo, Writes, HasEffect}
+use Rattle.meet_history.specs.DualSteps.{marked, LeadsTo}
+use Rattle.meet_history.proofs.Effects.{Writes, HasEffect}
 
 -- a new queue has no history behind it
 pub fresh-leads : {T : Type 0} (mark : T → ℕ) (k : Kind) (q : Queue T) → seats_of q ≡ nobody → 0 < q.next → LeadsTo mark k [] q

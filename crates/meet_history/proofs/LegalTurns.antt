@@ -17,12 +17,12 @@ use Rattle.meet_tickets.specs.declared.records.Cause.TheVariants.{Cancelled, Exp
 use Rattle.meet_tickets.specs.declared.records.Deed.{Deed}
 use Rattle.meet_tickets.specs.declared.records.Deed.TheVariants.{GiveWaits, GiveMeets, GiveFails, GiveKept, TakeWaits, TakeMeets, TakeFails, EntryInterrupted, Done, Got, Withdrawn, Interrupt}
 use Rattle.meet_tickets.specs.declared.refusals.Refusal.{Refusal}
-use Rattle.meet_tickets.specs.Meeting.{partner, Alone, kept_count, count_on, HasOneSide}
+use Rattle.meet_tickets.specs.Meeting.{partner, Alone, kept_count, count_on}
 use Rattle.meet_tickets.specs.BySeat.{Seats, Moment, Fits, Allows, IsFree, entry_of, paired, cut_off, flagged, cut_ticket, is_request, seats_after, moment_of, IsLegalBySeatFrom}
 use Rattle.meet_tickets.specs.Refusals.{refusal_of}
 use Rattle.meet_tickets.proofs.Continued.{legal-append, moment_of-append}
 use Rattle.meet_tickets.proofs.Partners.{none-from}
-use Rattle.meet_tickets.proofs.Sides.{partner-other, HasOneSide-unmet, HasOneSide-without_first, HasOneSide-added}
+use Rattle.meet_tickets.proofs.Sides.{HasOneSide, partner-other, HasOneSide-unmet, HasOneSide-without_first, HasOneSide-added}
 use Rattle.meet_tickets.proofs.Admitted.{IsAdmitted, IsAdmitted-from}
 use Rattle.meet_history.specs.declared.calls.Call.{Call}
 use Rattle.meet_history.specs.declared.calls.Verb.{Verb}

@@ -42,19 +42,19 @@ IsUntimely m i t TicketOrder = IsFree m.seats i × (t ≤ m.last)
 IsUntimely m i t why = ⊥
 
 -- the record of this number is the last of the shortest front that isn't legal
-pub record IsIllegalAt (k : Kind) (records : List (Record Deed)) (place : ℕ) (why : Why) : Type 0 where
+pub record IsIllegalAt (k : Kind) (records : List (Record Deed)) (number : ℕ) (why : Why) : Type 0 where
   pub front : List (Record Deed)
   pub bad : Record Deed
   pub rest : List (Record Deed)
   pub parts : records ≡ front ++ bad ∷ rest
-  pub number : place ≡ length front + 1
+  pub last : number ≡ length front + 1
   pub legal : IsLegal k front
   pub illegal : IsLegal k (front ++ bad ∷ []) → ⊥
   pub faulty : IsFaulty k (moment_of k beginning front) bad why
 
 -- what the checker says of records that aren't legal; want of memory says nothing
 abbrev pub IsCheckFault : Kind → List (Record Deed) → CheckFault → Type 0
-IsCheckFault k records (Illegal place why) = IsIllegalAt k records place why
+IsCheckFault k records (Illegal number why) = IsIllegalAt k records number why
 IsCheckFault k records Memory = Unit {0}
 
 -- the order of a line in which requests of this order find their partner

@@ -1,6 +1,5 @@
 -- The calls that each queue has, as a book makes them: their steps, refusals and costs, and the histories that lead to a queue.
-use Rattle.std.specs.Prelude.{◌≡◌, ℕ, ◌+◌, ◌-◌, ◌^◌, ◌<◌, ◌≤◌, nat_eq, nat_le, ◌||◌, true, false, Option, Some, None, option_map, List, map, length, MatchOption, if◌then◌else◌}
-use Rattle.std.specs.Option.{option_map_or}
+use Rattle.std.specs.Prelude.{◌≡◌, ℕ, ◌-◌, ◌^◌, ◌<◌, Option, None, option_map, List, map}
 use Rattle.meet_tickets.specs.declared.lines.Entry.{Entry}
 use Rattle.meet_tickets.specs.declared.lines.Hold.{Hold}
 use Rattle.meet_tickets.specs.declared.lines.Hold.TheVariants.{Free, Waiting, Handed, Served, Cut}
@@ -10,10 +9,10 @@ use Rattle.meet_tickets.specs.declared.places.Kind.{Kind}
 use Rattle.meet_tickets.specs.declared.records.Record.{Record}
 use Rattle.meet_tickets.specs.declared.records.Deed.{Deed}
 use Rattle.meet_tickets.specs.declared.refusals.Refusal.{Refusal}
-use Rattle.meet_tickets.specs.declared.refusals.Refusal.TheVariants.{NotOpen, NoSuchSeat}
 use Rattle.meet_tickets.specs.Meeting.{count_on}
 use Rattle.meet_tickets.specs.ByLists.{IsLegal}
-use Rattle.meet_tickets.specs.BySeat.{Seats, beginning, moment_of, open_ticket, owed_of, is_request, Allows, seats_after}
+use Rattle.meet_tickets.specs.BySeat.{Seats, beginning, moment_of, open_ticket, owed_of}
+use Rattle.meet_tickets.specs.Refusals.{refusal_unless, absent_refusal}
 use Rattle.meet_line.specs.Queue.{Queue, seats_of, count_of, admit_refusal}
 use Rattle.meet_line.specs.Steps.{GiveStep, OfferStep, TakeStep, PollStep, FollowStep, WithdrawStep, InterruptStep}
 use Rattle.meet_history.specs.declared.told.DualCall.{DualCall}
@@ -32,14 +31,6 @@ DualStep mark order old i (Cancel t) (ToWithdrawal answer) new = WithdrawStep ol
 DualStep mark order old i (Expire t) (ToWithdrawal answer) new = WithdrawStep old i t answer new
 DualStep mark order old i (Interrupt j) (ToInterrupt answer) new = InterruptStep old j answer new
 DualStep mark order old i call answer new = ⊥
-
--- why an ending of this ticket is refused, where this one is open
-abbrev pub refusal_unless : (opened : Option ℕ) → (ticket : ℕ) → Option Refusal
-refusal_unless opened t = if option_map_or (λ own. nat_eq own t) opened false then None else Some NotOpen
-
--- why an interrupt of this target is refused, where there are so many seats
-abbrev pub absent_refusal : (count seat target : ℕ) → Option Refusal
-absent_refusal count i j = if nat_le count i || nat_le count j then Some NoSuchSeat else None
 
 -- why an ending is refused
 abbrev pub ending_refusal : {T : Type 0} → Queue T → (seat ticket : ℕ) → Option Refusal
@@ -104,19 +95,3 @@ pub record LeadsTo {T : Type 0} (mark : T → ℕ) (k : Kind) (records : List (R
   pub legal : IsLegal k records
   pub used : (moment_of k beginning records).last < q.next
   pub leaves : (moment_of k beginning records).seats ≡ marked mark (seats_of q)
-
--- what a step that writes this record does to the queue, in the words of histories
-pub record Writes {T : Type 0} (mark : T → ℕ) (k : Kind) (old new : Queue T) (r : Record Deed) : Type 0 where
-  pub used : is_request r.deed ≡ true → r.ticket ≡ old.next
-  pub next : new.next ≡ (if is_request r.deed then old.next + 1 else old.next)
-  pub allowed : Allows k (marked mark (seats_of old)) r.seat r.ticket r.deed
-  pub after : marked mark (seats_of new) ≡ seats_after k (marked mark (seats_of old)) r.seat r.ticket r.deed
-
--- what a call costs: the records that it writes and leaves owed, and its place in the line
-pub record Costs {T : Type 0} (old new : Queue T) (need : ℕ) (written : ℕ) : Type 0 where
-  pub owed : written + dual_owed new ≤ dual_owed old + need
-  pub line : length new.line ≤ length old.line + 1
-
--- a step that writes this record, or none and then changes nothing
-abbrev pub HasEffect : {T : Type 0} → (T → ℕ) → Kind → Queue T → Queue T → (need : ℕ) → Option (Record Deed) → Type 0
-HasEffect mark k old new need r = MatchOption r (new ≡ old) (λ r. Writes mark k old new r × Costs old new need 1)

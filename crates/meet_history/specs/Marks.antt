@@ -29,6 +29,6 @@ room_of (Front line) = line.room
 room_of (Back line) = line.room
 
 -- one for a kept entry, else 0
-abbrev pub kept_entry : Option (Entry ℕ) → ℕ
-kept_entry None = 0
-kept_entry (Some e) = if not e.waits then 1 else 0
+abbrev pub count_if_kept : Option (Entry ℕ) → ℕ
+count_if_kept None = 0
+count_if_kept (Some e) = if not e.waits then 1 else 0

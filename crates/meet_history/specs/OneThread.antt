@@ -1,5 +1,5 @@
 -- The replies of a place that one thread uses, whatever seats it speaks for.
-use Rattle.std.specs.Prelude.{ℕ, zero, suc, ◌+◌, ◌-◌, ◌^◌, nat_le, nat_lt, min, Bool, true, ◌||◌, Option, Some, None, unwrap_or, List, [], ◌∷◌, ◌++◌, slice_get, if◌then◌else◌}
+use Rattle.std.specs.Prelude.{ℕ, zero, suc, ◌+◌, ◌-◌, ◌^◌, nat_lt, min, Bool, true, Option, Some, None, unwrap_or, List, [], ◌∷◌, ◌++◌, slice_get, if◌then◌else◌}
 use Rattle.std.specs.Option.{option_map_or, option_and_then}
 use Rattle.meet_tickets.specs.declared.lines.Entry.{Entry}
 use Rattle.meet_tickets.specs.declared.lines.Hold.{Hold}
@@ -14,10 +14,10 @@ use Rattle.meet_tickets.specs.declared.records.Cause.TheVariants.{Cancelled, Exp
 use Rattle.meet_tickets.specs.declared.records.Deed.{Deed}
 use Rattle.meet_tickets.specs.declared.records.Deed.TheVariants.{GiveWaits, GiveMeets, GiveFails, GiveKept, TakeWaits, TakeMeets, TakeFails, EntryInterrupted, Done, Got, Withdrawn, Interrupt}
 use Rattle.meet_tickets.specs.declared.refusals.Refusal.{Refusal}
-use Rattle.meet_tickets.specs.declared.refusals.Refusal.TheVariants.{NoSuchSeat, NotOpen}
+use Rattle.meet_tickets.specs.declared.refusals.Refusal.TheVariants.{NotOpen}
 use Rattle.meet_tickets.specs.Meeting.{partner, kept_count, waiting_count, count_on}
 use Rattle.meet_tickets.specs.BySeat.{Seats, nobody, entry_of, cut_ticket, owed_of, settled_of, is_request, seats_after}
-use Rattle.meet_tickets.specs.Refusals.{refusal_of}
+use Rattle.meet_tickets.specs.Refusals.{refusal_of, absent_refusal}
 use Rattle.meet_history.specs.Booking.{call_refusal}
 use Rattle.meet_history.specs.Draining.{drain_refusal_by}
 use Rattle.meet_history.specs.declared.calls.Call.{Call}
@@ -168,7 +168,7 @@ withdraw setup p seat cause (Cut t item) = silent p seat Late
 -- why an interrupt is refused: the first that applies
 abbrev pub interrupt_refusal : Setup → Place → (seat target : ℕ) → Option Refusal
 interrupt_refusal setup p seat target =
-    call_refusal (if nat_le setup.seats seat || nat_le setup.seats target then Some NoSuchSeat else None) (is_full setup p 1)
+    call_refusal (absent_refusal setup.seats seat target) (is_full setup p 1)
 
 -- the ticket of this number, where it names one: 0 names none
 abbrev pub cut_named : ℕ → Option ℕ

@@ -205,16 +205,16 @@ pub fn check(alloc: Global, kind: Kind, records: &[Record<Deed>]) -> Result<Stan
         Ok(checker) => checker,
         Err(_) => return Err(CheckFault::Memory),
     };
-    let mut place = 0u64;
+    let mut number = 0u64;
     for entry in records {
-        place += 1;
+        number += 1;
         match checker.reserve() {
             Ok(()) => {}
             Err(_) => return Err(CheckFault::Memory),
         }
         match checker.next(*entry) {
             Ok(()) => {}
-            Err(why) => return Err(CheckFault::Illegal(place, why)),
+            Err(why) => return Err(CheckFault::Illegal(number, why)),
         }
     }
     Ok(checker.standing())

@@ -142,7 +142,7 @@ fn make<T: Marked, L: Line<Entry<T>>>(
     queue: &mut Dual<T, L>,
     seat: SeatNo,
     call: DualCall<T>,
-) -> (DualAnswer<T>, Option<Record<Deed>>)
+) -> entries::Answered<T>
     requires admitted { dual_refusal queue.old seat call ≡ None }
     requires room { 0 < dual_need call → 0 < queue.old.room }
     ensures step { DualStep T.mark_of L.order queue.old seat call result.0 queue.new }
@@ -152,45 +152,29 @@ fn make<T: Marked, L: Line<Entry<T>>>(
     match call {
         DualCall::Give(item) => {
             let mark = item.mark();
-            let gave = queue.give_admitted(seat, item);
-            let entry = entries::of_give(seat, mark, &gave);
-            (DualAnswer::Gave(gave), Some(entry))
+            entries::of_give(seat, mark, queue.give_admitted(seat, item))
         }
         DualCall::Offer(item) => {
             let mark = item.mark();
-            let offered = queue.offer_admitted(seat, item);
-            let entry = entries::of_offer(seat, mark, &offered);
-            (DualAnswer::Offered(offered), Some(entry))
+            entries::of_offer(seat, mark, queue.offer_admitted(seat, item))
         }
-        DualCall::Take => {
-            let took = queue.take_admitted(seat);
-            let entry = entries::of_take(seat, &took);
-            (DualAnswer::Took(took), Some(entry))
-        }
-        DualCall::Poll => {
-            let polled = queue.poll_admitted(seat);
-            let entry = entries::of_poll(seat, &polled);
-            (DualAnswer::Polled(polled), Some(entry))
-        }
+        DualCall::Take => entries::of_take(seat, queue.take_admitted(seat)),
+        DualCall::Poll => entries::of_poll(seat, queue.poll_admitted(seat)),
         DualCall::FollowUp(ticket) => {
             let followed = queue.follow_up(seat, ticket).unwrap();
-            let entry = entries::of_follow_up(seat, ticket, &followed);
-            (DualAnswer::Followed(followed), entry)
+            entries::of_follow_up(seat, ticket, followed)
         }
         DualCall::Cancel(ticket) => {
             let back = queue.cancel(seat, ticket).unwrap();
-            let entry = entries::of_withdrawal(seat, ticket, Cause::Cancelled, &back);
-            (DualAnswer::TakenBack(back), entry)
+            entries::of_withdrawal(seat, ticket, Cause::Cancelled, back)
         }
         DualCall::Expire(ticket) => {
             let back = queue.expire(seat, ticket).unwrap();
-            let entry = entries::of_withdrawal(seat, ticket, Cause::Expired, &back);
-            (DualAnswer::TakenBack(back), entry)
+            entries::of_withdrawal(seat, ticket, Cause::Expired, back)
         }
         DualCall::Interrupt(target) => {
             let struck = queue.interrupt(target).unwrap();
-            let entry = entries::of_interrupt(seat, target, &struck);
-            (DualAnswer::Interrupted(struck), Some(entry))
+            entries::of_interrupt(seat, target, struck)
         }
     }
 }

@@ -2,7 +2,7 @@
 
 ghost use Rattle.std.specs.Prelude.{◌≡◌, ◌≢◌, Some, None, IfOk, IfErr};
 ghost use Rattle.meet_tickets.specs.declared.refusals.Refusal.TheVariants.{Memory, HistoryFull};
-ghost use Rattle.meet_history.specs.DualSteps.{refusal_unless, absent_refusal};
+ghost use Rattle.meet_tickets.specs.Refusals.{refusal_unless, absent_refusal};
 
 use meet_tickets::{Refusal, SeatNo, Ticket};
 

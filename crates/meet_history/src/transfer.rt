@@ -180,9 +180,7 @@ fn make<T: Marked>(
     match call {
         QueueCall::Put(item) => {
             let mark = item.mark();
-            let put = queue.put_admitted(seat, item);
-            let entry = entries::of_put(seat, mark, &put);
-            (QueueAnswer::Put(put), Some(entry))
+            entries::of_put(seat, mark, queue.put_admitted(seat, item))
         }
         QueueCall::Dual(call) => {
             let (answer, entry) = make_dual(queue, seat, call);
@@ -196,7 +194,7 @@ fn make_dual<T: Marked>(
     queue: &mut Transfer<T>,
     seat: SeatNo,
     call: DualCall<T>,
-) -> (DualAnswer<T>, Option<Record<Deed>>)
+) -> entries::Answered<T>
     requires admitted { dual_refusal queue.old.queue seat call ≡ None }
     requires room { 0 < dual_need call → 0 < queue.old.queue.room }
     ensures step { DualStep T.mark_of TransferOrder queue.old.queue seat call result.0 queue.new.queue }
@@ -207,45 +205,29 @@ fn make_dual<T: Marked>(
     match call {
         DualCall::Give(item) => {
             let mark = item.mark();
-            let gave = queue.transfer_admitted(seat, item);
-            let entry = entries::of_give(seat, mark, &gave);
-            (DualAnswer::Gave(gave), Some(entry))
+            entries::of_give(seat, mark, queue.transfer_admitted(seat, item))
         }
         DualCall::Offer(item) => {
             let mark = item.mark();
-            let offered = queue.try_transfer_admitted(seat, item);
-            let entry = entries::of_offer(seat, mark, &offered);
-            (DualAnswer::Offered(offered), Some(entry))
+            entries::of_offer(seat, mark, queue.try_transfer_admitted(seat, item))
         }
-        DualCall::Take => {
-            let took = queue.take_admitted(seat);
-            let entry = entries::of_take(seat, &took);
-            (DualAnswer::Took(took), Some(entry))
-        }
-        DualCall::Poll => {
-            let polled = queue.poll_admitted(seat);
-            let entry = entries::of_poll(seat, &polled);
-            (DualAnswer::Polled(polled), Some(entry))
-        }
+        DualCall::Take => entries::of_take(seat, queue.take_admitted(seat)),
+        DualCall::Poll => entries::of_poll(seat, queue.poll_admitted(seat)),
         DualCall::FollowUp(ticket) => {
             let followed = queue.follow_up(seat, ticket).unwrap();
-            let entry = entries::of_follow_up(seat, ticket, &followed);
-            (DualAnswer::Followed(followed), entry)
+            entries::of_follow_up(seat, ticket, followed)
         }
         DualCall::Cancel(ticket) => {
             let back = queue.cancel(seat, ticket).unwrap();
-            let entry = entries::of_withdrawal(seat, ticket, Cause::Cancelled, &back);
-            (DualAnswer::TakenBack(back), entry)
+            entries::of_withdrawal(seat, ticket, Cause::Cancelled, back)
         }
         DualCall::Expire(ticket) => {
             let back = queue.expire(seat, ticket).unwrap();
-            let entry = entries::of_withdrawal(seat, ticket, Cause::Expired, &back);
-            (DualAnswer::TakenBack(back), entry)
+            entries::of_withdrawal(seat, ticket, Cause::Expired, back)
         }
         DualCall::Interrupt(target) => {
             let struck = queue.interrupt(target).unwrap();
-            let entry = entries::of_interrupt(seat, target, &struck);
-            (DualAnswer::Interrupted(struck), Some(entry))
+            entries::of_interrupt(seat, target, struck)
         }
     }
 }

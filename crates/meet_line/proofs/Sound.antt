@@ -10,11 +10,11 @@ use Rattle.meet_tickets.specs.declared.lines.Hold.TheVariants.{Free, Waiting}
 use Rattle.meet_tickets.specs.declared.places.Side.{Side}
 use Rattle.meet_tickets.specs.declared.places.Side.TheVariants.{Giver, Taker}
 use Rattle.meet_tickets.specs.declared.places.Order.{Order}
-use Rattle.meet_tickets.specs.Meeting.{partner, kept_count, HasOneSide}
+use Rattle.meet_tickets.specs.Meeting.{partner, kept_count}
 use Rattle.meet_tickets.specs.BySeat.{put_at, unmet, without_first, open_ticket}
 use Rattle.meet_tickets.proofs.Keeping.{partner-waits}
 use Rattle.meet_tickets.proofs.Partners.{none-from}
-use Rattle.meet_tickets.proofs.Sides.{All-unmet, All-without_first, AllPairs-unmet, AllPairs-without_first, partner-met, partner-there, partner-other, alone-same, met-apart, found-ticket, found-there, found-apart}
+use Rattle.meet_tickets.proofs.Sides.{HasOneSide, All-unmet, All-without_first, AllPairs-unmet, AllPairs-without_first, partner-met, partner-there, partner-other, alone-same, met-apart, found-ticket, found-there, found-apart}
 use Rattle.meet_line.specs.Table.{hold_at}
 use Rattle.meet_line.specs.Queue.{Stands, AreFellows, IsSound}
 

@@ -11,10 +11,10 @@ use Rattle.meet_history.specs.declared.calls.Call.{Call}
 use Rattle.meet_history.specs.declared.calls.Verb.{Verb}
 use Rattle.meet_history.specs.declared.calls.Verb.TheVariants.{Put, Offer, Take, Poll, Transfer as TransferItem, Try, Follow, Cancel, Expire, Interrupt, Drain, Size, Room, Peek, Consumers}
 use Rattle.meet_history.specs.Served.{serves}
-use Rattle.meet_run.specs.Words.{word_of, rest_of, number_of}
+use Rattle.meet_run.specs.Words.{word_of, rest_of, number_spelled}
 use Rattle.meet_run.specs.Grammar.{◌>>=◌, seat_in, bare_verb_of, interrupt_of, numbered_verb_of, verb_of, verb_behind, seat_of, call_in, served_call, call_of}
 use Rattle.meet_run.specs.Spelling.{verb_text, spelling, FitsVerb, FitsCall, CallsHaveOneSpelling}
-use Rattle.meet_run.proofs.WordLemmas.{number_of-is, number_of-decimal, word-rest, rest-space, tail-space, no_space-decimal}
+use Rattle.meet_run.proofs.WordLemmas.{number_spelled-is, number_spelled-decimal, word-rest, rest-space, tail-space, no_space-decimal}
 
 -- the value of a step that did not fail
 pub bind-some : {A B : Type 0} (o : Option A) (f : A → Option B) (y : B) → (o >>= f) ≡ Some y → (x : A) × (o ≡ Some x) × (f x ≡ Some y)
@@ -101,8 +101,8 @@ verb-is text [] verb r e =
     let whole : word_of text ++ [] ≡ text = ap (λ (t : List ℕ). word_of text ++ t) (sym r) ∙ word-rest text in
     (sym whole ∙ (search rules ∙ b.0), b.1)
 verb-is text (space ∷ number) verb r e =
-    let n = bind-some (number_of number) (numbered_verb_of (word_of text)) verb e in
-    let is = number_of-is number n.0 n.1 in
+    let n = bind-some (number_spelled number) (numbered_verb_of (word_of text)) verb e in
+    let is = number_spelled-is number n.0 n.1 in
     let v = numbered-is (word_of text) n.0 verb is.1 n.2 in
     let rest : space ∷ number ≡ 32 ∷ decimal n.0 = (let head : space ≡ 32 = rest-space text space number r in let tail = is.0 in cc) in
     let whole : word_of text ++ 32 ∷ decimal n.0 ≡ text = ap (λ (t : List ℕ). word_of text ++ t) (sym (r ∙ rest)) ∙ word-rest text in
@@ -123,8 +123,8 @@ unfolding call_in seat_of
 call_in-is line call e =
     let s = bind-some (seat_of (word_of line)) (λ seat. verb_behind (rest_of line) >>= λ verb. Some (record { seat = seat; verb = verb })) call e in
     let v = bind-some (verb_behind (rest_of line)) (λ verb. Some (record { seat = s.0; verb = verb })) call s.2 in
-    let n = bind-some (number_of (word_of line)) seat_in s.0 s.1 in
-    let number = number_of-is (word_of line) n.0 n.1 in
+    let n = bind-some (number_spelled (word_of line)) seat_in s.0 s.1 in
+    let number = number_spelled-is (word_of line) n.0 n.1 in
     let seat = seat-is n.0 s.0 n.2 in
     let behind = behind-is line (rest_of line) v.0 refl v.1 in
     let word : word_of line ≡ decimal s.0 = number.0 ∙ ap (λ (k : ℕ). decimal k) seat.0 in
@@ -136,22 +136,22 @@ call_in-is line call e =
 
 -- ---- what is spelled is read
 
-numbered-again : (word : List ℕ) (n : ℕ) (verb : Verb) → n < 2 ^ 64 → numbered_verb_of word n ≡ Some verb → (number_of (decimal n) >>= numbered_verb_of word) ≡ Some verb
-numbered-again word n verb lt e = ap (λ (o : Option ℕ). o >>= numbered_verb_of word) (number_of-decimal n lt) ∙ e
+numbered-again : (word : List ℕ) (n : ℕ) (verb : Verb) → n < 2 ^ 64 → numbered_verb_of word n ≡ Some verb → (number_spelled (decimal n) >>= numbered_verb_of word) ≡ Some verb
+numbered-again word n verb lt e = ap (λ (o : Option ℕ). o >>= numbered_verb_of word) (number_spelled-decimal n lt) ∙ e
 
 verb-again : (verb : Verb) → FitsVerb verb → verb_behind (32 ∷ verb_text verb) ≡ Some verb
 unfolding verb_behind verb_of word_of rest_of bare_verb_of numbered_verb_of interrupt_of
-verb-again (Put n) h = rw (number_of-decimal n h) refl
-verb-again (Offer n) h = rw (number_of-decimal n h) refl
+verb-again (Put n) h = rw (number_spelled-decimal n h) refl
+verb-again (Offer n) h = rw (number_spelled-decimal n h) refl
 verb-again Take h = refl
 verb-again Poll h = refl
-verb-again (TransferItem n) h = rw (number_of-decimal n h) refl
-verb-again (Try n) h = rw (number_of-decimal n h) refl
+verb-again (TransferItem n) h = rw (number_spelled-decimal n h) refl
+verb-again (Try n) h = rw (number_spelled-decimal n h) refl
 verb-again Follow h = refl
 verb-again Cancel h = refl
 verb-again Expire h = refl
-verb-again (Interrupt n) h = rw (number_of-decimal n (omega arith), seat-again n h) refl
-verb-again (Drain n) h = rw (number_of-decimal n h) refl
+verb-again (Interrupt n) h = rw (number_spelled-decimal n (omega arith), seat-again n h) refl
+verb-again (Drain n) h = rw (number_spelled-decimal n h) refl
 verb-again Size h = refl
 verb-again Room h = refl
 verb-again Peek h = refl
@@ -162,7 +162,7 @@ unfolding call_in seat_of
 call_in-again call small fits =
     let wide : call.seat < 2 ^ 64 = omega arith in
     let cut = tail-space (verb_text call.verb) (decimal call.seat) (no_space-decimal call.seat wide) in
-    rw (cut.0, cut.1, number_of-decimal call.seat wide, seat-again call.seat small, verb-again call.verb fits) refl
+    rw (cut.0, cut.1, number_spelled-decimal call.seat wide, seat-again call.seat small, verb-again call.verb fits) refl
 
 pub number-short : (n : ℕ) → n < 2 ^ 64 → length (decimal n) ≤ 20
 number-short n lt = length-decimal-le 20 n (lit< tt) (omega arith) lt

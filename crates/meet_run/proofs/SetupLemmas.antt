@@ -9,11 +9,11 @@ use Rattle.meet_tickets.specs.declared.places.Order.{Order}
 use Rattle.meet_tickets.specs.declared.places.Order.TheVariants.{Fair, Unfair, Transfer}
 use Rattle.meet_run.specs.declared.first_line.Options.{Options}
 use Rattle.meet_history.specs.declared.setups.Setup.{Setup}
-use Rattle.meet_run.specs.Words.{word_of, rest_of, behind, number_of}
+use Rattle.meet_run.specs.Words.{word_of, rest_of, behind, number_spelled}
 use Rattle.meet_run.specs.Grammar.{◌>>=◌, provided, order_of, option_value, option_in, written_in, may_have, setup_with, setup_at_end, setup_in, setup_of}
 use Rattle.meet_history.specs.Limits.{FitsBound, IsInLimits}
 use Rattle.meet_run.specs.Spelling.{place_text, option_text, written_text, SpellsSetup, SetupsAreSpelled}
-use Rattle.meet_run.proofs.WordLemmas.{HasNoSpace, number_of-is, number_of-decimal, behind-is, word-rest, IsTail, tail-none, tail-space, no_space-decimal}
+use Rattle.meet_run.proofs.WordLemmas.{HasNoSpace, number_spelled-is, number_spelled-decimal, behind-is, word-rest, IsTail, tail-none, tail-space, no_space-decimal}
 use Rattle.meet_run.proofs.CallLemmas.{bind-some, chosen, chosen-second}
 
 -- an option that is spelled out is in its limits
@@ -30,9 +30,9 @@ IsOption name most rest found = (rest ≡ option_text name found.0 ++ found.1) �
 value-is : (name : List ℕ) (most : ℕ) (text : List ℕ) (found : Option ℕ × List ℕ) → option_value most (word_of text) (rest_of text) ≡ Some found → IsOption name most (name ++ text) found
 unfolding option_value
 value-is name most text found e =
-    let b = bind-some (number_of (word_of text)) (λ n. provided (leb 1 n && leb n most) (Some n, rest_of text)) found e in
+    let b = bind-some (number_spelled (word_of text)) (λ n. provided (leb 1 n && leb n most) (Some n, rest_of text)) found e in
     let n : ℕ = b.0 in
-    let spelled = number_of-is (word_of text) n b.1 in
+    let spelled = number_spelled-is (word_of text) n b.1 in
     let test = cond_some (leb 1 n && leb n most) (Some n, rest_of text) found b.2 in
     let limits = and_parts (leb 1 n) (leb n most) test.0 in
     let cut : text ≡ decimal n ++ rest_of text = sym (word-rest text) ∙ ap (λ (w : List ℕ). w ++ rest_of text) spelled.0 in
@@ -136,7 +136,7 @@ unfolding option_value
 number-again most n rest wide low high tail =
     let lt : n < 2 ^ 64 = omega arith in
     let cut = tail (decimal n) (no_space-decimal n lt) in
-    rw (cut.0, cut.1, number_of-decimal n lt, le-leb 1 n low, le-leb n most high) refl
+    rw (cut.0, cut.1, number_spelled-decimal n lt, le-leb 1 n low, le-leb n most high) refl
 
 option-again : (name : List ℕ) (most n : ℕ) (rest text : List ℕ) → behind name text ≡ Some (decimal n ++ rest) → most < 2 ^ 64 → IsWithin most (Some n) → IsTail rest → option_in name most text ≡ Some (Some n, rest)
 unfolding option_in

@@ -10,12 +10,12 @@ use Rattle.meet_tickets.specs.declared.records.Cause.TheVariants.{Cancelled, Exp
 use Rattle.meet_tickets.specs.declared.records.Deed.{Deed}
 use Rattle.meet_tickets.specs.declared.records.Deed.TheVariants.{GiveWaits, GiveMeets, GiveFails, GiveKept, TakeWaits, TakeMeets, TakeFails, EntryInterrupted, Done, Got, Withdrawn, Interrupt}
 use Rattle.meet_tickets.specs.declared.records.Record.{Record}
-use Rattle.meet_run.specs.Words.{word_of, rest_of, number_of}
+use Rattle.meet_run.specs.Words.{word_of, rest_of, number_spelled}
 use Rattle.meet_run.specs.Grammar.{◌>>=◌, seat_in, seat_of}
 use Rattle.meet_run.specs.Wording.{cause_text}
 use Rattle.meet_run.specs.TraceGrammar.{ticket_in, ticket_of, side_of, cause_of, bare_deed_of, marked_deed_of, worded_deed_of, paired_deed_of, deed_with, deed_of, deed_behind, record_behind, record_in, record_of}
 use Rattle.meet_run.specs.TraceSpelling.{side_text, deed_text, record_text, FitsDeed, FitsRecord, RecordsHaveOneSpelling}
-use Rattle.meet_run.proofs.WordLemmas.{HasNoSpace, number_of-is, number_of-decimal, word-rest, rest-space, tail-none, tail-space, no_space-decimal}
+use Rattle.meet_run.proofs.WordLemmas.{HasNoSpace, number_spelled-is, number_spelled-decimal, word-rest, rest-space, tail-none, tail-space, no_space-decimal}
 use Rattle.meet_run.proofs.CallLemmas.{bind-some, chosen, chosen-second, seat-is, seat-again, number-short}
 
 -- ---- what is read is spelled
@@ -24,8 +24,8 @@ use Rattle.meet_run.proofs.CallLemmas.{bind-some, chosen, chosen-second, seat-is
 ticket-is : (word : List ℕ) (t : ℕ) → ticket_of word ≡ Some t → (word ≡ decimal t) × (t < 2 ^ 63)
 unfolding ticket_of ticket_in
 ticket-is word t e =
-    let b = bind-some (number_of word) ticket_in t e in
-    let number = number_of-is word b.0 b.1 in
+    let b = bind-some (number_spelled word) ticket_in t e in
+    let number = number_spelled-is word b.0 b.1 in
     let p = cond_some (ltb b.0 (2 ^ 63)) b.0 t b.2 in
     (number.0 ∙ ap (λ (k : ℕ). decimal k) p.1, subst (λ (k : ℕ). k < 2 ^ 63) p.1 (ltb-true b.0 (2 ^ 63) p.0))
 
@@ -33,8 +33,8 @@ ticket-is word t e =
 seat_word-is : (word : List ℕ) (seat : ℕ) → seat_of word ≡ Some seat → (word ≡ decimal seat) × (seat < 1024)
 unfolding seat_of
 seat_word-is word seat e =
-    let b = bind-some (number_of word) seat_in seat e in
-    let number = number_of-is word b.0 b.1 in
+    let b = bind-some (number_spelled word) seat_in seat e in
+    let number = number_spelled-is word b.0 b.1 in
     let p = seat-is b.0 seat b.2 in
     (number.0 ∙ ap (λ (k : ℕ). decimal k) p.0, subst (λ (k : ℕ). k < 1024) p.0 p.1)
 
@@ -103,10 +103,10 @@ interrupt-is word value d is e =
     let seat = seat_word-is value b.0 b.1 in
     made (word ++ 32 ∷ value) (Interrupt b.0) d (both word value (codes "interrupt") (decimal b.0) is seat.0) seat.1 b.2
 
-mark-is : (word value : List ℕ) (d : Deed) → (number_of value >>= marked_deed_of word) ≡ Some d → IsDeed (word ++ 32 ∷ value) d
+mark-is : (word value : List ℕ) (d : Deed) → (number_spelled value >>= marked_deed_of word) ≡ Some d → IsDeed (word ++ 32 ∷ value) d
 mark-is word value d e =
-    let b = bind-some (number_of value) (marked_deed_of word) d e in
-    let number = number_of-is value b.0 b.1 in
+    let b = bind-some (number_spelled value) (marked_deed_of word) d e in
+    let number = number_spelled-is value b.0 b.1 in
     subst (λ (v : List ℕ). IsDeed (word ++ 32 ∷ v) d) (sym number.0) (marked-is word b.0 d number.1 b.2)
 
 worded-is : (word value : List ℕ) (d : Deed) → worded_deed_of word value ≡ Some d → IsDeed (word ++ 32 ∷ value) d
@@ -145,9 +145,9 @@ unfolding deed_with
 with-is word text [] d r e =
     subst (λ (t : List ℕ). IsDeed (word ++ 32 ∷ t) d) (word-whole text r) (worded-is word (word_of text) d e)
 with-is word text (space ∷ more) d r e =
-    let m = bind-some (number_of (word_of text)) _ d e in
+    let m = bind-some (number_spelled (word_of text)) _ d e in
     let u = bind-some (ticket_of more) (paired_deed_of word m.0) d m.2 in
-    let mark = number_of-is (word_of text) m.0 m.1 in
+    let mark = number_spelled-is (word_of text) m.0 m.1 in
     let partner = ticket-is more u.0 u.1 in
     let cut : decimal m.0 ++ 32 ∷ decimal u.0 ≡ text =
     sym (both (word_of text) more (decimal m.0) (decimal u.0) mark.0 partner.0) ∙ word-more text space more r in
@@ -207,11 +207,11 @@ record_in-is line r e =
 
 ticket-again : (t : ℕ) → t < 2 ^ 63 → ticket_of (decimal t) ≡ Some t
 unfolding ticket_of ticket_in
-ticket-again t lt = rw (number_of-decimal t (omega arith), lt-ltb t (2 ^ 63) lt) refl
+ticket-again t lt = rw (number_spelled-decimal t (omega arith), lt-ltb t (2 ^ 63) lt) refl
 
 seat_word-again : (seat : ℕ) → seat < 1024 → seat_of (decimal seat) ≡ Some seat
 unfolding seat_of
-seat_word-again seat lt = rw (number_of-decimal seat (omega arith), seat-again seat lt) refl
+seat_word-again seat lt = rw (number_spelled-decimal seat (omega arith), seat-again seat lt) refl
 
 -- a word without a space is cut at its end
 word-alone : (word : List ℕ) → HasNoSpace word → (word_of word ≡ word) × (rest_of word ≡ [])
@@ -223,15 +223,15 @@ worded-again : (word value : List ℕ) (d : Deed) → HasNoSpace value → worde
 unfolding deed_of deed_with
 worded-again word value d h e = let cut = word-alone value h in rw (cut.0, cut.1) e
 
-marked-again : (word : List ℕ) (m : ℕ) (d : Deed) → m < 2 ^ 64 → worded_deed_of word (decimal m) ≡ (number_of (decimal m) >>= marked_deed_of word) → marked_deed_of word m ≡ Some d → deed_of word (32 ∷ decimal m) ≡ Some d
+marked-again : (word : List ℕ) (m : ℕ) (d : Deed) → m < 2 ^ 64 → worded_deed_of word (decimal m) ≡ (number_spelled (decimal m) >>= marked_deed_of word) → marked_deed_of word m ≡ Some d → deed_of word (32 ∷ decimal m) ≡ Some d
 marked-again word m d lt falls e =
-    worded-again word (decimal m) d (no_space-decimal m lt) (falls ∙ (ap (λ (o : Option ℕ). o >>= marked_deed_of word) (number_of-decimal m lt) ∙ e))
+    worded-again word (decimal m) d (no_space-decimal m lt) (falls ∙ (ap (λ (o : Option ℕ). o >>= marked_deed_of word) (number_spelled-decimal m lt) ∙ e))
 
 paired-again : (word : List ℕ) (m u : ℕ) (d : Deed) → m < 2 ^ 64 → u < 2 ^ 63 → paired_deed_of word m u ≡ Some d → deed_of word (32 ∷ (decimal m ++ 32 ∷ decimal u)) ≡ Some d
 unfolding deed_of deed_with
 paired-again word m u d lm lu e =
     let cut = tail-space (decimal u) (decimal m) (no_space-decimal m lm) in
-    rw (cut.0, cut.1, number_of-decimal m lm, ticket-again u lu) e
+    rw (cut.0, cut.1, number_spelled-decimal m lm, ticket-again u lu) e
 
 side-no_space : (side : Side) → HasNoSpace (side_text side)
 side-no_space Giver = (refl, (refl, (refl, (refl, tt))))

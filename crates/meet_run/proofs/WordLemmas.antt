@@ -14,7 +14,7 @@ use Rattle.std.proofs.lemmas.Str.Parse.{digit_from_value}
 use Rattle.std.proofs.lemmas.List.Sums.{prefix_len-le-length}
 use Rattle.std.proofs.lemmas.Option.{cond_some}
 use Rattle.std.proofs.lemmas.Slice.Eq.{bytes_eq-Decides}
-use Rattle.meet_run.specs.Words.{word_of, rest_of, behind, number_if, number_of}
+use Rattle.meet_run.specs.Words.{word_of, rest_of, behind, number_if, number_spelled}
 
 abbrev pub is_space : ℕ → Bool
 is_space b = eqb b 32
@@ -56,35 +56,35 @@ rest-at bs = ap (λ k. drop k bs) (space-place bs) ∙ (cut-at bs).1
 -- ---- numbers
 
 -- a word that reads as a number is its one spelling
-pub number_of-is : (word : List ℕ) (n : ℕ) → number_of word ≡ Some n → (word ≡ decimal n) × (n < 2 ^ 64)
-unfolding number_of number_if
-number_of-is word n e =
+pub number_spelled-is : (word : List ℕ) (n : ℕ) → number_spelled word ≡ Some n → (word ≡ decimal n) × (n < 2 ^ 64)
+unfolding number_spelled number_if
+number_spelled-is word n e =
     let v : ℕ = digits_value 10 word in
     let p = cond_some (ltb v (2 ^ 64) && bytes_eq word (decimal v)) v n e in
     let q = and_parts (ltb v (2 ^ 64)) (bytes_eq word (decimal v)) p.0 in
     subst (λ (k : ℕ). (word ≡ decimal k) × (k < 2 ^ 64)) p.1 ((bytes_eq-Decides word (decimal v)).0 q.1, ltb-true v (2 ^ 64) q.0)
 
 -- the one spelling of a number reads as it
-pub number_of-decimal : (n : ℕ) → n < 2 ^ 64 → number_of (decimal n) ≡ Some n
-unfolding number_of number_if
-number_of-decimal n lt =
+pub number_spelled-decimal : (n : ℕ) → n < 2 ^ 64 → number_spelled (decimal n) ≡ Some n
+unfolding number_spelled number_if
+number_spelled-decimal n lt =
     let same : digits_value 10 (decimal n) ≡ n = (decimal_is_IsNumeral n lt).1 in
     rw (same, lt-ltb n (2 ^ 64) lt, (bytes_eq-Decides (decimal n) (decimal n)).1 refl) refl
 
 -- what spells no number reads as none
-pub number_of-none : (word : List ℕ) → ((n : ℕ) → n < 2 ^ 64 → word ≡ decimal n → ⊥) → number_of word ≡ None
-unfolding number_of number_if
-number_of-none word h =
+pub number_spelled-none : (word : List ℕ) → ((n : ℕ) → n < 2 ^ 64 → word ≡ decimal n → ⊥) → number_spelled word ≡ None
+unfolding number_spelled number_if
+number_spelled-none word h =
     let v : ℕ = digits_value 10 word in
     let fails : (ltb v (2 ^ 64) && bytes_eq word (decimal v)) ≡ false =
     false_from_ne_true _ (λ t. let q = and_parts (ltb v (2 ^ 64)) (bytes_eq word (decimal v)) t in h v (ltb-true v (2 ^ 64) q.0) ((bytes_eq-Decides word (decimal v)).0 q.1)) in
     cond-false _ (Some v) None fails
 
 -- what isn't text spells no number
-pub not-text : {S E : Type 0} (word : List ℕ) (r : Result S E) (P : S → Type 0) (Q : E → Type 0) → MatchResult r P (λ e. (¬ (IsUtf8 word)) × Q e) → result_ok r ≡ None → number_of word ≡ None
+pub not-text : {S E : Type 0} (word : List ℕ) (r : Result S E) (P : S → Type 0) (Q : E → Type 0) → MatchResult r P (λ e. (¬ (IsUtf8 word)) × Q e) → result_ok r ≡ None → number_spelled word ≡ None
 not-text word (Ok s) P Q h e = absurd cc
 not-text word (Err d) P Q h e =
-    number_of-none word (λ n lt same. h.0 (subst IsUtf8 (sym same) (IsUtf8-from_ascii (decimal n) (IsAscii-decimal n lt))))
+    number_spelled-none word (λ n lt same. h.0 (subst IsUtf8 (sym same) (IsUtf8-from_ascii (decimal n) (IsAscii-decimal n lt))))
 
 -- what stands in a result that is there
 pub text-is : {S E : Type 0} (r : Result S E) (P : S → Type 0) (Q : E → Type 0) (s : S) → MatchResult r P Q → result_ok r ≡ Some s → P s
@@ -95,14 +95,14 @@ parsed : {E : Type 0} (word text : List ℕ) (r : Result ℕ E) → ParsesUnsign
 parsed word text r h same n lt e = parse-decimal 64 n text r lt lt (same ∙ e) h
 
 -- what doesn't parse spells no number
-pub not-parsed : {E : Type 0} (word text : List ℕ) (r : Result ℕ E) → ParsesUnsigned 64 10 text r → text ≡ word → result_ok r ≡ None → number_of word ≡ None
+pub not-parsed : {E : Type 0} (word text : List ℕ) (r : Result ℕ E) → ParsesUnsigned 64 10 text r → text ≡ word → result_ok r ≡ None → number_spelled word ≡ None
 not-parsed word text r h same fails =
-    number_of-none word (λ n lt e. let p : r ≡ Ok n = parsed word text r h same n lt e in let q : result_ok r ≡ Some n = ap (λ x. result_ok x) p in absurd cc)
+    number_spelled-none word (λ n lt e. let p : r ≡ Ok n = parsed word text r h same n lt e in let q : result_ok r ≡ Some n = ap (λ x. result_ok x) p in absurd cc)
 
 -- what parses as another number's spelling spells none
-pub not-spelled : {E : Type 0} (word text : List ℕ) (r : Result ℕ E) (m : ℕ) → ParsesUnsigned 64 10 text r → text ≡ word → result_ok r ≡ Some m → bytes_eq word (decimal m) ≡ false → number_of word ≡ None
+pub not-spelled : {E : Type 0} (word text : List ℕ) (r : Result ℕ E) (m : ℕ) → ParsesUnsigned 64 10 text r → text ≡ word → result_ok r ≡ Some m → bytes_eq word (decimal m) ≡ false → number_spelled word ≡ None
 not-spelled word text r m h same read other =
-    number_of-none word (λ n lt e. let p : r ≡ Ok n = parsed word text r h same n lt e in let q : result_ok r ≡ Some n = ap (λ x. result_ok x) p in let eq : n ≡ m = cc in let yes-eq : bytes_eq word (decimal m) ≡ true = (bytes_eq-Decides word (decimal m)).1 (e ∙ ap (λ k. decimal k) eq) in absurd cc)
+    number_spelled-none word (λ n lt e. let p : r ≡ Ok n = parsed word text r h same n lt e in let q : result_ok r ≡ Some n = ap (λ x. result_ok x) p in let eq : n ≡ m = cc in let yes-eq : bytes_eq word (decimal m) ≡ true = (bytes_eq-Decides word (decimal m)).1 (e ∙ ap (λ k. decimal k) eq) in absurd cc)
 
 -- ---- a front
 

@@ -10,7 +10,7 @@ use Rattle.meet_history.specs.declared.calls.Verb.TheVariants.{Put, Offer, Take,
 use Rattle.meet_run.specs.declared.first_line.Options.{Options}
 use Rattle.meet_history.specs.declared.setups.Setup.{Setup}
 use Rattle.meet_history.specs.Served.{serves}
-use Rattle.meet_run.specs.Words.{word_of, rest_of, behind, number_of}
+use Rattle.meet_run.specs.Words.{word_of, rest_of, behind, number_spelled}
 
 -- one step after another, where each may fail
 infixl 10 ◌>>=◌
@@ -55,7 +55,7 @@ numbered_verb_of word number =
 -- the verb of a word and the rest of its line: nothing, or a space and a number
 unfoldable pub verb_of : (word rest : List ℕ) → Option Verb
 verb_of word [] = bare_verb_of word
-verb_of word (space ∷ text) = number_of text >>= numbered_verb_of word
+verb_of word (space ∷ text) = number_spelled text >>= numbered_verb_of word
 
 -- the verb behind a line's first word
 unfoldable pub verb_behind : (rest : List ℕ) → Option Verb
@@ -64,7 +64,7 @@ verb_behind (space ∷ text) = verb_of (word_of text) (rest_of text)
 
 -- the seat of a word
 unfoldable pub seat_of : (word : List ℕ) → Option ℕ
-seat_of word = number_of word >>= seat_in
+seat_of word = number_spelled word >>= seat_in
 
 -- the call of a line, whatever is served
 unfoldable pub call_in : (line : List ℕ) → Option Call
@@ -91,7 +91,7 @@ order_of word =
 -- an option's number, from 1 on, and the rest of its line
 unfoldable pub option_value : (most : ℕ) → (word rest : List ℕ) → Option (Option ℕ × List ℕ)
 option_value most word rest = do
-  n ← number_of word
+  n ← number_spelled word
   provided (nat_le 1 n && nat_le n most) (Some n, rest)
 
 -- an option by its name with a space on either side: its number, if it stands there, and the rest of its line

@@ -6,7 +6,7 @@ use Rattle.meet_tickets.specs.declared.places.Order.{Order}
 use Rattle.meet_history.specs.declared.calls.Call.{Call}
 use Rattle.meet_history.specs.declared.setups.Setup.{Setup}
 use Rattle.meet_history.specs.declared.replies.Reply.{Reply}
-use Rattle.meet_history.specs.OneThread.{Place, start, turns, replies, records, standing_of}
+use Rattle.meet_history.specs.OneThread.{Place, start, turns, records, standing_of}
 use Rattle.meet_history.specs.Standings.{standing_in}
 use Rattle.meet_run.specs.Grammar.{call_of, setup_of}
 use Rattle.meet_run.specs.Wording.{text_of, last_line}
@@ -23,6 +23,10 @@ replies_text replies = flat_map text_of replies
 -- the text of the calls from here on
 unfoldable pub text_from : Setup → Place → List Call → List ℕ
 text_from setup place calls = replies_text (turns setup place calls).replies
+
+-- the text of one thread's calls, from the first
+abbrev pub text : Setup → List Call → List ℕ
+text setup calls = text_from setup (start setup) calls
 
 -- the last line, after the calls from here on
 unfoldable pub closing_from : Setup → Place → List Call → List ℕ
@@ -50,7 +54,7 @@ fault_in (line ∷ lines) = option_map_or (λ setup. (calls_behind setup lines).
 unfoldable pub text_in : (lines : List (List ℕ)) → List ℕ
 text_in [] = []
 text_in (line ∷ lines) =
-    option_map_or (λ setup. text_from setup (start setup) (calls_behind setup lines).items) (setup_of line) []
+    option_map_or (λ setup. text setup (calls_behind setup lines).items) (setup_of line) []
 
 -- that text, and without a fault the last line
 unfoldable pub output_in : (lines : List (List ℕ)) → List ℕ
@@ -76,10 +80,6 @@ AreCalls order [] [] = ⊤
 AreCalls order [] (call ∷ calls) = ⊥
 AreCalls order (line ∷ lines) [] = ⊥
 AreCalls order (line ∷ lines) (call ∷ calls) = (call_of order line ≡ Some call) × AreCalls order lines calls
-
--- the replies of one thread to its calls, as text
-abbrev pub text : Setup → List Call → List ℕ
-text setup calls = flat_map text_of (replies setup calls)
 
 -- the line at the end of one thread's calls: how many records they wrote, and how many tickets have which fate by them
 abbrev pub closing : Setup → List Call → List ℕ

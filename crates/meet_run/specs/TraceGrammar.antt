@@ -10,7 +10,7 @@ use Rattle.meet_tickets.specs.declared.records.Cause.TheVariants.{Cancelled, Exp
 use Rattle.meet_tickets.specs.declared.records.Deed.{Deed}
 use Rattle.meet_tickets.specs.declared.records.Deed.TheVariants.{GiveWaits, GiveMeets, GiveFails, GiveKept, TakeWaits, TakeMeets, TakeFails, EntryInterrupted, Done, Got, Withdrawn, Interrupt}
 use Rattle.meet_tickets.specs.declared.records.Record.{Record}
-use Rattle.meet_run.specs.Words.{word_of, rest_of, behind, number_of}
+use Rattle.meet_run.specs.Words.{word_of, rest_of, behind, number_spelled}
 use Rattle.meet_run.specs.Grammar.{◌>>=◌, provided, seat_of, order_of, option_in, may_have}
 
 -- a ticket's number
@@ -19,7 +19,7 @@ ticket_in n = provided (nat_lt n (2 ^ 63)) n
 
 -- the ticket of a word
 unfoldable pub ticket_of : (word : List ℕ) → Option ℕ
-ticket_of word = number_of word >>= ticket_in
+ticket_of word = number_spelled word >>= ticket_in
 
 -- a side by its word
 unfoldable pub side_of : (word : List ℕ) → Option Side
@@ -53,7 +53,7 @@ unfoldable pub worded_deed_of : (word value : List ℕ) → Option Deed
 worded_deed_of word value =
     if bytes_eq word (codes "entry-interrupted") then (side_of value >>= λ side. Some (EntryInterrupted side)) else (
     if bytes_eq word (codes "withdrawn") then (cause_of value >>= λ cause. Some (Withdrawn cause)) else (
-    if bytes_eq word (codes "interrupt") then (seat_of value >>= λ target. Some (Interrupt target)) else (number_of value >>= marked_deed_of word)))
+    if bytes_eq word (codes "interrupt") then (seat_of value >>= λ target. Some (Interrupt target)) else (number_spelled value >>= marked_deed_of word)))
 
 -- the deed of a word with a mark and a partner's ticket behind it
 unfoldable pub paired_deed_of : (word : List ℕ) → (mark partner : ℕ) → Option Deed
@@ -66,7 +66,7 @@ paired_deed_of word mark partner =
 unfoldable pub deed_with : (word value rest : List ℕ) → Option Deed
 deed_with word value [] = worded_deed_of word value
 deed_with word value (space ∷ text) = do
-  mark ← number_of value
+  mark ← number_spelled value
   partner ← ticket_of text
   paired_deed_of word mark partner
 

@@ -28,5 +28,5 @@ why_text NotOpen = codes "NotOpen"
 why_text WrongReply = codes "WrongReply"
 
 -- the line that names the first record that can't stand, from 1, and why
-unfoldable pub illegal_line : (place : ℕ) → Why → List ℕ
-illegal_line place why = codes "illegal " ++ decimal place ++ codes " " ++ why_text why ++ codes "\n"
+unfoldable pub illegal_line : (number : ℕ) → Why → List ℕ
+illegal_line number why = codes "illegal " ++ decimal number ++ codes " " ++ why_text why ++ codes "\n"

@@ -48,7 +48,7 @@ pub record IsTrace (lines : List (List ℕ)) (kind : Kind) (records : List (Reco
 -- the first that can't stand, and why
 abbrev pub IsVerdict : Kind → List (Record Deed) → (legal : Bool) → (text : List ℕ) → Type 0
 IsVerdict kind records true text = IsLegal kind records × (text ≡ last_line (length records) (standing_in records))
-IsVerdict kind records false text = (place : ℕ) × (why : Why) × IsIllegalAt kind records place why × (text ≡ illegal_line place why)
+IsVerdict kind records false text = (number : ℕ) × (why : Why) × IsIllegalAt kind records number why × (text ≡ illegal_line number why)
 
 -- the lines are a whole trace, of which this is found
 pub record IsFound (lines : List (List ℕ)) (legal : Bool) (text : List ℕ) : Type 0 where

@@ -11,9 +11,9 @@ use Rattle.meet_history.specs.declared.replies.Answer.TheVariants.{Waits, Kept, 
 use Rattle.meet_history.specs.declared.checker.Standing.{Standing}
 
 -- a word, and a mark behind it where there is one
-unfoldable pub marked : (word : List ℕ) → (mark : Option ℕ) → List ℕ
-marked word None = word
-marked word (Some m) = word ++ codes " " ++ decimal m
+unfoldable pub with_mark : (word : List ℕ) → (mark : Option ℕ) → List ℕ
+with_mark word None = word
+with_mark word (Some m) = word ++ codes " " ++ decimal m
 
 -- why a ticket was withdrawn
 unfoldable pub cause_text : Cause → List ℕ
@@ -27,9 +27,9 @@ answer_text Waits = codes "waits"
 answer_text Kept = codes "kept"
 answer_text (Gave m u) = codes "gave " ++ decimal m ++ codes " to t" ++ decimal u
 answer_text (Got m u) = codes "got " ++ decimal m ++ codes " from t" ++ decimal u
-answer_text (Fails item) = marked (codes "none") item
+answer_text (Fails item) = with_mark (codes "none") item
 answer_text Done = codes "done"
-answer_text (Withdrawn cause item) = marked (cause_text cause) item
+answer_text (Withdrawn cause item) = with_mark (cause_text cause) item
 
 -- what became of an interrupted seat: its ticket was cut, or it was flagged
 unfoldable pub cut_text : (cut : Option ℕ) → List ℕ

@@ -24,5 +24,5 @@ unfoldable pub number_if : (word : List ℕ) → ℕ → Option ℕ
 number_if word n = if nat_lt n (2 ^ 64) && bytes_eq word (decimal n) then Some n else None
 
 -- the number that a word spells
-unfoldable pub number_of : (word : List ℕ) → Option ℕ
-number_of word = number_if word (digits_value 10 word)
+unfoldable pub number_spelled : (word : List ℕ) → Option ℕ
+number_spelled word = number_if word (digits_value 10 word)

@@ -6,27 +6,17 @@ ghost use Rattle.meet_tickets.specs.declared.refusals.Refusal.TheVariants.{Memor
 ghost use Rattle.meet_run.specs.Reading.{UsesTurns, EndsInTurns, lines_of};
 ghost use Rattle.meet_run.specs.Traces.{records_behind, trace_fault_in, IsTrace, NamesLine, IsVerdict, CheckEnds, IsUnreadTrace, IsTraceFault};
 
-use crate::faults::RunFault;
+use crate::faults::{RunFault, at_line, cut_short};
 use crate::grammar::LONGEST_LINE;
 use crate::next::{Next, next_head, next_record};
 use crate::output::write_whole;
-use crate::run::{MOST_READS, cut_short};
+use crate::run::MOST_READS;
 use crate::trace_wording::push_illegal;
 use crate::wording::push_last_line;
 use meet_history::{CheckFault, check};
 use meet_tickets::{Deed, Kind, Record, Refusal};
 use std::alloc::Global;
 use std::io::{Read, Write};
-
-/// A trace that can't be read, for the fault of this line.
-fn bad_trace(line: u64) -> RunFault
-    ensures { result ≡ record { why = Refusal.BadTrace; line = Some line } }
-{
-    RunFault {
-        why: Refusal::BadTrace,
-        line: Some(line),
-    }
-}
 
 /// Reads the records behind a trace's first line.
 fn read_records<R: Read>(
@@ -53,7 +43,7 @@ fn read_records<R: Read>(
                 Err(_) => return Err(cut_short(Refusal::Memory)),
             },
             Next::Ended => return Ok(records),
-            Next::Faulty => return Err(bad_trace(read + 1)),
+            Next::Faulty => return Err(at_line(Refusal::BadTrace, read + 1)),
             Next::Broken => return Err(cut_short(Refusal::ReadFault)),
         }
     }
@@ -81,8 +71,8 @@ fn read_trace<R: Read>(
             Ok(records) => Ok((kind, records)),
             Err(fault) => Err(fault),
         },
-        Next::Ended => Err(bad_trace(1)),
-        Next::Faulty => Err(bad_trace(1)),
+        Next::Ended => Err(at_line(Refusal::BadTrace, 1)),
+        Next::Faulty => Err(at_line(Refusal::BadTrace, 1)),
         Next::Broken => Err(cut_short(Refusal::ReadFault)),
     }
 }
@@ -98,7 +88,7 @@ fn verdict(alloc: Global, kind: Kind, records: &[Record<Deed>]) -> Result<(bool,
             Ok(()) => Ok((true, text)),
             Err(_) => Err(Refusal::Memory),
         },
-        Err(CheckFault::Illegal(place, why)) => match push_illegal(&mut text, place, why) {
+        Err(CheckFault::Illegal(number, why)) => match push_illegal(&mut text, number, why) {
             Ok(()) => Ok((false, text)),
             Err(_) => Err(Refusal::Memory),
         },

@@ -1,6 +1,6 @@
 //! How a run fails, and how a program says so. Nothing here takes memory.
 
-ghost use Rattle.std.specs.Prelude.{◌≡◌, ◌+◌, ◌≤◌, ◌++◌, length, decimal};
+ghost use Rattle.std.specs.Prelude.{◌≡◌, ◌+◌, ◌≤◌, ◌++◌, Some, None, length, decimal};
 ghost use Rattle.arrayvec.specs.ArrayVec.{array_vec_len};
 ghost use Rattle.meet_run.specs.Faults.{fault_status, status_of, line_text, fault_text, fault_line};
 
@@ -17,6 +17,23 @@ use thiserror::Error;
 pub struct RunFault {
     pub why: Refusal,
     pub line: Option<u64>,
+}
+
+/// A run that ends early, outside any line.
+pub fn cut_short(why: Refusal) -> RunFault
+    ensures { result ≡ record { why = why; line = None } }
+{
+    RunFault { why, line: None }
+}
+
+/// A text that can't be read on, for the fault of this line.
+pub fn at_line(why: Refusal, line: u64) -> RunFault
+    ensures { result ≡ record { why = why; line = Some line } }
+{
+    RunFault {
+        why,
+        line: Some(line),
+    }
 }
 
 /// The text of a fault's line number.

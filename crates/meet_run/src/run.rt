@@ -3,7 +3,7 @@
 ghost use Rattle.std.specs.Prelude.{◌≡◌, ◌+◌, ◌^◌, ◌<◌, ◌≤◌, ◌++◌, [], length, Some, Err, IfSome, IfErr, OnOk, OnErr, IsTrue};
 ghost use Rattle.std.specs.Io.KnownBytes.{Appends};
 ghost use Rattle.std.specs.Vec.{vec_capacity};
-ghost use Rattle.meet_tickets.specs.declared.refusals.Refusal.TheVariants.{Memory, BadLine};
+ghost use Rattle.meet_tickets.specs.declared.refusals.Refusal.TheVariants.{Memory};
 ghost use Rattle.meet_history.specs.OneThread.{start, turn, standing_of};
 ghost use Rattle.meet_run.specs.Reading.{UsesTurns, EndsInTurns};
 ghost use Rattle.meet_run.specs.Script.{fault_of, text_before, output_of, replies_text};
@@ -14,7 +14,7 @@ ghost use Rattle.meet_run.specs.Wording.{last_line};
 ghost use Rattle.meet_run.specs.Running.{IsCutShort, IsRunFault, RunsOn, RunEnds};
 ghost use Rattle.meet_run.specs.Writing.{AppendsFront};
 
-use crate::faults::RunFault;
+use crate::faults::{RunFault, at_line, cut_short};
 use crate::grammar::LONGEST_LINE;
 use crate::next::{Next, next_call, next_setup};
 use crate::output::write_whole;
@@ -73,23 +73,6 @@ fn close<W: Write>(stepper: &Stepper, out: &mut Vec<u8>, writer: &mut W) -> Resu
     }
 }
 
-/// A run that ends early, outside any line.
-pub(crate) fn cut_short(why: Refusal) -> RunFault
-    ensures { result ≡ record { why = why; line = None } }
-{
-    RunFault { why, line: None }
-}
-
-/// A script that can't be read on, for the fault of this line.
-pub(crate) fn bad_line(line: u64) -> RunFault
-    ensures { result ≡ record { why = BadLine; line = Some line } }
-{
-    RunFault {
-        why: Refusal::BadLine,
-        line: Some(line),
-    }
-}
-
 /// Runs the calls behind the first line.
 fn run_calls<R: Read, W: Write>(
     alloc: Global,
@@ -127,7 +110,7 @@ fn run_calls<R: Read, W: Write>(
                 Ok(()) => return Ok(true),
                 Err(why) => return Err(cut_short(why)),
             },
-            Next::Faulty => return Err(bad_line(read + 1)),
+            Next::Faulty => return Err(at_line(Refusal::BadLine, read + 1)),
             Next::Broken => return Err(cut_short(Refusal::ReadFault)),
         }
     }
@@ -158,8 +141,8 @@ pub fn run_script_within<R: Read, W: Write>(
     };
     match next_setup(reader, &mut left, &mut line) {
         Next::Read(setup) => run_calls(alloc, reader, writer, &mut left, &mut line, setup),
-        Next::Ended => Err(bad_line(1)),
-        Next::Faulty => Err(bad_line(1)),
+        Next::Ended => Err(at_line(Refusal::BadLine, 1)),
+        Next::Faulty => Err(at_line(Refusal::BadLine, 1)),
         Next::Broken => Err(cut_short(Refusal::ReadFault)),
     }
 }

@@ -12,11 +12,11 @@ ghost use Rattle.meet_run.specs.TraceWording.{record_line, trace_text};
 ghost use Rattle.meet_run.specs.Traces.{trace_of, LeavesRecords, TracesOn, IsUnread};
 ghost use Rattle.meet_run.specs.Writing.{AppendsFront};
 
-use crate::faults::RunFault;
+use crate::faults::{RunFault, at_line, cut_short};
 use crate::grammar::LONGEST_LINE;
 use crate::next::{Next, next_call, next_setup};
 use crate::output::write_whole;
-use crate::run::{MOST_READS, bad_line, cut_short};
+use crate::run::MOST_READS;
 use crate::trace_wording::{push_head, push_record};
 use meet_history::{Setup, Stepper};
 use meet_tickets::{Deed, Kind, Record, Refusal};
@@ -129,7 +129,7 @@ fn trace_calls<R: Read, W: Write>(
     }
     match fault {
         None => Ok(true),
-        Some(number) => Err(bad_line(number)),
+        Some(number) => Err(at_line(Refusal::BadLine, number)),
     }
 }
 
@@ -159,8 +159,8 @@ pub fn run_trace_within<R: Read, W: Write>(
     };
     match next_setup(reader, &mut left, &mut line) {
         Next::Read(setup) => trace_calls(alloc, reader, writer, &mut left, &mut line, setup),
-        Next::Ended => Err(bad_line(1)),
-        Next::Faulty => Err(bad_line(1)),
+        Next::Ended => Err(at_line(Refusal::BadLine, 1)),
+        Next::Faulty => Err(at_line(Refusal::BadLine, 1)),
         Next::Broken => Err(cut_short(Refusal::ReadFault)),
     }
 }

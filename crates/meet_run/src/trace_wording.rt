@@ -114,10 +114,10 @@ fn why_word(why: Why) -> &'static [u8]
 
 /// Appends the line that names the first record that can't stand, from 1, and why.
 #[tactic(auto, unfolding(crate::specs::TraceWording::illegal_line))]
-pub fn push_illegal(out: &mut Vec<u8>, place: u64, why: Why) -> Result<(), AllocError>
-    ensures { OnOk result (out.new.items ≡ out.old.items ++ illegal_line place why) }
+pub fn push_illegal(out: &mut Vec<u8>, number: u64, why: Why) -> Result<(), AllocError>
+    ensures { OnOk result (out.new.items ≡ out.old.items ++ illegal_line number why) }
 {
-    push_numbered(out, b"illegal ", place)?;
+    push_numbered(out, b"illegal ", number)?;
     out.extend_from_slice(b" ")?;
     out.extend_from_slice(why_word(why))?;
     out.extend_from_slice(b"\n")

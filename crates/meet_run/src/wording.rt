@@ -1,7 +1,7 @@
 //! The text of the replies, one line each. Where memory runs out, nothing is said of what was appended.
 
 ghost use Rattle.std.specs.Prelude.{◌≡◌, ◌++◌, OnOk, codes, decimal};
-ghost use Rattle.meet_run.specs.Wording.{marked, cause_text, answer_text, cut_text, mark_text, outcome_text, text_of, last_line};
+ghost use Rattle.meet_run.specs.Wording.{with_mark, cause_text, answer_text, cut_text, mark_text, outcome_text, text_of, last_line};
 
 use itoa::Buffer;
 use meet_history::{Answer, Outcome, Reply, Standing};
@@ -17,9 +17,9 @@ fn push_number(out: &mut Vec<u8>, number: u64) -> Result<(), AllocError>
 }
 
 /// Appends a word, and a mark behind it where there is one.
-#[tactic(auto, unfolding(crate::specs::Wording::marked))]
-fn push_marked(out: &mut Vec<u8>, word: &[u8], mark: Option<u64>) -> Result<(), AllocError>
-    ensures { OnOk result (out.new.items ≡ out.old.items ++ marked word.now mark) }
+#[tactic(auto, unfolding(crate::specs::Wording::with_mark))]
+fn push_with_mark(out: &mut Vec<u8>, word: &[u8], mark: Option<u64>) -> Result<(), AllocError>
+    ensures { OnOk result (out.new.items ≡ out.old.items ++ with_mark word.now mark) }
 {
     out.extend_from_slice(word)?;
     if let Some(mark) = mark {
@@ -74,9 +74,9 @@ fn push_answer(out: &mut Vec<u8>, answer: Answer) -> Result<(), AllocError>
         Answer::Kept => out.extend_from_slice(b"kept"),
         Answer::Gave(mark, taker) => push_pair(out, b"gave ", mark, b" to t", taker.number()),
         Answer::Got(mark, giver) => push_pair(out, b"got ", mark, b" from t", giver.number()),
-        Answer::Fails(item) => push_marked(out, b"none", item),
+        Answer::Fails(item) => push_with_mark(out, b"none", item),
         Answer::Done => out.extend_from_slice(b"done"),
-        Answer::Withdrawn(cause, item) => push_marked(out, cause_word(cause), item),
+        Answer::Withdrawn(cause, item) => push_with_mark(out, cause_word(cause), item),
     }
 }
 

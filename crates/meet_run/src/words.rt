@@ -1,7 +1,7 @@
 //! The words of a line, and numbers as words.
 
 ghost use Rattle.std.specs.Prelude.{◌≡◌};
-ghost use Rattle.meet_run.specs.Words.{word_of, rest_of, number_of};
+ghost use Rattle.meet_run.specs.Words.{word_of, rest_of, number_spelled};
 
 use itoa::Buffer;
 use std::str;
@@ -17,7 +17,7 @@ pub fn split_word(text: &[u8]) -> (&[u8], &[u8])
 
 /// The number below 2^64 of which this word is the one spelling, if there is one.
 pub fn read_number(word: &[u8]) -> Option<u64>
-    ensures { result ≡ number_of word.now }
+    ensures { result ≡ number_spelled word.now }
 {
     let number = str::from_utf8(word).ok()?.parse::<u64>().ok()?;
     let mut buffer = Buffer::new();

@@ -69,6 +69,10 @@ cond_none : (b : Bool) → ◌≡◌ {A = ℕ} (cond b 0 0) 0
 cond_none true = refl
 cond_none false = refl
 
+cond_most : (b : Bool) (n : ℕ) → cond b n 0 ≤ n
+cond_most true n = omega arith
+cond_most false n = omega arith
+
 module _ (f g : ℕ → Bool) (k : ℕ) (same : (x : ℕ) → x ≢ k → f x ≡ g x) where
   -- two tests that differ at most at one number
   count_changed : (xs : List ℕ) → count_by f xs + cond (g k) (times k xs) 0 ≡ count_by g xs + cond (f k) (times k xs) 0
@@ -90,6 +94,13 @@ module _ (f g : ℕ → Bool) (k : ℕ) (same : (x : ℕ) → x ≢ k → f x �
   -- where the number is there once
   pub count_once : (xs : List ℕ) → times k xs ≡ 1 → count_by f xs + one (g k) ≡ count_by g xs + one (f k)
   count_once xs once = subst (λ n. count_by f xs + cond (g k) n 0 ≡ count_by g xs + cond (f k) n 0) once (count_changed xs)
+
+  -- where the number is there at most once
+  pub count_more : (xs : List ℕ) → times k xs ≤ 1 → count_by f xs ≤ count_by g xs + 1
+  count_more xs most =
+      let changed = count_changed xs in
+      let few : cond (f k) (times k xs) 0 ≤ times k xs = cond_most (f k) (times k xs) in
+      omega (arith, changed, few, most)
 
 -- a number below a range isn't in it
 times_below : (k a n : ℕ) → k < a → times k (range_with_len a n) ≡ 0
@@ -119,6 +130,25 @@ times_range k a (suc n) from to = ⊎_elim at (away (λ apart. times_range k (a 
         let here : ◌≡◌ {A = ℕ} (one (a == k)) 0 = ap one (ne_eqb a k apart) in
         let rest = later apart in
         omega (arith, cons, here, rest)
+
+-- no number is in a range twice
+pub times_most : (k a n : ℕ) → times k (range_with_len a n) ≤ 1
+times_most k a zero = omega arith
+times_most k a (suc n) = ⊎_elim at (away (times_most k (a + 1) n)) (cases_eq a k)
+  where
+    cons : times k (range_with_len a (suc n)) ≡ one (a == k) + times k (range_with_len (a + 1) n)
+    cons = count-cons (λ x. x == k) a (range_with_len (a + 1) n)
+
+    at : a ≡ k → times k (range_with_len a (suc n)) ≤ 1
+    at e =
+        let here : ◌≡◌ {A = ℕ} (one (a == k)) 1 = ap one (eq-eqb a k e) in
+        let rest : times k (range_with_len (a + 1) n) ≡ 0 = times_below k (a + 1) n (omega arith) in
+        omega (arith, cons, here, rest)
+
+    away : times k (range_with_len (a + 1) n) ≤ 1 → a ≢ k → times k (range_with_len a (suc n)) ≤ 1
+    away later apart =
+        let here : ◌≡◌ {A = ℕ} (one (a == k)) 0 = ap one (ne_eqb a k apart) in
+        omega (arith, cons, here, later)
 
 -- of a longer range no more is counted where none of the rest passes
 pub count_longer : (p : ℕ → Bool) (a n m : ℕ) → n ≤ m → ((k : ℕ) → a + n ≤ k → p k ≡ false) → count_by p (range_with_len a m) ≡ count_by p (range_with_len a n)

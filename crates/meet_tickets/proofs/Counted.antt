@@ -8,9 +8,9 @@ use Rattle.meet_tickets.specs.declared.lines.Entry.{Entry}
 use Rattle.meet_tickets.specs.declared.places.Side.TheVariants.{Giver, Taker}
 use Rattle.meet_tickets.specs.declared.places.Order.{Order}
 use Rattle.meet_tickets.specs.declared.places.Order.TheVariants.{Fair, Unfair, Transfer}
-use Rattle.meet_tickets.specs.Meeting.{is_on, met, partner, count_on, HasOneSide}
+use Rattle.meet_tickets.specs.Meeting.{is_on, met, partner, count_on}
 use Rattle.meet_tickets.specs.BySeat.{unmet}
-use Rattle.meet_tickets.proofs.Sides.{All-unmet, first-side, met-some}
+use Rattle.meet_tickets.proofs.Sides.{HasOneSide, All-unmet, first-side, met-some}
 
 -- where all entries are givers, or none is, all are counted, or none
 count-same : {X : Type 0} (own : Bool) (line : List (Entry X)) → All (λ f. own ≡ is_some f.item) line → count_on Giver line ≡ cond own (length line) 0

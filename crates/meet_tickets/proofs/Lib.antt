@@ -10,6 +10,7 @@ pub mod Keeping
 pub mod Members
 pub mod Partners
 pub mod Recorded
+pub mod Refusing
 pub mod Said
 pub mod Sides
 pub mod Standings

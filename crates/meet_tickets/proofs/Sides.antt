@@ -10,8 +10,12 @@ use Rattle.meet_tickets.specs.declared.places.Side.{Side}
 use Rattle.meet_tickets.specs.declared.places.Side.TheVariants.{Giver, Taker}
 use Rattle.meet_tickets.specs.declared.places.Order.{Order}
 use Rattle.meet_tickets.specs.declared.places.Order.TheVariants.{Fair, Unfair, Transfer}
-use Rattle.meet_tickets.specs.Meeting.{is_on, met, partner, HasOneSide}
+use Rattle.meet_tickets.specs.Meeting.{is_on, met, partner}
 use Rattle.meet_tickets.specs.BySeat.{unmet, without_first}
+
+-- a line has one side: givers only, or takers only (Scherer and Scott 2004)
+abbrev pub HasOneSide : {X : Type 0} → List (Entry X) → Type 0
+HasOneSide line = AllPairs (λ e f. is_some e.item ≡ is_some f.item) line
 
 -- what holds of all holds of one that is read
 All-read : {X : Type 0} (P : X → Type 0) (xs : List X) (k : ℕ) (x : X) → All P xs → slice_get xs k ≡ Some x → P x

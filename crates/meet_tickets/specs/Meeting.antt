@@ -1,5 +1,5 @@
 -- Whom a request meets. Both tellings of the rules speak of a place's line in these words.
-use Rattle.std.specs.Prelude.{◌≡◌, ℕ, ◌-◌, ◌<◌, Bool, not, ⊤, Option, Some, None, is_some, is_none, List, [], ◌∷◌, length, slice_get, count_by, AllPairs, MatchOption, if◌then◌else◌}
+use Rattle.std.specs.Prelude.{◌≡◌, ℕ, ◌-◌, ◌<◌, Bool, not, ⊤, Option, Some, None, is_some, is_none, List, [], ◌∷◌, length, slice_get, count_by, MatchOption, if◌then◌else◌}
 use Rattle.meet_tickets.specs.declared.lines.Entry.{Entry}
 use Rattle.meet_tickets.specs.declared.places.Side.{Side}
 use Rattle.meet_tickets.specs.declared.places.Side.TheVariants.{Giver, Taker}
@@ -24,10 +24,6 @@ met Transfer line = slice_get line 0
 abbrev pub partner : {X : Type 0} → Order → List (Entry X) → Side → Option (Entry X)
 partner order [] side = None
 partner order (e ∷ line) side = if is_on side e then None else met order (e ∷ line)
-
--- a line has one side: givers only, or takers only (Scherer and Scott 2004)
-abbrev pub HasOneSide : {X : Type 0} → List (Entry X) → Type 0
-HasOneSide line = AllPairs (λ e f. is_some e.item ≡ is_some f.item) line
 
 -- a request of this side has no partner
 abbrev pub Alone : {X : Type 0} → Kind → List (Entry X) → Side → Type 0

@@ -1,5 +1,6 @@
--- The number and the name of each refusal, and which one a request gets (our choice).
-use Rattle.std.specs.Prelude.{◌≡◌, ℕ, ◌^◌, nat_le, Option, Some, None, MatchOption, List, codes, if◌then◌else◌}
+-- The number and the name of each refusal, and which one a request, an ending or an interrupt gets (our choice).
+use Rattle.std.specs.Prelude.{◌≡◌, ℕ, ◌^◌, nat_eq, nat_le, false, ◌||◌, Option, Some, None, MatchOption, List, codes, if◌then◌else◌}
+use Rattle.std.specs.Option.{option_map_or}
 use Rattle.meet_tickets.specs.BySeat.{Seats, is_open}
 use Rattle.meet_tickets.specs.declared.refusals.Refusal.{Refusal}
 use Rattle.meet_tickets.specs.declared.refusals.Refusal.TheVariants.{Memory, HistoryFull, TicketsSpent, SeatOpen, NoSuchSeat, NotOpen, Differs, SeatMissing, Contended, Worn, BadSizes, PolicyNeedsBuffer, NoThread, BadLine, BadTrace, ReadFault, WriteFault}
@@ -48,6 +49,14 @@ name_of WriteFault = codes "WriteFault"
 abbrev pub refusal_of : {X : Type 0} → (count next : ℕ) → Seats X → (seat : ℕ) → Option Refusal
 refusal_of count next s seat =
     if nat_le count seat then Some NoSuchSeat else (if is_open (s.holds seat) then Some SeatOpen else (if nat_le (2 ^ 63) next then Some TicketsSpent else None))
+
+-- why an ending of this ticket is refused, where this one is open
+abbrev pub refusal_unless : (opened : Option ℕ) → (ticket : ℕ) → Option Refusal
+refusal_unless opened t = if option_map_or (λ own. nat_eq own t) opened false then None else Some NotOpen
+
+-- why an interrupt of this target is refused, where there are so many seats
+abbrev pub absent_refusal : (count seat target : ℕ) → Option Refusal
+absent_refusal count i j = if nat_le count i || nat_le count j then Some NoSuchSeat else None
 
 -- this is why a call is refused: the first reason that applies, or Memory where there is none
 abbrev pub IsWhy : (first : Option Refusal) → (why : Refusal) → Type 0

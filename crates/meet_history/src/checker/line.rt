@@ -6,7 +6,7 @@ ghost use Rattle.meet_tickets.specs.Meeting.{met, partner, kept_count};
 ghost use Rattle.meet_tickets.specs.BySeat.{unmet, without_first};
 ghost use Rattle.meet_tickets.specs.declared.refusals.Refusal.TheVariants.{Memory};
 ghost use Rattle.meet_history.specs.Checking.{line_order};
-ghost use Rattle.meet_history.specs.Marks.{end_order, entries_of, room_of, kept_entry};
+ghost use Rattle.meet_history.specs.Marks.{end_order, entries_of, room_of, count_if_kept};
 
 use meet_line::{FairLine, Line, StackLine};
 use meet_tickets::{Entry, Order, Refusal, Side, Ticket};
@@ -96,7 +96,7 @@ impl MarkLine {
         ensures newest { self.new.newest ≡ self.old.newest }
     {
         let met = meet_by(&mut self.line);
-        self.kept -= kept_entry(&met);
+        self.kept -= count_if_kept(&met);
         met
     }
 
@@ -122,7 +122,7 @@ impl MarkLine {
         ensures newest { self.new.newest ≡ self.old.newest }
     {
         let removed = remove_by(&mut self.line, ticket);
-        self.kept -= kept_entry(&removed);
+        self.kept -= count_if_kept(&removed);
         removed
     }
 
@@ -199,8 +199,8 @@ fn remove_by(line: &mut ByEnd, ticket: Ticket) -> Option<Entry<u64>>
 }
 
 /// One for a kept entry, else 0.
-fn kept_entry(entry: &Option<Entry<u64>>) -> u64
-    ensures { result ≡ kept_entry entry.now }
+fn count_if_kept(entry: &Option<Entry<u64>>) -> u64
+    ensures { result ≡ count_if_kept entry.now }
 {
     match entry {
         Some(entry) => u64::from(!entry.waits),

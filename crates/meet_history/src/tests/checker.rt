@@ -49,12 +49,12 @@ fn falls(
     alloc: Global,
     kind: Kind,
     records: &[Record<Deed>],
-    place: u64,
+    number: u64,
     why: Why,
 ) {
     assert_eq!(rt;
         check(alloc, kind, records),
-        Err(CheckFault::Illegal(place, why))
+        Err(CheckFault::Illegal(number, why))
     );
 }
 

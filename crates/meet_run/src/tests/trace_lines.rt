@@ -191,12 +191,12 @@ fn written_heads(rt: HostRuntime) -> Result<(), Fail> {
 fn check_illegal(
     rt: &impl Abort,
     alloc: Global,
-    place: u64,
+    number: u64,
     why: Why,
     line: &[u8],
 ) -> Result<(), Fail> {
     let mut out = Vec::new(alloc);
-    push_illegal(&mut out, place, why)?;
+    push_illegal(&mut out, number, why)?;
     assert_eq!(rt; out.as_slice(), line);
     Ok(())
 }

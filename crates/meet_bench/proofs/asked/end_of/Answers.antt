@@ -9,9 +9,9 @@ returns-in-Ended-clause-asked g c = ends-there 3 (c.args.setup, c.args.task) (g.
 pub returns-in-Read-clause-asked : goal.returns-in-Read-clause-asked
 returns-in-Read-clause-asked g c =
     let old = g.R.Read.remaining c.args.reader.now in
-    asked-fault (at_end 3 (c.args.setup, c.args.task)) c.bad_line.result 3 old c.bad_line.ensures (goes-on 3 (c.args.setup, c.args.task) task_of c.in-Read.field-0 old (g.R.Read.remaining c.next_task.new.reader) c.in-Read.ensures.next.0)
+    asked-fault (at_end 3 (c.args.setup, c.args.task)) c.at_line.result 3 old c.at_line.ensures (goes-on 3 (c.args.setup, c.args.task) task_of c.in-Read.field-0 old (g.R.Read.remaining c.next_task.new.reader) c.in-Read.ensures.next.0)
 
 pub returns-in-Faulty-clause-asked : goal.returns-in-Faulty-clause-asked
 returns-in-Faulty-clause-asked g c =
     let old = g.R.Read.remaining c.args.reader.now in
-    asked-fault (at_end 3 (c.args.setup, c.args.task)) c.bad_line-in-Faulty.result 3 old c.bad_line-in-Faulty.ensures (goes-on-faulty 3 (c.args.setup, c.args.task) task_of old c.in-Faulty.ensures.next.0)
+    asked-fault (at_end 3 (c.args.setup, c.args.task)) c.at_line-in-Faulty.result 3 old c.at_line-in-Faulty.ensures (goes-on-faulty 3 (c.args.setup, c.args.task) task_of old c.in-Faulty.ensures.next.0)

@@ -10,9 +10,9 @@ returns-in-Read-clause-asked g c =
 pub returns-in-Ended-clause-asked : goal.returns-in-Ended-clause-asked
 returns-in-Ended-clause-asked g c =
     let old = g.R.Read.remaining c.args.reader.now in
-    asked-fault asked_in c.bad_line.result 1 old c.bad_line.ensures (first-none setup_of 1 task_asked old c.in-Ended.ensures.next.0)
+    asked-fault asked_in c.at_line.result 1 old c.at_line.ensures (first-none setup_of 1 task_asked old c.in-Ended.ensures.next.0)
 
 pub returns-in-Faulty-clause-asked : goal.returns-in-Faulty-clause-asked
 returns-in-Faulty-clause-asked g c =
     let old = g.R.Read.remaining c.args.reader.now in
-    asked-fault asked_in c.bad_line-in-Faulty.result 1 old c.bad_line-in-Faulty.ensures (first-faulty setup_of 1 task_asked old c.in-Faulty.ensures.next.0)
+    asked-fault asked_in c.at_line-in-Faulty.result 1 old c.at_line-in-Faulty.ensures (first-faulty setup_of 1 task_asked old c.in-Faulty.ensures.next.0)

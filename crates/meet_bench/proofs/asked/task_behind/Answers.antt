@@ -10,9 +10,9 @@ returns-in-Read-clause-asked g c =
 pub returns-in-Ended-clause-asked : goal.returns-in-Ended-clause-asked
 returns-in-Ended-clause-asked g c =
     let old = g.R.Read.remaining c.args.reader.now in
-    asked-fault (task_asked c.args.setup) c.bad_line.result 2 old c.bad_line.ensures (first-none task_of 2 (λ task. at_end 3 (c.args.setup, task)) old c.in-Ended.ensures.next.0)
+    asked-fault (task_asked c.args.setup) c.at_line.result 2 old c.at_line.ensures (first-none task_of 2 (λ task. at_end 3 (c.args.setup, task)) old c.in-Ended.ensures.next.0)
 
 pub returns-in-Faulty-clause-asked : goal.returns-in-Faulty-clause-asked
 returns-in-Faulty-clause-asked g c =
     let old = g.R.Read.remaining c.args.reader.now in
-    asked-fault (task_asked c.args.setup) c.bad_line-in-Faulty.result 2 old c.bad_line-in-Faulty.ensures (first-faulty task_of 2 (λ task. at_end 3 (c.args.setup, task)) old c.in-Faulty.ensures.next.0)
+    asked-fault (task_asked c.args.setup) c.at_line-in-Faulty.result 2 old c.at_line-in-Faulty.ensures (first-faulty task_of 2 (λ task. at_end 3 (c.args.setup, task)) old c.in-Faulty.ensures.next.0)

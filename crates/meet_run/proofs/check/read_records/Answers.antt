@@ -23,7 +23,7 @@ returns-in-Ended-clause-records g c =
 
 pub returns-in-Faulty-clause-bad : goal.returns-in-Faulty-clause-bad
 returns-in-Faulty-clause-bad g c =
-    names-it (g.R.Read.remaining c.args.reader.now) (λ rest. (records_behind (lines_of rest)).fault) c.bad_trace.result (c.loop-entry.read + 1) c.bad_trace.ensures
+    names-it (g.R.Read.remaining c.args.reader.now) (λ rest. (records_behind (lines_of rest)).fault) c.at_line.result (c.loop-entry.read + 1) c.at_line.ensures
     (read-fault c.loop-entry.records.items c.loop-entry.read (g.R.Read.remaining c.args.reader.now) (g.R.Read.remaining c.loop-entry.reader) c.loop-entry.invariant.was c.in-Faulty.ensures.next.0)
 
 pub returns-in-Faulty-clause-uses : goal.returns-in-Faulty-clause-uses

@@ -26,10 +26,10 @@ returns-in-Read-clause-uses g c =
 
 pub returns-in-Ended-clause-bad : goal.returns-in-Ended-clause-bad
 returns-in-Ended-clause-bad g c =
-    names-it (g.R.Read.remaining c.args.reader.now) (λ input. trace_fault_in (lines_of input)) c.bad_trace.result 1 c.bad_trace.ensures
+    names-it (g.R.Read.remaining c.args.reader.now) (λ input. trace_fault_in (lines_of input)) c.at_line.result 1 c.at_line.ensures
     (fault-none (g.R.Read.remaining c.args.reader.now) c.in-Ended.ensures.next.0)
 
 pub returns-in-Faulty-clause-bad : goal.returns-in-Faulty-clause-bad
 returns-in-Faulty-clause-bad g c =
-    names-it (g.R.Read.remaining c.args.reader.now) (λ input. trace_fault_in (lines_of input)) c.bad_trace-in-Faulty.result 1 c.bad_trace-in-Faulty.ensures
+    names-it (g.R.Read.remaining c.args.reader.now) (λ input. trace_fault_in (lines_of input)) c.at_line-in-Faulty.result 1 c.at_line-in-Faulty.ensures
     (fault-first (g.R.Read.remaining c.args.reader.now) c.in-Faulty.ensures.next.0)

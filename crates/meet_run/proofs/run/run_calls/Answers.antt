@@ -48,7 +48,7 @@ returns-in-Err-close-clause-script g c =
 pub returns-in-Faulty-clause-script : goal.returns-in-Faulty-clause-script
 returns-in-Faulty-clause-script g c =
     follows (g.R.Read.remaining c.args.reader.now)
-    (λ rest at input h. bad_line-ends c.bad_line.result (c.loop-call.read + 1) (fault_of input) (text_before input) (output_of input) (g.W.Write.contents c.args.writer.now) (g.W.Write.contents c.loop-call.writer) c.bad_line.ensures (at input h))
+    (λ rest at input h. bad_line-ends c.at_line.result (c.loop-call.read + 1) (fault_of input) (text_before input) (output_of input) (g.W.Write.contents c.args.writer.now) (g.W.Write.contents c.loop-call.writer) c.at_line.ensures (at input h))
     (ran-faulty c.args.setup (g.R.Read.remaining c.args.reader.now) (g.R.Read.remaining c.loop-call.reader) (g.W.Write.contents c.args.writer.now) (g.W.Write.contents c.loop-call.writer) c.loop-call.read (place_of c.loop-call.stepper) c.loop-call.invariant.ran c.in-Faulty.ensures.next.0)
 
 pub returns-in-Err-serve-clause-uses : goal.returns-in-Err-serve-clause-uses

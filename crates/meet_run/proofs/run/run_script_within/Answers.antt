@@ -17,11 +17,11 @@ returns-in-Read-clause-uses g c =
 pub returns-in-Ended-clause-script : goal.returns-in-Ended-clause-script
 returns-in-Ended-clause-script g c =
     follows (g.R.Read.remaining c.args.reader.now)
-    (λ input at. bad_line-ends c.bad_line.result 1 (fault_of input) (text_before input) (output_of input) (g.W.Write.contents c.args.writer.now) (g.W.Write.contents c.args.writer.now) c.bad_line.ensures at)
+    (λ input at. bad_line-ends c.at_line.result 1 (fault_of input) (text_before input) (output_of input) (g.W.Write.contents c.args.writer.now) (g.W.Write.contents c.args.writer.now) c.at_line.ensures at)
     (runs-lineless (g.R.Read.remaining c.args.reader.now) (g.W.Write.contents c.args.writer.now) c.in-Ended.ensures.next.0)
 
 pub returns-in-Faulty-clause-script : goal.returns-in-Faulty-clause-script
 returns-in-Faulty-clause-script g c =
     follows (g.R.Read.remaining c.args.reader.now)
-    (λ input at. bad_line-ends c.bad_line-in-Faulty.result 1 (fault_of input) (text_before input) (output_of input) (g.W.Write.contents c.args.writer.now) (g.W.Write.contents c.args.writer.now) c.bad_line-in-Faulty.ensures at)
+    (λ input at. bad_line-ends c.at_line-in-Faulty.result 1 (fault_of input) (text_before input) (output_of input) (g.W.Write.contents c.args.writer.now) (g.W.Write.contents c.args.writer.now) c.at_line-in-Faulty.ensures at)
     (runs-faulty (g.R.Read.remaining c.args.reader.now) (g.W.Write.contents c.args.writer.now) c.in-Faulty.ensures.next.0)

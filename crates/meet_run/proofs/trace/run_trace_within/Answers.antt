@@ -19,11 +19,11 @@ returns-in-Read-clause-uses g c =
 pub returns-in-Ended-clause-trace : goal.returns-in-Ended-clause-trace
 returns-in-Ended-clause-trace g c =
     follows (g.R.Read.remaining c.args.reader.now)
-    (λ input at. bad_line-ends c.bad_line.result 1 (fault_of input) (trace_of input) (trace_of input) (g.W.Write.contents c.args.writer.now) (g.W.Write.contents c.args.writer.now) c.bad_line.ensures at)
+    (λ input at. bad_line-ends c.at_line.result 1 (fault_of input) (trace_of input) (trace_of input) (g.W.Write.contents c.args.writer.now) (g.W.Write.contents c.args.writer.now) c.at_line.ensures at)
     (traces-lineless (g.R.Read.remaining c.args.reader.now) (g.W.Write.contents c.args.writer.now) c.in-Ended.ensures.next.0)
 
 pub returns-in-Faulty-clause-trace : goal.returns-in-Faulty-clause-trace
 returns-in-Faulty-clause-trace g c =
     follows (g.R.Read.remaining c.args.reader.now)
-    (λ input at. bad_line-ends c.bad_line-in-Faulty.result 1 (fault_of input) (trace_of input) (trace_of input) (g.W.Write.contents c.args.writer.now) (g.W.Write.contents c.args.writer.now) c.bad_line-in-Faulty.ensures at)
+    (λ input at. bad_line-ends c.at_line-in-Faulty.result 1 (fault_of input) (trace_of input) (trace_of input) (g.W.Write.contents c.args.writer.now) (g.W.Write.contents c.args.writer.now) c.at_line-in-Faulty.ensures at)
     (traces-faulty (g.R.Read.remaining c.args.reader.now) (g.W.Write.contents c.args.writer.now) c.in-Faulty.ensures.next.0)

@@ -1,8 +1,8 @@
 use Rattle.std.proofs.Common.{◌≡◌, ◌∙◌, sym, ap, arith}
 use Rattle.std.specs.Prelude.{decimal}
 use Rattle.std.proofs.lemmas.Slice.Eq.{bytes_eq-Decides}
-use Rattle.meet_run.specs.Words.{number_of}
-use Rattle.meet_run.proofs.WordLemmas.{number_of-decimal, not-text, not-parsed, not-spelled, text-is}
+use Rattle.meet_run.specs.Words.{number_spelled}
+use Rattle.meet_run.proofs.WordLemmas.{number_spelled-decimal, not-text, not-parsed, not-spelled, text-is}
 use Rattle.meet_run.proofs.words.read_number.Goals as goal
 
 pub returns-in_err-ok : goal.returns-in_err-ok
@@ -18,7 +18,7 @@ pub returns-then-eq : goal.returns-then-eq
 returns-then-eq c =
     let w = c.args.word.now in
     let same : w ≡ decimal c.in_ok-number.number = (bytes_eq-Decides w (decimal c.in_ok-number.number)).0 cc in
-    sym (ap number_of same ∙ number_of-decimal c.in_ok-number.number (omega arith))
+    sym (ap number_spelled same ∙ number_spelled-decimal c.in_ok-number.number (omega arith))
 
 pub returns-else-eq : goal.returns-else-eq
 returns-else-eq c =
