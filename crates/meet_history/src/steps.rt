@@ -24,22 +24,17 @@ impl Step {
     pub fn of_give(gave: Gave<u64>, mark: u64) -> Step
         ensures { result ≡ step_of_give gave mark }
     {
-        match gave {
-            Gave::Waits(ticket) => Step {
-                ticket,
-                deed: Deed::GiveWaits(mark),
-                item: Some(mark),
-            },
-            Gave::Meets(ticket, with) => Step {
-                ticket,
-                deed: Deed::GiveMeets(mark, with),
-                item: Some(mark),
-            },
-            Gave::EntryInterrupted(ticket, back) => Step {
-                ticket,
-                deed: Deed::EntryInterrupted(Side::Giver),
-                item: Some(back),
-            },
+        let (ticket, deed, item) = match gave {
+            Gave::Waits(ticket) => (ticket, Deed::GiveWaits(mark), mark),
+            Gave::Meets(ticket, with) => (ticket, Deed::GiveMeets(mark, with), mark),
+            Gave::EntryInterrupted(ticket, back) => {
+                (ticket, Deed::EntryInterrupted(Side::Giver), back)
+            }
+        };
+        Step {
+            ticket,
+            deed,
+            item: Some(item),
         }
     }
 
@@ -47,22 +42,15 @@ impl Step {
     pub fn of_put(put: Put<u64>, mark: u64) -> Step
         ensures { result ≡ step_of_put put mark }
     {
-        match put {
-            Put::Kept(ticket) => Step {
-                ticket,
-                deed: Deed::GiveKept(mark),
-                item: Some(mark),
-            },
-            Put::Meets(ticket, with) => Step {
-                ticket,
-                deed: Deed::GiveMeets(mark, with),
-                item: Some(mark),
-            },
-            Put::Fails(ticket, back) => Step {
-                ticket,
-                deed: Deed::GiveFails(mark),
-                item: Some(back),
-            },
+        let (ticket, deed, item) = match put {
+            Put::Kept(ticket) => (ticket, Deed::GiveKept(mark), mark),
+            Put::Meets(ticket, with) => (ticket, Deed::GiveMeets(mark, with), mark),
+            Put::Fails(ticket, back) => (ticket, Deed::GiveFails(mark), back),
+        };
+        Step {
+            ticket,
+            deed,
+            item: Some(item),
         }
     }
 
@@ -70,22 +58,15 @@ impl Step {
     pub fn of_take(took: Took<u64>) -> Step
         ensures { result ≡ step_of_take took }
     {
-        match took {
-            Took::Waits(ticket) => Step {
-                ticket,
-                deed: Deed::TakeWaits,
-                item: None,
-            },
-            Took::Meets(ticket, with, item) => Step {
-                ticket,
-                deed: Deed::TakeMeets(item, with),
-                item: None,
-            },
-            Took::EntryInterrupted(ticket) => Step {
-                ticket,
-                deed: Deed::EntryInterrupted(Side::Taker),
-                item: None,
-            },
+        let (ticket, deed) = match took {
+            Took::Waits(ticket) => (ticket, Deed::TakeWaits),
+            Took::Meets(ticket, with, item) => (ticket, Deed::TakeMeets(item, with)),
+            Took::EntryInterrupted(ticket) => (ticket, Deed::EntryInterrupted(Side::Taker)),
+        };
+        Step {
+            ticket,
+            deed,
+            item: None,
         }
     }
 
@@ -93,17 +74,14 @@ impl Step {
     pub fn of_offer(offered: Offered<u64>, mark: u64) -> Step
         ensures { result ≡ step_of_offer offered mark }
     {
-        match offered {
-            Offered::Meets(ticket, with) => Step {
-                ticket,
-                deed: Deed::GiveMeets(mark, with),
-                item: Some(mark),
-            },
-            Offered::Fails(ticket, back) => Step {
-                ticket,
-                deed: Deed::GiveFails(mark),
-                item: Some(back),
-            },
+        let (ticket, deed, item) = match offered {
+            Offered::Meets(ticket, with) => (ticket, Deed::GiveMeets(mark, with), mark),
+            Offered::Fails(ticket, back) => (ticket, Deed::GiveFails(mark), back),
+        };
+        Step {
+            ticket,
+            deed,
+            item: Some(item),
         }
     }
 
@@ -111,17 +89,14 @@ impl Step {
     pub fn of_poll(polled: Polled<u64>) -> Step
         ensures { result ≡ step_of_poll polled }
     {
-        match polled {
-            Polled::Meets(ticket, with, item) => Step {
-                ticket,
-                deed: Deed::TakeMeets(item, with),
-                item: None,
-            },
-            Polled::Fails(ticket) => Step {
-                ticket,
-                deed: Deed::TakeFails,
-                item: None,
-            },
+        let (ticket, deed) = match polled {
+            Polled::Meets(ticket, with, item) => (ticket, Deed::TakeMeets(item, with)),
+            Polled::Fails(ticket) => (ticket, Deed::TakeFails),
+        };
+        Step {
+            ticket,
+            deed,
+            item: None,
         }
     }
 
