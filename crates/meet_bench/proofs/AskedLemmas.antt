@@ -11,7 +11,7 @@ use Rattle.meet_run.specs.Running.{RunEnds, FaultEnds}
 use Rattle.meet_run.proofs.Ran.{appends-nothing}
 use Rattle.meet_bench.specs.declared.tasks.Task.{Task}
 use Rattle.meet_bench.specs.Findings.{finding_of, finding_text}
-use Rattle.meet_bench.specs.Asked.{first_then, at_end, asked_in, IsAsked, fault_told, output_told}
+use Rattle.meet_bench.specs.Asked.{first_then, at_end, asked_in, IsAsked, fault_told, output_told, RunsTask}
 
 -- a fault outside any line, and one of a line
 pub asked-fault : {B : Type 0} (asked : List (List ℕ) → Result B ℕ) (fault : RunFault) (n : ℕ) (old : Option (List ℕ)) → fault ≡ record { why = BadLine; line = Some n } → IfSome old (λ xs. asked (lines_of xs) ≡ Err n) → IsAsked asked (Err fault) old
@@ -70,14 +70,14 @@ module _ {B : Type 0} (n : ℕ) (b : B) where
   goes-on-faulty reading (Some xs) found = more found.0 found.1 (lines_of xs) found.2
 
 -- what a text asks for was read, and done
-pub read-ends : (asked : Setup × Task) (result : Result Bool RunFault) (reader old new : Option (List ℕ)) → IfSome reader (λ text. asked_in (lines_of text) ≡ Ok asked) → RunEnds None [] (finding_text (finding_of asked.0 asked.1)) result old new → IfSome reader (λ input. RunEnds (fault_told (asked_in (lines_of input))) [] (output_told (asked_in (lines_of input))) result old new)
+pub read-ends : (asked : Setup × Task) (result : Result Bool RunFault) (reader old new : Option (List ℕ)) → IfSome reader (λ text. asked_in (lines_of text) ≡ Ok asked) → RunEnds None [] (finding_text (finding_of asked.0 asked.1)) result old new → IfSome reader (λ text. RunsTask text result old new)
 unfolding fault_told output_told
 read-ends asked result None old new at ends = tt
 read-ends asked result (Some xs) old new at ends =
     subst (λ (r : Result (Setup × Task) ℕ). RunEnds (fault_told r) [] (output_told r) result old new) (sym at) ends
 
 -- it was not, and nothing is written
-pub unread-ends : (fault : RunFault) (reader writer : Option (List ℕ)) → IsAsked asked_in (Err fault) reader → IfSome reader (λ input. RunEnds (fault_told (asked_in (lines_of input))) [] (output_told (asked_in (lines_of input))) (Err fault) writer writer)
+pub unread-ends : (fault : RunFault) (reader writer : Option (List ℕ)) → IsAsked asked_in (Err fault) reader → IfSome reader (λ text. RunsTask text (Err fault) writer writer)
 unfolding fault_told output_told
 unread-ends fault None writer asked = tt
 unread-ends fault (Some xs) writer asked = by_line fault.why fault.line (asked_in (lines_of xs)) asked

@@ -1,11 +1,12 @@
 -- What a text asks for, and what comes of it.
-use Rattle.std.specs.Prelude.{◌≡◌, ◌⊎◌, ℕ, Option, Some, None, IfSome, MatchOption, Result, Ok, Err, List, [], ◌∷◌}
+use Rattle.std.specs.Prelude.{◌≡◌, ◌⊎◌, ℕ, Bool, Option, Some, None, IfSome, MatchOption, Result, Ok, Err, List, [], ◌∷◌}
 use Rattle.std.specs.Option.{option_map_or}
 use Rattle.meet_tickets.specs.declared.refusals.Refusal.TheVariants.{Memory, BadLine, ReadFault}
 use Rattle.meet_history.specs.declared.setups.Setup.{Setup}
 use Rattle.meet_run.specs.declared.faults.RunFault.{RunFault}
 use Rattle.meet_run.specs.Grammar.{setup_of}
 use Rattle.meet_run.specs.Reading.{lines_of}
+use Rattle.meet_run.specs.Running.{RunEnds}
 use Rattle.meet_bench.specs.declared.tasks.Task.{Task}
 use Rattle.meet_bench.specs.Findings.{finding_of, finding_text}
 use Rattle.meet_bench.specs.Tasks.{task_of}
@@ -45,3 +46,8 @@ fault_told (Err n) = Some n
 unfoldable pub output_told : Result (Setup × Task) ℕ → List ℕ
 output_told (Ok asked) = finding_text (finding_of asked.0 asked.1)
 output_told (Err n) = []
+
+-- what came of a run over this text: the line of what is found, or why there is none
+abbrev pub RunsTask : (text : List ℕ) → Result Bool RunFault → (old new : Option (List ℕ)) → Type 0
+RunsTask text result old new =
+    RunEnds (fault_told (asked_in (lines_of text))) [] (output_told (asked_in (lines_of text))) result old new

@@ -6,9 +6,8 @@ ghost use Rattle.std.specs.Prelude.{◌≡◌, [], IfSome};
 ghost use Rattle.std.specs.Process.{exit_status};
 ghost use Rattle.meet_history.specs.Limits.{IsInLimits};
 ghost use Rattle.meet_run.specs.Faults.{status_of};
-ghost use Rattle.meet_run.specs.Reading.{lines_of};
 ghost use Rattle.meet_run.specs.Running.{RunEnds};
-ghost use Rattle.meet_bench.specs.Asked.{asked_in, fault_told, output_told};
+ghost use Rattle.meet_bench.specs.Asked.{RunsTask};
 ghost use Rattle.meet_bench.specs.Findings.{finding_of, finding_text};
 ghost use Rattle.meet_bench.specs.Tasks.{FitsTask};
 
@@ -59,7 +58,7 @@ fn find_and_tell<W: Write>(
 
 /// Does what a text asks for, and writes the line of what is found. The answer is true.
 fn run<R: Read, W: Write>(alloc: Global, reader: &mut R, writer: &mut W) -> Result<bool, RunFault>
-    ensures { IfSome (R.remaining reader.old) (λ input. RunEnds (fault_told (asked_in (lines_of input))) [] (output_told (asked_in (lines_of input))) result (W.contents writer.old) (W.contents writer.new)) }
+    ensures { IfSome (R.remaining reader.old) (λ text. RunsTask text result (W.contents writer.old) (W.contents writer.new)) }
 {
     match read_asked(alloc, reader, MOST_READS) {
         Ok((setup, task)) => find_and_tell(alloc, setup, task, writer),

@@ -88,12 +88,16 @@ closing setup calls = last_line (length (records setup calls)) (standing_in (rec
 -- a script about a place, all of whose other lines are calls, has no fault; it writes their replies and the last line
 abbrev pub ScriptsAreAnswered : Type 0
 ScriptsAreAnswered =
-    (line : List ℕ) (lines : List (List ℕ)) (setup : Setup) (calls : List Call) → setup_of line ≡ Some setup → AreCalls setup.kind.order lines calls → (fault_in (line ∷ lines) ≡ None) × (output_in (line ∷ lines) ≡ text setup calls ++ closing setup calls)
+    (line : List ℕ) (lines : List (List ℕ)) (setup : Setup) (calls : List Call)
+    → setup_of line ≡ Some setup → AreCalls setup.kind.order lines calls
+    → (fault_in (line ∷ lines) ≡ None) × (output_in (line ∷ lines) ≡ text setup calls ++ closing setup calls)
 
 -- a script with a line that is no call has its fault there; it writes the replies to the calls before, whatever follows
 abbrev pub FaultsEndScripts : Type 0
 FaultsEndScripts =
-    (line : List ℕ) (lines : List (List ℕ)) (bad : List ℕ) (more : List (List ℕ)) (setup : Setup) (calls : List Call) → setup_of line ≡ Some setup → AreCalls setup.kind.order lines calls → call_of setup.kind.order bad ≡ None → (fault_in (line ∷ (lines ++ bad ∷ more)) ≡ Some (length lines + 2)) × (output_in (line ∷ (lines ++ bad ∷ more)) ≡ text setup calls)
+    (line : List ℕ) (lines : List (List ℕ)) (bad : List ℕ) (more : List (List ℕ)) (setup : Setup) (calls : List Call)
+    → setup_of line ≡ Some setup → AreCalls setup.kind.order lines calls → call_of setup.kind.order bad ≡ None
+    → (fault_in (line ∷ (lines ++ bad ∷ more)) ≡ Some (length lines + 2)) × (output_in (line ∷ (lines ++ bad ∷ more)) ≡ text setup calls)
 
 -- how far a run has come: of the input this rest is left, which begins with line n; the place is here, and this was
 -- written
