@@ -65,17 +65,8 @@ const GIVEN: [(Ask, Told); 5] = [
     (Ask::Give(4, 50), Told::Waits(5)),
 ];
 
-fn fair(rt: &impl Abort, alloc: Global) -> Result<Fair, Fail> {
-    match Dual::new(alloc, 6, 1) {
-        Ok(queue) => Ok(queue),
-        Err(why) => {
-            assert!(rt; why == Refusal::Memory);
-            Ok(Dual::new(alloc, 6, 1).ok().ok_or("memory")?)
-        }
-    }
-}
-
-fn unfair(rt: &impl Abort, alloc: Global) -> Result<Unfair, Fail> {
+/// A queue of either line, at the second try where there was no memory at first.
+fn queue<L: Line<Entry<Parcel>>>(rt: &impl Abort, alloc: Global) -> Result<Dual<Parcel, L>, Fail> {
     match Dual::new(alloc, 6, 1) {
         Ok(queue) => Ok(queue),
         Err(why) => {
@@ -87,21 +78,21 @@ fn unfair(rt: &impl Abort, alloc: Global) -> Result<Unfair, Fail> {
 
 #[test]
 fn givers_that_wait(rt: HostRuntime) -> Result<(), Fail> {
-    let mut queue = fair(&rt, rt.alloc())?;
+    let mut queue: Fair = queue(&rt, rt.alloc())?;
     bears(&rt, &mut queue, &GIVEN)?;
     bears(&rt, &mut queue, &[(Ask::Take(5), Told::Got(6, 1, 10))])
 }
 
 #[test]
 fn givers_that_wait_in_the_default_mode(rt: HostRuntime) -> Result<(), Fail> {
-    let mut queue = unfair(&rt, rt.alloc())?;
+    let mut queue: Unfair = queue(&rt, rt.alloc())?;
     bears(&rt, &mut queue, &GIVEN)?;
     bears(&rt, &mut queue, &[(Ask::Take(5), Told::Got(6, 5, 50))])
 }
 
 #[test]
 fn takers_that_wait(rt: HostRuntime) -> Result<(), Fail> {
-    let mut queue = fair(&rt, rt.alloc())?;
+    let mut queue: Fair = queue(&rt, rt.alloc())?;
     let rows = [
         (Ask::Take(0), Told::Waits(1)),
         (Ask::Take(1), Told::Waits(2)),
@@ -116,7 +107,7 @@ fn takers_that_wait(rt: HostRuntime) -> Result<(), Fail> {
 
 #[test]
 fn room_that_is_made_first(rt: HostRuntime) -> Result<(), Fail> {
-    let mut queue = fair(&rt, rt.alloc())?;
+    let mut queue: Fair = queue(&rt, rt.alloc())?;
     reserves(&rt, &mut queue, 5);
     for (ask, wanted) in &GIVEN {
         assert_eq!(rt; answer_of(&mut queue, *ask)?, *wanted);
