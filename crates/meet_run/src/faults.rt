@@ -45,7 +45,7 @@ impl Display for InLine {
     ghost use Rattle.std.specs.Prelude.{Some};
     ghost use Rattle.meet_run.specs.Faults.{line_text};
 
-    ghost output = { λ place. Some (line_text place.0) };
+    ghost output = { λ fault. Some (line_text fault.0) };
 
     fn fmt<W: Write>(&self, f: &mut Formatter<W>) -> fmt::Result {
         match self.0 {
@@ -85,14 +85,14 @@ fn push_text(line: &mut ArrayVec<u8, ROOM>, text: &[u8])
     let _ = line.try_extend_from_slice(text);
 }
 
-/// Appends where a fault is.
+/// Appends the number of a fault's line, where it has one.
 #[tactic(auto, unfolding(crate::specs::Faults::line_text))]
-fn push_place(line: &mut ArrayVec<u8, ROOM>, place: Option<u64>)
+fn push_line_number(line: &mut ArrayVec<u8, ROOM>, number: Option<u64>)
     requires { array_vec_len line.old ≤ 6 }
-    ensures text { line.new.items ≡ line.old.items ++ line_text place }
+    ensures text { line.new.items ≡ line.old.items ++ line_text number }
     ensures room { array_vec_len line.new ≤ 33 }
 {
-    if let Some(number) = place {
+    if let Some(number) = number {
         push_text(line, b"line ");
         let mut buffer = Buffer::new();
         push_text(line, buffer.format(number).as_bytes());
@@ -107,7 +107,7 @@ fn line_for(fault: RunFault) -> ArrayVec<u8, ROOM>
 {
     let mut line = ArrayVec::new();
     push_text(&mut line, b"meet: ");
-    push_place(&mut line, fault.line);
+    push_line_number(&mut line, fault.line);
     push_text(&mut line, fault.why.name().as_bytes());
     push_text(&mut line, b"\n");
     line
