@@ -15,12 +15,9 @@ call_refusal first full = option_map_or Some first (if full then Some HistoryFul
 abbrev pub is_book_full : {O D : Type 0} → Booked O D → (owed need : ℕ) → Bool
 is_book_full book owed need = nat_lt book.cap (length book.records + owed + need)
 
--- why a book refuses a seat's call, Memory aside: its place's own reason, or else that the book is full (the first three are
--- what its place says of itself: the trait Object)
-abbrev pub book_refusal : {O C D : Type 0}
-    → (refusal_of : O → ℕ → C → Option Refusal) → (owed_of : O → ℕ) → (need_of : C → ℕ) → Booked O D → (seat : ℕ) → C → Option Refusal
-book_refusal refusal_of owed_of need_of book seat call =
-    call_refusal (refusal_of book.object seat call) (is_book_full book (owed_of book.object) (need_of call))
+-- why a book refuses a call, Memory aside, where this is its place's own reason, and what the place owes and the call needs
+abbrev pub book_refusal : {O D : Type 0} → (first : Option Refusal) → (owed need : ℕ) → Booked O D → Option Refusal
+book_refusal first owed need book = call_refusal first (is_book_full book owed need)
 
 -- the record of a receipt, where there is one
 abbrev pub record_of_receipt : {D : Type 0} → Option (Received D) → Option (Record D)

@@ -21,12 +21,10 @@ drain_refusal_by first left zero full = seat_refusal first
 drain_refusal_by first left (suc k) full =
     option_map_or Some (seat_refusal first) (if nat_lt left (suc k) then Some TicketsSpent else (if full then Some HistoryFull else None))
 
--- why a book refuses a seat's drain of k items, Memory aside (the first four are what its place says of itself: the trait
--- Drains)
-abbrev pub book_drain_refusal : {O C D : Type 0}
-    → (refusal_of : O → ℕ → C → Option Refusal) → (left_of owed_of : O → ℕ) → (poll : C) → Booked O D → (seat k : ℕ) → Option Refusal
-book_drain_refusal refusal_of left_of owed_of poll book seat k =
-    drain_refusal_by (refusal_of book.object seat poll) (left_of book.object) k (is_book_full book (owed_of book.object) (k + 1))
+-- why a book refuses a drain of k items, Memory aside, where this is its place's own reason against a poll, and what the place
+-- has left of tickets and owes
+abbrev pub book_drain_refusal : {O D : Type 0} → (first : Option Refusal) → (left owed : ℕ) → Booked O D → (k : ℕ) → Option Refusal
+book_drain_refusal first left owed book k = drain_refusal_by first left k (is_book_full book owed (k + 1))
 
 -- a poll of what is there: it is recorded, takes one item and one ticket, and leaves its seat free and what is owed
 pub record TakesOne {O D : Type 0} (available_of left_of owed_of : O → ℕ) (refusal_of : O → Option Refusal) (made : Option (Record D)) (old new : O) : Type 0 where
@@ -35,15 +33,6 @@ pub record TakesOne {O D : Type 0} (available_of left_of owed_of : O → ℕ) (r
   pub left : left_of new + 1 ≡ left_of old
   pub owed : owed_of new ≡ owed_of old
   pub free : 0 < left_of new → refusal_of new ≡ None
-
--- a poll takes one, whatever seat asks, where it is admitted and an item is there (the first seven are what a place says of
--- itself: the trait Drains)
-abbrev pub EachTakesOne : {O C A D : Type 0}
-    → (steps : O → ℕ → C → A → O → Type 0) → (record_of : ℕ → C → A → Option (Record D)) → (refusal_of : O → ℕ → C → Option Refusal)
-    → (available_of left_of owed_of : O → ℕ) → (poll : C) → O → Type 0
-EachTakesOne {O} {C} {A} steps record_of refusal_of available_of left_of owed_of poll old =
-    (seat : ℕ) (answer : A) (new : O) → steps old seat poll answer new → refusal_of old seat poll ≡ None → 0 < available_of old
-    → TakesOne available_of left_of owed_of (λ o. refusal_of o seat poll) (record_of seat poll answer) old new
 
 -- the step of such a poll
 abbrev pub TakingStep : {O A D : Type 0} → (O → A → O → Type 0) → (available_of left_of owed_of : O → ℕ) → (O → Option Refusal) → (A → Option (Record D)) → O → A → O → Type 0
@@ -56,14 +45,12 @@ Polls Does record_of old [] new = new ≡ old
 Polls {O} Does record_of old (got ∷ rest) new =
     (mid : O) × Does old got.0 mid × (record_of got.0 ≡ Some got.1.entry) × Polls Does record_of mid rest new
 
--- one poll of a seat after another, each of which takes one item (the first seven are what a place says of itself: the trait
--- Drains)
-abbrev pub TakingPolls : {O C A D : Type 0}
-    → (steps : O → ℕ → C → A → O → Type 0) → (record_of : ℕ → C → A → Option (Record D)) → (refusal_of : O → ℕ → C → Option Refusal)
-    → (available_of left_of owed_of : O → ℕ) → (poll : C) → (seat : ℕ) → O → List (A × Received D) → O → Type 0
-TakingPolls steps record_of refusal_of available_of left_of owed_of poll seat old got new =
-    Polls (TakingStep (λ before answer after. steps before seat poll answer after) available_of left_of owed_of (λ o. refusal_of o seat poll) (record_of seat poll))
-    (record_of seat poll) old got new
+-- one poll after another, each of which takes one item, and is recorded so
+abbrev pub TakingPolls : {O A D : Type 0}
+    → (steps : O → A → O → Type 0) → (record_of : A → Option (Record D)) → (refusal_of : O → Option Refusal)
+    → (available_of left_of owed_of : O → ℕ) → O → List (A × Received D) → O → Type 0
+TakingPolls steps record_of refusal_of available_of left_of owed_of old got new =
+    Polls (TakingStep steps available_of left_of owed_of refusal_of record_of) record_of old got new
 
 -- the receipts are numbered on from here
 abbrev pub AreNumbered : {A D : Type 0} → (last : ℕ) → List (A × Received D) → Type 0

@@ -71,7 +71,7 @@ impl<O: Object> Book<O> {
 
     /// Why a call is refused, Memory aside: the first that applies.
     fn refusal(&self, seat: SeatNo, call: &O::Call) -> Option<Refusal>
-        ensures first { result ≡ book_refusal O.refusal_of O.owed_of O.need_of self.now seat call.now }
+        ensures first { result ≡ book_refusal (O.refusal_of self.now.object seat call.now) (O.owed_of self.now.object) (O.need_of call.now) self.now }
         ensures few { IfNone result (O.owed_of self.now.object + O.need_of call.now < 2 ^ 64) }
     {
         if let Err(why) = self.object.admit(seat, call) {
@@ -98,8 +98,8 @@ impl<O: Object> Book<O> {
         ensures place { IfOk result (λ made. MatchOption made.1 ⊤ (λ receipt. receipt.place ≡ length self.old.records + 1)) }
         ensures seat { IfOk result (λ made. MatchOption made.1 ⊤ (λ receipt. receipt.entry.seat ≡ seat)) }
         ensures records { IfOk result (λ made. self.new.records ≡ self.old.records ++ option_to_list (record_of_receipt made.1)) }
-        ensures admitted { IfOk result (λ _. book_refusal O.refusal_of O.owed_of O.need_of self.old seat call ≡ None) }
-        ensures why { IfErr result (λ refused. IsWhy (book_refusal O.refusal_of O.owed_of O.need_of self.old seat call) refused.why) }
+        ensures admitted { IfOk result (λ _. book_refusal (O.refusal_of self.old.object seat call) (O.owed_of self.old.object) (O.need_of call) self.old ≡ None) }
+        ensures why { IfErr result (λ refused. IsWhy (book_refusal (O.refusal_of self.old.object seat call) (O.owed_of self.old.object) (O.need_of call) self.old) refused.why) }
         ensures back { IfErr result (λ refused. refused.back ≡ call) }
         ensures unchanged { IfErr result (λ _. self.new ≡ self.old) }
         ensures cap { self.new.cap ≡ self.old.cap }

@@ -4,7 +4,7 @@ ghost use Rattle.std.specs.Prelude.{◌≡◌, ◌≢◌, ℕ, ◌+◌, ◌<◌,
 ghost use Rattle.meet_tickets.specs.declared.records.Record.{Record};
 ghost use Rattle.meet_tickets.specs.declared.refusals.Refusal.{Refusal};
 ghost use Rattle.meet_tickets.specs.declared.refusals.Refusal.TheVariants.{Memory, HistoryFull, TicketsSpent};
-ghost use Rattle.meet_history.specs.Draining.{EachTakesOne};
+ghost use Rattle.meet_history.specs.Draining.{TakesOne};
 
 use meet_tickets::{Record, Refusal, SeatNo};
 
@@ -122,7 +122,9 @@ pub trait Drains: Object {
     fn poll_call(&self) -> Self::Call
         ensures call { result ≡ poll }
         ensures left { (seat : ℕ) → 0 < left_of self.now → Self.refusal_of self.now seat poll ≢ Some TicketsSpent }
-        ensures takes { EachTakesOne Self.steps Self.record_of Self.refusal_of available_of left_of Self.owed_of poll self.now };
+        ensures takes { (seat : ℕ) (answer : Self.Answer) (new : Self)
+            → Self.steps self.now seat poll answer new → Self.refusal_of self.now seat poll ≡ None → 0 < available_of self.now
+            → TakesOne available_of left_of Self.owed_of (λ o. Self.refusal_of o seat poll) (Self.record_of seat poll answer) self.now new };
 
     /// A poll's record needs a place, and another for the ending that a request may owe.
     ghost poll_needs: { Self.need_of poll ≡ 2 };

@@ -19,7 +19,7 @@ where
 {
     /// Why a drain of k items is refused, Memory aside: the first that applies.
     fn drain_refusal(&self, seat: SeatNo, k: u64) -> Option<Refusal>
-        ensures first { result ≡ book_drain_refusal O.refusal_of O.left_of O.owed_of O.poll self.now seat k }
+        ensures first { result ≡ book_drain_refusal (O.refusal_of self.now.object seat O.poll) (O.left_of self.now.object) (O.owed_of self.now.object) self.now k }
         ensures fits { IfNone result (0 < k → length self.now.records + O.owed_of self.now.object + k < self.now.cap) }
         ensures free { IfNone result (0 < k → O.refusal_of self.now.object seat O.poll ≡ None) }
         ensures left { IfNone result (k ≤ O.left_of self.now.object) }
@@ -54,11 +54,12 @@ where
         max: u64,
     ) -> Result<Vec<(O::Answer, Receipt<O::Deed>)>, Refusal>
         ensures count { IfOk result (λ got. length got.items ≡ min max (O.available_of self.old.object)) }
-        ensures polls { IfOk result (λ got. TakingPolls O.steps O.record_of O.refusal_of O.available_of O.left_of O.owed_of O.poll seat self.old.object got.items self.new.object) }
+        ensures polls { IfOk result (λ got. TakingPolls (λ old answer new. O.steps old seat O.poll answer new) (O.record_of seat O.poll) (λ o. O.refusal_of o seat O.poll)
+            O.available_of O.left_of O.owed_of self.old.object got.items self.new.object) }
         ensures records { IfOk result (λ got. self.new.records ≡ self.old.records ++ map (λ one. one.1.entry) got.items) }
         ensures places { IfOk result (λ got. AreNumbered (length self.old.records) got.items) }
-        ensures admitted { IfOk result (λ _. book_drain_refusal O.refusal_of O.left_of O.owed_of O.poll self.old seat (min max (O.available_of self.old.object)) ≡ None) }
-        ensures why { IfErr result (IsWhy (book_drain_refusal O.refusal_of O.left_of O.owed_of O.poll self.old seat (min max (O.available_of self.old.object)))) }
+        ensures admitted { IfOk result (λ _. book_drain_refusal (O.refusal_of self.old.object seat O.poll) (O.left_of self.old.object) (O.owed_of self.old.object) self.old (min max (O.available_of self.old.object)) ≡ None) }
+        ensures why { IfErr result (IsWhy (book_drain_refusal (O.refusal_of self.old.object seat O.poll) (O.left_of self.old.object) (O.owed_of self.old.object) self.old (min max (O.available_of self.old.object)))) }
         ensures unchanged { IfErr result (λ _. self.new ≡ self.old) }
         ensures cap { self.new.cap ≡ self.old.cap }
     {
@@ -96,7 +97,8 @@ fn poll_all<O: Drains>(
     requires free { O.refusal_of object.old seat O.poll ≡ None }
     requires places { vec_len records.old + count ≤ vec_capacity records.old }
     ensures count { length result.items ≡ count }
-    ensures polls { TakingPolls O.steps O.record_of O.refusal_of O.available_of O.left_of O.owed_of O.poll seat object.old result.items object.new }
+    ensures polls { TakingPolls (λ old answer new. O.steps old seat O.poll answer new) (O.record_of seat O.poll) (λ o. O.refusal_of o seat O.poll)
+        O.available_of O.left_of O.owed_of object.old result.items object.new }
     ensures records { records.new.items ≡ records.old.items ++ map (λ one. one.1.entry) result.items }
     ensures places { AreNumbered (length records.old.items) result.items }
     ensures len { vec_len records.new ≡ vec_len records.old + count }

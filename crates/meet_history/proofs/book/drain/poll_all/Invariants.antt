@@ -10,7 +10,7 @@ invariant-loop g l =
     record {
       count : length l.got.items ≡ l.counter;
       room : vec_capacity l.got ≡ vec_capacity l.fn.empty;
-      polls : TakingPolls o.steps o.record_of o.refusal_of d.available_of d.left_of o.owed_of d.poll l.seat l.fn.object l.got.items l.object;
+      polls : TakingPolls (λ old answer new. o.steps old l.seat d.poll answer new) (o.record_of l.seat d.poll) (λ x. o.refusal_of x l.seat d.poll) d.available_of d.left_of o.owed_of l.fn.object l.got.items l.object;
       records : l.records.items ≡ l.fn.records.items ++ map (λ one. one.1.entry) l.got.items;
       numbered : AreNumbered (length l.fn.records.items) l.got.items;
       leads : o.leads l.fn.records.items l.fn.object → o.leads l.records.items l.object;
