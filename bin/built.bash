@@ -1,23 +1,79 @@
-# What the commands of this folder share: where the repository is, and programs that are built where their sources are newer.
+# What the commands of this folder share: where the repository is, and its proved programs.
 top=$(cd "$(dirname "${BASH_SOURCE[0]}")/.." && pwd)
 
-# Whether a program is newer than all sources.
-is_built() {
-    [ -x "$1" ] && [ -z "$(find "$top/crates" "$top/crates.txt" -path '*/out' -prune -o -type f -newer "$1" -print -quit)" ]
+# Ends with status 70 where the toolchain isn't there.
+need_rt() {
+    command -v rt >/dev/null && return
+    echo "bin/${0##*/}: the command rt of the Rattle toolchain isn't on the path; README.md, \"Two commands\", says what it is" >&2
+    exit 70
 }
 
-# Builds a crate's program, where it isn't there or its sources are newer. The status is 70 where it can't be built.
-build() {
-    local program=$top/crates/$1/out/$1 log status=0
-    is_built "$program" && return
+# A crate and the crates of the repository that it stands on, the lowest first, as crates.txt lists them.
+stack_of() {
+    awk -F ': *' -v crate="$1" '
+        /^[a-z]/ { uses[$1] = $2; names[++count] = $1 }
+        END {
+            needed[crate]
+            for (at = count; at > 0; at--)
+                if (names[at] in needed)
+                    for (number = split(uses[names[at]], below, " "); number > 0; number--) needed[below[number]]
+            for (at = 1; at <= count; at++)
+                if (names[at] in needed) print names[at]
+        }' "$top/crates.txt"
+}
+
+# The proved program of a crate.
+program_of() {
+    echo "$top/crates/$1/out/$1"
+}
+
+# Whether a crate's program is there, and newer than all that it is made of.
+is_built() {
+    local program crate folders=()
+    program=$(program_of "$1")
+    [ -x "$program" ] || return
+    for crate in $(stack_of "$1"); do
+        folders+=("$top/crates/$crate/src" "$top/crates/$crate/specs" "$top/crates/$crate/proofs")
+    done
+    [ -z "$(find "${folders[@]}" "$top/crates.txt" -type f -newer "$program" -print -quit 2>/dev/null)" ]
+}
+
+# Does this in a crate's folder, and says on standard error which crate it is and how long it took. The status is 70 where it fails.
+prove() {
+    local crate=$1 where=$2 began=$SECONDS log
+    shift 2
     log=$(mktemp)
-    # On an empty input, which is a fault of line 1, a program that was built ends with status 3.
-    (cd "$top/crates/$1" && rt run </dev/null >/dev/null 2>"$log") || status=$?
-    if [ "$status" -ne 3 ] || [ ! -x "$program" ]; then
+    printf '%s: %s .. ' "$where" "$crate" >&2
+    if (cd "$top/crates/$crate" && "$@") </dev/null >"$log" 2>&1; then
+        echo "proved in $((SECONDS - began)) s" >&2
+        rm -f "$log"
+    else
+        echo "not proved" >&2
         cat "$log" >&2
         rm -f "$log"
         exit 70
     fi
-    rm -f "$log"
-    touch "$program"
+}
+
+# Makes a crate's program. On an empty input, which is a fault of line 1, a program that was made ends with status 3.
+make_program() {
+    local status=0
+    rt run || status=$?
+    [ "$status" -eq 3 ] && [ -x "out/$1" ] && touch "out/$1"
+}
+
+# Proves a crate's program and all that it stands on, and builds it, where it isn't there or older than what it is made of.
+build() {
+    local crate number=0 stack
+    is_built "$1" && return
+    need_rt
+    mapfile -t stack < <(stack_of "$1")
+    for crate in "${stack[@]}"; do
+        number=$((number + 1))
+        if [ "$crate" = "$1" ]; then
+            prove "$crate" "$number of ${#stack[@]}" make_program "$1"
+        else
+            prove "$crate" "$number of ${#stack[@]}" rt lib
+        fi
+    done
 }
