@@ -16,6 +16,3 @@ pub use line::{Line, Ticketed};
 pub use meetings::Meetings;
 pub use stack::StackLine;
 pub use table::SeatTable;
-
-#[cfg(test)]
-mod tests;

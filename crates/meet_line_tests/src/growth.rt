@@ -3,8 +3,8 @@
 
 ghost use Rattle.std.specs.Prelude.{◌≡◌, ◌≤◌, OnOk};
 
-use crate::tests::{Parcel, first_serial, join, meets_in_order};
-use crate::{FairLine, Line, SeatTable, StackLine};
+use crate::parcels::{Parcel, first_serial, join, meets_in_order};
+use meet_line::{FairLine, Line, SeatTable, StackLine};
 use meet_tickets::{Entry, Refusal};
 use std::alloc::Global;
 use std::process::Abort;
@@ -15,14 +15,10 @@ fn reserves<L: Line<Entry<Parcel>>>(rt: &impl Abort, line: &mut L, count: u64) -
     ensures room { OnOk result (count ≤ L.spare line.new) }
     ensures same { L.entries line.new ≡ L.entries line.old }
 {
-    let length = line.len();
-    let room = line.room();
-    let first = first_serial(line);
+    let before = (line.len(), line.room(), first_serial(line));
     if let Err(why) = line.reserve(count) {
         assert!(rt; why == Refusal::Memory);
-        assert_eq!(rt; line.len(), length);
-        assert_eq!(rt; line.room(), room);
-        assert_eq!(rt; first_serial(line), first);
+        assert_eq!(rt; (line.len(), line.room(), first_serial(line)), before);
         line.reserve(count).ok().ok_or("memory")?;
     }
     Ok(())

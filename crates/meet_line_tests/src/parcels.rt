@@ -1,0 +1,66 @@
+//! Items that a test knows again, and lines of them.
+
+ghost use Rattle.std.specs.Prelude.{◌≡◌, ◌+◌, ◌<◌, All, IfOk, OnOk};
+
+use meet_line::Line;
+use meet_tickets::{Entry, SeatNo, Ticket};
+use std::process::Abort;
+use std::test::Fail;
+
+/// An item with a serial number, by which a test knows it again.
+#[derive(Drop)]
+pub struct Parcel {
+    pub serial: u64,
+}
+
+/// The seat of this number.
+pub fn seat(number: u64) -> Result<SeatNo, Fail>
+    ensures { IfOk result (λ seat. seat ≡ number) }
+{
+    Ok(SeatNo::new(number).ok_or("no such seat number")?)
+}
+
+/// The ticket of this number.
+pub fn ticket(number: u64) -> Result<Ticket, Fail>
+    ensures { IfOk result (λ ticket. ticket ≡ number) }
+{
+    Ok(Ticket::new(number).ok_or("no such ticket number")?)
+}
+
+/// The serial number of an entry's item.
+pub fn serial(entry: Option<Entry<Parcel>>) -> Option<u64> {
+    Some(entry?.item?.serial)
+}
+
+/// The serial number of the item that came first.
+pub fn first_serial<L: Line<Entry<Parcel>>>(line: &L) -> Option<u64> {
+    Some(line.first()?.item.as_ref()?.serial)
+}
+
+/// An entry whose ticket is the newest comes to the line.
+pub fn join<L: Line<Entry<Parcel>>>(line: &mut L, number: u64, serial: u64) -> Result<(), Fail>
+    requires room { 0 < L.spare line.old }
+    requires newest { All (λ e. e.ticket < number) (L.entries line.old) }
+    ensures room { OnOk result (L.spare line.new + 1 ≡ L.spare line.old) }
+    ensures newest { OnOk result (All (λ e. e.ticket < number + 1) (L.entries line.new)) }
+{
+    line.push_back(Entry {
+        ticket: ticket(number)?,
+        seat: seat(0)?,
+        item: Some(Parcel { serial }),
+        waits: true,
+    });
+    Ok(())
+}
+
+/// The entries are met in this order, each gives its room back, and then nobody is there.
+pub fn meets_in_order<L: Line<Entry<Parcel>>>(rt: &impl Abort, line: &mut L, serials: &[u64]) {
+    for wanted in serials {
+        let room = line.room();
+        assert_eq!(rt; serial(line.meet()), Some(*wanted));
+        assert_eq!(rt; line.room() - room, 1);
+    }
+    assert_eq!(rt; serial(line.meet()), None);
+    assert_eq!(rt; line.len(), 0);
+    assert_eq!(rt; first_serial(line), None);
+}
