@@ -24,6 +24,3 @@ pub use meet_history::{Answer, Call, Outcome, Reply, Setup, Stepper, Verb, run_a
 pub use meet_tickets::{Deed, Kind, Record, Refusal, SeatNo, Ticket};
 pub use run::{MOST_READS, run_script, run_script_within};
 pub use trace::{run_trace, run_trace_within};
-
-#[cfg(test)]
-mod tests;

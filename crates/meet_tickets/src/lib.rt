@@ -21,6 +21,3 @@ pub use names::{SeatNo, Ticket};
 pub use places::{Kind, Order, Side};
 pub use records::{Cause, Deed, Record};
 pub use refusals::{Refusal, Refused};
-
-#[cfg(test)]
-mod tests;

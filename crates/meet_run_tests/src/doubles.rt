@@ -36,13 +36,14 @@ impl Read for Feed<'_> {
     }
 }
 
-pub fn feed_of(text: &[u8]) -> Feed<'_> {
+/// A reader of this text, of whose reads the one of this number fails; 0 for none.
+pub fn feed_of(text: &[u8], failed_read: u64) -> Feed<'_> {
     Feed {
         text,
         at: 0,
         endless: None,
         reads: 0,
-        failed_read: 0,
+        failed_read,
     }
 }
 
@@ -78,6 +79,7 @@ impl Write for Sink {
     }
 }
 
+/// A writer that takes so many bytes a write.
 pub fn sink_by(alloc: Global, step: usize) -> Sink {
     Sink {
         bytes: Vec::new(alloc),

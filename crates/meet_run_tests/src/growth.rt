@@ -1,8 +1,8 @@
 //! A run that finds no memory ends with Memory, and what it wrote is a beginning of the whole text; the next run writes the whole.
 //! `bin/refuse` runs these tests with each allocation refused in turn.
 
-use crate::{RunFault, check_trace, run_script, run_trace};
-use meet_tickets::Refusal;
+use crate::tasks::Task;
+use meet_run::{Refusal, RunFault, check_trace, run_script, run_trace};
 use std::alloc::Global;
 use std::process::Abort;
 use std::test::Fail;
@@ -18,14 +18,7 @@ const TRACE: &[u8] =
 
 const FOUND: &[u8] = b"legal 7 waiting 0 uncollected 1 kept 0\n";
 
-/// What is done with a text.
-#[derive(Clone, Copy)]
-enum Task {
-    Run,
-    Trace,
-    Check,
-}
-
+/// Does a task on a text in memory.
 fn perform(
     alloc: Global,
     task: Task,
