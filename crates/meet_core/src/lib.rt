@@ -6,6 +6,3 @@ mod dual;
 
 pub use dual::Dual;
 pub use meet_line::{Followed, Gave, Interrupted, Offered, Polled, TakenBack, Took};
-
-#[cfg(test)]
-mod tests;

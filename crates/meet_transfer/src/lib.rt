@@ -6,6 +6,3 @@ mod transfer;
 
 pub use meet_line::{Followed, Gave, Interrupted, Offered, Polled, Put, TakenBack, Took};
 pub use transfer::Transfer;
-
-#[cfg(test)]
-mod tests;

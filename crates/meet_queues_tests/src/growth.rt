@@ -1,0 +1,136 @@
+//! Queues and their books bear one refusal of memory: nothing is lost by it, and the call that is made again succeeds.
+//! `bin/refuse` runs these tests with each allocation refused in turn.
+
+use crate::drains::are_taken;
+use crate::parcels::{Ask, Parcel, Row, Told, seat};
+use crate::places::{Fair, Place, Unfair};
+use meet_core::Dual;
+use meet_history::Book;
+use meet_tickets::Refusal;
+use meet_transfer::Transfer;
+use std::process::Abort;
+use std::test::Fail;
+
+/// A place that is made, at the second try where there was no memory at first.
+fn twice<P, F: Fn() -> Result<P, Refusal>>(make: F) -> Result<P, Fail>
+    requires { F.IsAlwaysCallable make }
+{
+    match make() {
+        Ok(place) => Ok(place),
+        Err(_) => Ok(make().ok().ok_or("memory")?),
+    }
+}
+
+/// The serial number of the parcel that is given.
+fn given(ask: Ask) -> Option<u64> {
+    match ask {
+        Ask::Give(serial) => Some(serial),
+        Ask::Put(serial) => Some(serial),
+        Ask::Offer(serial) => Some(serial),
+        _ => None,
+    }
+}
+
+/// Seats ask, one after another, once more where there was no memory, and are told this.
+fn bears<P: Place>(rt: &impl Abort, place: &mut P, rows: &[Row]) -> Result<(), Fail> {
+    for (number, ask, wanted) in rows {
+        let at = seat(*number)?;
+        let before = place.shown();
+        let mut told = place.answer(rt, at, *ask)?;
+        if told == Told::Refused(Refusal::Memory, given(*ask)) {
+            assert_eq!(rt; place.shown(), before);
+            told = place.answer(rt, at, *ask)?;
+        }
+        assert_eq!(rt; told, *wanted);
+    }
+    Ok(())
+}
+
+const GIVEN: [Row; 5] = [
+    (0, Ask::Give(10), Told::Waits(1)),
+    (1, Ask::Give(20), Told::Waits(2)),
+    (2, Ask::Give(30), Told::Waits(3)),
+    (4, Ask::Give(40), Told::Waits(4)),
+    (5, Ask::Give(50), Told::Waits(5)),
+];
+
+const TAKEN: [Row; 6] = [
+    (0, Ask::Take, Told::Waits(1)),
+    (1, Ask::Take, Told::Waits(2)),
+    (2, Ask::Take, Told::Waits(3)),
+    (3, Ask::Take, Told::Waits(4)),
+    (4, Ask::Take, Told::Waits(5)),
+    (5, Ask::Offer(60), Told::Gave(6, 5)),
+];
+
+const KEPT: [Row; 6] = [
+    (0, Ask::Put(10), Told::Kept(1)),
+    (1, Ask::Give(20), Told::Waits(2)),
+    (0, Ask::Put(30), Told::Kept(3)),
+    (2, Ask::Give(40), Told::Waits(4)),
+    (0, Ask::Put(50), Told::Kept(5)),
+    (3, Ask::Take, Told::Got(6, 1, 10)),
+];
+
+#[test]
+fn givers_that_wait(rt: HostRuntime) -> Result<(), Fail> {
+    let alloc = rt.alloc();
+    let mut queue: Fair = twice(|| Dual::new(alloc, 6, 1))?;
+    bears(&rt, &mut queue, &GIVEN)?;
+    bears(&rt, &mut queue, &[(3, Ask::Take, Told::Got(6, 1, 10))])
+}
+
+#[test]
+fn takers_that_wait(rt: HostRuntime) -> Result<(), Fail> {
+    let alloc = rt.alloc();
+    let mut queue: Unfair = twice(|| Dual::new(alloc, 6, 1))?;
+    bears(&rt, &mut queue, &TAKEN)
+}
+
+#[test]
+fn items_that_are_kept(rt: HostRuntime) -> Result<(), Fail> {
+    let alloc = rt.alloc();
+    let mut queue: Transfer<Parcel> = twice(|| Transfer::with_bound(alloc, 6, 1, 5))?;
+    bears(&rt, &mut queue, &KEPT)
+}
+
+#[test]
+fn room_that_is_made_first(rt: HostRuntime) -> Result<(), Fail> {
+    let alloc = rt.alloc();
+    let mut queue: Transfer<Parcel> = twice(|| Transfer::new(alloc, 6, 1))?;
+    let before = queue.shown();
+    if let Err(why) = queue.reserve(6) {
+        assert!(rt; why == Refusal::Memory);
+        assert_eq!(rt; queue.shown(), before);
+        assert!(rt; queue.reserve(6).is_ok());
+    }
+    for (number, ask, wanted) in &KEPT {
+        assert_eq!(rt; queue.answer(&rt, seat(*number)?, *ask)?, *wanted);
+    }
+    Ok(())
+}
+
+#[test]
+fn a_book_of_givers_that_wait(rt: HostRuntime) -> Result<(), Fail> {
+    let alloc = rt.alloc();
+    let mut book: Book<Fair> = twice(|| Book::of_queue(alloc, 6, 1, 40))?;
+    bears(&rt, &mut book, &GIVEN)?;
+    let before = book.shown();
+    let rows = [(6, 1, 10), (7, 2, 20), (8, 3, 30), (9, 4, 40), (10, 5, 50)];
+    let got = match book.drain(alloc, seat(3)?, 9) {
+        Ok(got) => got,
+        Err(why) => {
+            assert!(rt; why == Refusal::Memory);
+            assert_eq!(rt; book.shown(), before);
+            book.drain(alloc, seat(3)?, 9).ok().ok_or("memory")?
+        }
+    };
+    are_taken(&rt, got, &rows)
+}
+
+#[test]
+fn a_book_of_items_that_are_kept(rt: HostRuntime) -> Result<(), Fail> {
+    let alloc = rt.alloc();
+    let mut book: Book<Transfer<Parcel>> = twice(|| Book::of_transfer(alloc, 6, 1, Some(5), 40))?;
+    bears(&rt, &mut book, &KEPT)
+}
