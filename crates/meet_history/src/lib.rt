@@ -33,6 +33,3 @@ pub use setups::Setup;
 pub use stepper::Stepper;
 pub use steps::Step;
 pub use told::{DualAnswer, DualCall, QueueAnswer, QueueCall};
-
-#[cfg(test)]
-mod tests;

@@ -3,10 +3,10 @@
 ghost use Rattle.std.specs.Prelude.{◌≡◌, ◌+◌, ◌<◌, ◌≤◌, ◌⊎◌, false, Some, None, refl, length, nat_lt, nat_eq, option_map, option_to_list, IsSome, IfOk, if◌then◌else◌};
 ghost use Rattle.std.specs.Option.{option_map_or};
 ghost use Rattle.std.proofs.Common.{rules};
-ghost use Rattle.meet_history.specs.declared.tests.cell.Call.TheVariants.{Put, Take, End};
+ghost use Rattle.meet_history_tests.specs.declared.cell.Call.TheVariants.{Put, Take, End};
 ghost use Rattle.meet_tickets.specs.declared.refusals.Refusal.TheVariants.{NoSuchSeat, SeatOpen, TicketsSpent};
 
-use crate::{Drains, Object};
+use meet_history::{Drains, Object};
 use meet_tickets::{Record, Refusal, SeatNo, Ticket};
 use std::test::Fail;
 
