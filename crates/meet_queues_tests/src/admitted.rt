@@ -28,10 +28,6 @@ impl<L: Line<Entry<Parcel>>> Place for Admitted<Dual<Parcel, L>> {
             _ => self.queue.answer(rt, at, ask),
         }
     }
-
-    fn shown(&self) -> [u64; 6] {
-        self.queue.shown()
-    }
 }
 
 fn give<L: Line<Entry<Parcel>>>(queue: &mut Dual<Parcel, L>, at: SeatNo, serial: u64) -> Told {
@@ -86,9 +82,5 @@ impl Place for Admitted<Transfer<Parcel>> {
             },
             Err(_) => self.queue.answer(rt, at, ask),
         }
-    }
-
-    fn shown(&self) -> [u64; 6] {
-        self.queue.shown()
     }
 }

@@ -2,7 +2,7 @@
 
 use crate::answers::{dual, queue};
 use crate::parcels::{Ask, Parcel, Told, numbered, seat, ticket};
-use crate::places::Place;
+use crate::places::{Place, Shown};
 use meet_core::Dual;
 use meet_history::{Book, DualCall, QueueCall, Receipt};
 use meet_line::Line;
@@ -79,7 +79,9 @@ impl<L: Line<Entry<Parcel>>> Place for Book<Dual<Parcel, L>> {
             Err(refused) => Ok(Told::Refused(refused.why, in_dual_call(refused.back))),
         }
     }
+}
 
+impl<L: Line<Entry<Parcel>>> Shown for Book<Dual<Parcel, L>> {
     fn shown(&self) -> [u64; 6] {
         let place = self.probe();
         [
@@ -104,7 +106,9 @@ impl Place for Book<Transfer<Parcel>> {
             Err(refused) => Ok(Told::Refused(refused.why, in_queue_call(refused.back))),
         }
     }
+}
 
+impl Shown for Book<Transfer<Parcel>> {
     fn shown(&self) -> [u64; 6] {
         let place = self.probe();
         [

@@ -2,11 +2,11 @@
 
 use crate::answers::{dual, queue};
 use crate::parcels::{Ask, Parcel, Row, Told, seat, ticket};
-use crate::places::{Fair, Unfair, plays};
+use crate::places::plays;
 use meet_core::Dual;
 use meet_history::{Book, DualAnswer, Receipt};
-use meet_line::Line;
-use meet_tickets::{Deed, Entry, Record, Refusal};
+use meet_line::{FairLine, Line, StackLine};
+use meet_tickets::{Deed, Entry, Record};
 use meet_transfer::Transfer;
 use std::alloc::Global;
 use std::process::Abort;
@@ -26,28 +26,37 @@ const THREE_KEPT: [Row; 3] = [
     (1, Ask::Put(30), Told::Kept(3)),
 ];
 
-/// The receipt of a drained parcel is for seat 3's record, whose number is that of its ticket.
-fn is_receipt(rt: &impl Abort, receipt: &Receipt<Deed>, own: u64, with: u64) -> Result<(), Fail> {
+/// The tickets of a drained parcel, seat 3's own and the giver's, and its serial number.
+type Taken = (u64, u64, u64);
+
+/// Seat 3 is told this of a drained parcel, and its receipt is for the record whose number is that of its ticket.
+fn is_taken(
+    rt: &impl Abort,
+    told: Told,
+    receipt: &Receipt<Deed>,
+    taken: Taken,
+) -> Result<(), Fail> {
+    let (own, with, serial) = taken;
     let record = Record {
         seat: seat(3)?,
         ticket: ticket(own)?,
         deed: Deed::TakeMeets(7, ticket(with)?),
     };
+    assert!(rt; told == Told::Got(own, with, serial));
     assert_eq!(rt; receipt.place(), own);
-    assert_eq!(rt; receipt.entry(), record);
+    assert!(rt; receipt.entry() == record);
     Ok(())
 }
 
-/// A drain handed out these parcels: its own ticket, the giver's, and the serial number.
+/// A drain handed out these parcels.
 pub fn are_taken(
     rt: &impl Abort,
     got: Vec<(DualAnswer<Parcel>, Receipt<Deed>)>,
-    rows: &[(u64, u64, u64)],
+    rows: &[Taken],
 ) -> Result<(), Fail> {
     assert_eq!(rt; got.len(), rows.len());
-    for ((answer, receipt), (own, with, serial)) in got.into_iter().zip(rows) {
-        is_receipt(rt, &receipt, *own, *with)?;
-        assert_eq!(rt; dual(answer), Told::Got(*own, *with, *serial));
+    for ((answer, receipt), taken) in got.into_iter().zip(rows) {
+        is_taken(rt, dual(answer), &receipt, *taken)?;
     }
     Ok(())
 }
@@ -58,7 +67,7 @@ fn drains_dual<L: Line<Entry<Parcel>>>(
     alloc: Global,
     book: &mut Book<Dual<Parcel, L>>,
     most: u64,
-    rows: &[(u64, u64, u64)],
+    rows: &[Taken],
 ) -> Result<(), Fail> {
     let got = book.drain(alloc, seat(3)?, most).ok().ok_or("refused")?;
     are_taken(rt, got, rows)
@@ -70,34 +79,39 @@ fn drains_kept(
     alloc: Global,
     book: &mut Book<Transfer<Parcel>>,
     most: u64,
-    rows: &[(u64, u64, u64)],
+    rows: &[Taken],
 ) -> Result<(), Fail> {
     let got = book.drain(alloc, seat(3)?, most).ok().ok_or("refused")?;
     assert_eq!(rt; got.len(), rows.len());
-    for ((answer, receipt), (own, with, serial)) in got.into_iter().zip(rows) {
-        is_receipt(rt, &receipt, *own, *with)?;
-        assert_eq!(rt; queue(answer), Told::Got(*own, *with, *serial));
+    for ((answer, receipt), taken) in got.into_iter().zip(rows) {
+        is_taken(rt, queue(answer), &receipt, *taken)?;
     }
     Ok(())
 }
 
+/// What a book of a synchronous queue hands out in two drains.
+fn drains<L: Line<Entry<Parcel>> + Drop>(
+    rt: &impl Abort,
+    alloc: Global,
+    rows: &[Taken],
+    rest: &[Taken],
+) -> Result<(), Fail> {
+    let mut book: Book<Dual<Parcel, L>> = Book::of_queue(alloc, 4, 1, 20).ok().ok_or("memory")?;
+    plays(rt, &mut book, &THREE)?;
+    drains_dual(rt, alloc, &mut book, 2, rows)?;
+    drains_dual(rt, alloc, &mut book, 9, rest)
+}
+
 #[test]
 fn of_a_fair_queue(rt: HostRuntime) -> Result<(), Fail> {
-    let mut book: Book<Fair> = Book::of_queue(rt.alloc(), 4, 1, 20).ok().ok_or("memory")?;
-    plays(&rt, &mut book, &THREE)?;
-    drains_dual(&rt, rt.alloc(), &mut book, 2, &[(4, 1, 10), (5, 2, 20)])?;
-    drains_dual(&rt, rt.alloc(), &mut book, 9, &[(6, 3, 30)])?;
-    drains_dual(&rt, rt.alloc(), &mut book, 9, &[])?;
-    assert!(rt; book.drain(rt.alloc(), seat(0)?, 9).err() == Some(Refusal::SeatOpen));
-    Ok(())
+    let rows = [(4, 1, 10), (5, 2, 20)];
+    drains::<FairLine<Entry<Parcel>>>(&rt, rt.alloc(), &rows, &[(6, 3, 30)])
 }
 
 #[test]
 fn of_an_unfair_queue(rt: HostRuntime) -> Result<(), Fail> {
-    let mut book: Book<Unfair> = Book::of_queue(rt.alloc(), 4, 1, 20).ok().ok_or("memory")?;
-    plays(&rt, &mut book, &THREE)?;
-    drains_dual(&rt, rt.alloc(), &mut book, 2, &[(4, 3, 30), (5, 2, 20)])?;
-    drains_dual(&rt, rt.alloc(), &mut book, 9, &[(6, 1, 10)])
+    let rows = [(4, 3, 30), (5, 2, 20)];
+    drains::<StackLine<Entry<Parcel>>>(&rt, rt.alloc(), &rows, &[(6, 1, 10)])
 }
 
 #[test]

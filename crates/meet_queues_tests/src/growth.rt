@@ -3,21 +3,57 @@
 
 use crate::drains::are_taken;
 use crate::parcels::{Ask, Parcel, Row, Told, seat};
-use crate::places::{Fair, Place, Unfair};
+use crate::places::{Fair, Place, Shown, Unfair};
 use meet_core::Dual;
 use meet_history::Book;
-use meet_tickets::Refusal;
+use meet_line::Line;
+use meet_tickets::{Entry, Refusal};
 use meet_transfer::Transfer;
+use std::alloc::Global;
 use std::process::Abort;
 use std::test::Fail;
 
-/// A place that is made, at the second try where there was no memory at first.
-fn twice<P, F: Fn() -> Result<P, Refusal>>(make: F) -> Result<P, Fail>
-    requires { F.IsAlwaysCallable make }
-{
-    match make() {
-        Ok(place) => Ok(place),
-        Err(_) => Ok(make().ok().ok_or("memory")?),
+/// A synchronous queue, at the second try where there was no memory at first.
+fn queue<L: Line<Entry<Parcel>>>(alloc: Global) -> Result<Dual<Parcel, L>, Fail> {
+    match Dual::new(alloc, 6, 1) {
+        Ok(queue) => Ok(queue),
+        Err(_) => Ok(Dual::new(alloc, 6, 1).ok().ok_or("memory")?),
+    }
+}
+
+/// The same of a transfer queue.
+fn transfer(alloc: Global) -> Result<Transfer<Parcel>, Fail> {
+    match Transfer::new(alloc, 6, 1) {
+        Ok(queue) => Ok(queue),
+        Err(_) => Ok(Transfer::new(alloc, 6, 1).ok().ok_or("memory")?),
+    }
+}
+
+/// The same of a transfer queue with a bound.
+fn bounded(alloc: Global) -> Result<Transfer<Parcel>, Fail> {
+    match Transfer::with_bound(alloc, 6, 1, 5) {
+        Ok(queue) => Ok(queue),
+        Err(_) => Ok(Transfer::with_bound(alloc, 6, 1, 5).ok().ok_or("memory")?),
+    }
+}
+
+/// The same of a synchronous queue's book.
+fn queue_book(alloc: Global) -> Result<Book<Fair>, Fail> {
+    match Book::of_queue(alloc, 6, 1, 40) {
+        Ok(book) => Ok(book),
+        Err(_) => Ok(Book::of_queue(alloc, 6, 1, 40).ok().ok_or("memory")?),
+    }
+}
+
+/// The same of a transfer queue's book.
+fn transfer_book(alloc: Global) -> Result<Book<Transfer<Parcel>>, Fail> {
+    match Book::of_transfer(alloc, 6, 1, None, 40) {
+        Ok(book) => Ok(book),
+        Err(_) => Ok(
+            Book::of_transfer(alloc, 6, 1, None, 40)
+                .ok()
+                .ok_or("memory")?,
+        ),
     }
 }
 
@@ -32,7 +68,7 @@ fn given(ask: Ask) -> Option<u64> {
 }
 
 /// Seats ask, one after another, once more where there was no memory, and are told this.
-fn bears<P: Place>(rt: &impl Abort, place: &mut P, rows: &[Row]) -> Result<(), Fail> {
+fn bears<P: Shown>(rt: &impl Abort, place: &mut P, rows: &[Row]) -> Result<(), Fail> {
     for (number, ask, wanted) in rows {
         let at = seat(*number)?;
         let before = place.shown();
@@ -74,30 +110,26 @@ const KEPT: [Row; 6] = [
 
 #[test]
 fn givers_that_wait(rt: HostRuntime) -> Result<(), Fail> {
-    let alloc = rt.alloc();
-    let mut queue: Fair = twice(|| Dual::new(alloc, 6, 1))?;
+    let mut queue: Fair = queue(rt.alloc())?;
     bears(&rt, &mut queue, &GIVEN)?;
     bears(&rt, &mut queue, &[(3, Ask::Take, Told::Got(6, 1, 10))])
 }
 
 #[test]
 fn takers_that_wait(rt: HostRuntime) -> Result<(), Fail> {
-    let alloc = rt.alloc();
-    let mut queue: Unfair = twice(|| Dual::new(alloc, 6, 1))?;
+    let mut queue: Unfair = queue(rt.alloc())?;
     bears(&rt, &mut queue, &TAKEN)
 }
 
 #[test]
 fn items_that_are_kept(rt: HostRuntime) -> Result<(), Fail> {
-    let alloc = rt.alloc();
-    let mut queue: Transfer<Parcel> = twice(|| Transfer::with_bound(alloc, 6, 1, 5))?;
+    let mut queue = bounded(rt.alloc())?;
     bears(&rt, &mut queue, &KEPT)
 }
 
 #[test]
 fn room_that_is_made_first(rt: HostRuntime) -> Result<(), Fail> {
-    let alloc = rt.alloc();
-    let mut queue: Transfer<Parcel> = twice(|| Transfer::new(alloc, 6, 1))?;
+    let mut queue = transfer(rt.alloc())?;
     let before = queue.shown();
     if let Err(why) = queue.reserve(6) {
         assert!(rt; why == Refusal::Memory);
@@ -113,7 +145,7 @@ fn room_that_is_made_first(rt: HostRuntime) -> Result<(), Fail> {
 #[test]
 fn a_book_of_givers_that_wait(rt: HostRuntime) -> Result<(), Fail> {
     let alloc = rt.alloc();
-    let mut book: Book<Fair> = twice(|| Book::of_queue(alloc, 6, 1, 40))?;
+    let mut book = queue_book(alloc)?;
     bears(&rt, &mut book, &GIVEN)?;
     let before = book.shown();
     let rows = [(6, 1, 10), (7, 2, 20), (8, 3, 30), (9, 4, 40), (10, 5, 50)];
@@ -130,7 +162,6 @@ fn a_book_of_givers_that_wait(rt: HostRuntime) -> Result<(), Fail> {
 
 #[test]
 fn a_book_of_items_that_are_kept(rt: HostRuntime) -> Result<(), Fail> {
-    let alloc = rt.alloc();
-    let mut book: Book<Transfer<Parcel>> = twice(|| Book::of_transfer(alloc, 6, 1, Some(5), 40))?;
+    let mut book = transfer_book(rt.alloc())?;
     bears(&rt, &mut book, &KEPT)
 }

@@ -2,11 +2,13 @@
 
 use crate::admitted::Admitted;
 use crate::parcels::{Ask, Parcel, Row, Told};
-use crate::places::{Fair, Place, Unfair, plays};
+use crate::places::{Place, plays};
 use meet_core::Dual;
 use meet_history::Book;
-use meet_tickets::Refusal;
+use meet_line::{FairLine, Line, StackLine};
+use meet_tickets::{Entry, Refusal};
 use meet_transfer::Transfer;
+use std::alloc::Global;
 use std::process::Abort;
 use std::test::Fail;
 
@@ -131,78 +133,94 @@ const REFUSED: [Row; 5] = [
     (6, Ask::Poll, Told::Refused(Refusal::NoSuchSeat, None)),
 ];
 
-/// A place of six seats hands on what is alike, and then this.
+/// A place hands on what is alike, and then this.
 fn hands_on<P: Place>(rt: &impl Abort, place: &mut P, rows: &[Row]) -> Result<(), Fail> {
-    plays(rt, place, &REFUSED)?;
     plays(rt, place, &ALIKE)?;
     plays(rt, place, rows)
 }
 
+/// A synchronous queue, called directly.
+fn meets<L: Line<Entry<Parcel>> + Drop>(
+    rt: &impl Abort,
+    alloc: Global,
+    rows: &[Row],
+) -> Result<(), Fail> {
+    let mut queue: Dual<Parcel, L> = Dual::new(alloc, 6, 1).ok().ok_or("memory")?;
+    plays(rt, &mut queue, &REFUSED)?;
+    hands_on(rt, &mut queue, rows)
+}
+
+/// A synchronous queue, called by the forms that never fail.
+fn meets_admitted<L: Line<Entry<Parcel>> + Drop>(
+    rt: &impl Abort,
+    alloc: Global,
+    rows: &[Row],
+) -> Result<(), Fail> {
+    let queue: Dual<Parcel, L> = Dual::new(alloc, 6, 1).ok().ok_or("memory")?;
+    hands_on(rt, &mut Admitted { queue }, rows)
+}
+
+/// A synchronous queue under a book.
+fn meets_in_a_book<L: Line<Entry<Parcel>> + Drop>(
+    rt: &impl Abort,
+    alloc: Global,
+    rows: &[Row],
+) -> Result<(), Fail> {
+    let mut book: Book<Dual<Parcel, L>> = Book::of_queue(alloc, 6, 1, 99).ok().ok_or("memory")?;
+    plays(rt, &mut book, &REFUSED)?;
+    hands_on(rt, &mut book, rows)
+}
+
 #[test]
 fn a_fair_queue(rt: HostRuntime) -> Result<(), Fail> {
-    let mut queue: Fair = Dual::new(rt.alloc(), 6, 1).ok().ok_or("memory")?;
-    hands_on(&rt, &mut queue, &FIRST)
+    meets::<FairLine<Entry<Parcel>>>(&rt, rt.alloc(), &FIRST)?;
+    meets_admitted::<FairLine<Entry<Parcel>>>(&rt, rt.alloc(), &FIRST)?;
+    meets_in_a_book::<FairLine<Entry<Parcel>>>(&rt, rt.alloc(), &FIRST)
 }
 
 #[test]
 fn an_unfair_queue(rt: HostRuntime) -> Result<(), Fail> {
-    let mut queue: Unfair = Dual::new(rt.alloc(), 6, 1).ok().ok_or("memory")?;
-    hands_on(&rt, &mut queue, &LAST)
+    meets::<StackLine<Entry<Parcel>>>(&rt, rt.alloc(), &LAST)?;
+    meets_admitted::<StackLine<Entry<Parcel>>>(&rt, rt.alloc(), &LAST)?;
+    meets_in_a_book::<StackLine<Entry<Parcel>>>(&rt, rt.alloc(), &LAST)
+}
+
+/// A transfer queue that keeps three parcels at most.
+fn transfer(alloc: Global) -> Result<Transfer<Parcel>, Fail> {
+    Ok(Transfer::with_bound(alloc, 6, 1, 3).ok().ok_or("memory")?)
+}
+
+/// The book of one.
+fn transfer_book(alloc: Global) -> Result<Book<Transfer<Parcel>>, Fail> {
+    Ok(
+        Book::of_transfer(alloc, 6, 1, Some(3), 99)
+            .ok()
+            .ok_or("memory")?,
+    )
+}
+
+/// It hands on what others do, and what is kept.
+fn keeps<P: Place>(rt: &impl Abort, place: &mut P) -> Result<(), Fail> {
+    hands_on(rt, place, &FIRST)?;
+    plays(rt, place, &KEPT)
 }
 
 #[test]
 fn a_transfer_queue(rt: HostRuntime) -> Result<(), Fail> {
-    let mut queue: Transfer<Parcel> = Transfer::with_bound(rt.alloc(), 6, 1, 3)
-        .ok()
-        .ok_or("memory")?;
-    hands_on(&rt, &mut queue, &FIRST)?;
-    plays(&rt, &mut queue, &KEPT)
-}
-
-#[test]
-fn a_book_of_a_fair_queue(rt: HostRuntime) -> Result<(), Fail> {
-    let mut book: Book<Fair> = Book::of_queue(rt.alloc(), 6, 1, 99).ok().ok_or("memory")?;
-    hands_on(&rt, &mut book, &FIRST)
-}
-
-#[test]
-fn a_book_of_an_unfair_queue(rt: HostRuntime) -> Result<(), Fail> {
-    let mut book: Book<Unfair> = Book::of_queue(rt.alloc(), 6, 1, 99).ok().ok_or("memory")?;
-    hands_on(&rt, &mut book, &LAST)
-}
-
-#[test]
-fn a_book_of_a_transfer_queue(rt: HostRuntime) -> Result<(), Fail> {
-    let mut book: Book<Transfer<Parcel>> = Book::of_transfer(rt.alloc(), 6, 1, Some(3), 99)
-        .ok()
-        .ok_or("memory")?;
-    hands_on(&rt, &mut book, &FIRST)?;
-    plays(&rt, &mut book, &KEPT)
-}
-
-#[test]
-fn a_fair_queue_whose_requests_are_admitted(rt: HostRuntime) -> Result<(), Fail> {
-    let queue: Fair = Dual::new(rt.alloc(), 6, 1).ok().ok_or("memory")?;
-    let mut admitted = Admitted { queue };
-    plays(&rt, &mut admitted, &ALIKE)?;
-    plays(&rt, &mut admitted, &FIRST)
-}
-
-#[test]
-fn an_unfair_queue_whose_requests_are_admitted(rt: HostRuntime) -> Result<(), Fail> {
-    let queue: Unfair = Dual::new(rt.alloc(), 6, 1).ok().ok_or("memory")?;
-    let mut admitted = Admitted { queue };
-    plays(&rt, &mut admitted, &ALIKE)?;
-    plays(&rt, &mut admitted, &LAST)
+    let mut queue = transfer(rt.alloc())?;
+    plays(&rt, &mut queue, &REFUSED)?;
+    keeps(&rt, &mut queue)
 }
 
 #[test]
 fn a_transfer_queue_whose_requests_are_admitted(rt: HostRuntime) -> Result<(), Fail> {
-    let queue: Transfer<Parcel> = Transfer::with_bound(rt.alloc(), 6, 1, 3)
-        .ok()
-        .ok_or("memory")?;
-    let mut admitted = Admitted { queue };
-    plays(&rt, &mut admitted, &ALIKE)?;
-    plays(&rt, &mut admitted, &FIRST)?;
-    plays(&rt, &mut admitted, &KEPT)
+    let queue = transfer(rt.alloc())?;
+    keeps(&rt, &mut Admitted { queue })
+}
+
+#[test]
+fn a_book_of_a_transfer_queue(rt: HostRuntime) -> Result<(), Fail> {
+    let mut book = transfer_book(rt.alloc())?;
+    plays(&rt, &mut book, &REFUSED)?;
+    keeps(&rt, &mut book)
 }

@@ -21,7 +21,7 @@ impl Marked for Parcel {
 }
 
 /// What a seat asks; a parcel by its serial number.
-#[derive(Clone, Copy, PartialEq, Eq, Debug)]
+#[derive(Clone, Copy)]
 pub enum Ask {
     Give(u64),
     Put(u64),
@@ -35,7 +35,7 @@ pub enum Ask {
 }
 
 /// What it is told: its own ticket, its partner's, and then a parcel's serial number.
-#[derive(Clone, Copy, PartialEq, Eq, Debug)]
+#[derive(Clone, Copy, PartialEq, Debug)]
 pub enum Told {
     Waits(u64),
     Kept(u64),

@@ -20,7 +20,10 @@ pub type Unfair = Dual<Parcel, StackLine<Entry<Parcel>>>;
 pub trait Place {
     /// What this seat is told.
     fn answer<A: Abort>(&mut self, rt: &A, at: SeatNo, ask: Ask) -> Result<Told, Fail>;
+}
 
+/// A place that can be looked at.
+pub trait Shown: Place {
     /// What the place shows of itself.
     fn shown(&self) -> [u64; 6];
 }
@@ -29,7 +32,7 @@ pub trait Place {
 pub fn plays<P: Place>(rt: &impl Abort, place: &mut P, rows: &[Row]) -> Result<(), Fail> {
     for (number, ask, wanted) in rows {
         let told = place.answer(rt, seat(*number)?, *ask)?;
-        assert_eq!(rt; told, *wanted, "{ask:?} of seat {number}");
+        assert_eq!(rt; told, *wanted, "seat {number}");
     }
     Ok(())
 }
@@ -58,7 +61,9 @@ impl<L: Line<Entry<Parcel>>> Place for Dual<Parcel, L> {
                 .map_or_else(refused, interrupted),
         })
     }
+}
 
+impl<L: Line<Entry<Parcel>>> Shown for Dual<Parcel, L> {
     fn shown(&self) -> [u64; 6] {
         [
             self.room(),
@@ -97,7 +102,9 @@ impl Place for Transfer<Parcel> {
                 .map_or_else(refused, interrupted),
         })
     }
+}
 
+impl Shown for Transfer<Parcel> {
     fn shown(&self) -> [u64; 6] {
         [
             self.room(),

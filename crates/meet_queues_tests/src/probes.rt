@@ -1,10 +1,9 @@
 //! What the queues show of themselves.
 
 use crate::parcels::{Ask, Parcel, Told, seat};
-use crate::places::{Fair, Unfair, plays};
+use crate::places::{Fair, plays};
 use meet_core::Dual;
-use meet_line::Line;
-use meet_tickets::{Entry, SeatNo, Ticket};
+use meet_tickets::Ticket;
 use meet_transfer::Transfer;
 use std::process::Abort;
 use std::test::Fail;
@@ -14,9 +13,11 @@ fn number(ticket: Option<Ticket>) -> Option<u64> {
     ticket.map(|ticket| ticket.number())
 }
 
-/// The open ticket of the seat, and how many there are of seats and of open tickets; how many of these wait, and how many
-/// were met or cut; how many givers stand in the line, and how many tickets are left.
-fn seen<L: Line<Entry<Parcel>>>(queue: &Dual<Parcel, L>, at: SeatNo) -> (Option<u64>, [u64; 6]) {
+const FIRST: u64 = 9223372036854775800;
+
+/// A synchronous queue shows so many of seats and of open tickets; of these so many wait, and so many were met or cut; so many
+/// givers in the line, and so many tickets that are left.
+fn counts(rt: &impl Abort, queue: &Fair, wanted: [u64; 6]) {
     queue.stays_sound();
     let numbers = [
         queue.seats(),
@@ -26,49 +27,38 @@ fn seen<L: Line<Entry<Parcel>>>(queue: &Dual<Parcel, L>, at: SeatNo) -> (Option<
         queue.givers(),
         queue.tickets_left(),
     ];
-    (number(queue.open_ticket(at)), numbers)
+    assert_eq!(rt; numbers, wanted);
 }
 
-const FIRST: u64 = 9223372036854775800;
-
-/// Two givers came, and one was met.
-fn shows<L: Line<Entry<Parcel>>>(
-    rt: &impl Abort,
-    queue: &mut Dual<Parcel, L>,
-    met: Told,
-) -> Result<(), Fail> {
-    let rows = [
-        (0, Ask::Give(10), Told::Waits(9223372036854775800)),
-        (1, Ask::Give(20), Told::Waits(9223372036854775801)),
-        (2, Ask::Poll, met),
+/// The queue's seats 0 and 2 have these open tickets.
+fn opens(rt: &impl Abort, queue: &Fair, wanted: [Option<u64>; 2]) -> Result<(), Fail> {
+    let tickets = [
+        number(queue.open_ticket(seat(0)?)),
+        number(queue.open_ticket(seat(2)?)),
     ];
-    plays(rt, queue, &rows)?;
-    assert_eq!(rt; seen(queue, seat(0)?), (Some(FIRST), [1024, 2, 1, 1, 1, 5]));
-    assert_eq!(rt; seen(queue, seat(2)?), (None, [1024, 2, 1, 1, 1, 5]));
+    assert_eq!(rt; tickets, wanted);
     Ok(())
 }
 
 #[test]
-fn of_a_fair_queue(rt: HostRuntime) -> Result<(), Fail> {
+fn of_a_synchronous_queue(rt: HostRuntime) -> Result<(), Fail> {
     let mut queue: Fair = Dual::new(rt.alloc(), 1024, FIRST).ok().ok_or("memory")?;
-    shows(&rt, &mut queue, Told::Got(9223372036854775802, FIRST, 10))
+    // Two givers come, and one is met.
+    let rows = [
+        (0, Ask::Give(10), Told::Waits(9223372036854775800)),
+        (1, Ask::Give(20), Told::Waits(9223372036854775801)),
+        (2, Ask::Poll, Told::Got(9223372036854775802, FIRST, 10)),
+    ];
+    plays(&rt, &mut queue, &rows)?;
+    counts(&rt, &queue, [1024, 2, 1, 1, 1, 5]);
+    opens(&rt, &queue, [Some(FIRST), None])
 }
 
-#[test]
-fn of_an_unfair_queue(rt: HostRuntime) -> Result<(), Fail> {
-    let mut queue: Unfair = Dual::new(rt.alloc(), 1024, FIRST).ok().ok_or("memory")?;
-    shows(
-        &rt,
-        &mut queue,
-        Told::Got(9223372036854775802, 9223372036854775801, 20),
-    )
-}
-
-/// How many there are of seats and of open tickets; how many of these wait, and how many were met or cut; how many items are
-/// kept, how many givers stand in the line, and how many takers; how many tickets are left.
-fn counted(queue: &Transfer<Parcel>) -> [u64; 8] {
+/// A transfer queue shows so many of seats and of open tickets; of these so many wait, and so many were met or cut; so many
+/// items are kept, so many givers and so many takers stand in the line, and so many tickets are left.
+fn counts_kept(rt: &impl Abort, queue: &Transfer<Parcel>, wanted: [u64; 8]) {
     queue.stays_sound();
-    [
+    let numbers = [
         queue.seats(),
         queue.owed(),
         queue.waiting(),
@@ -77,17 +67,36 @@ fn counted(queue: &Transfer<Parcel>) -> [u64; 8] {
         queue.size(),
         queue.waiting_consumers(),
         queue.tickets_left(),
-    ]
+    ];
+    assert_eq!(rt; numbers, wanted);
 }
 
-/// The mark of the first item, and whether a taker waits; the capacity, and the bound.
-fn looked_at(queue: &Transfer<Parcel>) -> (Option<u64>, bool, u64, Option<u64>) {
-    (
-        queue.peek_mark(),
-        queue.has_waiting_consumer(),
-        queue.remaining_capacity(),
-        queue.bound(),
-    )
+/// The first item has this mark, a taker waits or doesn't, and so many items may be kept.
+fn looks(
+    rt: &impl Abort,
+    queue: &Transfer<Parcel>,
+    mark: Option<u64>,
+    taker: bool,
+    bound: Option<u64>,
+) {
+    assert_eq!(rt; queue.peek_mark(), mark);
+    assert_eq!(rt; queue.has_waiting_consumer(), taker);
+    assert_eq!(rt; queue.remaining_capacity(), 2147483647);
+    assert_eq!(rt; queue.bound(), bound);
+}
+
+/// The transfer queue's seats 0 and 1 have these open tickets.
+fn opens_kept(
+    rt: &impl Abort,
+    queue: &Transfer<Parcel>,
+    wanted: [Option<u64>; 2],
+) -> Result<(), Fail> {
+    let tickets = [
+        number(queue.open_ticket(seat(0)?)),
+        number(queue.open_ticket(seat(1)?)),
+    ];
+    assert_eq!(rt; tickets, wanted);
+    Ok(())
 }
 
 #[test]
@@ -99,14 +108,9 @@ fn of_a_transfer_queue(rt: HostRuntime) -> Result<(), Fail> {
         (2, Ask::Put(30), Told::Kept(9223372036854775802)),
     ];
     plays(&rt, &mut queue, &rows)?;
-    assert_eq!(rt; counted(&queue), [1024, 1, 1, 0, 2, 3, 0, 5]);
-    assert_eq!(rt; looked_at(&queue), (Some(7), false, 2147483647, None));
-    assert_eq!(rt;
-        number(queue.open_ticket(seat(1)?)),
-        Some(9223372036854775801)
-    );
-    assert_eq!(rt; number(queue.open_ticket(seat(0)?)), None);
-    Ok(())
+    counts_kept(&rt, &queue, [1024, 1, 1, 0, 2, 3, 0, 5]);
+    looks(&rt, &queue, Some(7), false, None);
+    opens_kept(&rt, &queue, [None, Some(9223372036854775801)])
 }
 
 #[test]
@@ -115,7 +119,7 @@ fn of_a_transfer_queue_with_a_bound(rt: HostRuntime) -> Result<(), Fail> {
         .ok()
         .ok_or("memory")?;
     plays(&rt, &mut queue, &[(1, Ask::Take, Told::Waits(1))])?;
-    assert_eq!(rt; counted(&queue), [2, 1, 1, 0, 0, 0, 1, 9223372036854775806]);
-    assert_eq!(rt; looked_at(&queue), (None, true, 2147483647, Some(4)));
+    counts_kept(&rt, &queue, [2, 1, 1, 0, 0, 0, 1, 9223372036854775806]);
+    looks(&rt, &queue, None, true, Some(4));
     Ok(())
 }

@@ -2,39 +2,40 @@
 
 use crate::answers::queue;
 use crate::parcels::{Ask, Parcel, Told, seat};
-use crate::places::{Fair, Place, Unfair};
+use crate::places::{Place, plays};
 use meet_core::Dual;
-use meet_history::{Book, CheckFault, Standing, check};
-use meet_line::Line;
-use meet_tickets::{Entry, Kind, Order, Refusal};
+use meet_history::{Book, Standing, check};
+use meet_line::{FairLine, Line, StackLine};
+use meet_tickets::{Deed, Entry, Kind, Order, Record, Refusal};
 use meet_transfer::Transfer;
 use std::alloc::Global;
 use std::process::Abort;
 use std::test::Fail;
 
-/// There is room for a hundred thousand requests, and a request uses one.
-fn has_room<L: Line<Entry<Parcel>>>(
-    rt: &impl Abort,
-    queue: &mut Dual<Parcel, L>,
-) -> Result<(), Fail> {
-    assert!(rt; queue.reserve(100_000).is_ok());
-    let room = queue.room();
-    assert!(rt; room >= 100_000);
-    assert_eq!(rt; queue.answer(rt, seat(0)?, Ask::Give(10))?, Told::Waits(1));
-    assert_eq!(rt; queue.room().wrapping_add(1), room);
-    Ok(())
+/// The room of a synchronous queue, once there is some for a hundred thousand requests.
+fn room_of<L: Line<Entry<Parcel>> + Drop>(alloc: Global) -> Option<u64> {
+    let mut queue: Dual<Parcel, L> = Dual::new(alloc, 1, 1).ok()?;
+    queue.reserve(100_000).ok()?;
+    Some(queue.room())
+}
+
+/// The same of a transfer queue.
+fn room_of_transfer(alloc: Global) -> Option<u64> {
+    let mut queue: Transfer<Parcel> = Transfer::new(alloc, 1, 1).ok()?;
+    queue.reserve(100_000).ok()?;
+    Some(queue.room())
 }
 
 #[test]
-fn much_room(rt: HostRuntime) -> Result<(), Fail> {
-    let mut queue: Fair = Dual::new(rt.alloc(), 1, 1).ok().ok_or("memory")?;
-    has_room(&rt, &mut queue)?;
-    let mut queue: Unfair = Dual::new(rt.alloc(), 1, 1).ok().ok_or("memory")?;
-    has_room(&rt, &mut queue)?;
-    let mut queue: Transfer<Parcel> = Transfer::new(rt.alloc(), 1, 1).ok().ok_or("memory")?;
-    assert!(rt; queue.reserve(100_000).is_ok());
-    assert!(rt; queue.room() >= 100_000);
-    Ok(())
+fn much_room(rt: HostRuntime) {
+    let rooms = [
+        room_of::<FairLine<Entry<Parcel>>>(rt.alloc()),
+        room_of::<StackLine<Entry<Parcel>>>(rt.alloc()),
+        room_of_transfer(rt.alloc()),
+    ];
+    for room in rooms {
+        assert!(rt; room >= Some(100_000));
+    }
 }
 
 /// So many parcels are kept, and then drained at once.
@@ -72,18 +73,17 @@ fn polls(rt: &impl Abort, book: &mut Book<Transfer<Parcel>>, count: u64) -> Resu
     Ok(())
 }
 
-/// The longest history: a request needs a place for its own record and one for the ending that it may owe.
-#[test]
-fn a_long_history(rt: HostRuntime) -> Result<(), Fail> {
-    let alloc = rt.alloc();
-    let mut book: Book<Transfer<Parcel>> = Book::of_transfer(alloc, 2, 1, None, 1_048_576)
-        .ok()
-        .ok_or("memory")?;
-    keeps(&rt, alloc, &mut book, 20_000)?;
-    polls(&rt, &mut book, 1_008_575)?;
-    let full = Told::Refused(Refusal::HistoryFull, None);
-    assert_eq!(rt; book.answer(&rt, seat(1)?, Ask::Poll)?, full);
-    assert_eq!(rt; book.records().len(), 1_048_575);
+/// A book that may have the most records.
+fn longest(alloc: Global) -> Result<Book<Transfer<Parcel>>, Fail> {
+    Ok(
+        Book::of_transfer(alloc, 2, 1, None, 1_048_576)
+            .ok()
+            .ok_or("memory")?,
+    )
+}
+
+/// The records are legal, and leave nobody and nothing there.
+fn is_legal(rt: &impl Abort, alloc: Global, records: &[Record<Deed>]) {
     let kind = Kind {
         order: Order::Transfer,
         bound: None,
@@ -93,7 +93,18 @@ fn a_long_history(rt: HostRuntime) -> Result<(), Fail> {
         uncollected: 0,
         kept: 0,
     };
-    let found: Result<Standing, CheckFault> = check(alloc, kind, book.records());
-    assert!(rt; found == Ok(standing));
+    assert!(rt; check(alloc, kind, records) == Ok(standing));
+}
+
+/// A request needs a place for its own record and one for the ending that it may owe: so one place stays free.
+#[test]
+fn a_long_history(rt: HostRuntime) -> Result<(), Fail> {
+    let mut book = longest(rt.alloc())?;
+    keeps(&rt, rt.alloc(), &mut book, 20_000)?;
+    polls(&rt, &mut book, 1_008_575)?;
+    let full = Told::Refused(Refusal::HistoryFull, None);
+    plays(&rt, &mut book, &[(1, Ask::Poll, full)])?;
+    assert_eq!(rt; book.records().len(), 1_048_575);
+    is_legal(&rt, rt.alloc(), book.records());
     Ok(())
 }
