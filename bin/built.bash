@@ -27,10 +27,9 @@ program_of() {
     echo "$top/crates/$1/out/$1"
 }
 
-# Whether a crate's program is there, and newer than all that it is made of.
+# Whether this program of a crate is there, its own where none is named, and newer than all that it is made of.
 is_built() {
-    local program crate folders=()
-    program=$(program_of "$1")
+    local program=${2:-$(program_of "$1")} crate folders=()
     [ -x "$program" ] || return
     for crate in $(stack_of "$1"); do
         folders+=("$top/crates/$crate/src" "$top/crates/$crate/specs" "$top/crates/$crate/proofs")
