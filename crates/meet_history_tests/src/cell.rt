@@ -11,7 +11,7 @@ use meet_tickets::{Record, Refusal, SeatNo, Ticket};
 use std::test::Fail;
 
 /// What a seat asks.
-#[derive(Clone, Copy, PartialEq, Eq, Debug)]
+#[derive(Clone, Copy, PartialEq)]
 pub enum Call {
     /// Puts so many tokens in.
     Put(u64),
@@ -22,7 +22,7 @@ pub enum Call {
 }
 
 /// What a record says.
-#[derive(Clone, Copy, PartialEq, Eq, Debug)]
+#[derive(Clone, Copy, PartialEq, Debug)]
 pub enum Deed {
     Put(u64),
     Took,
@@ -32,14 +32,14 @@ pub enum Deed {
 }
 
 /// What a call did, by its ticket.
-#[derive(Clone, Copy, PartialEq, Eq, Debug)]
+#[derive(Clone, Copy)]
 pub struct Made {
     pub ticket: Ticket,
     pub deed: Deed,
 }
 
 /// The seat that waits, and its ticket.
-#[derive(Clone, Copy, PartialEq, Eq, Debug)]
+#[derive(Clone, Copy)]
 pub struct Wait {
     pub seat: SeatNo,
     pub ticket: Ticket,

@@ -7,7 +7,7 @@ use std::alloc::Global;
 use std::io::{Read, Write};
 
 /// What is done with a text.
-#[derive(Clone, Copy, PartialEq, Eq, Debug)]
+#[derive(Clone, Copy, Debug)]
 pub enum Task {
     Run,
     Trace,
