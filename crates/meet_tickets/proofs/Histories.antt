@@ -26,7 +26,7 @@ pub seen_is : (s : State) (m : Moment) (a : Alike s m) → seen (told_by s m a) 
 seen_is s m a = λ i. record { last = a.agrees.last i; seats = record { line = a.agrees.line i; holds = m.seats.holds; flags = m.seats.flags } }
 
 -- one record is told alike
-follows_at : (k : Kind) (s : State) (m : Moment) → Alike s m → (r : Record Deed) → Follows k s m r.seat r.ticket r.deed
+pub follows_at : (k : Kind) (s : State) (m : Moment) → Alike s m → (r : Record Deed) → Follows k s m r.seat r.ticket r.deed
 follows_at k s m a r = subst (λ n. Follows k s n r.seat r.ticket r.deed) (seen_is s m a) (follows (told_by s m a) k r.seat r.ticket r.deed)
 
 -- what one record leaves is alike
@@ -35,7 +35,7 @@ pub alike_after : (k : Kind) (s : State) (m : Moment) → Alike s m → (r : Rec
 alike_after k s m a r z = let f = follows_at k s m a r in record { reached = f.reached z; agrees = f.agrees z }
 
 -- the same histories are legal
-legal_from : (k : Kind) (history : List (Record Deed)) (s : State) (m : Moment) → Alike s m →
+pub legal_from : (k : Kind) (history : List (Record Deed)) (s : State) (m : Moment) → Alike s m →
     IsLegalFrom k s history ↔ IsLegalBySeatFrom k m history
 legal_from k [] s m a = (λ z. z, λ z. z)
 legal_from k (r ∷ history) s m a =

@@ -32,13 +32,13 @@ use Rattle.meet_tickets.proofs.Fated.{Fated, Joining, Gives, Keeps, Takes, deed_
 use Rattle.meet_tickets.proofs.Turns.{asks, keeps, waits_there, leaves_seat, leaves_kept, ends}
 
 -- a request adds its ticket
-tickets_more : (history : List (Record Deed)) (r : Record Deed) → is_request r.deed ≡ true → tickets_of (history ++ r ∷ []) ≡ tickets_of history ++ r.ticket ∷ []
+pub tickets_more : (history : List (Record Deed)) (r : Record Deed) → is_request r.deed ≡ true → tickets_of (history ++ r ∷ []) ≡ tickets_of history ++ r.ticket ∷ []
 tickets_more history r request =
     ap (map (λ q. q.ticket)) (filter-append (λ q. is_request q.deed) history (r ∷ []) ∙ ap (λ b. filter (λ q. is_request q.deed) history ++ cond b (r ∷ []) []) request)
     ∙ map-append (λ q. q.ticket) (filter (λ q. is_request q.deed) history) (r ∷ [])
 
 -- no other deed does
-tickets_same : (history : List (Record Deed)) (r : Record Deed) → is_request r.deed ≡ false → tickets_of (history ++ r ∷ []) ≡ tickets_of history
+pub tickets_same : (history : List (Record Deed)) (r : Record Deed) → is_request r.deed ≡ false → tickets_of (history ++ r ∷ []) ≡ tickets_of history
 tickets_same history r other =
     ap (map (λ q. q.ticket)) (filter-append (λ q. is_request q.deed) history (r ∷ []) ∙ ap (λ b. filter (λ q. is_request q.deed) history ++ cond b (r ∷ []) []) other ∙ append-nil (filter (λ q. is_request q.deed) history))
 
@@ -93,7 +93,7 @@ module _ {s : State} (told : Told s) (k : Kind) (history : List (Record Deed)) (
       Fated (says i t d) (tickets_of (history ++ recorded i t d ∷ [])) t s.line told.held bound
   fails_goes i t d above request none adds light =
       subst (λ ts. Fated (says i t d) ts t s.line told.held bound) (sym (tickets_more history (recorded i t d) request))
-      (asks fated (says i t d) t (says_others i t d none) d above (says_own i t d blank (fated.low t above) none ∙ adds) light)
+      (asks fated (says i t d) t (says_others i t d none) (only_asked d) refl t (omega arith) (omega arith) (fated.low t above) (says_own i t d blank (fated.low t above) none ∙ adds) light)
 
   -- a request that waits
   waits_goes : (i t : ℕ) (j : Joining) (item : Option ℕ) → s.last < t → i < bound → told.held i ≡ Free → waits_of j ≡ true → is_request (deed_of j) ≡ true → named_by (deed_of j) ≡ None →
@@ -102,14 +102,14 @@ module _ {s : State} (told : Told s) (k : Kind) (history : List (Record Deed)) (
   waits_goes i t j item above below free waits request none adds =
       let e : Entry ℕ = record { ticket = t; seat = i; item = item; waits = true } in
       subst (λ ts. Fated (says i t (deed_of j)) ts t (s.line ++ e ∷ []) (put_at told.held i (Waiting t)) bound) (sym (tickets_more history (recorded i t (deed_of j)) request))
-      (waits_there fated (says i t (deed_of j)) t (says_others i t (deed_of j) none) (deed_of j) above (says_own i t (deed_of j) blank (fated.low t above) none ∙ adds) j e refl refl waits i below free)
+      (waits_there fated (says i t (deed_of j)) t (says_others i t (deed_of j) none) (only_asked (deed_of j)) refl t (omega arith) (omega arith) (fated.low t above) (says_own i t (deed_of j) blank (fated.low t above) none ∙ adds) j e refl refl waits i below free)
 
   -- an item is kept
   kept_goes : (i t m : ℕ) → s.last < t → Goes i t (GiveKept m)
   kept_goes i t m above =
       let e : Entry ℕ = record { ticket = t; seat = i; item = Some m; waits = false } in
       subst (λ ts. Fated (says i t (GiveKept m)) ts t (s.line ++ e ∷ []) told.held bound) (sym (tickets_more history (recorded i t (GiveKept m)) refl))
-      (keeps fated (says i t (GiveKept m)) t (says_others i t (GiveKept m) refl) (GiveKept m) above (says_own i t (GiveKept m) blank (fated.low t above) refl) (Keeps m) e refl refl refl)
+      (keeps fated (says i t (GiveKept m)) t (says_others i t (GiveKept m) refl) (only_asked (GiveKept m)) refl t (omega arith) (omega arith) (fated.low t above) (says_own i t (GiveKept m) blank (fated.low t above) refl) (Keeps m) e refl refl refl)
 
   -- the seat of an open ticket in the line waits, and so does its entry
   line_waits : (i t : ℕ) → IsOpen s i t → (m : IsInLine s t) → (told.held i ≡ Waiting t) × (m.0.waits ≡ true)
@@ -165,7 +165,7 @@ module _ {s : State} (told : Told s) (k : Kind) (history : List (Record Deed)) (
   meets_goes i t u d side own other x above found request named adds tells light holds shape weighs =
       subst (λ h. Fated (says i t d) (tickets_of (history ++ recorded i t d ∷ [])) t (without u s.line) h bound) (sym held_then)
       (subst (λ ts. Fated (says i t d) ts t (without u s.line) (if e.waits then put_at told.held e.seat x else told.held) bound) (sym (tickets_more history (recorded i t d) request))
-      (asks (met_leaves u t e there found.2 is x shape weighs) (says i t d) t others d above own_says light))
+      (asks (met_leaves u t e there found.2 is x shape weighs) (says i t d) t others (only_asked d) refl t (omega arith) (omega arith) (unmet_yet (fated.low t above)) own_says light))
     where
       e : Entry ℕ
       e = found.0
@@ -186,6 +186,10 @@ module _ {s : State} (told : Told s) (k : Kind) (history : List (Record Deed)) (
 
       unnamed : (y : ℕ) → y ≢ u → meets_it y (recorded i t d) ≡ false
       unnamed y n = ap (λ o. option_map_or (λ v. v == y) o false) named ∙ ne_eqb u y (λ same. n (sym same))
+
+      -- what meets it says nothing of the request
+      unmet_yet : said history t ≡ blank → meeting u t is.0 t ≡ blank
+      unmet_yet low = put_at_there (said history) u (only_met is.0 t) t apart ∙ low
 
       own_says : says i t d t ≡ only_asked d
       own_says = said_of_own history (recorded i t d) blank (fated.low t above) (unnamed t apart) ∙ adds

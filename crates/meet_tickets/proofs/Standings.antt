@@ -9,7 +9,7 @@ use Rattle.meet_tickets.specs.declared.places.Kind.{Kind}
 use Rattle.meet_tickets.specs.declared.records.Record.{Record}
 use Rattle.meet_tickets.specs.declared.records.Deed.{Deed}
 use Rattle.meet_tickets.specs.declared.fates.Fate.{Fate}
-use Rattle.meet_tickets.specs.declared.fates.Fate.TheVariants.{Never, Failed, EntryRefused, Paired, Collected, Withdrawn, Kept, Cut as CutOff, Waiting as StillWaiting}
+use Rattle.meet_tickets.specs.declared.fates.Fate.TheVariants.{Never, Failed, EntryRefused, Paired, Collected, Withdrawn, Kept, Cut as CutOff, Waiting as StillWaiting, Past}
 use Rattle.meet_tickets.specs.Meeting.{waiting_count, kept_count}
 use Rattle.meet_tickets.specs.ByLists.{State, empty, IsLegal, IsLegalFrom, IsStep, after, run}
 use Rattle.meet_tickets.specs.BySeat.{Moment, beginning, is_settled, settled_of, moment_after, moment_of}
@@ -27,22 +27,22 @@ AreBelow bound [] = Unit {0}
 AreBelow bound (r ∷ history) = (r.seat < bound) × AreBelow bound history
 
 -- such a bound
-abbrev bound_of : List (Record Deed) → ℕ
+abbrev pub bound_of : List (Record Deed) → ℕ
 bound_of [] = 0
 bound_of (r ∷ history) = suc r.seat + bound_of history
 
 -- a greater bound is one too
-below_more : (bound more : ℕ) (history : List (Record Deed)) → bound ≤ more → AreBelow bound history → AreBelow more history
+pub below_more : (bound more : ℕ) (history : List (Record Deed)) → bound ≤ more → AreBelow bound history → AreBelow more history
 below_more bound more [] less below = tt
 below_more bound more (r ∷ history) less below = (let here = below.0 in omega arith, below_more bound more history less below.1)
 
 -- it is one
-bound_is : (history : List (Record Deed)) → AreBelow (bound_of history) history
+pub bound_is : (history : List (Record Deed)) → AreBelow (bound_of history) history
 bound_is [] = tt
 bound_is (r ∷ history) = (omega arith, below_more (bound_of history) (suc r.seat + bound_of history) history (omega arith) (bound_is history))
 
 -- what the records say fits a state and a moment
-abbrev AreTold : List (Record Deed) → State → Moment → ℕ → Type 0
+abbrev pub AreTold : List (Record Deed) → State → Moment → ℕ → Type 0
 AreTold history s m bound = Fated (said history) (tickets_of history) s.last s.line m.seats.holds bound
 
 -- so it does after one record more
@@ -53,7 +53,7 @@ fits_after k history s m bound a r below z fits =
     (goes (told_by s m a) k history bound fits r.seat r.ticket r.deed below z)
 
 -- and after all that follow
-fits_all : (k : Kind) (rest history : List (Record Deed)) (s : State) (m : Moment) (bound : ℕ) → Alike s m → AreBelow bound rest → IsLegalFrom k s rest → AreTold history s m bound →
+pub fits_all : (k : Kind) (rest history : List (Record Deed)) (s : State) (m : Moment) (bound : ℕ) → Alike s m → AreBelow bound rest → IsLegalFrom k s rest → AreTold history s m bound →
     AreTold (history ++ rest) (run s rest) (moment_of k m rest) bound
 fits_all k [] history s m bound a below z fits = subst (λ h. AreTold h s m bound) (sym (append-nil history)) fits
 fits_all k (r ∷ rest) history s m bound a below z fits =
@@ -62,7 +62,7 @@ fits_all k (r ∷ rest) history s m bound a below z fits =
     (fits_after k history s m bound a r below.0 z.0 fits))
 
 -- at the beginning nothing weighs anything
-none_weighs : (w k s : Bool) (bound : ℕ) → tickets_weigh w k s (said []) [] ≡ line_weighs w k [] + seats_weigh s (λ i. Free) bound
+pub none_weighs : (w k s : Bool) (bound : ℕ) → tickets_weigh w k s (said []) [] ≡ line_weighs w k [] + seats_weigh s (λ i. Free) bound
 none_weighs w k s bound = let none = count-none (range_with_len 0 bound) in omega (arith, none)
 
 -- so it does at the beginning
@@ -93,6 +93,7 @@ waits_alone b (Collected u) = refl
 waits_alone b (Withdrawn cause) = refl
 waits_alone b Kept = refl
 waits_alone b StillWaiting = refl
+waits_alone b Past = refl
 
 -- where only kept items do
 kept_alone : (b : Bool) (x : Fate) → is_kept x ≡ weight_of false true (b && false) x
@@ -107,6 +108,7 @@ kept_alone b (Collected u) = refl
 kept_alone b (Withdrawn cause) = refl
 kept_alone b Kept = refl
 kept_alone b StillWaiting = refl
+kept_alone b Past = refl
 
 -- where only what isn't learned does
 unlearned_alone : (b : Bool) (x : Fate) → (b && is_unlearned x) ≡ weight_of false false (b && true) x
@@ -119,6 +121,7 @@ unlearned_alone true (Withdrawn cause) = refl
 unlearned_alone true CutOff = refl
 unlearned_alone true Kept = refl
 unlearned_alone true StillWaiting = refl
+unlearned_alone true Past = refl
 unlearned_alone false Never = refl
 unlearned_alone false Failed = refl
 unlearned_alone false EntryRefused = refl
@@ -128,6 +131,7 @@ unlearned_alone false (Withdrawn cause) = refl
 unlearned_alone false CutOff = refl
 unlearned_alone false Kept = refl
 unlearned_alone false StillWaiting = refl
+unlearned_alone false Past = refl
 
 -- an entry weighs where it waits
 entry_waits : (b : Bool) → cond b true false ≡ b
@@ -168,44 +172,44 @@ pub record StandsAs (k : Kind) (history : List (Record Deed)) (seats : ℕ) : Ty
 
 module _ (history : List (Record Deed)) where
   -- the tickets that wait
-  waiting_weighs : waiting_in history ≡ tickets_weigh true false false (said history) (tickets_of history)
+  pub waiting_weighs : waiting_in history ≡ tickets_weigh true false false (said history) (tickets_of history)
   waiting_weighs = count-same (λ t. is_waiting (fate history t)) (λ t. weight true false false (said history t))
       (λ t. ap is_waiting (fate_is history t) ∙ waits_alone (waited_of (said history t)) (fate_of (said history t))) (tickets_of history)
 
   -- those whose items are kept
-  kept_weighs : kept_in history ≡ tickets_weigh false true false (said history) (tickets_of history)
+  pub kept_weighs : kept_in history ≡ tickets_weigh false true false (said history) (tickets_of history)
   kept_weighs = count-same (λ t. is_kept (fate history t)) (λ t. weight false true false (said history t))
       (λ t. ap is_kept (fate_is history t) ∙ kept_alone (waited_of (said history t)) (fate_of (said history t))) (tickets_of history)
 
   -- those that aren't collected
-  uncollected_weighs : uncollected_in history ≡ tickets_weigh false false true (said history) (tickets_of history)
+  pub uncollected_weighs : uncollected_in history ≡ tickets_weigh false false true (said history) (tickets_of history)
   uncollected_weighs = count-same (λ t. has_waited history t && is_unlearned (fate history t)) (λ t. weight false false true (said history t))
       (λ t. ap (λ x. has_waited history t && is_unlearned x) (fate_is history t) ∙ unlearned_alone (waited_of (said history t)) (fate_of (said history t))) (tickets_of history)
 
 module _ (line : List (Entry ℕ)) where
   -- the entries that wait
-  line_waiting : line_weighs true false line ≡ waiting_count line
+  pub line_waiting : line_weighs true false line ≡ waiting_count line
   line_waiting = count-same (entry_weight true false) (λ e. e.waits) (λ e. entry_waits e.waits) line
 
   -- the items that are kept
-  line_kept : line_weighs false true line ≡ kept_count line
+  pub line_kept : line_weighs false true line ≡ kept_count line
   line_kept = count-same (entry_weight false true) (λ e. not e.waits) (λ e. entry_kept e.waits) line
 
   -- entries that weigh nothing
-  line_none : line_weighs false false line ≡ 0
+  pub line_none : line_weighs false false line ≡ 0
   line_none = count-same (entry_weight false false) (λ e. false) (λ e. entry_none e.waits) line ∙ count-none line
 
 module _ (holds : ℕ → Hold ℕ) (bound : ℕ) where
   -- seats that weigh nothing
-  seats_none : seats_weigh false holds bound ≡ 0
+  pub seats_none : seats_weigh false holds bound ≡ 0
   seats_none = count-same (λ i. hold_weight false (holds i)) (λ i. false) (λ i. hold_none (holds i)) (range_with_len 0 bound) ∙ count-none (range_with_len 0 bound)
 
   -- the seats whose tickets are settled
-  seats_settled : seats_weigh true holds bound ≡ settled_of bound holds
+  pub seats_settled : seats_weigh true holds bound ≡ settled_of bound holds
   seats_settled = count-same (λ i. hold_weight true (holds i)) (λ i. is_settled (holds i)) (λ i. hold_settled (holds i)) (range_with_len 0 bound)
 
   -- seats that are free add nothing
-  settled_first : (seats : ℕ) → seats ≤ bound → ((i : ℕ) → seats ≤ i → holds i ≡ Free) → settled_of bound holds ≡ settled_of seats holds
+  pub settled_first : (seats : ℕ) → seats ≤ bound → ((i : ℕ) → seats ≤ i → holds i ≡ Free) → settled_of bound holds ≡ settled_of seats holds
   settled_first seats less free = count_longer (λ i. is_settled (holds i)) 0 seats bound less (λ i over. ap is_settled (free i (omega arith)))
 
 -- the numbers of waiting, uncollected and kept tickets are read from the records alone

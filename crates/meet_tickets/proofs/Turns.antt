@@ -5,7 +5,6 @@ use Rattle.std.proofs.lemmas.List.Elements.{Contains-push_cases}
 use Rattle.meet_tickets.specs.declared.lines.Entry.{Entry}
 use Rattle.meet_tickets.specs.declared.lines.Hold.{Hold}
 use Rattle.meet_tickets.specs.declared.lines.Hold.TheVariants.{Free, Waiting}
-use Rattle.meet_tickets.specs.declared.records.Deed.{Deed}
 use Rattle.meet_tickets.specs.ByLists.{without}
 use Rattle.meet_tickets.specs.BySeat.{put_at, open_ticket}
 use Rattle.meet_tickets.proofs.Members.{IsDistinct}
@@ -28,10 +27,7 @@ module _ {f : ℕ → Said} {tickets : List ℕ} {last : ℕ} {line : List (Entr
     lined_same : (line' : List (Entry ℕ)) → ((e : Entry ℕ) → Contains line' e → Contains line e × (e.ticket ≢ t)) → (e : Entry ℕ) → Contains line' e → IsLined e.waits (f' e.ticket)
     lined_same line' less e m = subst (IsLined e.waits) (sym (others e.ticket (less e m).1)) (fated.lined e (less e m).0)
 
-    module _ (d : Deed) (new : last < t) (says : f' t ≡ only_asked d) where
-      unsaid : f t ≡ blank
-      unsaid = fated.low t new
-
+    module _ (y : Said) (asking : is_some y.asked ≡ true) (newest : ℕ) (later : last ≤ newest) (under : t ≤ newest) (unsaid : f t ≡ blank) (says : f' t ≡ y) where
       -- the tickets of a new request
       asked_once : (x : ℕ) → times x (tickets ++ t ∷ []) ≡ one (is_some (f' x).asked)
       asked_once x = ⊎_elim at away (cases_eq x t)
@@ -43,7 +39,7 @@ module _ {f : ℕ → Said} {tickets : List ℕ} {last : ℕ} {line : List (Entr
           at e =
               let here : ◌≡◌ {A = ℕ} (one (t == x)) 1 = ap one (eq-eqb t x (sym e)) in
               let before : times x tickets ≡ 0 = fated.once x ∙ ap (λ y. one (is_some y.asked)) (ap f e ∙ unsaid) in
-              let after : ◌≡◌ {A = ℕ} (one (is_some (f' x).asked)) 1 = ap (λ y. one (is_some y.asked)) (ap f' e ∙ says) in
+              let after : ◌≡◌ {A = ℕ} (one (is_some (f' x).asked)) 1 = ap (λ z. one (is_some z.asked)) (ap f' e ∙ says) ∙ ap one asking in
               omega (arith, push, here, before, after)
 
           away : x ≢ t → times x (tickets ++ t ∷ []) ≡ one (is_some (f' x).asked)
@@ -54,16 +50,16 @@ module _ {f : ℕ → Said} {tickets : List ℕ} {last : ℕ} {line : List (Entr
               omega (arith, push, here, before, after)
 
       -- what the tickets weigh then
-      asked_weigh : (w k s : Bool) → tickets_weigh w k s f' (tickets ++ t ∷ []) ≡ tickets_weigh w k s f tickets + one (weight w k s (only_asked d))
+      asked_weigh : (w k s : Bool) → tickets_weigh w k s f' (tickets ++ t ∷ []) ≡ tickets_weigh w k s f tickets + one (weight w k s y)
       asked_weigh w k s =
           let push = count-push (λ x. weight w k s (f' x)) tickets t in
           let none : times t tickets ≡ 0 = fated.once t ∙ ap (λ y. one (is_some y.asked)) unsaid in
           let same : tickets_weigh w k s f' tickets ≡ tickets_weigh w k s f tickets = count_apart (λ x. weight w k s (f' x)) (λ x. weight w k s (f x)) t (λ x n. ap (weight w k s) (others x n)) tickets none in
-          let here : ◌≡◌ {A = ℕ} (one (weight w k s (f' t))) (one (weight w k s (only_asked d))) = ap (λ y. one (weight w k s y)) says in
+          let here : ◌≡◌ {A = ℕ} (one (weight w k s (f' t))) (one (weight w k s y)) = ap (λ z. one (weight w k s z)) says in
           omega (arith, push, same, here)
 
       -- of later tickets nothing is said
-      asked_low : (x : ℕ) → t < x → f' x ≡ blank
+      asked_low : (x : ℕ) → newest < x → f' x ≡ blank
       asked_low x over = others x (λ e. omega arith) ∙ fated.low x (omega arith)
 
       -- of what the seats hold no more is said
@@ -71,7 +67,7 @@ module _ {f : ℕ → Said} {tickets : List ℕ} {last : ℕ} {line : List (Entr
       asked_held hold h = held_apart f f' t others hold (blank_unmet (f t) unsaid) (blank_uncut (f t) unsaid) h
 
       -- a request that doesn't join the line
-      pub asks : ((w k s : Bool) → weight w k s (only_asked d) ≡ false) → Fated f' (tickets ++ t ∷ []) t line holds bound
+      pub asks : ((w k s : Bool) → weight w k s y ≡ false) → Fated f' (tickets ++ t ∷ []) newest line holds bound
       asks light = record {
         low = asked_low;
         once = asked_once;
@@ -80,21 +76,39 @@ module _ {f : ℕ → Said} {tickets : List ℕ} {last : ℕ} {line : List (Entr
         free = fated.free;
         weighs = λ w k s. (
             let more = asked_weigh w k s in
-            let none : ◌≡◌ {A = ℕ} (one (weight w k s (only_asked d))) 0 = ap one (light w k s) in
+            let none : ◌≡◌ {A = ℕ} (one (weight w k s y)) 0 = ap one (light w k s) in
             let before = fated.weighs w k s in
             omega (arith, more, none, before)
             );
       }
 
-      module _ (j : Joining) (e : Entry ℕ) (is : d ≡ deed_of j) (ticket : e.ticket ≡ t) (waits : waits_of j ≡ e.waits) where
+      -- a request that doesn't join the line, and whose seat holds something
+      pub sits : (i : ℕ) (x : Hold ℕ) → i < bound → holds i ≡ Free → IsHeld f' x → ((w k s : Bool) → weight w k s y ≡ hold_weight s x) → Fated f' (tickets ++ t ∷ []) newest line (put_at holds i x) bound
+      sits i x below was here weighs = record {
+        low = asked_low;
+        once = asked_once;
+        lined = lined_same line (λ e m. (m, line_apart t unsaid e m));
+        held = held_put f' holds i x here (λ z n. asked_held (holds z) (fated.held z));
+        free = λ z over. put_at_there holds i x z (λ same. omega arith) ∙ fated.free z over;
+        weighs = λ w k s. (
+            let more = asked_weigh w k s in
+            let here : ◌≡◌ {A = ℕ} (one (weight w k s y)) (one (hold_weight s x)) = ap one (weighs w k s) in
+            let put = seats_put s holds bound i x below in
+            let none : ◌≡◌ {A = ℕ} (one (hold_weight s (holds i))) 0 = ap (λ z. one (hold_weight s z)) was in
+            let before = fated.weighs w k s in
+            omega (arith, more, here, put, none, before)
+            );
+      }
+
+      module _ (j : Joining) (e : Entry ℕ) (is : y ≡ only_asked (deed_of j)) (ticket : e.ticket ≡ t) (waits : waits_of j ≡ e.waits) where
         -- the entry of a request that joins the line
         joined_lined : (x : Entry ℕ) → Contains (line ++ e ∷ []) x → IsLined x.waits (f' x.ticket)
         joined_lined x m = ⊎_elim (λ old. lined_same line (λ y n. (n, line_apart t unsaid y n)) x old)
-            (λ new. subst (λ y. IsLined y.waits (f' y.ticket)) new (j, waits, ap f' ticket ∙ says ∙ ap only_asked is)) (Contains-push_cases line e x m)
+            (λ new. subst (λ y. IsLined y.waits (f' y.ticket)) new (j, waits, ap f' ticket ∙ says ∙ is)) (Contains-push_cases line e x m)
 
         -- a request that joins the line, whatever the seats hold then
         joins : (holds' : ℕ → Hold ℕ) → ((i : ℕ) → IsHeld f' (holds' i)) → ((i : ℕ) → bound ≤ i → holds' i ≡ Free) →
-            ((s : Bool) → seats_weigh s holds' bound ≡ seats_weigh s holds bound) → Fated f' (tickets ++ t ∷ []) t (line ++ e ∷ []) holds' bound
+            ((s : Bool) → seats_weigh s holds' bound ≡ seats_weigh s holds bound) → Fated f' (tickets ++ t ∷ []) newest (line ++ e ∷ []) holds' bound
         joins holds' held free same = record {
           low = asked_low;
           once = asked_once;
@@ -104,7 +118,7 @@ module _ {f : ℕ → Said} {tickets : List ℕ} {last : ℕ} {line : List (Entr
           weighs = λ w k s. (
               let more = asked_weigh w k s in
               let longer : line_weighs w k (line ++ e ∷ []) ≡ line_weighs w k line + one (entry_weight w k e) = count-push (entry_weight w k) line e in
-              let here : ◌≡◌ {A = ℕ} (one (weight w k s (only_asked d))) (one (entry_weight w k e)) = ap one (ap (λ y. weight w k s (only_asked y)) is ∙ weight_lined w k s j ∙ ap (λ b. cond b w k) waits) in
+              let here : ◌≡◌ {A = ℕ} (one (weight w k s y)) (one (entry_weight w k e)) = ap one (ap (weight w k s) is ∙ weight_lined w k s j ∙ ap (λ b. cond b w k) waits) in
               let before = fated.weighs w k s in
               let seats = same s in
               omega (arith, more, longer, here, before, seats)
@@ -112,11 +126,11 @@ module _ {f : ℕ → Said} {tickets : List ℕ} {last : ℕ} {line : List (Entr
         }
 
         -- its giver goes on
-        pub keeps : Fated f' (tickets ++ t ∷ []) t (line ++ e ∷ []) holds bound
+        pub keeps : Fated f' (tickets ++ t ∷ []) newest (line ++ e ∷ []) holds bound
         keeps = joins holds (λ i. asked_held (holds i) (fated.held i)) fated.free (λ s. refl)
 
         -- its seat waits
-        pub waits_there : (i : ℕ) → i < bound → holds i ≡ Free → Fated f' (tickets ++ t ∷ []) t (line ++ e ∷ []) (put_at holds i (Waiting t)) bound
+        pub waits_there : (i : ℕ) → i < bound → holds i ≡ Free → Fated f' (tickets ++ t ∷ []) newest (line ++ e ∷ []) (put_at holds i (Waiting t)) bound
         waits_there i below was = joins (put_at holds i (Waiting t)) (held_put f' holds i (Waiting t) tt (λ x n. asked_held (holds x) (fated.held x)))
             (λ x over. put_at_there holds i (Waiting t) x (λ same. omega arith) ∙ fated.free x over)
             (λ s. (

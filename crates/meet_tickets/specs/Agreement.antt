@@ -6,7 +6,8 @@ use Rattle.meet_tickets.specs.declared.places.Kind.{Kind}
 use Rattle.meet_tickets.specs.declared.records.Record.{Record}
 use Rattle.meet_tickets.specs.declared.records.Deed.{Deed}
 use Rattle.meet_tickets.specs.ByLists.{State, empty, IsOpen, IsInLine, IsStep, IsLegal, run}
-use Rattle.meet_tickets.specs.BySeat.{Moment, beginning, Fits, IsLegalBySeat, moment_of}
+use Rattle.meet_tickets.specs.BySeat.{Moment, beginning, Fits, IsLegalBySeat, IsLegalBySeatFrom, moment_of}
+use Rattle.meet_tickets.specs.Bases.{Based, state_of_base, moment_of_base, IsLegalOn}
 
 -- the ticket is open, and no other of that seat is
 pub record IsOnly (s : State) (seat ticket : ℕ) : Type 0 where
@@ -34,3 +35,9 @@ pub record TellingsAgree (k : Kind) (history : List (Record Deed)) : Type 0 wher
   pub legal : IsLegal k history ↔ IsLegalBySeat k history
   pub leaves : IsLegal k history → Agrees (run empty history) (moment_of k beginning history)
   pub next : IsLegal k history → (r : Record Deed) → IsStep k (run empty history) r.seat r.ticket r.deed ↔ Fits k (moment_of k beginning history) r
+
+-- the same of records after a base
+pub record TellingsAgreeOn (k : Kind) (b : Based) (records : List (Record Deed)) : Type 0 where
+  pub legal : IsLegalOn k b records ↔ IsLegalBySeatFrom k (moment_of_base b) records
+  pub leaves : IsLegalOn k b records → Agrees (run (state_of_base b) records) (moment_of k (moment_of_base b) records)
+  pub next : IsLegalOn k b records → (r : Record Deed) → IsStep k (run (state_of_base b) records) r.seat r.ticket r.deed ↔ Fits k (moment_of k (moment_of_base b) records) r

@@ -1,15 +1,23 @@
 -- What became of each ticket, read from the records alone, and how many tickets stand where. That a ticket's records tell
 -- its whole story is our choice; Java shows a caller no such record.
-use Rattle.std.specs.Prelude.{ℕ, nat_lt, ◌==◌, ◌&&◌, Bool, true, false, Option, Some, None, is_some, option_map, option_and_then, List, map, filter, find, count_by, if◌then◌else◌}
-use Rattle.std.specs.List.{list_any}
+use Rattle.std.specs.Prelude.{◌≡◌, ℕ, nat_lt, ◌==◌, ◌&&◌, Bool, true, false, Option, Some, None, is_some, is_none, option_map, option_and_then, List, [], ◌∷◌, ◌++◌, map, filter, find, count_by, nat_le, Contains, if◌then◌else◌}
+use Rattle.std.specs.List.{list_any, flat_map}
 use Rattle.std.specs.Option.{option_or, option_map_or}
 use Rattle.meet_tickets.specs.declared.records.Record.{Record}
 use Rattle.meet_tickets.specs.declared.records.Cause.{Cause}
 use Rattle.meet_tickets.specs.declared.records.Deed.{Deed}
-use Rattle.meet_tickets.specs.declared.records.Deed.TheVariants.{GiveWaits, GiveMeets, GiveFails, TakeWaits, TakeMeets, TakeFails, EntryInterrupted, Done, Got, Withdrawn, Interrupt}
+use Rattle.meet_tickets.specs.declared.records.Deed.TheVariants.{GiveWaits, GiveMeets, GiveFails, GiveKept, TakeWaits, TakeMeets, TakeFails, EntryInterrupted, Done, Got, Withdrawn, Interrupt}
 use Rattle.meet_tickets.specs.declared.fates.Fate.{Fate}
-use Rattle.meet_tickets.specs.declared.fates.Fate.TheVariants.{Never, Failed, EntryRefused, Paired, Collected, Withdrawn as TakenBack, Cut, Kept, Waiting}
-use Rattle.meet_tickets.specs.BySeat.{is_request}
+use Rattle.meet_tickets.specs.declared.fates.Fate.TheVariants.{Never, Failed, EntryRefused, Paired, Collected, Withdrawn as TakenBack, Cut, Kept, Waiting, Past}
+use Rattle.meet_tickets.specs.declared.lines.Entry.{Entry}
+use Rattle.meet_tickets.specs.declared.places.Side.{Side}
+use Rattle.meet_tickets.specs.declared.places.Side.TheVariants.{Giver, Taker}
+use Rattle.meet_tickets.specs.declared.bases.OpenPair.{OpenPair}
+use Rattle.meet_tickets.specs.declared.bases.OpenCut.{OpenCut}
+use Rattle.meet_tickets.specs.declared.places.Kind.{Kind}
+use Rattle.meet_tickets.specs.Meeting.{waiting_count, kept_count}
+use Rattle.meet_tickets.specs.Bases.{Based, moment_of_base}
+use Rattle.meet_tickets.specs.BySeat.{is_request, moment_of, settled_of}
 
 -- the request of a ticket
 abbrev pub request_of : List (Record Deed) → (ticket : ℕ) → Option Deed
@@ -114,3 +122,59 @@ uncollected_in history = count_by (λ t. has_waited history t && is_unlearned (f
 -- how many items are kept in the line
 abbrev pub kept_in : List (Record Deed) → ℕ
 kept_in history = count_by (λ t. is_kept (fate history t)) (tickets_of history)
+
+-- the request of an entry that presents this item, or none
+abbrev pub asked_for : Option ℕ → (waits : Bool) → Deed
+asked_for None waits = TakeWaits
+asked_for (Some m) true = GiveWaits m
+asked_for (Some m) false = GiveKept m
+
+-- the request of a ticket of this side, which waited
+abbrev pub asked_on : Side → (mark : ℕ) → Deed
+asked_on Giver m = GiveWaits m
+asked_on Taker m = TakeWaits
+
+-- the request that met it
+abbrev pub met_on : Side → (mark ticket : ℕ) → Deed
+met_on Giver m t = TakeMeets m t
+met_on Taker m t = GiveMeets m t
+
+-- the records of an entry of a base, as fates read them: its request; of one that was met its partner's too; of one that was
+-- cut its interrupt
+abbrev pub line_record : Entry ℕ → Record Deed
+line_record e = record { seat = e.seat; ticket = e.ticket; deed = asked_for e.item e.waits }
+
+abbrev pub pair_records : OpenPair → List (Record Deed)
+pair_records p = record { seat = p.seat; ticket = p.ticket; deed = asked_on p.side p.mark } ∷ record { seat = p.seat; ticket = p.partner; deed = met_on p.side p.mark p.ticket } ∷ []
+
+abbrev pub cut_records : OpenCut → List (Record Deed)
+cut_records c = record { seat = c.seat; ticket = c.ticket; deed = asked_for c.item true } ∷ record { seat = c.seat; ticket = c.ticket; deed = Interrupt c.seat } ∷ []
+
+-- a base's entries, as requests before the first record
+abbrev pub opening : Based → List (Record Deed)
+opening b = map line_record b.line ++ (flat_map pair_records b.pairs ++ flat_map cut_records b.cut)
+
+-- the tickets of a base's entries
+abbrev pub entered_in : Based → List ℕ
+entered_in b = map (λ e. e.ticket) b.line ++ (map (λ p. p.ticket) b.pairs ++ map (λ c. c.ticket) b.cut)
+
+-- a ticket of the time before a base that isn't one of its entries
+abbrev pub is_past : Based → (ticket : ℕ) → Bool
+is_past b t = nat_lt 0 t && nat_le t b.last && is_none (find (λ u. u == t) (entered_in b))
+
+-- the fate of a ticket after a base
+abbrev pub fate_on : Based → List (Record Deed) → (ticket : ℕ) → Fate
+fate_on b records t = if is_past b t then Past else fate (opening b ++ records) t
+
+-- what a base shows of the tickets' fates: that of each entry; and a past ticket stays so, whatever records follow
+pub record ShowsFates (b : Based) : Type 0 where
+  pub line : (e : Entry ℕ) → Contains b.line e → fate_on b [] e.ticket ≡ (if e.waits then Waiting else Kept)
+  pub pairs : (p : OpenPair) → Contains b.pairs p → fate_on b [] p.ticket ≡ Paired p.partner
+  pub cut : (c : OpenCut) → Contains b.cut c → fate_on b [] c.ticket ≡ Cut
+  pub past : (t : ℕ) → is_past b t ≡ true → (records : List (Record Deed)) → fate_on b records t ≡ Past
+
+-- the numbers that a base and the records tell are those of the place
+pub record StandsOn (k : Kind) (b : Based) (records : List (Record Deed)) (seats : ℕ) : Type 0 where
+  pub waiting : waiting_in (opening b ++ records) ≡ waiting_count (moment_of k (moment_of_base b) records).seats.line
+  pub uncollected : uncollected_in (opening b ++ records) ≡ settled_of seats (moment_of k (moment_of_base b) records).seats.holds
+  pub kept : kept_in (opening b ++ records) ≡ kept_count (moment_of k (moment_of_base b) records).seats.line

@@ -24,4 +24,6 @@ pub enum Fate {
     Kept,
     /// It waits in the line.
     Waiting,
+    /// It came before the base, and is none of its entries'.
+    Past,
 }

@@ -4,6 +4,7 @@
 //! as the code sees it, `Fates` what became of each ticket.
 #![tactic(auto)]
 
+pub mod bases;
 pub mod fates;
 pub mod items;
 pub mod laws;
@@ -13,9 +14,12 @@ pub mod places;
 pub mod records;
 pub mod refusals;
 
+pub use bases::{Base, OpenCut, OpenPair};
 pub use fates::Fate;
 pub use items::Marked;
-pub use laws::tellings_agree;
+pub use laws::{
+    bases_are_one, bases_fold, bases_show_fates, bases_stand, tellings_agree, tellings_agree_on,
+};
 pub use lines::{Entry, Hold};
 pub use names::{SeatNo, Ticket};
 pub use places::{Kind, Order, Side};

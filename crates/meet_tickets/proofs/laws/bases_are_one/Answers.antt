@@ -1,0 +1,8 @@
+use Rattle.meet_tickets.proofs.Unique.{one_base, one_empty}
+use Rattle.meet_tickets.proofs.laws.bases_are_one.Goals as goal
+
+pub returns-clause-one : goal.returns-clause-one
+returns-clause-one c = one_base
+
+pub returns-clause-empty : goal.returns-clause-empty
+returns-clause-empty c = one_empty

@@ -1,0 +1,6 @@
+-- What a base stands for is what the records leave.
+use Rattle.meet_tickets.proofs.Folded.{folds}
+use Rattle.meet_tickets.proofs.laws.bases_fold.Goals as goal
+
+pub returns : goal.returns
+returns c = folds
