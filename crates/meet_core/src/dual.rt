@@ -4,10 +4,12 @@ ghost use Rattle.std.specs.Prelude.{◌≡◌, ◌^◌, ◌≤◌, ◌<◌, ◌-
 ghost use Rattle.meet_tickets.specs.Meeting.{waiting_count, kept_count, count_on};
 ghost use Rattle.meet_tickets.specs.BySeat.{nobody, open_ticket, owed_of, settled_of};
 ghost use Rattle.meet_tickets.specs.declared.places.Side.TheVariants.{Giver};
+ghost use Rattle.meet_tickets.specs.Bases.{IsBaseOf};
 ghost use Rattle.meet_tickets.specs.Refusals.{IsWhy};
+ghost use Rattle.meet_line.specs.Seen.{moment_of_queue};
 
 use meet_line::{Gave, Line, Meetings, Offered, Polled, Took};
-use meet_tickets::{Entry, Marked, Refusal, Refused, SeatNo, Ticket};
+use meet_tickets::{Base, Entry, Marked, Refusal, Refused, SeatNo, Ticket};
 use std::alloc::Global;
 use std::marker::Model;
 
@@ -45,6 +47,7 @@ impl<T: Marked, L: Line<Entry<T>>> Dual<T, L> {
         requires first_to { first < 2 ^ 63 }
         ensures fresh { IfOk result (λ queue. seats_of queue ≡ nobody) }
         ensures seats { IfOk result (λ queue. count_of queue ≡ seats) }
+        ensures unused { IfOk result (λ queue. queue.last ≡ 0) }
         ensures first { IfOk result (λ queue. queue.next ≡ first) }
         ensures room { IfOk result (λ queue. queue.room ≡ 0) }
         ensures memory { IfErr result (λ why. why ≡ Memory) }
@@ -183,6 +186,14 @@ impl<T: Marked, L: Line<Entry<T>>> Dual<T, L> {
         ensures { result ≡ 2 ^ 63 - self.now.next }
     {
         self.meetings.tickets_left()
+    }
+
+    /// The base of the queue, where so many records were folded away. The only refusal is Memory.
+    pub fn base(&self, alloc: Global, gone: u64) -> Result<Base, Refusal>
+        ensures base { IfOk result (IsBaseOf (moment_of_queue T.mark_of self.now) gone) }
+        ensures memory { IfErr result (λ why. why ≡ Memory) }
+    {
+        self.meetings.base(alloc, gone)
     }
 
     /// What is always true of a queue: each entry of its line waits and is what its seat holds, no two entries share a

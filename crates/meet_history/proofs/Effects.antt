@@ -49,13 +49,15 @@ use Rattle.meet_history.specs.declared.told.QueueAnswer.TheVariants.{Put as ToPu
 use Rattle.meet_history.specs.OneThread.{put_form, keeping}
 use Rattle.meet_history.specs.QueueSteps.{QueueStep, queue_refusal, queue_need, put_record, queue_record}
 use Rattle.meet_history.specs.DualRecords.{made, give_record, offer_record, take_record, poll_record, follow_record, back_record, interrupt_record, dual_record}
-use Rattle.meet_history.specs.DualSteps.{DualStep, dual_refusal, dual_need, dual_owed, marked_entry, marked_hold, marked}
+use Rattle.meet_line.specs.Seen.{marked_entry, marked_hold, marked}
+use Rattle.meet_history.specs.DualSteps.{DualStep, dual_refusal, dual_need, dual_owed}
 use Rattle.meet_history.proofs.Marking.{partner-marked, entry_of-marked, kept-marked, queued-marked, paired-marked, released-marked, left-marked, cut_off-marked}
 use Rattle.meet_history.proofs.Owed.{owed-same, owed-more, owed-fewer}
 
 -- what a step that writes this record does to the queue, in the words of histories
 pub record Writes {T : Type 0} (mark : T → ℕ) (k : Kind) (old new : Queue T) (r : Record Deed) : Type 0 where
   pub used : is_request r.deed ≡ true → r.ticket ≡ old.next
+  pub last : new.last ≡ cond (is_request r.deed) r.ticket old.last
   pub next : new.next ≡ cond (is_request r.deed) (old.next + 1) old.next
   pub allowed : Allows k (marked mark (seats_of old)) r.seat r.ticket r.deed
   pub after : marked mark (seats_of new) ≡ seats_after k (marked mark (seats_of old)) r.seat r.ticket r.deed
@@ -105,6 +107,7 @@ module _ {T : Type 0} (mark : T → ℕ) (k : Kind) (old new : Queue T) where
   writes-request : (i t : ℕ) (deed : Deed) (seats : Seats T) → is_request deed ≡ true → Uses old new t seats → Allows k now i t deed → marked mark seats ≡ seats_after k now i t deed → Writes mark k old new (made i t deed)
   writes-request i t deed seats asks uses allowed after = record {
     used = λ _. uses.used;
+    last = uses.last ∙ sym (ap (λ b. cond b t old.last) asks);
     next = uses.next ∙ sym (ap (λ b. cond b (old.next + 1) old.next) asks);
     allowed = allowed;
     after = ap (marked mark) uses.left ∙ after;
@@ -114,6 +117,7 @@ module _ {T : Type 0} (mark : T → ℕ) (k : Kind) (old new : Queue T) where
   writes-other : (i t : ℕ) (deed : Deed) (seats : Seats T) → is_request deed ≡ false → Leaves old new seats → Allows k now i t deed → marked mark seats ≡ seats_after k now i t deed → Writes mark k old new (made i t deed)
   writes-other i t deed seats asks leaves allowed after = record {
     used = λ is. absurd (let x : false ≡ true = sym asks ∙ is in cc);
+    last = leaves.last ∙ sym (ap (λ b. cond b t old.last) asks);
     next = leaves.next ∙ sym (ap (λ b. cond b (old.next + 1) old.next) asks);
     allowed = allowed;
     after = ap (marked mark) leaves.left ∙ after;

@@ -14,7 +14,7 @@ use Rattle.meet_tickets.specs.declared.places.Order.TheVariants.{Fair, Unfair, T
 use Rattle.std.proofs.lemmas.List.Sums.{sum_by-cons}
 use Rattle.meet_tickets.specs.Meeting.{is_on, met, partner, kept_count}
 use Rattle.meet_tickets.specs.BySeat.{Seats, put_at, unmet, without_first, entry_of, queued, paired, paired_hold, released, left, cut_off}
-use Rattle.meet_history.specs.DualSteps.{marked_entry, marked_hold, marked}
+use Rattle.meet_line.specs.Seen.{marked_entry, marked_hold, marked}
 
 module _ {T : Type 0} (mark : T → ℕ) where
   -- an entry has an item, or a mark

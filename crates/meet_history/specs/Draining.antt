@@ -23,7 +23,7 @@ drain_refusal_by first left (suc k) full =
 
 -- why a book refuses a drain of k items, Memory aside, where this is its place's own reason against a poll, and what the place
 -- has left of tickets and owes
-abbrev pub book_drain_refusal : {O D : Type 0} → (first : Option Refusal) → (left owed : ℕ) → Booked O D → (k : ℕ) → Option Refusal
+abbrev pub book_drain_refusal : {O B D : Type 0} → (first : Option Refusal) → (left owed : ℕ) → Booked O B D → (k : ℕ) → Option Refusal
 book_drain_refusal first left owed book k = drain_refusal_by first left k (is_book_full book owed (k + 1))
 
 -- a poll of what is there: it is recorded, takes one item and one ticket, and leaves its seat free and what is owed

@@ -25,7 +25,9 @@ use Rattle.meet_history.specs.declared.told.DualCall.TheVariants.{Give, Offer, T
 use Rattle.meet_history.specs.declared.told.DualAnswer.{DualAnswer}
 use Rattle.meet_history.specs.declared.told.DualAnswer.TheVariants.{Gave as ToGive, Offered as ToOffer, Took as ToTake, Polled as ToPoll, Followed as ToFollowUp, TakenBack as ToWithdrawal, Interrupted as ToInterrupt}
 use Rattle.meet_history.specs.DualRecords.{dual_record}
-use Rattle.meet_history.specs.DualSteps.{DualStep, dual_refusal, dual_need, dual_owed, marked_hold, LeadsTo}
+use Rattle.meet_tickets.specs.Bases.{Based, no_base}
+use Rattle.meet_line.specs.Seen.{marked_hold}
+use Rattle.meet_history.specs.DualSteps.{DualStep, dual_refusal, dual_need, dual_owed, LeadsTo}
 
 -- the same queue with this room
 abbrev pub roomy : {T : Type 0} → Queue T → ℕ → Queue T
@@ -41,16 +43,16 @@ roomy-refusal q room seat (Cancel t) = refl
 roomy-refusal q room seat (Expire t) = refl
 roomy-refusal q room seat (Interrupt j) = refl
 
-pub roomy-leads : {T : Type 0} (mark : T → ℕ) (k : Kind) (q : Queue T) (room : ℕ) (records : List (Record Deed)) → LeadsTo mark k records q → LeadsTo mark k records (roomy q room)
-roomy-leads mark k q room records l = record { legal = l.legal; used = l.used; leaves = l.leaves }
+pub roomy-leads : {T : Type 0} (mark : T → ℕ) (k : Kind) (q : Queue T) (room : ℕ) (b : Based) (records : List (Record Deed)) → LeadsTo mark k b records q → LeadsTo mark k b records (roomy q room)
+roomy-leads mark k q room b records l = record { well_formed = l.well_formed; legal = l.legal; last = l.last; next = l.next; leaves = l.leaves }
 
 -- a request's step
 pub roomy-uses : {T : Type 0} (q : Queue T) (room : ℕ) (new : Queue T) (t : ℕ) (seats : Seats T) → Uses (roomy q room) new t seats → Uses q new t seats
-roomy-uses q room new t seats uses = record { used = uses.used; next = uses.next; count = uses.count; left = uses.left }
+roomy-uses q room new t seats uses = record { used = uses.used; last = uses.last; next = uses.next; count = uses.count; left = uses.left }
 
 -- an interrupt's
 roomy-leaves : {T : Type 0} (q : Queue T) (room : ℕ) (new : Queue T) (seats : Seats T) → Leaves (roomy q room) new seats → Leaves q new seats
-roomy-leaves q room new seats leaves = record { next = leaves.next; count = leaves.count; left = leaves.left }
+roomy-leaves q room new seats leaves = record { last = leaves.last; next = leaves.next; count = leaves.count; left = leaves.left }
 
 pub roomy-hands : {T : Type 0} (mark : T → ℕ) (order : Order) (q : Queue T) (room : ℕ) (item : T) (t u : ℕ) (new : Queue T) → HandsTo mark order (roomy q room) item t u new → HandsTo mark order q item t u new
 roomy-hands mark order q room item t u new (e, found, ticket, none, uses) = (e, found, ticket, none, roomy-uses q room new t _ uses)
@@ -91,7 +93,7 @@ none-open holds free a (suc n) =
     sum_by-cons (λ k. cond (is_open (holds k)) 1 0) a (range_with_len (a + 1) n) ∙ ap₂ ◌+◌ (ap (λ h. cond (is_open h) 1 0) (free a)) (none-open holds free (a + 1) n)
 
 -- a queue without a history owes nothing
-pub roomy-fresh : {T : Type 0} (mark : T → ℕ) (k : Kind) (q : Queue T) → LeadsTo mark k [] q → dual_owed q ≡ 0
+pub roomy-fresh : {T : Type 0} (mark : T → ℕ) (k : Kind) (q : Queue T) → LeadsTo mark k no_base [] q → dual_owed q ≡ 0
 roomy-fresh mark k q leads =
     none-open (seats_of q).holds (λ k. free-from mark ((seats_of q).holds k) (sym (ap (λ s. s.holds k) leads.leaves))) 0 (count_of q)
 

@@ -1,8 +1,5 @@
 -- The calls that each queue has, as a book makes them: their steps, refusals and costs, and the histories that lead to a queue.
-use Rattle.std.specs.Prelude.{◌≡◌, ℕ, ◌-◌, ◌^◌, ◌<◌, Option, None, option_map, List, map}
-use Rattle.meet_tickets.specs.declared.lines.Entry.{Entry}
-use Rattle.meet_tickets.specs.declared.lines.Hold.{Hold}
-use Rattle.meet_tickets.specs.declared.lines.Hold.TheVariants.{Free, Waiting, Handed, Served, Cut}
+use Rattle.std.specs.Prelude.{◌≡◌, ℕ, ◌-◌, ◌^◌, ◌<◌, Option, None, List}
 use Rattle.meet_tickets.specs.declared.places.Side.TheVariants.{Giver}
 use Rattle.meet_tickets.specs.declared.places.Order.{Order}
 use Rattle.meet_tickets.specs.declared.places.Kind.{Kind}
@@ -10,9 +7,10 @@ use Rattle.meet_tickets.specs.declared.records.Record.{Record}
 use Rattle.meet_tickets.specs.declared.records.Deed.{Deed}
 use Rattle.meet_tickets.specs.declared.refusals.Refusal.{Refusal}
 use Rattle.meet_tickets.specs.Meeting.{count_on}
-use Rattle.meet_tickets.specs.ByLists.{IsLegal}
-use Rattle.meet_tickets.specs.BySeat.{Seats, beginning, moment_of, open_ticket, owed_of}
+use Rattle.meet_tickets.specs.Bases.{Based, moment_of_base, IsWellFormed, IsLegalOn}
+use Rattle.meet_tickets.specs.BySeat.{moment_of, open_ticket, owed_of}
 use Rattle.meet_tickets.specs.Refusals.{refusal_unless, absent_refusal}
+use Rattle.meet_line.specs.Seen.{marked}
 use Rattle.meet_line.specs.Queue.{Queue, seats_of, count_of, admit_refusal}
 use Rattle.meet_line.specs.Steps.{GiveStep, OfferStep, TakeStep, PollStep, FollowStep, WithdrawStep, InterruptStep}
 use Rattle.meet_history.specs.declared.told.DualCall.{DualCall}
@@ -70,28 +68,14 @@ dual_available q = count_on Giver q.line
 abbrev pub dual_left : {T : Type 0} → Queue T → ℕ
 dual_left q = 2 ^ 63 - q.next
 
--- an entry as histories see it, its item by its mark
-abbrev pub marked_entry : {T : Type 0} → (T → ℕ) → Entry T → Entry ℕ
-marked_entry mark e = record { ticket = e.ticket; seat = e.seat; item = option_map mark e.item; waits = e.waits }
-
--- what a seat holds, an item by its mark
-abbrev pub marked_hold : {T : Type 0} → (T → ℕ) → Hold T → Hold ℕ
-marked_hold mark Free = Free
-marked_hold mark (Waiting t) = Waiting t
-marked_hold mark (Handed t u m) = Handed t u m
-marked_hold mark (Served t u item) = Served t u (mark item)
-marked_hold mark (Cut t item) = Cut t (option_map mark item)
-
--- the seats as histories see them: the line, what they hold, and their flags
-abbrev pub marked : {T : Type 0} → (T → ℕ) → Seats T → Seats ℕ
-marked mark s = record { line = map (marked_entry mark) s.line; holds = λ i. marked_hold mark (s.holds i); flags = s.flags }
-
 -- a place of this order, without a bound
 abbrev pub kind_of : Order → Kind
 kind_of order = record { order = order; bound = None }
 
--- these records are legal, their tickets are used up, and they leave what the queue's seats hold
-pub record LeadsTo {T : Type 0} (mark : T → ℕ) (k : Kind) (records : List (Record Deed)) (q : Queue T) : Type 0 where
-  pub legal : IsLegal k records
-  pub used : (moment_of k beginning records).last < q.next
-  pub leaves : (moment_of k beginning records).seats ≡ marked mark (seats_of q)
+-- these records are legal after this base, their last ticket is the queue's, and they leave what the queue's seats hold
+pub record LeadsTo {T : Type 0} (mark : T → ℕ) (k : Kind) (b : Based) (records : List (Record Deed)) (q : Queue T) : Type 0 where
+  pub well_formed : IsWellFormed k b
+  pub legal : IsLegalOn k b records
+  pub last : (moment_of k (moment_of_base b) records).last ≡ q.last
+  pub next : q.last < q.next
+  pub leaves : (moment_of k (moment_of_base b) records).seats ≡ marked mark (seats_of q)

@@ -2,52 +2,58 @@
 
 ghost use Rattle.std.specs.Prelude.{◌≡◌, ◌+◌, ◌<◌, ◌≤◌, ◌^◌, Option, Some, None, [], ◌∷◌, ◌++◌, length, option_to_list, vec_len, ⊤, IfNone, IsOk, IfOk, IfErr, OnOk, OnErr, MatchOption};
 ghost use Rattle.std.specs.Vec.{vec_capacity};
-ghost use Rattle.meet_history.specs.Booking.{book_refusal, record_of_receipt};
+ghost use Rattle.meet_history.specs.Booking.{book_refusal, cut_refusal, record_of_receipt};
 ghost use Rattle.meet_tickets.specs.Refusals.{IsWhy};
 ghost use Rattle.meet_tickets.specs.declared.refusals.Refusal.TheVariants.{Memory, HistoryFull};
 
 mod drain;
 
-use crate::object::Object;
+use crate::object::{Bases, Object};
 use crate::receipt::Receipt;
 use meet_tickets::{Record, Refusal, Refused, SeatNo};
 use std::alloc::Global;
 use std::marker::Model;
 
-/// A place and the records of all its steps. The records are legal and leave the place as it is; there is room for those
-/// that its open tickets may still need.
+/// A place, the base that stands for records that were folded away, and the records of all steps since. On the base the records are
+/// legal, and they leave the place as it is; there is room for those that its open tickets may still need.
 #[derive(Drop)]
 pub struct Book<O: Object> {
+    alloc: Global,
     object: O,
+    base: O::Base,
     records: Vec<Record<O::Deed>>,
     cap: u64,
 }
 
 impl<O: Object> Model for Book<O> {
-    ghost use Rattle.std.specs.Prelude.{◌+◌, ◌≤◌, vec_len, length};
+    ghost use Rattle.std.specs.Prelude.{◌+◌, ◌<◌, ◌^◌, ◌≤◌, vec_len, length};
     ghost use Rattle.std.specs.Vec.{vec_capacity};
     ghost use Rattle.meet_history.specs.Booked.{Booked};
 
-    ghost Value = { Booked O O.Deed };
+    ghost Value = { Booked O O.Base O.Deed };
 
-    ghost view = { λ book. record { object = book.object; records = book.records.items; cap = book.cap } };
+    ghost view = { λ book. record { object = book.object; base = book.base; records = book.records.items; cap = book.cap } };
 
     ghost invariant = { λ book.
-        O.leads book.records.items book.object
+        O.leads book.base book.records.items book.object
+        × (O.gone_of book.base < 2 ^ 63)
+        × (book.cap ≤ 1048576)
         × (length book.records.items + O.owed_of book.object ≤ book.cap)
         × (vec_len book.records + O.owed_of book.object ≤ vec_capacity book.records) };
 }
 
 impl<O: Object> Book<O> {
-    /// The book of a place that has no history yet, with at most this many records, 1 to 1,048,576.
+    /// The book of a place that has no history yet, with at most this many records at a time, 1 to 1,048,576.
     pub fn new(alloc: Global, object: O, cap: u64) -> Self
-        requires fresh { O.leads [] object }
+        requires fresh { O.leads O.no_base [] object }
         requires cap_from { 0 < cap }
         requires cap_to { cap ≤ 1048576 }
-        ensures { result ≡ record { object = object; records = []; cap = cap } }
+        ensures { result ≡ record { object = object; base = O.no_base; records = []; cap = cap } }
     {
         Book {
+            alloc,
             object,
+            base: O::empty_base(alloc),
             records: Vec::new(alloc),
             cap,
         }
@@ -60,10 +66,17 @@ impl<O: Object> Book<O> {
         &self.object
     }
 
-    /// The records so far, in order. They are legal, and leave the place as it is.
+    /// What stands for the records that were folded away.
+    pub fn base(&self) -> &O::Base
+        ensures { result.now ≡ self.now.base }
+    {
+        &self.base
+    }
+
+    /// The records since the book was cut last, in order. On its base they are legal, and leave the place as it is.
     pub fn records(&self) -> &[Record<O::Deed>]
         ensures records { result.now ≡ self.now.records }
-        ensures leads { O.leads self.now.records self.now.object }
+        ensures leads { O.leads self.now.base self.now.records self.now.object }
         ensures within { length self.now.records + O.owed_of self.now.object ≤ self.now.cap }
     {
         self.records.as_slice()
@@ -85,9 +98,10 @@ impl<O: Object> Book<O> {
         }
     }
 
-    /// Makes a seat's call, and writes its record, if it has one. It refuses what the place's `admit` does; else HistoryFull
-    /// exactly where the records, those that are owed and those that this call may need are more than the book may have; else
-    /// Memory. Then nothing has changed, and the call comes back. An admitted call that needs no record is never refused.
+    /// Makes a seat's call, and writes its record, if it has one, with the next number, which counts the records that were folded
+    /// away. It refuses what the place's `admit` does; else HistoryFull exactly where the records, those that are owed and those
+    /// that this call may need are more than the book may have; else Memory. Then nothing has changed, and the call comes back.
+    /// An admitted call that needs no record is never refused.
     pub fn step(
         &mut self,
         seat: SeatNo,
@@ -95,7 +109,7 @@ impl<O: Object> Book<O> {
     ) -> Result<(O::Answer, Option<Receipt<O::Deed>>), Refused<O::Call>>
         ensures step { IfOk result (λ made. O.steps self.old.object seat call made.0 self.new.object) }
         ensures record { IfOk result (λ made. record_of_receipt made.1 ≡ O.record_of seat call made.0) }
-        ensures place { IfOk result (λ made. MatchOption made.1 ⊤ (λ receipt. receipt.place ≡ length self.old.records + 1)) }
+        ensures place { IfOk result (λ made. MatchOption made.1 ⊤ (λ receipt. receipt.place ≡ O.gone_of self.old.base + length self.old.records + 1)) }
         ensures seat { IfOk result (λ made. MatchOption made.1 ⊤ (λ receipt. receipt.entry.seat ≡ seat)) }
         ensures records { IfOk result (λ made. self.new.records ≡ self.old.records ++ option_to_list (record_of_receipt made.1)) }
         ensures admitted { IfOk result (λ _. book_refusal (O.refusal_of self.old.object seat call) (O.owed_of self.old.object) (O.need_of call) self.old ≡ None) }
@@ -103,6 +117,7 @@ impl<O: Object> Book<O> {
         ensures back { IfErr result (λ refused. refused.back ≡ call) }
         ensures unchanged { IfErr result (λ _. self.new ≡ self.old) }
         ensures cap { self.new.cap ≡ self.old.cap }
+        ensures base { self.new.base ≡ self.old.base }
         ensures ending { O.need_of call ≡ 0 → O.refusal_of self.old.object seat call ≡ None → IsOk result }
     {
         match self.refusal(seat, &call) {
@@ -114,22 +129,56 @@ impl<O: Object> Book<O> {
             return Err(Refused { why, back: call });
         }
         let (answer, record) = self.object.step(seat, call);
-        let receipt = write(&mut self.records, record);
+        let gone = O::gone(&self.base);
+        let receipt = write(gone, &mut self.records, record);
         Ok((answer, receipt))
     }
 
-    /// The place and its records, taken apart. They are legal, and leave the place as it is.
-    pub fn into_parts(self) -> (O, Vec<Record<O::Deed>>)
+    /// The place, its base and its records, taken apart. On the base the records are legal, and leave the place as it is.
+    pub fn into_parts(self) -> (O, O::Base, Vec<Record<O::Deed>>)
         ensures object { result.0 ≡ self.object }
-        ensures records { result.1.items ≡ self.records }
-        ensures leads { O.leads self.records self.object }
+        ensures base { result.1 ≡ self.base }
+        ensures records { result.2.items ≡ self.records }
+        ensures leads { O.leads self.base self.records self.object }
     {
         let Book {
+            alloc: _,
             object,
+            base,
             records,
             cap: _,
         } = self;
-        (object, records)
+        (object, base, records)
+    }
+}
+
+impl<O: Bases> Book<O>
+where
+    O::Base: Drop,
+{
+    /// Folds the records away: the base of the place as it is stands for them from now on. It writes no record, and answers how
+    /// many records were folded away since the first; their numbers go on rising. It refuses HistoryFull exactly where these would
+    /// be more than 2^63 - 1, then Memory; then nothing has changed.
+    pub fn cut(&mut self) -> Result<u64, Refusal>
+        ensures gone { IfOk result (λ gone. gone ≡ O.gone_of self.old.base + length self.old.records) }
+        ensures folded { IfOk result (λ gone. O.gone_of self.new.base ≡ gone) }
+        ensures base { IfOk result (λ gone. O.is_base self.old.object gone self.new.base) }
+        ensures records { IfOk result (λ _. self.new.records ≡ []) }
+        ensures object { self.new.object ≡ self.old.object }
+        ensures cap { self.new.cap ≡ self.old.cap }
+        ensures leads { O.leads self.new.base self.new.records self.new.object }
+        ensures admitted { IfOk result (λ _. cut_refusal (O.gone_of self.old.base) self.old ≡ None) }
+        ensures why { IfErr result (IsWhy (cut_refusal (O.gone_of self.old.base) self.old)) }
+        ensures unchanged { IfErr result (λ _. self.new ≡ self.old) }
+    {
+        let gone = O::gone(&self.base) + self.records.len() as u64;
+        if gone >= 1 << 63 {
+            return Err(Refusal::HistoryFull);
+        }
+        let base = self.object.base(self.alloc, gone)?;
+        self.base = base;
+        self.records.clear();
+        Ok(gone)
     }
 }
 
@@ -163,10 +212,15 @@ fn make_room<O: Object>(
 }
 
 /// Puts a record behind the others, where there is one, and answers its receipt.
-fn write<D: Copy>(records: &mut Vec<Record<D>>, made: Option<Record<D>>) -> Option<Receipt<D>>
-    requires { vec_len records.old + length (option_to_list made) ≤ vec_capacity records.old }
+fn write<D: Copy>(
+    gone: u64,
+    records: &mut Vec<Record<D>>,
+    made: Option<Record<D>>,
+) -> Option<Receipt<D>>
+    requires few { gone + length records.old.items + 1 < 2 ^ 64 }
+    requires room { vec_len records.old + length (option_to_list made) ≤ vec_capacity records.old }
     ensures entry { record_of_receipt result ≡ made }
-    ensures place { MatchOption result ⊤ (λ receipt. receipt.place ≡ length records.old.items + 1) }
+    ensures place { MatchOption result ⊤ (λ receipt. receipt.place ≡ gone + length records.old.items + 1) }
     ensures records { records.new.items ≡ records.old.items ++ option_to_list made }
     ensures capacity { vec_capacity records.new ≡ vec_capacity records.old }
 {
@@ -174,7 +228,7 @@ fn write<D: Copy>(records: &mut Vec<Record<D>>, made: Option<Record<D>>) -> Opti
         None => None,
         Some(record) => {
             records.push_reserved(record);
-            Some(Receipt::new(records.len() as u64, record))
+            Some(Receipt::new(gone + records.len() as u64, record))
         }
     }
 }

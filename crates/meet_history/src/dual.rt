@@ -4,17 +4,19 @@ ghost use Rattle.std.specs.Prelude.{◌≡◌, ◌+◌, ◌^◌, ◌<◌, ◌≤
 ghost use Rattle.meet_tickets.specs.BySeat.{nobody};
 ghost use Rattle.meet_line.specs.Queue.{seats_of, count_of, places_of};
 ghost use Rattle.meet_history.specs.DualRecords.{dual_record};
+ghost use Rattle.meet_tickets.specs.Bases.{no_base, IsBaseOf};
+ghost use Rattle.meet_line.specs.Seen.{moment_of_queue};
 ghost use Rattle.meet_history.specs.DualSteps.{DualStep, LeadsTo, kind_of, dual_refusal, dual_need, dual_owed, dual_available, dual_left};
 ghost use Rattle.meet_history.specs.DualRoom.{roomy, roomy-refusal, roomy-leads, roomy-steps, roomy-fresh, own-record};
 ghost use Rattle.meet_history.specs.declared.told.DualCall.TheVariants.{Poll};
 
 use crate::book::Book;
-use crate::object::{Drains, Object};
+use crate::object::{Bases, Drains, Object};
 use crate::told::{DualAnswer, DualCall};
 use crate::{entries, refusals};
 use meet_core::Dual;
 use meet_line::Line;
-use meet_tickets::{Cause, Deed, Entry, Marked, Record, Refusal, SeatNo};
+use meet_tickets::{Base, Cause, Deed, Entry, Marked, Record, Refusal, SeatNo};
 use std::alloc::Global;
 
 impl<T: Marked, L: Line<Entry<T>>> Object for Dual<T, L> {
@@ -24,7 +26,13 @@ impl<T: Marked, L: Line<Entry<T>>> Object for Dual<T, L> {
 
     type Deed = Deed;
 
-    ghost leads = { λ records q. LeadsTo T.mark_of (kind_of L.order) records q };
+    type Base = Base;
+
+    ghost no_base = { no_base };
+
+    ghost gone_of = { λ base. base.gone };
+
+    ghost leads = { λ base records q. LeadsTo T.mark_of (kind_of L.order) base records q };
 
     ghost steps = { λ old seat call answer new. DualStep T.mark_of L.order old seat call answer new };
 
@@ -48,11 +56,21 @@ impl<T: Marked, L: Line<Entry<T>>> Object for Dual<T, L> {
 
     ghost same_owed = { λ q room. refl };
 
-    ghost same_leads = { λ q room records leads. roomy-leads T.mark_of (kind_of L.order) q room records leads };
+    ghost same_leads = { λ q room base records leads. roomy-leads T.mark_of (kind_of L.order) q room base records leads };
 
     ghost same_steps = { λ q room seat call answer new need step. roomy-steps T.mark_of L.order q room seat call answer new need step };
 
     ghost fresh_owes = { λ q leads. roomy-fresh T.mark_of (kind_of L.order) q leads };
+
+    ghost none_gone = { refl };
+
+    fn empty_base(alloc: Global) -> Base {
+        Base::empty(alloc)
+    }
+
+    fn gone(base: &Base) -> u64 {
+        base.gone
+    }
 
     fn admit(&self, seat: SeatNo, call: &DualCall<T>) -> Result<(), Refusal> {
         match call {
@@ -84,6 +102,14 @@ impl<T: Marked, L: Line<Entry<T>>> Object for Dual<T, L> {
     fn step(&mut self, seat: SeatNo, call: DualCall<T>) -> (DualAnswer<T>, Option<Record<Deed>>) {
         self.stays_sound();
         make(self, seat, call)
+    }
+}
+
+impl<T: Marked, L: Line<Entry<T>>> Bases for Dual<T, L> {
+    ghost is_base = { λ q gone base. IsBaseOf (moment_of_queue T.mark_of q) gone base };
+
+    fn base(&self, alloc: Global, gone: u64) -> Result<Base, Refusal> {
+        Dual::base(self, alloc, gone)
     }
 }
 

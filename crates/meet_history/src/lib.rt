@@ -25,7 +25,7 @@ pub use book::Book;
 pub use calls::{Call, Verb};
 pub use checker::{CheckFault, Standing, Why, check};
 pub use laws::one_thread_is_recorded;
-pub use object::{Drains, Object};
+pub use object::{Bases, Drains, Object};
 pub use queues::AnyQueue;
 pub use receipt::Receipt;
 pub use replies::{Answer, Outcome, Reply};

@@ -7,6 +7,7 @@ ghost use Rattle.meet_tickets.specs.declared.refusals.Refusal.TheVariants.{Memor
 ghost use Rattle.meet_history.specs.Draining.{TakesOne};
 
 use meet_tickets::{Record, Refusal, SeatNo};
+use std::alloc::Global;
 
 /// A place whose calls are atomic steps. `reserve` alone takes memory.
 pub trait Object {
@@ -19,8 +20,17 @@ pub trait Object {
     /// What a record says of a step.
     type Deed: Copy;
 
-    /// These records are legal, and leave the place as it is.
-    ghost leads: { List (Record Self.Deed) → Self → Type 0 };
+    /// What stands for the records that were folded away.
+    type Base;
+
+    /// No record was folded away.
+    ghost no_base: { Self.Base };
+
+    /// How many records were folded away.
+    ghost gone_of: { Self.Base → ℕ };
+
+    /// These records are legal after this base, and leave the place as it is.
+    ghost leads: { Self.Base → List (Record Self.Deed) → Self → Type 0 };
 
     /// A seat's call makes this step: what it is answered, and what it leaves.
     ghost steps: { Self → ℕ → Self.Call → Self.Answer → Self → Type 0 };
@@ -42,6 +52,14 @@ pub trait Object {
 
     /// The same place with room for so many calls.
     ghost with_room: { Self → ℕ → Self };
+
+    /// The base of no records. It takes no memory.
+    fn empty_base(alloc: Global) -> Self::Base
+        ensures { result ≡ no_base };
+
+    /// How many records were folded away. It takes no memory.
+    fn gone(base: &Self::Base) -> u64
+        ensures { result ≡ gone_of base.now };
 
     /// Whether this seat's call is admitted, or why it is refused: the first reason that applies. It takes no memory.
     fn admit(&self, seat: SeatNo, call: &Self::Call) -> Result<(), Refusal>
@@ -72,7 +90,7 @@ pub trait Object {
         requires room { 0 < need_of call → 0 < spare self.old }
         ensures step { steps self.old seat call result.0 self.new }
         ensures record { result.1 ≡ record_of seat call result.0 }
-        ensures leads { (records : List (Record Self.Deed)) → leads records self.old → leads (records ++ option_to_list result.1) self.new }
+        ensures leads { (base : Self.Base) (records : List (Record Self.Deed)) → leads base records self.old → leads base (records ++ option_to_list result.1) self.new }
         ensures owed { length (option_to_list result.1) + owed_of self.new ≤ owed_of self.old + need_of call }
         ensures room { spare self.old ≤ spare self.new + 1 };
 
@@ -89,14 +107,31 @@ pub trait Object {
     ghost same_owed: { (o : Self) (room : ℕ) → owed_of (with_room o room) ≡ owed_of o };
 
     /// Room changes no history.
-    ghost same_leads: { (o : Self) (room : ℕ) (records : List (Record Self.Deed)) → leads records o → leads records (with_room o room) };
+    ghost same_leads: { (o : Self) (room : ℕ) (base : Self.Base) (records : List (Record Self.Deed)) → leads base records o → leads base records (with_room o room) };
 
     /// Room changes no step of a call that asks for it.
     ghost same_steps: { (o : Self) (room seat : ℕ) (call : Self.Call) (answer : Self.Answer) (new : Self)
         → 0 < need_of call → steps (with_room o room) seat call answer new → steps o seat call answer new };
 
     /// A place without a history owes nothing.
-    ghost fresh_owes: { (o : Self) → leads [] o → owed_of o ≡ 0 };
+    ghost fresh_owes: { (o : Self) → leads no_base [] o → owed_of o ≡ 0 };
+
+    /// The base of no records has none gone.
+    ghost none_gone: { gone_of no_base ≡ 0 };
+}
+
+/// A place whose records can be folded away.
+pub trait Bases: Object {
+    /// This base tells all that the place shows of itself, and that so many records were folded away.
+    ghost is_base: { Self → ℕ → Self.Base → Type 0 };
+
+    /// The base of the place as it is, where so many records were folded away. It stands for any base and records that lead to
+    /// the place. The only refusal is Memory.
+    fn base(&self, alloc: Global, gone: u64) -> Result<Self::Base, Refusal>
+        ensures base { IfOk result (is_base self.now gone) }
+        ensures gone { IfOk result (λ new. Self.gone_of new ≡ gone) }
+        ensures leads { IfOk result (λ new. (base : Self.Base) (records : List (Record Self.Deed)) → Self.leads base records self.now → Self.leads new [] self.now) }
+        ensures memory { IfErr result (λ why. why ≡ Memory) };
 }
 
 /// A place whose items can be drained: one poll after another, all under one hold.

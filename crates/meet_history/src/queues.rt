@@ -6,6 +6,8 @@ ghost use Rattle.meet_tickets.specs.declared.places.Side.TheVariants.{Taker};
 ghost use Rattle.meet_tickets.specs.Meeting.{waiting_count, kept_count, count_on};
 ghost use Rattle.meet_tickets.specs.BySeat.{nobody, open_ticket, settled_of};
 ghost use Rattle.meet_line.specs.Queue.{seats_of, count_of, places_of};
+ghost use Rattle.meet_tickets.specs.Bases.{no_base, IsBaseOf};
+ghost use Rattle.meet_line.specs.Seen.{moment_of_queue};
 ghost use Rattle.meet_history.specs.DualSteps.{LeadsTo, dual_refusal, dual_owed, dual_available, dual_left};
 ghost use Rattle.meet_history.specs.DualRoom.{roomy, roomy-leads, roomy-fresh};
 ghost use Rattle.meet_history.specs.QueueSteps.{QueueStep, queue_refusal, queue_need, queue_record};
@@ -13,12 +15,12 @@ ghost use Rattle.meet_history.specs.QueueRoom.{roomy-queue-refusal, roomy-queue-
 ghost use Rattle.meet_history.specs.declared.told.DualCall.TheVariants.{Poll};
 ghost use Rattle.meet_history.specs.declared.told.QueueCall.TheVariants.{Dual as EachHas};
 
-use crate::object::{Drains, Object};
+use crate::object::{Bases, Drains, Object};
 use crate::put_waits;
 use crate::told::{QueueAnswer, QueueCall};
 use meet_core::Dual;
 use meet_line::{FairLine, StackLine};
-use meet_tickets::{Deed, Entry, Kind, Order, Record, Refusal, SeatNo, Ticket};
+use meet_tickets::{Base, Deed, Entry, Kind, Order, Record, Refusal, SeatNo, Ticket};
 use meet_transfer::Transfer;
 use std::alloc::Global;
 use std::marker::Model;
@@ -60,6 +62,7 @@ impl AnyQueue {
         ensures kind { IfOk result (λ any. any.kind ≡ kind) }
         ensures fresh { IfOk result (λ any. seats_of any.queue ≡ nobody) }
         ensures seats { IfOk result (λ any. count_of any.queue ≡ seats) }
+        ensures unused { IfOk result (λ any. any.queue.last ≡ 0) }
         ensures first { IfOk result (λ any. any.queue.next ≡ first) }
         ensures memory { IfErr result (λ why. why ≡ Memory) }
     {
@@ -176,7 +179,13 @@ impl Object for AnyQueue {
 
     type Deed = Deed;
 
-    ghost leads = { λ records any. LeadsTo (λ mark. mark) any.kind records any.queue };
+    type Base = Base;
+
+    ghost no_base = { no_base };
+
+    ghost gone_of = { λ base. base.gone };
+
+    ghost leads = { λ base records any. LeadsTo (λ mark. mark) any.kind base records any.queue };
 
     ghost steps = { λ old seat call answer new. (new.kind ≡ old.kind) × QueueStep (λ mark. mark) old.kind old.queue seat call answer new.queue };
 
@@ -200,11 +209,21 @@ impl Object for AnyQueue {
 
     ghost same_owed = { λ any room. refl };
 
-    ghost same_leads = { λ any room records leads. roomy-leads (λ mark. mark) any.kind any.queue room records leads };
+    ghost same_leads = { λ any room base records leads. roomy-leads (λ mark. mark) any.kind any.queue room base records leads };
 
     ghost same_steps = { λ any room seat call answer new need step. (step.0, roomy-queue-steps (λ mark. mark) any.kind any.queue room seat call answer new.queue need step.1) };
 
     ghost fresh_owes = { λ any leads. roomy-fresh (λ mark. mark) any.kind any.queue leads };
+
+    ghost none_gone = { refl };
+
+    fn empty_base(alloc: Global) -> Base {
+        Base::empty(alloc)
+    }
+
+    fn gone(base: &Base) -> u64 {
+        base.gone
+    }
 
     fn admit(&self, seat: SeatNo, call: &QueueCall<u64>) -> Result<(), Refusal> {
         match &self.queue {
@@ -243,6 +262,18 @@ impl Object for AnyQueue {
             ByKind::Fair(queue) => return put_waits::step(queue, seat, call),
             ByKind::Unfair(queue) => return put_waits::step(queue, seat, call),
             ByKind::Transfer(queue) => return queue.step(seat, call),
+        }
+    }
+}
+
+impl Bases for AnyQueue {
+    ghost is_base = { λ any gone base. IsBaseOf (moment_of_queue (λ mark. mark) any.queue) gone base };
+
+    fn base(&self, alloc: Global, gone: u64) -> Result<Base, Refusal> {
+        match &self.queue {
+            ByKind::Fair(queue) => queue.base(alloc, gone),
+            ByKind::Unfair(queue) => queue.base(alloc, gone),
+            ByKind::Transfer(queue) => queue.base(alloc, gone),
         }
     }
 }

@@ -31,12 +31,13 @@ impl Model for Stepper {
     ghost use Rattle.std.specs.Prelude.{◌≡◌};
     ghost use Rattle.meet_line.specs.Queue.{count_of};
     ghost use Rattle.meet_history.specs.Stepping.{Stepping};
+    ghost use Rattle.meet_tickets.specs.Bases.{no_base};
 
     ghost Value = { Stepping };
 
     ghost view = { λ s. record { setup = s.setup; queue = s.book.object.queue; records = s.book.records } };
 
-    ghost invariant = { λ s. (s.book.object.kind ≡ s.setup.kind) × (count_of s.book.object.queue ≡ s.setup.seats) × (s.book.cap ≡ s.setup.cap) };
+    ghost invariant = { λ s. (s.book.object.kind ≡ s.setup.kind) × (count_of s.book.object.queue ≡ s.setup.seats) × (s.book.cap ≡ s.setup.cap) × (s.book.base ≡ no_base) };
 }
 
 /// The reply to a call that was refused; want of memory has none.
@@ -234,7 +235,7 @@ impl Stepper {
             setup: _,
             book,
         } = self;
-        let (_, records) = book.into_parts();
+        let (_, _, records) = book.into_parts();
         records
     }
 }

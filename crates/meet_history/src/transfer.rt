@@ -6,6 +6,8 @@ ghost use Rattle.meet_tickets.specs.BySeat.{nobody};
 ghost use Rattle.meet_tickets.specs.declared.refusals.Refusal.TheVariants.{Memory, HistoryFull};
 ghost use Rattle.meet_line.specs.Queue.{seats_of, count_of, places_of, admit_refusal};
 ghost use Rattle.meet_history.specs.DualRecords.{dual_record};
+ghost use Rattle.meet_tickets.specs.Bases.{no_base, IsBaseOf};
+ghost use Rattle.meet_line.specs.Seen.{moment_of_queue};
 ghost use Rattle.meet_history.specs.DualSteps.{DualStep, LeadsTo, dual_refusal, dual_need, dual_owed, dual_available, dual_left};
 ghost use Rattle.meet_history.specs.QueueSteps.{BoundedStep, bounded_kind, queue_refusal, queue_need, queue_record};
 ghost use Rattle.meet_history.specs.DualRoom.{roomy, roomy-leads, roomy-fresh};
@@ -14,10 +16,10 @@ ghost use Rattle.meet_history.specs.declared.told.DualCall.TheVariants.{Poll};
 ghost use Rattle.meet_history.specs.declared.told.QueueCall.TheVariants.{Dual as EachHas};
 
 use crate::book::Book;
-use crate::object::{Drains, Object};
+use crate::object::{Bases, Drains, Object};
 use crate::told::{DualAnswer, DualCall, QueueAnswer, QueueCall};
 use crate::{entries, refusals};
-use meet_tickets::{Cause, Deed, Marked, Record, Refusal, SeatNo};
+use meet_tickets::{Base, Cause, Deed, Marked, Record, Refusal, SeatNo};
 use meet_transfer::Transfer;
 use std::alloc::Global;
 
@@ -28,7 +30,13 @@ impl<T: Marked> Object for Transfer<T> {
 
     type Deed = Deed;
 
-    ghost leads = { λ records b. LeadsTo T.mark_of (bounded_kind b.bound) records b.queue };
+    type Base = Base;
+
+    ghost no_base = { no_base };
+
+    ghost gone_of = { λ base. base.gone };
+
+    ghost leads = { λ base records b. LeadsTo T.mark_of (bounded_kind b.bound) base records b.queue };
 
     ghost steps = { λ old seat call answer new. BoundedStep T.mark_of old seat call answer new };
 
@@ -52,11 +60,21 @@ impl<T: Marked> Object for Transfer<T> {
 
     ghost same_owed = { λ b room. refl };
 
-    ghost same_leads = { λ b room records leads. roomy-leads T.mark_of (bounded_kind b.bound) b.queue room records leads };
+    ghost same_leads = { λ b room base records leads. roomy-leads T.mark_of (bounded_kind b.bound) b.queue room base records leads };
 
     ghost same_steps = { λ b room seat call answer new need step. (step.0, roomy-queue-steps T.mark_of (bounded_kind b.bound) b.queue room seat call answer new.queue need step.1) };
 
     ghost fresh_owes = { λ b leads. roomy-fresh T.mark_of (bounded_kind b.bound) b.queue leads };
+
+    ghost none_gone = { refl };
+
+    fn empty_base(alloc: Global) -> Base {
+        Base::empty(alloc)
+    }
+
+    fn gone(base: &Base) -> u64 {
+        base.gone
+    }
 
     fn admit(&self, seat: SeatNo, call: &QueueCall<T>) -> Result<(), Refusal> {
         match call {
@@ -87,6 +105,14 @@ impl<T: Marked> Object for Transfer<T> {
     fn step(&mut self, seat: SeatNo, call: QueueCall<T>) -> (QueueAnswer<T>, Option<Record<Deed>>) {
         self.stays_sound();
         make(self, seat, call)
+    }
+}
+
+impl<T: Marked> Bases for Transfer<T> {
+    ghost is_base = { λ q gone base. IsBaseOf (moment_of_queue T.mark_of q.queue) gone base };
+
+    fn base(&self, alloc: Global, gone: u64) -> Result<Base, Refusal> {
+        Transfer::base(self, alloc, gone)
     }
 }
 

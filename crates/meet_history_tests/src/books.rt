@@ -136,9 +136,52 @@ fn each_step_is_written(rt: HostRuntime) -> Result<(), Fail> {
         (0, 4, Deed::Ended),
     ];
     has(&rt, &book, &rows);
-    let (cell, records) = book.into_parts();
+    let (cell, base, records) = book.into_parts();
     assert_eq!(rt; cell.tokens, 1);
+    assert_eq!(rt; base.gone, 0);
     assert_eq!(rt; records.len(), 7);
+    Ok(())
+}
+
+#[test]
+fn a_book_is_cut_where_a_seat_waits(rt: HostRuntime) -> Result<(), Fail> {
+    let mut book = book_of(rt.alloc(), 9, 5, 4)?;
+    assert_eq!(rt; book.cut(), Ok(0));
+    let rows = [
+        (0, Call::Take, Ok(1)),
+        (1, Call::Put(1), Ok(2)),
+        (1, Call::Put(1), Ok(3)),
+        (1, Call::Put(2), Err(Refusal::HistoryFull)),
+    ];
+    plays(&rt, &mut book, &rows)?;
+    assert_eq!(rt; book.cut(), Ok(3));
+    has(&rt, &book, &[]);
+    assert_eq!(rt; book.base().gone, 3);
+    assert!(rt; book.base().wait.is_some());
+    // One record is still owed, and numbers go on.
+    let rows = [
+        (1, Call::Put(2), Ok(4)),
+        (1, Call::Put(2), Ok(5)),
+        (1, Call::Put(2), Ok(6)),
+        (1, Call::Put(2), Err(Refusal::HistoryFull)),
+        (0, Call::End, Ok(7)),
+    ];
+    plays(&rt, &mut book, &rows)?;
+    has(
+        &rt,
+        &book,
+        &[
+            (1, 4, Deed::Put(2)),
+            (1, 5, Deed::Put(2)),
+            (1, 6, Deed::Put(2)),
+            (0, 1, Deed::Ended),
+        ],
+    );
+    assert_eq!(rt; book.cut(), Ok(7));
+    let (_, base, records) = book.into_parts();
+    assert_eq!(rt; base.gone, 7);
+    assert!(rt; base.wait.is_none());
+    assert!(rt; records.is_empty());
     Ok(())
 }
 

@@ -6,8 +6,9 @@ ghost use Rattle.std.proofs.Common.{rules};
 ghost use Rattle.meet_history_tests.specs.declared.cell.Call.TheVariants.{Put, Take, End};
 ghost use Rattle.meet_tickets.specs.declared.refusals.Refusal.TheVariants.{NoSuchSeat, SeatOpen, TicketsSpent};
 
-use meet_history::{Drains, Object};
+use meet_history::{Bases, Drains, Object};
 use meet_tickets::{Record, Refusal, SeatNo, Ticket};
+use std::alloc::Global;
 use std::test::Fail;
 
 /// What a seat asks.
@@ -43,6 +44,13 @@ pub struct Made {
 pub struct Wait {
     pub seat: SeatNo,
     pub ticket: Ticket,
+}
+
+/// What stands for the records that were folded away: how many these are, and who waited then.
+#[derive(Drop)]
+pub struct Past {
+    pub gone: u64,
+    pub wait: Option<Wait>,
 }
 
 /// The cell. It never has room for more than so many calls, as if memory ended there.
@@ -187,8 +195,14 @@ impl Object for Cell {
 
     type Deed = Deed;
 
-    /// Where a seat waits, a record says so.
-    ghost leads = { λ records cell. length (option_to_list cell.wait) ≤ length records };
+    type Base = Past;
+
+    ghost no_base = { record { gone = 0; wait = None } };
+
+    ghost gone_of = { λ base. base.gone };
+
+    /// Where a seat waits, the base or a record says so.
+    ghost leads = { λ base records cell. length (option_to_list cell.wait) ≤ length (option_to_list base.wait) + length records };
 
     /// What a drain has to know of a step: what Take does where a token is there.
     ghost steps = { λ old seat call made new. call ≡ Take → 0 < old.tokens → IsSome made × (new.tokens + 1 ≡ old.tokens) × (new.left + 1 ≡ old.left) × (new.wait ≡ old.wait) };
@@ -221,11 +235,24 @@ impl Object for Cell {
 
     ghost same_owed = { λ cell room. refl };
 
-    ghost same_leads = { λ cell room records leads. leads };
+    ghost same_leads = { λ cell room base records leads. leads };
 
     ghost same_steps = { λ cell room seat call made new some steps. steps };
 
     ghost fresh_owes = { Prim.search rules };
+
+    ghost none_gone = { refl };
+
+    fn empty_base(_alloc: Global) -> Past {
+        Past {
+            gone: 0,
+            wait: None,
+        }
+    }
+
+    fn gone(base: &Past) -> u64 {
+        base.gone
+    }
 
     fn admit(&self, seat: SeatNo, call: &Call) -> Result<(), Refusal> {
         if seat.number() >= 2 {
@@ -277,6 +304,17 @@ impl Object for Cell {
             Call::Take => written(seat, Some(self.take(seat))),
             Call::End => written(seat, self.end(seat)),
         }
+    }
+}
+
+impl Bases for Cell {
+    ghost is_base = { λ cell gone base. (base.gone ≡ gone) × (base.wait ≡ cell.wait) };
+
+    fn base(&self, _alloc: Global, gone: u64) -> Result<Past, Refusal> {
+        Ok(Past {
+            gone,
+            wait: self.wait,
+        })
     }
 }
 

@@ -1,5 +1,7 @@
+pub mod BaseOfQueue
 pub mod Counts
 pub mod Following
+pub mod Gathered
 pub mod Moves
 pub mod Removals
 pub mod Removed

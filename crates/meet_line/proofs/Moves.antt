@@ -31,6 +31,7 @@ pub record Holds {T : Type 0} (old new : Queue T) (seat : ℕ) (hold : Hold T) :
   pub holds : hold_at new.table.holds ≡ put_at (hold_at old.table.holds) seat hold
   pub count : length new.table.holds ≡ length old.table.holds
   pub flags : new.table.flags ≡ old.table.flags
+  pub last : new.last ≡ old.last
   pub next : new.next ≡ old.next
 
 -- the partner left the line, and its seat holds the pair
@@ -38,6 +39,7 @@ pub Leaves-paired : {T : Type 0} (mark : T → ℕ) (order : Order) (old new : Q
 Leaves-paired mark order old new e t item waits line h =
     let hold : Hold _ = paired_hold mark e.ticket e.item t item in
     record {
+      last = h.last;
       next = h.next;
       count = h.count;
       left = same_seats line
@@ -46,10 +48,11 @@ Leaves-paired mark order old new e t item waits line h =
     }
 
 -- the partner left the line, and was kept: no seat holds anything else
-pub Leaves-kept : {T : Type 0} (mark : T → ℕ) (order : Order) (old new : Queue T) (e : Entry T) (t : ℕ) (item : Option T) → e.waits ≡ false → new.line ≡ unmet order old.line → new.table ≡ old.table → new.next ≡ old.next → Leaves old new (paired mark order (seats_of old) t item e)
-Leaves-kept mark order old new e t item kept line table next =
+pub Leaves-kept : {T : Type 0} (mark : T → ℕ) (order : Order) (old new : Queue T) (e : Entry T) (t : ℕ) (item : Option T) → e.waits ≡ false → new.line ≡ unmet order old.line → new.table ≡ old.table → new.last ≡ old.last → new.next ≡ old.next → Leaves old new (paired mark order (seats_of old) t item e)
+Leaves-kept mark order old new e t item kept line table last next =
     let hold : Hold _ = paired_hold mark e.ticket e.item t item in
     record {
+      last = last;
       next = next;
       count = ap (λ table. length table.holds) table;
       left = same_seats line
@@ -60,6 +63,7 @@ Leaves-kept mark order old new e t item kept line table next =
 -- the line and what one seat holds were changed
 pub Leaves-from : {T : Type 0} (old new : Queue T) (seat : ℕ) (hold : Hold T) (line : List (Entry T)) → new.line ≡ line → Holds old new seat hold → Leaves old new (record { line = line; holds = put_at (hold_at old.table.holds) seat hold; flags = flag_at old.table.flags })
 Leaves-from old new seat hold line is h = record {
+  last = h.last;
   next = h.next;
   count = h.count;
   left = same_seats is h.holds (ap flag_at h.flags);
@@ -84,6 +88,7 @@ free-left old new seat t leaves = ap (λ s. s.holds seat) leaves.left ∙ put_at
 -- a ticket that left the line is kept as cut
 pub Leaves-cut : {T : Type 0} (old mid new : Queue T) (j : ℕ) (e : Entry T) → Leaves old mid (left (seats_of old) j e.ticket) → new.line ≡ mid.line → Holds mid new j (Cut e.ticket e.item) → Leaves old new (cut_off (seats_of old) j e)
 Leaves-cut old mid new j e leaves line h = record {
+  last = h.last ∙ leaves.last;
   next = h.next ∙ leaves.next;
   count = h.count ∙ leaves.count;
   left = same_seats (line ∙ ap (λ s. s.line) leaves.left)

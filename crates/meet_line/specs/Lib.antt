@@ -1,5 +1,7 @@
 pub mod Answers
 pub mod Lined
+pub mod Opened
 pub mod Queue
+pub mod Seen
 pub mod Steps
 pub mod Table

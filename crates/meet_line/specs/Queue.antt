@@ -8,11 +8,12 @@ use Rattle.meet_tickets.specs.BySeat.{Seats, open_ticket}
 use Rattle.meet_tickets.specs.Refusals.{refusal_of}
 use Rattle.meet_line.specs.Table.{Table, hold_at, flag_at}
 
--- the line and the seats, with the next ticket
+-- the line and the seats, with the last ticket and the next
 pub record Queue (T : Type 0) : Type 0 where
   pub line : List (Entry T)  -- the unmatched tickets in order of request
   pub room : ℕ  -- how many more may come without growth
   pub table : Table T  -- what the seats hold, and which are flagged
+  pub last : ℕ  -- the greatest ticket that was used, 0 where none was
   pub next : ℕ  -- the next ticket; 2^63 where none is left
 
 -- the queue in the words of the rules

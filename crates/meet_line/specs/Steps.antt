@@ -27,12 +27,14 @@ use Rattle.meet_line.specs.Queue.{Queue, seats_of, count_of}
 -- a request used the next ticket, and left these seats
 pub record Uses {T : Type 0} (old new : Queue T) (ticket : ℕ) (seats : Seats T) : Type 0 where
   pub used : ticket ≡ old.next
+  pub last : new.last ≡ ticket
   pub next : new.next ≡ old.next + 1
   pub count : count_of new ≡ count_of old
   pub left : seats_of new ≡ seats
 
 -- no ticket was used, and these seats are left
 pub record Leaves {T : Type 0} (old new : Queue T) (seats : Seats T) : Type 0 where
+  pub last : new.last ≡ old.last
   pub next : new.next ≡ old.next
   pub count : count_of new ≡ count_of old
   pub left : seats_of new ≡ seats

@@ -7,6 +7,7 @@ mod fair;
 mod line;
 mod meeting;
 mod meetings;
+mod opened;
 mod stack;
 mod table;
 

@@ -1,6 +1,6 @@
 //! The line of a place's unmatched tickets, however it is kept.
 
-ghost use Rattle.std.specs.Prelude.{◌≡◌, ◌≢◌, ℕ, ◌+◌, ◌<◌, ◌≤◌, ◌==◌, List, [], ◌∷◌, ◌++◌, length, find, All, AllPairs, IsOk, IfErr, OnOk, OnErr, option_to_list};
+ghost use Rattle.std.specs.Prelude.{◌≡◌, ◌≢◌, ℕ, ◌+◌, ◌<◌, ◌≤◌, ◌==◌, List, [], ◌∷◌, ◌++◌, length, map, find, All, AllPairs, IsOk, IfOk, IfErr, OnOk, OnErr, option_to_list};
 ghost use Rattle.std.specs.Slice.{IsItemAt};
 ghost use Rattle.meet_tickets.specs.Meeting.{met};
 ghost use Rattle.meet_tickets.specs.BySeat.{unmet, without_first};
@@ -74,6 +74,11 @@ pub trait Line<E: Ticketed> {
     /// The entry that came first, if anybody is there.
     fn first(&self) -> Option<&E>
         ensures { IsItemAt (entries self.now) 0 result };
+
+    /// The entries in order of arrival, lent. The only refusal is Memory.
+    fn list(&self, alloc: Global) -> Result<Vec<&E>, Refusal>
+        ensures entries { IfOk result (λ list. map (λ e. e.now) list.items ≡ entries self.now) }
+        ensures memory { IfErr result (λ why. why ≡ Memory) };
 
     /// How many entries there are.
     fn len(&self) -> u64

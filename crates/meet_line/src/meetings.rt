@@ -13,15 +13,17 @@ use std::alloc::Global;
 use std::marker::Model;
 
 mod admitted;
+mod bases;
 mod endings;
 mod moves;
 mod probes;
 
-/// The meetings of one thread's queue: its line, its seats, its next ticket, and how many items are kept.
+/// The meetings of one thread's queue: its line, its seats, its last ticket and the next, and how many items are kept.
 #[derive(Drop)]
 pub struct Meetings<T: Marked, L: Line<Entry<T>>> {
     line: L,
     seats: SeatTable<T>,
+    last: Ticket,
     next: u64,
     kept: u64,
 }
@@ -34,7 +36,7 @@ impl<T: Marked, L: Line<Entry<T>>> Model for Meetings<T, L> {
 
     ghost Value = { Queue T };
 
-    ghost view = { λ meetings. record { line = L.entries meetings.line; room = L.spare meetings.line; table = meetings.seats; next = meetings.next } };
+    ghost view = { λ meetings. record { line = L.entries meetings.line; room = L.spare meetings.line; table = meetings.seats; last = meetings.last; next = meetings.next } };
 
     ghost invariant = { λ meetings.
         IsSound (L.entries meetings.line) (hold_at meetings.seats.holds) meetings.next
@@ -55,6 +57,7 @@ impl<T: Marked, L: Line<Entry<T>>> Meetings<T, L> {
         requires first_to { first < 2 ^ 63 }
         ensures fresh { IfOk result (λ queue. seats_of queue ≡ nobody) }
         ensures seats { IfOk result (λ queue. count_of queue ≡ seats) }
+        ensures unused { IfOk result (λ queue. queue.last ≡ 0) }
         ensures first { IfOk result (λ queue. queue.next ≡ first) }
         ensures room { IfOk result (λ queue. queue.room ≡ 0) }
         ensures nothing_kept { IfOk result (λ queue. kept_count queue.line ≡ 0) }
@@ -67,6 +70,7 @@ impl<T: Marked, L: Line<Entry<T>>> Meetings<T, L> {
         Ok(Meetings {
             line: L::empty(alloc),
             seats,
+            last: Ticket::new(0).unwrap(),
             next: first,
             kept: 0,
         })

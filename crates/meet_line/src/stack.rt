@@ -77,6 +77,13 @@ impl<E: Ticketed> Line<E> for StackLine<E> {
         self.entries.first()
     }
 
+    fn list(&self, alloc: Global) -> Result<Vec<&E>, Refusal> {
+        match self.entries.iter().collect(alloc) {
+            Ok(list) => Ok(list),
+            Err(_) => Err(Refusal::Memory),
+        }
+    }
+
     fn len(&self) -> u64 {
         self.entries.len() as u64
     }

@@ -62,6 +62,7 @@ impl<T> SeatTable<T> {
     pub fn count(&self) -> u64
         ensures value { result ≡ length self.now.holds }
         ensures in_range { length self.now.holds ≤ 1024 }
+        ensures flags { length self.now.flags ≡ length self.now.holds }
     {
         self.holds.len() as u64
     }

@@ -51,10 +51,11 @@ fn in_queue_call(call: QueueCall<Parcel>) -> Option<u64> {
     }
 }
 
-/// A call's receipt is for the last of the records, or nothing more was written.
+/// A call's receipt is for the last of the records, behind those that were folded away, or nothing more was written.
 fn is_written(
     rt: &impl Abort,
     before: usize,
+    gone: u64,
     records: &[Record<Deed>],
     receipt: Option<Receipt<Deed>>,
 ) {
@@ -62,7 +63,7 @@ fn is_written(
         None => assert_eq!(rt; records.len(), before),
         Some(receipt) => {
             assert_eq!(rt; records.len().wrapping_sub(1), before);
-            assert_eq!(rt; receipt.place(), records.len() as u64);
+            assert_eq!(rt; receipt.place().wrapping_sub(gone), records.len() as u64);
             assert_eq!(rt; Some(receipt.entry()), records.last().copied());
         }
     }
@@ -73,7 +74,7 @@ impl<L: Line<Entry<Parcel>>> Place for Book<Dual<Parcel, L>> {
         let before = self.records().len();
         match self.step(at, dual_call(ask)?) {
             Ok((answer, receipt)) => {
-                is_written(rt, before, self.records(), receipt);
+                is_written(rt, before, self.base().gone, self.records(), receipt);
                 Ok(dual(answer))
             }
             Err(refused) => Ok(Told::Refused(refused.why, in_dual_call(refused.back))),
@@ -100,7 +101,7 @@ impl Place for Book<Transfer<Parcel>> {
         let before = self.records().len();
         match self.step(at, queue_call(ask)?) {
             Ok((answer, receipt)) => {
-                is_written(rt, before, self.records(), receipt);
+                is_written(rt, before, self.base().gone, self.records(), receipt);
                 Ok(queue(answer))
             }
             Err(refused) => Ok(Told::Refused(refused.why, in_queue_call(refused.back))),

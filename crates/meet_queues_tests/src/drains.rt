@@ -122,8 +122,9 @@ fn of_a_transfer_queue(rt: HostRuntime) -> Result<(), Fail> {
     plays(&rt, &mut book, &THREE_KEPT)?;
     drains_kept(&rt, rt.alloc(), &mut book, 2, &[(4, 1, 10), (5, 2, 20)])?;
     drains_kept(&rt, rt.alloc(), &mut book, 9, &[(6, 3, 30)])?;
-    let (queue, records) = book.into_parts();
+    let (queue, base, records) = book.into_parts();
     assert_eq!(rt; queue.kept(), 0);
+    assert_eq!(rt; base.gone, 0);
     assert_eq!(rt; records.len(), 6);
     Ok(())
 }

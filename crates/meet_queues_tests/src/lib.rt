@@ -7,6 +7,8 @@ mod admitted;
 #[cfg(test)]
 mod answers;
 #[cfg(test)]
+mod bases;
+#[cfg(test)]
 mod books;
 #[cfg(test)]
 mod drains;

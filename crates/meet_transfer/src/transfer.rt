@@ -1,12 +1,14 @@
 //! The transfer queue: givers that wait or leave their item in the line, and takers.
 
 ghost use Rattle.std.specs.Prelude.{◌≡◌, ◌^◌, ◌≤◌, ◌<◌, Some, None, IsOk, IfOk, IfErr, OnOk, OnErr};
+ghost use Rattle.meet_tickets.specs.Bases.{IsBaseOf};
 ghost use Rattle.meet_tickets.specs.BySeat.{nobody};
+ghost use Rattle.meet_line.specs.Seen.{moment_of_queue};
 ghost use Rattle.meet_tickets.specs.Refusals.{IsWhy};
 ghost use Rattle.meet_tickets.specs.declared.places.Order.TheVariants.{Transfer as TransferOrder};
 
 use meet_line::{FairLine, Gave, Meetings, Offered, Polled, Put, Took};
-use meet_tickets::{Entry, Marked, Refusal, Refused, SeatNo, Ticket};
+use meet_tickets::{Base, Entry, Marked, Refusal, Refused, SeatNo, Ticket};
 use std::alloc::Global;
 use std::marker::Model;
 
@@ -42,6 +44,7 @@ impl<T: Marked> Transfer<T> {
         requires first_to { first < 2 ^ 63 }
         ensures fresh { IfOk result (λ made. seats_of made.queue ≡ nobody) }
         ensures seats { IfOk result (λ made. count_of made.queue ≡ seats) }
+        ensures unused { IfOk result (λ made. made.queue.last ≡ 0) }
         ensures first { IfOk result (λ made. made.queue.next ≡ first) }
         ensures room { IfOk result (λ made. made.queue.room ≡ 0) }
         ensures bound { IfOk result (λ made. made.bound ≡ None) }
@@ -62,6 +65,7 @@ impl<T: Marked> Transfer<T> {
         requires first_to { first < 2 ^ 63 }
         ensures fresh { IfOk result (λ made. seats_of made.queue ≡ nobody) }
         ensures seats { IfOk result (λ made. count_of made.queue ≡ seats) }
+        ensures unused { IfOk result (λ made. made.queue.last ≡ 0) }
         ensures first { IfOk result (λ made. made.queue.next ≡ first) }
         ensures room { IfOk result (λ made. made.queue.room ≡ 0) }
         ensures bound { IfOk result (λ made. made.bound ≡ Some bound) }
@@ -168,5 +172,13 @@ impl<T: Marked> Transfer<T> {
         ensures unchanged { IfErr result (λ _. self.new ≡ self.old) }
     {
         self.meetings.poll(seat)
+    }
+
+    /// The base of the queue, where so many records were folded away. The only refusal is Memory.
+    pub fn base(&self, alloc: Global, gone: u64) -> Result<Base, Refusal>
+        ensures base { IfOk result (IsBaseOf (moment_of_queue T.mark_of self.now.queue) gone) }
+        ensures memory { IfErr result (λ why. why ≡ Memory) }
+    {
+        self.meetings.base(alloc, gone)
     }
 }

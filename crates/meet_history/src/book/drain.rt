@@ -57,11 +57,12 @@ where
         ensures polls { IfOk result (λ got. TakingPolls (λ old answer new. O.steps old seat O.poll answer new) (O.record_of seat O.poll) (λ o. O.refusal_of o seat O.poll)
             O.available_of O.left_of O.owed_of self.old.object got.items self.new.object) }
         ensures records { IfOk result (λ got. self.new.records ≡ self.old.records ++ map (λ one. one.1.entry) got.items) }
-        ensures places { IfOk result (λ got. AreNumbered (length self.old.records) got.items) }
+        ensures places { IfOk result (λ got. AreNumbered (O.gone_of self.old.base + length self.old.records) got.items) }
         ensures admitted { IfOk result (λ _. book_drain_refusal (O.refusal_of self.old.object seat O.poll) (O.left_of self.old.object) (O.owed_of self.old.object) self.old (min max (O.available_of self.old.object)) ≡ None) }
         ensures why { IfErr result (IsWhy (book_drain_refusal (O.refusal_of self.old.object seat O.poll) (O.left_of self.old.object) (O.owed_of self.old.object) self.old (min max (O.available_of self.old.object)))) }
         ensures unchanged { IfErr result (λ _. self.new ≡ self.old) }
         ensures cap { self.new.cap ≡ self.old.cap }
+        ensures base { self.new.base ≡ self.old.base }
     {
         let k = max.min(self.object.available());
         match self.drain_refusal(seat, k) {
@@ -77,7 +78,8 @@ where
 
         // The place comes last: once it has more room it is not what it was.
         make_room(&mut self.object, &mut self.records, k, k)?;
-        Ok(poll_all(&mut self.object, &mut self.records, seat, k, got))
+        let gone = O::gone(&self.base);
+        Ok(poll_all(&mut self.object, &mut self.records, gone, seat, k, got))
     }
 }
 
@@ -85,12 +87,14 @@ where
 fn poll_all<O: Drains>(
     object: &mut O,
     records: &mut Vec<Record<O::Deed>>,
+    gone: u64,
     seat: SeatNo,
     count: u64,
     empty: Vec<(O::Answer, Receipt<O::Deed>)>,
 ) -> Vec<(O::Answer, Receipt<O::Deed>)>
     requires empty { empty.items ≡ [] }
     requires room { count ≤ vec_capacity empty }
+    requires few { gone + length records.old.items + count < 2 ^ 64 }
     requires there { count ≤ O.available_of object.old }
     requires left { count ≤ O.left_of object.old }
     requires calls { count ≤ O.spare object.old }
@@ -100,15 +104,15 @@ fn poll_all<O: Drains>(
     ensures polls { TakingPolls (λ old answer new. O.steps old seat O.poll answer new) (O.record_of seat O.poll) (λ o. O.refusal_of o seat O.poll)
         O.available_of O.left_of O.owed_of object.old result.items object.new }
     ensures records { records.new.items ≡ records.old.items ++ map (λ one. one.1.entry) result.items }
-    ensures places { AreNumbered (length records.old.items) result.items }
+    ensures places { AreNumbered (gone + length records.old.items) result.items }
     ensures len { vec_len records.new ≡ vec_len records.old + count }
-    ensures leads { O.leads records.old.items object.old → O.leads records.new.items object.new }
+    ensures leads { (base : O.Base) → O.leads base records.old.items object.old → O.leads base records.new.items object.new }
     ensures owed { O.owed_of object.new ≡ O.owed_of object.old }
     ensures capacity { vec_capacity records.new ≡ vec_capacity records.old }
 {
     let mut got = empty;
     for _ in 0..count {
-        got.push_reserved(poll_one(object, records, seat));
+        got.push_reserved(poll_one(object, records, gone, seat));
     }
     got
 }
@@ -117,8 +121,10 @@ fn poll_all<O: Drains>(
 fn poll_one<O: Drains>(
     object: &mut O,
     records: &mut Vec<Record<O::Deed>>,
+    gone: u64,
     seat: SeatNo,
 ) -> (O::Answer, Receipt<O::Deed>)
+    requires few { gone + length records.old.items + 1 < 2 ^ 64 }
     requires there { 0 < O.available_of object.old }
     requires calls { 0 < O.spare object.old }
     requires free { O.refusal_of object.old seat O.poll ≡ None }
@@ -126,15 +132,15 @@ fn poll_one<O: Drains>(
     ensures step { O.steps object.old seat O.poll result.0 object.new }
     ensures record { O.record_of seat O.poll result.0 ≡ Some result.1.entry }
     ensures records { records.new.items ≡ records.old.items ++ result.1.entry ∷ [] }
-    ensures place { result.1.place ≡ length records.old.items + 1 }
-    ensures leads { O.leads records.old.items object.old → O.leads records.new.items object.new }
+    ensures place { result.1.place ≡ gone + length records.old.items + 1 }
+    ensures leads { (base : O.Base) → O.leads base records.old.items object.old → O.leads base records.new.items object.new }
     ensures takes { TakesOne O.available_of O.left_of O.owed_of (λ o. O.refusal_of o seat O.poll) (O.record_of seat O.poll result.0) object.old object.new }
     ensures calls { O.spare object.old ≤ O.spare object.new + 1 }
     ensures capacity { vec_capacity records.new ≡ vec_capacity records.old }
 {
     let call = object.poll_call();
     let (answer, record) = object.step(seat, call);
-    match write(records, record) {
+    match write(gone, records, record) {
         Some(receipt) => (answer, receipt),
         None => unreachable!(),
     }

@@ -22,11 +22,12 @@ impl<T: Marked, L: Line<Entry<T>>> Meetings<T, L> {
         ensures newest { All (λ e. e.ticket < result) self.old.line }
         ensures unopened { (seat : ℕ) → open_ticket ((seats_of self.old).holds seat) ≢ Some result }
         ensures countable { kept_count self.old.line + 1 < self.new.next }
-        ensures next { self.new ≡ record self.old { next = self.old.next + 1 } }
+        ensures next { self.new ≡ record self.old { last = self.old.next; next = self.old.next + 1 } }
     {
         let Some(ticket) = Ticket::new(self.next) else {
             unreachable!()
         };
+        self.last = ticket;
         self.next += 1;
         ticket
     }

@@ -12,8 +12,8 @@ invariant-loop g l =
       room : vec_capacity l.got ≡ vec_capacity l.fn.empty;
       polls : TakingPolls (λ old answer new. o.steps old l.seat d.poll answer new) (o.record_of l.seat d.poll) (λ x. o.refusal_of x l.seat d.poll) d.available_of d.left_of o.owed_of l.fn.object l.got.items l.object;
       records : l.records.items ≡ l.fn.records.items ++ map (λ one. one.1.entry) l.got.items;
-      numbered : AreNumbered (length l.fn.records.items) l.got.items;
-      leads : o.leads l.fn.records.items l.fn.object → o.leads l.records.items l.object;
+      numbered : AreNumbered (l.gone + length l.fn.records.items) l.got.items;
+      leads : (base : _) → o.leads base l.fn.records.items l.fn.object → o.leads base l.records.items l.object;
       there : d.available_of l.object + l.counter ≡ d.available_of l.fn.object;
       left : d.left_of l.object + l.counter ≡ d.left_of l.fn.object;
       calls : o.spare l.fn.object ≤ o.spare l.object + l.counter;

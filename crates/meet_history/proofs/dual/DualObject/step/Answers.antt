@@ -7,7 +7,7 @@ pub returns-clause-leads : goal.returns-clause-leads
 returns-clause-leads g c =
     let k = kind_of g.L.Line.order in
     let effect = dual-made g.T.Marked.mark_of k c.args.self.now c.make.new.queue c.args.seat c.args.call c.make.result.0 c.make.result.1 c.make.ensures.entry c.stays_sound.ensures.sound c.requires.admitted c.make.ensures.step in
-    λ records before. leads-on g.T.Marked.mark_of k c.args.self.now c.make.new.queue records before _ c.make.result.1 effect
+    λ base records before. leads-on g.T.Marked.mark_of k c.args.self.now c.make.new.queue base records before _ c.make.result.1 effect
 
 pub returns-clause-owed : goal.returns-clause-owed
 returns-clause-owed g c =

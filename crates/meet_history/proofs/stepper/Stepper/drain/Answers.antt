@@ -1,4 +1,6 @@
-use Rattle.std.proofs.Common.{◌≡◌, ◌+◌, ◌++◌, ◌∷◌, [], ◌∙◌, refl, sym, ap, min, map, length, append_assoc, append-nil, length-append, Some, rules, ℕ}
+use Rattle.meet_tickets.specs.Bases.{Based}
+use Rattle.meet_history.specs.Draining.{AreNumbered}
+use Rattle.std.proofs.Common.{arith, subst, ◌≡◌, ◌+◌, ◌++◌, ◌∷◌, [], ◌∙◌, refl, sym, ap, min, map, length, append_assoc, append-nil, length-append, Some, rules, ℕ}
 use Rattle.std.proofs.lemmas.List.{length-map}
 use Rattle.meet_tickets.specs.declared.records.Deed.{Deed}
 use Rattle.meet_history.specs.declared.told.QueueAnswer.{QueueAnswer}
@@ -40,14 +42,14 @@ pub invariant_of-self-2 : goal.invariant_of-self-2
 invariant_of-self-2 c =
     let book = c.self.inside.book in
     let k = min c.args.most (dual_available book.object.queue) in
-    let end = drained c.self.inside.setup c.args.seat book.object c.drain.new.self.object book.cap (length book.records) k c.in-Ok.got.items c.self.invariant.2 c.self.invariant.1 c.self.invariant.0 c.in-Ok.ensures.admitted c.in-Ok.ensures.count c.in-Ok.ensures.places c.in-Ok.ensures.polls in
-    (end.kind, end.count, c.drain.ensures.cap ∙ c.self.invariant.2)
+    let end = drained c.self.inside.setup c.args.seat book.object c.drain.new.self.object book.cap (length book.records) k c.in-Ok.got.items c.self.invariant.2 c.self.invariant.1 c.self.invariant.0 c.in-Ok.ensures.admitted c.in-Ok.ensures.count (subst (λ (n : ℕ). AreNumbered n c.in-Ok.got.items) (let none : c.self.inside.book.base.gone ≡ 0 = ap (λ (b : Based). b.gone) c.self.invariant.3 in omega (arith, none)) c.in-Ok.ensures.places) c.in-Ok.ensures.polls in
+    (end.kind, end.count, c.drain.ensures.cap ∙ c.self.invariant.2, c.drain.ensures.base ∙ c.self.invariant.3)
 
 pub returns-clause-replies : goal.returns-clause-replies
 returns-clause-replies c =
     let book = c.self.inside.book in
     let k = min c.args.most (dual_available book.object.queue) in
-    let end = drained c.self.inside.setup c.args.seat book.object c.drain.new.self.object book.cap (length book.records) k c.in-Ok.got.items c.self.invariant.2 c.self.invariant.1 c.self.invariant.0 c.in-Ok.ensures.admitted c.in-Ok.ensures.count c.in-Ok.ensures.places c.in-Ok.ensures.polls in
+    let end = drained c.self.inside.setup c.args.seat book.object c.drain.new.self.object book.cap (length book.records) k c.in-Ok.got.items c.self.invariant.2 c.self.invariant.1 c.self.invariant.0 c.in-Ok.ensures.admitted c.in-Ok.ensures.count (subst (λ (n : ℕ). AreNumbered n c.in-Ok.got.items) (let none : c.self.inside.book.base.gone ≡ 0 = ap (λ (b : Based). b.gone) c.self.invariant.3 in omega (arith, none)) c.in-Ok.ensures.places) c.in-Ok.ensures.polls in
     let count : c.min-count.result ≡ k = search rules in
     rw (← c.self.view_is) (c.push_reserved-2.ensures.items
     ∙ (λ i. c.push_polls.ensures.replies i ++ record { seat = c.args.seat; outcome = Drained (count i) } ∷ [])
@@ -59,7 +61,7 @@ pub returns-clause-takes : goal.returns-clause-takes
 returns-clause-takes c =
     let book = c.self.inside.book in
     let k = min c.args.most (dual_available book.object.queue) in
-    let end = drained c.self.inside.setup c.args.seat book.object c.drain.new.self.object book.cap (length book.records) k c.in-Ok.got.items c.self.invariant.2 c.self.invariant.1 c.self.invariant.0 c.in-Ok.ensures.admitted c.in-Ok.ensures.count c.in-Ok.ensures.places c.in-Ok.ensures.polls in
+    let end = drained c.self.inside.setup c.args.seat book.object c.drain.new.self.object book.cap (length book.records) k c.in-Ok.got.items c.self.invariant.2 c.self.invariant.1 c.self.invariant.0 c.in-Ok.ensures.admitted c.in-Ok.ensures.count (subst (λ (n : ℕ). AreNumbered n c.in-Ok.got.items) (let none : c.self.inside.book.base.gone ≡ 0 = ap (λ (b : Based). b.gone) c.self.invariant.3 in omega (arith, none)) c.in-Ok.ensures.places) c.in-Ok.ensures.polls in
     let long : length c.drain.new.self.records ≡ length book.records + length c.in-Ok.got.items = ap length c.in-Ok.ensures.records ∙ length-append book.records _ ∙ ap (λ n. length book.records + n) (length-map c.in-Ok.got.items _) in
     rw (← c.self.view_is) (record {
       setup = refl;

@@ -7,7 +7,7 @@ pub returns-clause-leads : goal.returns-clause-leads
 returns-clause-leads g c =
     let k = bounded_kind c.args.self.now.bound in
     let effect = queue-made g.T.Marked.mark_of k c.args.self.now.queue c.make.new.queue.queue c.args.seat c.args.call c.make.result.0 c.make.result.1 c.make.ensures.entry c.stays_sound.ensures c.requires.admitted c.make.ensures.step.1 in
-    λ records before. bounded-on c.make.ensures.step.0 (leads-on g.T.Marked.mark_of k c.args.self.now.queue c.make.new.queue.queue records before _ c.make.result.1 effect)
+    λ base records before. bounded-on c.make.ensures.step.0 (leads-on g.T.Marked.mark_of k c.args.self.now.queue c.make.new.queue.queue base records before _ c.make.result.1 effect)
 
 pub returns-clause-owed : goal.returns-clause-owed
 returns-clause-owed g c =

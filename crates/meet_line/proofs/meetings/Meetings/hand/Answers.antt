@@ -37,7 +37,7 @@ pub returns-in-Some-clause-met : goal.returns-in-Some-clause-met
 returns-in-Some-clause-met g c =
     let found = sym c.in-Some.ensures.partner in
     let taker = c.in-Some.taker in
-    let old : Queue g.row.T.Denot = record { line = g.L.Line.entries c.self.inside.line; room = g.L.Line.spare c.self.inside.line; table = c.self.inside.seats; next = c.self.inside.next } in
+    let old : Queue g.row.T.Denot = record { line = g.L.Line.entries c.self.inside.line; room = g.L.Line.spare c.self.inside.line; table = c.self.inside.seats; last = c.self.inside.last; next = c.self.inside.next } in
     let off : is_on Giver taker ≡ false = partner-other g.L.Line.order old.line Giver taker (HasOneSide-sound c.self.invariant.0) found in
     rw (← c.self.view_is) (
       taker,
@@ -48,6 +48,7 @@ returns-in-Some-clause-met g c =
         holds = c.serve.ensures.held ∙ ap (λ hold. put_at (hold_at old.table.holds) taker.seat hold) (paired_hold-taker g.T.Marked.mark_of taker c.args.ticket c.args.item off);
         count = c.serve.ensures.count;
         flags = c.serve.ensures.flags;
+        last = refl;
         next = refl;
       }),
     )

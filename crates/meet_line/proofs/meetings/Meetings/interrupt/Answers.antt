@@ -24,11 +24,11 @@ invariant_of-self g c =
 
 pub returns-in-Some-clause-step : goal.returns-in-Some-clause-step
 returns-in-Some-clause-step g c =
-    let mid : Queue g.row.T.Denot = record { line = g.L.Line.entries c.self-2.inside.line; room = g.L.Line.spare c.self-2.inside.line; table = c.self-2.inside.seats; next = c.self-2.inside.next } in
+    let mid : Queue g.row.T.Denot = record { line = g.L.Line.entries c.self-2.inside.line; room = g.L.Line.spare c.self-2.inside.line; table = c.self-2.inside.seats; last = c.self-2.inside.last; next = c.self-2.inside.next } in
     let e = c.in-Some.entry in
     let leaves : Leaves c.args.self.now mid (left (seats_of c.args.self.now) c.args.target e.ticket) = rw (← c.self-2.view_is) at c.in-Some.ensures.left in (
       e,
       sym c.in-Some.ensures.entry,
       refl,
-      Leaves-cut c.args.self.now mid _ c.args.target e leaves refl (record { holds = c.put.ensures.holds; count = c.put.ensures.count; flags = c.put.ensures.flags; next = refl }),
+      Leaves-cut c.args.self.now mid _ c.args.target e leaves refl (record { holds = c.put.ensures.holds; count = c.put.ensures.count; flags = c.put.ensures.flags; last = refl; next = refl }),
     )

@@ -54,14 +54,14 @@ pub returns-in-None-clause-unchanged : goal.returns-in-None-clause-unchanged
 returns-in-None-clause-unchanged g c =
     let same = removed-none c.in-Waiting.ticket (g.L.Line.entries c.self.inside.line) (g.L.Line.entries c.remove.new.self) c.in-None.ensures.entry c.in-None.ensures.entries in
     let room : g.L.Line.spare c.remove.new.self ≡ g.L.Line.spare c.self.inside.line = omega (arith, c.in-None.ensures.room) in
-    rw (← c.self.view_is) (λ i. record { line = same i; room = room i; table = c.self.inside.seats; next = c.self.inside.next })
+    rw (← c.self.view_is) (λ i. record { line = same i; room = room i; table = c.self.inside.seats; last = c.self.inside.last; next = c.self.inside.next })
 
 pub returns-in-Some-clause-left : goal.returns-in-Some-clause-left
 returns-in-Some-clause-left g c =
-    let old : Queue g.row.T.Denot = record { line = g.L.Line.entries c.self.inside.line; room = g.L.Line.spare c.self.inside.line; table = c.self.inside.seats; next = c.self.inside.next } in
-    let new : Queue g.row.T.Denot = record { line = g.L.Line.entries c.remove.new.self; room = g.L.Line.spare c.remove.new.self; table = c.put.new.self; next = c.self.inside.next } in
+    let old : Queue g.row.T.Denot = record { line = g.L.Line.entries c.self.inside.line; room = g.L.Line.spare c.self.inside.line; table = c.self.inside.seats; last = c.self.inside.last; next = c.self.inside.next } in
+    let new : Queue g.row.T.Denot = record { line = g.L.Line.entries c.remove.new.self; room = g.L.Line.spare c.remove.new.self; table = c.put.new.self; last = c.self.inside.last; next = c.self.inside.next } in
     let ticket = found-ticket c.in-Waiting.ticket old.line c.in-Some.entry (sym c.in-Some.ensures.entry) in
-    let gone : Leaves old new (left (seats_of old) c.args.seat c.in-Waiting.ticket) = Leaves-from old new c.args.seat Free (without_first (λ e. e.ticket == c.in-Waiting.ticket) old.line) c.in-Some.ensures.entries (record { holds = c.put.ensures.holds; count = c.put.ensures.count; flags = c.put.ensures.flags; next = refl }) in
+    let gone : Leaves old new (left (seats_of old) c.args.seat c.in-Waiting.ticket) = Leaves-from old new c.args.seat Free (without_first (λ e. e.ticket == c.in-Waiting.ticket) old.line) c.in-Some.ensures.entries (record { holds = c.put.ensures.holds; count = c.put.ensures.count; flags = c.put.ensures.flags; last = refl; next = refl }) in
     rw (← c.self.view_is, ticket) gone
 
 pub returns-in-Some-clause-places : goal.returns-in-Some-clause-places
