@@ -153,7 +153,9 @@ impl<T: Marked, L: Line<Entry<T>>> Book<Dual<T, L>> {
         requires cap_to { cap ≤ 1048576 }
         ensures fresh { IfOk result (λ book. seats_of book.object ≡ nobody) }
         ensures seats { IfOk result (λ book. count_of book.object ≡ seats) }
+        ensures unused { IfOk result (λ book. book.object.last ≡ 0) }
         ensures first { IfOk result (λ book. book.object.next ≡ first) }
+        ensures base { IfOk result (λ book. book.base ≡ no_base) }
         ensures records { IfOk result (λ book. book.records ≡ []) }
         ensures cap { IfOk result (λ book. book.cap ≡ cap) }
         ensures memory { IfErr result (λ why. why ≡ Memory) }

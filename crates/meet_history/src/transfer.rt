@@ -160,8 +160,10 @@ impl<T: Marked> Book<Transfer<T>> {
         requires cap_to { cap ≤ 1048576 }
         ensures fresh { IfOk result (λ book. seats_of book.object.queue ≡ nobody) }
         ensures seats { IfOk result (λ book. count_of book.object.queue ≡ seats) }
+        ensures unused { IfOk result (λ book. book.object.queue.last ≡ 0) }
         ensures first { IfOk result (λ book. book.object.queue.next ≡ first) }
         ensures bound { IfOk result (λ book. book.object.bound ≡ bound) }
+        ensures base { IfOk result (λ book. book.base ≡ no_base) }
         ensures records { IfOk result (λ book. book.records ≡ []) }
         ensures cap { IfOk result (λ book. book.cap ≡ cap) }
         ensures memory { IfErr result (λ why. why ≡ Memory) }
