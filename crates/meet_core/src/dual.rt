@@ -9,7 +9,7 @@ ghost use Rattle.meet_tickets.specs.Refusals.{IsWhy};
 ghost use Rattle.meet_line.specs.Seen.{moment_of_queue};
 
 use meet_line::{Gave, Line, Meetings, Offered, Polled, Took};
-use meet_tickets::{Base, Entry, Marked, Refusal, Refused, SeatNo, Ticket};
+use meet_tickets::{Base, Marked, Refusal, Refused, SeatNo, Ticket};
 use std::alloc::Global;
 use std::marker::Model;
 
@@ -18,11 +18,11 @@ mod endings;
 
 /// A synchronous queue of one thread: over a `FairLine` in fair mode, over a `StackLine` in the default mode.
 #[derive(Drop)]
-pub struct Dual<T: Marked, L: Line<Entry<T>>> {
+pub struct Dual<T: Marked, L: Line<T>> {
     meetings: Meetings<T, L>,
 }
 
-impl<T: Marked, L: Line<Entry<T>>> Model for Dual<T, L> {
+impl<T: Marked, L: Line<T>> Model for Dual<T, L> {
     ghost use Rattle.std.specs.Prelude.{◌≡◌};
     ghost use Rattle.meet_tickets.specs.Meeting.{kept_count};
     ghost use Rattle.meet_line.specs.Queue.{Queue};
@@ -34,7 +34,7 @@ impl<T: Marked, L: Line<Entry<T>>> Model for Dual<T, L> {
     ghost invariant = { λ dual. kept_count dual.meetings.line ≡ 0 };
 }
 
-impl<T: Marked, L: Line<Entry<T>>> Dual<T, L> {
+impl<T: Marked, L: Line<T>> Dual<T, L> {
     ghost use Rattle.meet_line.specs.Queue.{seats_of, count_of, places_of, admit_refusal, IsSound};
     ghost use Rattle.meet_line.specs.Steps.{GiveStep, TakeStep, OfferStep, PollStep};
     ghost use Rattle.meet_tickets.specs.declared.refusals.Refusal.TheVariants.{Memory};

@@ -16,10 +16,10 @@ use crate::told::{DualAnswer, DualCall};
 use crate::{entries, refusals};
 use meet_core::Dual;
 use meet_line::Line;
-use meet_tickets::{Base, Cause, Deed, Entry, Marked, Record, Refusal, SeatNo};
+use meet_tickets::{Base, Cause, Deed, Marked, Record, Refusal, SeatNo};
 use std::alloc::Global;
 
-impl<T: Marked, L: Line<Entry<T>>> Object for Dual<T, L> {
+impl<T: Marked, L: Line<T>> Object for Dual<T, L> {
     type Call = DualCall<T>;
 
     type Answer = DualAnswer<T>;
@@ -105,7 +105,7 @@ impl<T: Marked, L: Line<Entry<T>>> Object for Dual<T, L> {
     }
 }
 
-impl<T: Marked, L: Line<Entry<T>>> Bases for Dual<T, L> {
+impl<T: Marked, L: Line<T>> Bases for Dual<T, L> {
     ghost is_base = { λ q gone base. IsBaseOf (moment_of_queue T.mark_of q) gone base };
 
     fn base(&self, alloc: Global, gone: u64) -> Result<Base, Refusal> {
@@ -113,7 +113,7 @@ impl<T: Marked, L: Line<Entry<T>>> Bases for Dual<T, L> {
     }
 }
 
-impl<T: Marked, L: Line<Entry<T>>> Drains for Dual<T, L> {
+impl<T: Marked, L: Line<T>> Drains for Dual<T, L> {
     ghost poll = { Poll };
 
     ghost available_of = { λ q. dual_available q };
@@ -140,7 +140,7 @@ impl<T: Marked, L: Line<Entry<T>>> Drains for Dual<T, L> {
     }
 }
 
-impl<T: Marked, L: Line<Entry<T>>> Book<Dual<T, L>> {
+impl<T: Marked, L: Line<T>> Book<Dual<T, L>> {
     ghost use Rattle.meet_tickets.specs.declared.refusals.Refusal.TheVariants.{Memory};
 
     /// The book of a new queue with this many seats, at most 1,024, this first ticket, 1 to 2^63 - 1, and at most this many
@@ -166,7 +166,7 @@ impl<T: Marked, L: Line<Entry<T>>> Book<Dual<T, L>> {
 }
 
 /// Makes an admitted call, for which there is room, and tells its record.
-fn make<T: Marked, L: Line<Entry<T>>>(
+fn make<T: Marked, L: Line<T>>(
     queue: &mut Dual<T, L>,
     seat: SeatNo,
     call: DualCall<T>,

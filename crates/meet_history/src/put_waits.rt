@@ -13,10 +13,10 @@ use crate::object::Object;
 use crate::told::{DualCall, QueueAnswer, QueueCall};
 use meet_core::Dual;
 use meet_line::Line;
-use meet_tickets::{Deed, Entry, Marked, Record, Refusal, SeatNo};
+use meet_tickets::{Deed, Marked, Record, Refusal, SeatNo};
 
 /// Whether this seat's call is admitted, or why it is refused.
-pub(crate) fn admit<T: Marked, L: Line<Entry<T>>>(
+pub(crate) fn admit<T: Marked, L: Line<T>>(
     queue: &Dual<T, L>,
     seat: SeatNo,
     call: &QueueCall<T>,
@@ -33,7 +33,7 @@ pub(crate) fn admit<T: Marked, L: Line<Entry<T>>>(
 }
 
 /// Makes an admitted call, for which there is room.
-pub(crate) fn step<T: Marked, L: Line<Entry<T>>>(
+pub(crate) fn step<T: Marked, L: Line<T>>(
     queue: &mut Dual<T, L>,
     seat: SeatNo,
     call: QueueCall<T>,

@@ -20,7 +20,7 @@ use crate::put_waits;
 use crate::told::{QueueAnswer, QueueCall};
 use meet_core::Dual;
 use meet_line::{FairLine, StackLine};
-use meet_tickets::{Base, Deed, Entry, Kind, Order, Record, Refusal, SeatNo, Ticket};
+use meet_tickets::{Base, Deed, Kind, Order, Record, Refusal, SeatNo, Ticket};
 use meet_transfer::Transfer;
 use std::alloc::Global;
 use std::marker::Model;
@@ -34,8 +34,8 @@ pub struct AnyQueue {
 /// The queues of all kinds.
 #[derive(Drop)]
 enum ByKind {
-    Fair(Dual<u64, FairLine<Entry<u64>>>),
-    Unfair(Dual<u64, StackLine<Entry<u64>>>),
+    Fair(Dual<u64, FairLine<u64>>),
+    Unfair(Dual<u64, StackLine<u64>>),
     Transfer(Transfer<u64>),
 }
 

@@ -1,6 +1,6 @@
 -- What leaves a list at the first place that passes.
-use Rattle.std.proofs.Common.{◌≡◌, ◌∙◌, ℕ, suc, ◌+◌, ◌<◌, ◌≤◌, Bool, true, false, not, cond, ltb, Some, None, List, [], ◌∷◌, length, get_or, refl, sym, ap, arith}
-use Rattle.std.specs.Prelude.{find, slice_get}
+use Rattle.std.proofs.Common.{◌≡◌, ◌∙◌, ℕ, suc, ◌+◌, ◌<◌, ◌≤◌, Bool, true, false, not, cond, ltb, Some, None, List, [], ◌∷◌, length, get_or, refl, sym, ap, subst, drop, arith}
+use Rattle.std.specs.Prelude.{find, slice_get, AllPairs}
 use Rattle.std.specs.List.{position, position_or_len, remove}
 use Rattle.std.proofs.lemmas.Bool.Decides.{nat_tests}
 use Rattle.std.proofs.lemmas.List.{append-nil, take_all, drop_all}
@@ -46,3 +46,8 @@ removed_nowhere p xs nowhere =
       sym (find_at p xs ∙ slice_get_past xs (position_or_len p xs) past),
       sym (without_first-remove p xs ∙ remove_past xs (position_or_len p xs) past),
     )
+
+-- what holds of all pairs holds of those behind the first
+pub all_pairs_rest : {X : Type 0} (R : X → X → Type 0) (xs ys : List X) → ys ≡ drop 1 xs → AllPairs R xs → AllPairs R ys
+all_pairs_rest R [] ys rest pairs = subst (AllPairs R) (sym rest) pairs
+all_pairs_rest R (x ∷ xs) ys rest pairs = subst (AllPairs R) (sym rest) (λ i j d below within. pairs (suc i) (suc j) d (omega arith) (omega arith))

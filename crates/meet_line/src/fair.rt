@@ -1,34 +1,34 @@
 //! The line of a fair place: who came first is met first.
 
-ghost use Rattle.std.specs.Prelude.{◌≡◌};
+ghost use Rattle.std.specs.Prelude.{◌≡◌, ◌≢◌, ◌+◌, ◌<◌, [], ◌∷◌, ◌++◌, All};
 ghost use Rattle.meet_tickets.specs.declared.places.Order.TheVariants.{Fair};
 
-use crate::line::{Line, Ticketed};
-use meet_tickets::{Refusal, Ticket};
+use crate::line::Line;
+use meet_tickets::{Entry, Refusal, Ticket};
 use std::alloc::Global;
 use std::collections::VecDeque;
 use std::marker::Model;
 
 /// A line whose first entry is met. Taking from the front moves nothing; a removal walks.
 #[derive(Drop)]
-pub struct FairLine<E: Ticketed> {
-    entries: VecDeque<E>,
+pub struct FairLine<T> {
+    entries: VecDeque<Entry<T>>,
     room: usize,
 }
 
-impl<E: Ticketed> Model for FairLine<E> {
+impl<T> Model for FairLine<T> {
     ghost use Rattle.std.specs.Prelude.{◌≡◌, ◌≢◌, ◌+◌, ◌≤◌, AllPairs};
     ghost use Rattle.std.specs.VecDeque.{deque_len, deque_capacity};
     ghost use Rattle.meet_line.specs.Lined.{Lined};
 
-    ghost Value = { Lined E };
+    ghost Value = { Lined T };
 
     ghost view = { λ line. record { entries = line.entries.items; room = line.room } };
 
-    ghost invariant = { λ line. (deque_len line.entries + line.room ≤ deque_capacity line.entries) × AllPairs (λ e f. E.ticket_of e ≢ E.ticket_of f) line.entries.items };
+    ghost invariant = { λ line. (deque_len line.entries + line.room ≤ deque_capacity line.entries) × AllPairs (λ e f. e.ticket ≢ f.ticket) line.entries.items };
 }
 
-impl<E: Ticketed> Line<E> for FairLine<E> {
+impl<T> Line<T> for FairLine<T> {
     ghost entries = { λ line. line.entries };
 
     ghost spare = { λ line. line.room };
@@ -53,32 +53,37 @@ impl<E: Ticketed> Line<E> for FairLine<E> {
         Ok(())
     }
 
-    fn push_back(&mut self, entry: E) {
+    fn push_back(&mut self, entry: Entry<T>)
+        requires room { 0 < self.old.room }
+        requires fresh { All (λ e. e.ticket ≢ entry.ticket) self.old.entries }
+        ensures entries { self.new.entries ≡ self.old.entries ++ entry ∷ [] }
+        ensures room { self.new.room + 1 ≡ self.old.room }
+    {
         self.entries.push_back_reserved(entry);
         self.room -= 1;
     }
 
-    fn meet(&mut self) -> Option<E> {
+    fn meet(&mut self) -> Option<Entry<T>> {
         let met = self.entries.pop_front()?;
         self.room += 1;
         Some(met)
     }
 
-    fn remove(&mut self, ticket: Ticket) -> Option<E> {
+    fn remove(&mut self, ticket: Ticket) -> Option<Entry<T>> {
         let index = self
             .entries
             .iter()
-            .position(|entry| entry.ticket() == ticket)?;
+            .position(|entry| entry.ticket == ticket)?;
         let removed = self.entries.remove(index)?;
         self.room += 1;
         Some(removed)
     }
 
-    fn first(&self) -> Option<&E> {
+    fn first(&self) -> Option<&Entry<T>> {
         self.entries.front()
     }
 
-    fn list(&self, alloc: Global) -> Result<Vec<&E>, Refusal> {
+    fn list(&self, alloc: Global) -> Result<Vec<&Entry<T>>, Refusal> {
         match self.entries.iter().collect(alloc) {
             Ok(list) => Ok(list),
             Err(_) => Err(Refusal::Memory),

@@ -13,7 +13,7 @@ mod table;
 
 pub use answers::{Followed, Gave, Interrupted, Offered, Polled, Put, TakenBack, Took};
 pub use fair::FairLine;
-pub use line::{Line, Ticketed};
+pub use line::Line;
 pub use meetings::Meetings;
 pub use stack::StackLine;
 pub use table::SeatTable;

@@ -4,33 +4,17 @@ ghost use Rattle.std.specs.Prelude.{◌≡◌, ◌≢◌, ℕ, ◌+◌, ◌<◌,
 ghost use Rattle.std.specs.Slice.{IsItemAt};
 ghost use Rattle.meet_tickets.specs.Meeting.{met};
 ghost use Rattle.meet_tickets.specs.BySeat.{unmet, without_first};
+ghost use Rattle.meet_tickets.specs.declared.lines.Entry.{Entry};
 ghost use Rattle.meet_tickets.specs.declared.places.Order.{Order};
 ghost use Rattle.meet_tickets.specs.declared.refusals.Refusal.TheVariants.{Memory};
 
 use meet_tickets::{Entry, Refusal, Ticket};
 use std::alloc::Global;
 
-/// What stands in a line. It is known by its ticket.
-pub trait Ticketed {
-    ghost ticket_of: { Self → ℕ };
-
-    /// Its ticket. It takes no memory.
-    fn ticket(&self) -> Ticket
-        ensures { result ≡ ticket_of self.now };
-}
-
-impl<T> Ticketed for Entry<T> {
-    ghost ticket_of = { λ entry. entry.ticket };
-
-    fn ticket(&self) -> Ticket {
-        self.ticket
-    }
-}
-
 /// A list of entries in order of arrival, no two of one ticket, with room for some more. `reserve` alone takes memory.
-pub trait Line<E: Ticketed> {
+pub trait Line<T> {
     /// The entries, in order of arrival.
-    ghost entries: { Self → List E };
+    ghost entries: { Self → List (Entry T) };
 
     /// How many entries more may come without growth.
     ghost spare: { Self → ℕ };
@@ -53,37 +37,37 @@ pub trait Line<E: Ticketed> {
         ensures enough { count ≤ spare self.old → IsOk result };
 
     /// An entry comes to the line's end.
-    fn push_back(&mut self, entry: E)
+    fn push_back(&mut self, entry: Entry<T>)
         requires room { 0 < spare self.old }
-        requires fresh { All (λ e. E.ticket_of e ≢ E.ticket_of entry) (entries self.old) }
+        requires fresh { All (λ e. e.ticket ≢ entry.ticket) (entries self.old) }
         ensures entries { entries self.new ≡ entries self.old ++ entry ∷ [] }
         ensures room { spare self.new + 1 ≡ spare self.old };
 
     /// The entry that is met leaves the line, if anybody is there.
-    fn meet(&mut self) -> Option<E>
+    fn meet(&mut self) -> Option<Entry<T>>
         ensures entry { result ≡ met order (entries self.old) }
         ensures entries { entries self.new ≡ unmet order (entries self.old) }
         ensures room { spare self.new ≡ spare self.old + length (option_to_list result) };
 
     /// The entry of this ticket leaves the line, if it is there; the others keep their order.
-    fn remove(&mut self, ticket: Ticket) -> Option<E>
-        ensures entry { result ≡ find (λ e. E.ticket_of e == ticket) (entries self.old) }
-        ensures entries { entries self.new ≡ without_first (λ e. E.ticket_of e == ticket) (entries self.old) }
+    fn remove(&mut self, ticket: Ticket) -> Option<Entry<T>>
+        ensures entry { result ≡ find (λ e. e.ticket == ticket) (entries self.old) }
+        ensures entries { entries self.new ≡ without_first (λ e. e.ticket == ticket) (entries self.old) }
         ensures room { spare self.new ≡ spare self.old + length (option_to_list result) };
 
     /// The entry that came first, if anybody is there.
-    fn first(&self) -> Option<&E>
+    fn first(&self) -> Option<&Entry<T>>
         ensures { IsItemAt (entries self.now) 0 result };
 
     /// The entries in order of arrival, lent. The only refusal is Memory.
-    fn list(&self, alloc: Global) -> Result<Vec<&E>, Refusal>
+    fn list(&self, alloc: Global) -> Result<Vec<&Entry<T>>, Refusal>
         ensures entries { IfOk result (λ list. map (λ e. e.now) list.items ≡ entries self.now) }
         ensures memory { IfErr result (λ why. why ≡ Memory) };
 
     /// How many entries there are.
     fn len(&self) -> u64
         ensures count { result ≡ length (entries self.now) }
-        ensures distinct { AllPairs (λ e f. E.ticket_of e ≢ E.ticket_of f) (entries self.now) };
+        ensures distinct { AllPairs (λ e f. e.ticket ≢ f.ticket) (entries self.now) };
 
     /// How many entries more may come without growth.
     fn room(&self) -> u64

@@ -8,7 +8,7 @@ ghost use Rattle.meet_tickets.specs.Refusals.{IsWhy};
 use crate::answers::{Gave, Offered, Polled, Put, Took};
 use crate::line::Line;
 use crate::table::SeatTable;
-use meet_tickets::{Entry, Marked, Refusal, Refused, SeatNo, Ticket};
+use meet_tickets::{Marked, Refusal, Refused, SeatNo, Ticket};
 use std::alloc::Global;
 use std::marker::Model;
 
@@ -20,7 +20,7 @@ mod probes;
 
 /// The meetings of one thread's queue: its line, its seats, its last ticket and the next, and how many items are kept.
 #[derive(Drop)]
-pub struct Meetings<T: Marked, L: Line<Entry<T>>> {
+pub struct Meetings<T: Marked, L: Line<T>> {
     line: L,
     seats: SeatTable<T>,
     last: Ticket,
@@ -28,7 +28,7 @@ pub struct Meetings<T: Marked, L: Line<Entry<T>>> {
     kept: u64,
 }
 
-impl<T: Marked, L: Line<Entry<T>>> Model for Meetings<T, L> {
+impl<T: Marked, L: Line<T>> Model for Meetings<T, L> {
     ghost use Rattle.std.specs.Prelude.{◌≡◌, ◌<◌};
     ghost use Rattle.meet_tickets.specs.Meeting.{kept_count};
     ghost use Rattle.meet_line.specs.Table.{hold_at};
@@ -44,7 +44,7 @@ impl<T: Marked, L: Line<Entry<T>>> Model for Meetings<T, L> {
         × (meetings.kept < meetings.next) };
 }
 
-impl<T: Marked, L: Line<Entry<T>>> Meetings<T, L> {
+impl<T: Marked, L: Line<T>> Meetings<T, L> {
     ghost use Rattle.meet_line.specs.Queue.{seats_of, count_of, places_of, admit_refusal};
     ghost use Rattle.meet_line.specs.Steps.{GiveStep, PutStep, TakeStep, OfferStep, PollStep};
     ghost use Rattle.meet_tickets.specs.declared.refusals.Refusal.TheVariants.{Memory};

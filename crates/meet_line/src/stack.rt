@@ -1,33 +1,33 @@
 //! The line of an unfair place: who came last is met first.
 
-ghost use Rattle.std.specs.Prelude.{◌≡◌};
+ghost use Rattle.std.specs.Prelude.{◌≡◌, ◌≢◌, ◌+◌, ◌<◌, [], ◌∷◌, ◌++◌, All};
 ghost use Rattle.meet_tickets.specs.declared.places.Order.TheVariants.{Unfair};
 
-use crate::line::{Line, Ticketed};
-use meet_tickets::{Refusal, Ticket};
+use crate::line::Line;
+use meet_tickets::{Entry, Refusal, Ticket};
 use std::alloc::Global;
 use std::marker::Model;
 
 /// A line whose last entry is met. A removal walks.
 #[derive(Drop)]
-pub struct StackLine<E: Ticketed> {
-    entries: Vec<E>,
+pub struct StackLine<T> {
+    entries: Vec<Entry<T>>,
     room: usize,
 }
 
-impl<E: Ticketed> Model for StackLine<E> {
+impl<T> Model for StackLine<T> {
     ghost use Rattle.std.specs.Prelude.{◌≡◌, ◌≢◌, ◌+◌, ◌≤◌, AllPairs, vec_len};
     ghost use Rattle.std.specs.Vec.{vec_capacity};
     ghost use Rattle.meet_line.specs.Lined.{Lined};
 
-    ghost Value = { Lined E };
+    ghost Value = { Lined T };
 
     ghost view = { λ line. record { entries = line.entries.items; room = line.room } };
 
-    ghost invariant = { λ line. (vec_len line.entries + line.room ≤ vec_capacity line.entries) × AllPairs (λ e f. E.ticket_of e ≢ E.ticket_of f) line.entries.items };
+    ghost invariant = { λ line. (vec_len line.entries + line.room ≤ vec_capacity line.entries) × AllPairs (λ e f. e.ticket ≢ f.ticket) line.entries.items };
 }
 
-impl<E: Ticketed> Line<E> for StackLine<E> {
+impl<T> Line<T> for StackLine<T> {
     ghost entries = { λ line. line.entries };
 
     ghost spare = { λ line. line.room };
@@ -52,32 +52,37 @@ impl<E: Ticketed> Line<E> for StackLine<E> {
         Ok(())
     }
 
-    fn push_back(&mut self, entry: E) {
+    fn push_back(&mut self, entry: Entry<T>)
+        requires room { 0 < self.old.room }
+        requires fresh { All (λ e. e.ticket ≢ entry.ticket) self.old.entries }
+        ensures entries { self.new.entries ≡ self.old.entries ++ entry ∷ [] }
+        ensures room { self.new.room + 1 ≡ self.old.room }
+    {
         self.entries.push_reserved(entry);
         self.room -= 1;
     }
 
-    fn meet(&mut self) -> Option<E> {
+    fn meet(&mut self) -> Option<Entry<T>> {
         let met = self.entries.pop()?;
         self.room += 1;
         Some(met)
     }
 
-    fn remove(&mut self, ticket: Ticket) -> Option<E> {
+    fn remove(&mut self, ticket: Ticket) -> Option<Entry<T>> {
         let index = self
             .entries
             .iter()
-            .position(|entry| entry.ticket() == ticket)?;
+            .position(|entry| entry.ticket == ticket)?;
         let removed = self.entries.remove(index);
         self.room += 1;
         Some(removed)
     }
 
-    fn first(&self) -> Option<&E> {
+    fn first(&self) -> Option<&Entry<T>> {
         self.entries.first()
     }
 
-    fn list(&self, alloc: Global) -> Result<Vec<&E>, Refusal> {
+    fn list(&self, alloc: Global) -> Result<Vec<&Entry<T>>, Refusal> {
         match self.entries.iter().collect(alloc) {
             Ok(list) => Ok(list),
             Err(_) => Err(Refusal::Memory),

@@ -5,13 +5,13 @@ ghost use Rattle.std.specs.Prelude.{◌≡◌, ◌≤◌, OnOk};
 
 use crate::parcels::{Parcel, first_serial, join, meets_in_order};
 use meet_line::{FairLine, Line, SeatTable, StackLine};
-use meet_tickets::{Entry, Refusal};
+use meet_tickets::Refusal;
 use std::alloc::Global;
 use std::process::Abort;
 use std::test::Fail;
 
 /// Room for so many entries more, at the second try where there was no memory at first.
-fn reserves<L: Line<Entry<Parcel>>>(rt: &impl Abort, line: &mut L, count: u64) -> Result<(), Fail>
+fn reserves<L: Line<Parcel>>(rt: &impl Abort, line: &mut L, count: u64) -> Result<(), Fail>
     ensures room { OnOk result (count ≤ L.spare line.new) }
     ensures same { L.entries line.new ≡ L.entries line.old }
 {
@@ -25,7 +25,7 @@ fn reserves<L: Line<Entry<Parcel>>>(rt: &impl Abort, line: &mut L, count: u64) -
 }
 
 /// A line that grows three times, and meets in this order.
-fn grows<L: Line<Entry<Parcel>> + Drop>(
+fn grows<L: Line<Parcel> + Drop>(
     rt: &impl Abort,
     alloc: Global,
     serials: &[u64],
@@ -45,12 +45,12 @@ fn grows<L: Line<Entry<Parcel>> + Drop>(
 
 #[test]
 fn a_fair_line_grows(rt: HostRuntime) -> Result<(), Fail> {
-    grows::<FairLine<Entry<Parcel>>>(&rt, rt.alloc(), &[10, 20, 30])
+    grows::<FairLine<Parcel>>(&rt, rt.alloc(), &[10, 20, 30])
 }
 
 #[test]
 fn a_stack_grows(rt: HostRuntime) -> Result<(), Fail> {
-    grows::<StackLine<Entry<Parcel>>>(&rt, rt.alloc(), &[30, 20, 10])
+    grows::<StackLine<Parcel>>(&rt, rt.alloc(), &[30, 20, 10])
 }
 
 /// A table of so many seats, at the second try where there was no memory at first.

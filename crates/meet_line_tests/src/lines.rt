@@ -8,7 +8,7 @@ use std::process::Abort;
 use std::test::Fail;
 
 /// A line of tickets 1 to 3, whose items are numbered 10, 20 and 30, with room for 100,000 in all.
-fn line_of_three<L: Line<Entry<Parcel>> + Drop>(rt: &impl Abort, alloc: Global) -> Result<L, Fail> {
+fn line_of_three<L: Line<Parcel> + Drop>(rt: &impl Abort, alloc: Global) -> Result<L, Fail> {
     let mut line = L::empty(alloc);
     assert_eq!(rt; line.len(), 0);
     assert_eq!(rt; line.room(), 0);
@@ -21,7 +21,7 @@ fn line_of_three<L: Line<Entry<Parcel>> + Drop>(rt: &impl Abort, alloc: Global) 
 }
 
 /// The middle one leaves the line, once, and gives its room back.
-fn removes<L: Line<Entry<Parcel>>>(rt: &impl Abort, line: &mut L) -> Result<(), Fail> {
+fn removes<L: Line<Parcel>>(rt: &impl Abort, line: &mut L) -> Result<(), Fail> {
     let room = line.room();
     assert_eq!(rt; serial(line.remove(ticket(4)?)), None);
     assert_eq!(rt; serial(line.remove(ticket(2)?)), Some(20));
@@ -31,7 +31,7 @@ fn removes<L: Line<Entry<Parcel>>>(rt: &impl Abort, line: &mut L) -> Result<(), 
 }
 
 /// A line meets three entries in the order `all`, and without the middle one in the order `rest`.
-fn serves<L: Line<Entry<Parcel>> + Drop>(
+fn serves<L: Line<Parcel> + Drop>(
     rt: &impl Abort,
     alloc: Global,
     all: &[u64],
@@ -50,10 +50,10 @@ fn serves<L: Line<Entry<Parcel>> + Drop>(
 
 #[test]
 fn a_fair_line_meets_who_came_first(rt: HostRuntime) -> Result<(), Fail> {
-    serves::<FairLine<Entry<Parcel>>>(&rt, rt.alloc(), &[10, 20, 30], &[10, 30])
+    serves::<FairLine<Parcel>>(&rt, rt.alloc(), &[10, 20, 30], &[10, 30])
 }
 
 #[test]
 fn a_stack_meets_who_came_last(rt: HostRuntime) -> Result<(), Fail> {
-    serves::<StackLine<Entry<Parcel>>>(&rt, rt.alloc(), &[30, 20, 10], &[30, 10])
+    serves::<StackLine<Parcel>>(&rt, rt.alloc(), &[30, 20, 10], &[30, 10])
 }

@@ -33,12 +33,12 @@ pub fn serial(entry: Option<Entry<Parcel>>) -> Option<u64> {
 }
 
 /// The serial number of the item that came first.
-pub fn first_serial<L: Line<Entry<Parcel>>>(line: &L) -> Option<u64> {
+pub fn first_serial<L: Line<Parcel>>(line: &L) -> Option<u64> {
     Some(line.first()?.item.as_ref()?.serial)
 }
 
 /// An entry whose ticket is the newest comes to the line.
-pub fn join<L: Line<Entry<Parcel>>>(line: &mut L, number: u64, serial: u64) -> Result<(), Fail>
+pub fn join<L: Line<Parcel>>(line: &mut L, number: u64, serial: u64) -> Result<(), Fail>
     requires room { 0 < L.spare line.old }
     requires newest { All (λ e. e.ticket < number) (L.entries line.old) }
     ensures room { OnOk result (L.spare line.new + 1 ≡ L.spare line.old) }
@@ -54,7 +54,7 @@ pub fn join<L: Line<Entry<Parcel>>>(line: &mut L, number: u64, serial: u64) -> R
 }
 
 /// The entries are met in this order, each gives its room back, and then nobody is there.
-pub fn meets_in_order<L: Line<Entry<Parcel>>>(rt: &impl Abort, line: &mut L, serials: &[u64]) {
+pub fn meets_in_order<L: Line<Parcel>>(rt: &impl Abort, line: &mut L, serials: &[u64]) {
     for wanted in serials {
         let room = line.room();
         assert_eq!(rt; serial(line.meet()), Some(*wanted));

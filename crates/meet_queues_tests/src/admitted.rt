@@ -7,7 +7,7 @@ use crate::parcels::{Ask, Parcel, Told, numbered};
 use crate::places::Place;
 use meet_core::Dual;
 use meet_line::Line;
-use meet_tickets::{Entry, SeatNo};
+use meet_tickets::SeatNo;
 use meet_transfer::Transfer;
 use std::process::Abort;
 use std::test::Fail;
@@ -18,7 +18,7 @@ pub struct Admitted<Q> {
     pub queue: Q,
 }
 
-impl<L: Line<Entry<Parcel>>> Place for Admitted<Dual<Parcel, L>> {
+impl<L: Line<Parcel>> Place for Admitted<Dual<Parcel, L>> {
     fn answer<A: Abort>(&mut self, rt: &A, at: SeatNo, ask: Ask) -> Result<Told, Fail> {
         match ask {
             Ask::Give(serial) => Ok(give(&mut self.queue, at, serial)),
@@ -30,7 +30,7 @@ impl<L: Line<Entry<Parcel>>> Place for Admitted<Dual<Parcel, L>> {
     }
 }
 
-fn give<L: Line<Entry<Parcel>>>(queue: &mut Dual<Parcel, L>, at: SeatNo, serial: u64) -> Told {
+fn give<L: Line<Parcel>>(queue: &mut Dual<Parcel, L>, at: SeatNo, serial: u64) -> Told {
     if let Err(why) = queue.reserve(1) {
         return refused(why);
     }
@@ -40,14 +40,14 @@ fn give<L: Line<Entry<Parcel>>>(queue: &mut Dual<Parcel, L>, at: SeatNo, serial:
     }
 }
 
-fn offer<L: Line<Entry<Parcel>>>(queue: &mut Dual<Parcel, L>, at: SeatNo, serial: u64) -> Told {
+fn offer<L: Line<Parcel>>(queue: &mut Dual<Parcel, L>, at: SeatNo, serial: u64) -> Told {
     match queue.admit(at) {
         Ok(_) => offered(queue.offer_admitted(at, numbered(serial))),
         Err(why) => refused(why),
     }
 }
 
-fn take<L: Line<Entry<Parcel>>>(queue: &mut Dual<Parcel, L>, at: SeatNo) -> Told {
+fn take<L: Line<Parcel>>(queue: &mut Dual<Parcel, L>, at: SeatNo) -> Told {
     if let Err(why) = queue.reserve(1) {
         return refused(why);
     }
@@ -57,7 +57,7 @@ fn take<L: Line<Entry<Parcel>>>(queue: &mut Dual<Parcel, L>, at: SeatNo) -> Told
     }
 }
 
-fn poll<L: Line<Entry<Parcel>>>(queue: &mut Dual<Parcel, L>, at: SeatNo) -> Told {
+fn poll<L: Line<Parcel>>(queue: &mut Dual<Parcel, L>, at: SeatNo) -> Told {
     match queue.admit(at) {
         Ok(_) => polled(queue.poll_admitted(at)),
         Err(why) => refused(why),

@@ -88,7 +88,7 @@ fn is_bare(rt: &impl Abort, base: &Base) {
 }
 
 /// A synchronous queue's book is cut, and goes on with these rows at its end.
-fn goes_on<L: Line<Entry<Parcel>>>(
+fn goes_on<L: Line<Parcel>>(
     rt: &impl Abort,
     book: &mut Book<Dual<Parcel, L>>,
     rows: &[Row],
@@ -117,7 +117,7 @@ fn goes_on<L: Line<Entry<Parcel>>>(
 
 #[test]
 fn a_fair_book_is_cut(rt: HostRuntime) -> Result<(), Fail> {
-    let mut book: Book<Dual<Parcel, FairLine<Entry<Parcel>>>> = Book::of_queue(rt.alloc(), 8, 5, 20)
+    let mut book: Book<Dual<Parcel, FairLine<Parcel>>> = Book::of_queue(rt.alloc(), 8, 5, 20)
         .ok()
         .ok_or("memory")?;
     let rows = [
@@ -131,12 +131,8 @@ fn a_fair_book_is_cut(rt: HostRuntime) -> Result<(), Fail> {
 
 #[test]
 fn an_unfair_book_is_cut(rt: HostRuntime) -> Result<(), Fail> {
-    let mut book: Book<Dual<Parcel, StackLine<Entry<Parcel>>>> = Book::of_queue(
-        rt.alloc(),
-        8,
-        5,
-        20,
-    ).ok()
+    let mut book: Book<Dual<Parcel, StackLine<Parcel>>> = Book::of_queue(rt.alloc(), 8, 5, 20)
+        .ok()
         .ok_or("memory")?;
     let rows = [
         (3, Ask::Take, Told::Got(13, 11, 50)),

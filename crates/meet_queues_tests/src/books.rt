@@ -6,7 +6,7 @@ use crate::places::{Place, Shown};
 use meet_core::Dual;
 use meet_history::{Book, DualCall, QueueCall, Receipt};
 use meet_line::Line;
-use meet_tickets::{Deed, Entry, Record, SeatNo};
+use meet_tickets::{Deed, Record, SeatNo};
 use meet_transfer::Transfer;
 use std::process::Abort;
 use std::test::Fail;
@@ -69,7 +69,7 @@ fn is_written(
     }
 }
 
-impl<L: Line<Entry<Parcel>>> Place for Book<Dual<Parcel, L>> {
+impl<L: Line<Parcel>> Place for Book<Dual<Parcel, L>> {
     fn answer<A: Abort>(&mut self, rt: &A, at: SeatNo, ask: Ask) -> Result<Told, Fail> {
         let before = self.records().len();
         match self.step(at, dual_call(ask)?) {
@@ -82,7 +82,7 @@ impl<L: Line<Entry<Parcel>>> Place for Book<Dual<Parcel, L>> {
     }
 }
 
-impl<L: Line<Entry<Parcel>>> Shown for Book<Dual<Parcel, L>> {
+impl<L: Line<Parcel>> Shown for Book<Dual<Parcel, L>> {
     fn shown(&self) -> [u64; 6] {
         let place = self.probe();
         [

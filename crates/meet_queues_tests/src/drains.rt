@@ -6,7 +6,7 @@ use crate::places::plays;
 use meet_core::Dual;
 use meet_history::{Book, DualAnswer, Receipt};
 use meet_line::{FairLine, Line, StackLine};
-use meet_tickets::{Deed, Entry, Record};
+use meet_tickets::{Deed, Record};
 use meet_transfer::Transfer;
 use std::alloc::Global;
 use std::process::Abort;
@@ -62,7 +62,7 @@ pub fn are_taken(
 }
 
 /// A drain of seat 3 from a synchronous queue hands out these parcels.
-fn drains_dual<L: Line<Entry<Parcel>>>(
+fn drains_dual<L: Line<Parcel>>(
     rt: &impl Abort,
     alloc: Global,
     book: &mut Book<Dual<Parcel, L>>,
@@ -90,7 +90,7 @@ fn drains_kept(
 }
 
 /// What a book of a synchronous queue hands out in two drains.
-fn drains<L: Line<Entry<Parcel>> + Drop>(
+fn drains<L: Line<Parcel> + Drop>(
     rt: &impl Abort,
     alloc: Global,
     rows: &[Taken],
@@ -105,13 +105,13 @@ fn drains<L: Line<Entry<Parcel>> + Drop>(
 #[test]
 fn of_a_fair_queue(rt: HostRuntime) -> Result<(), Fail> {
     let rows = [(4, 1, 10), (5, 2, 20)];
-    drains::<FairLine<Entry<Parcel>>>(&rt, rt.alloc(), &rows, &[(6, 3, 30)])
+    drains::<FairLine<Parcel>>(&rt, rt.alloc(), &rows, &[(6, 3, 30)])
 }
 
 #[test]
 fn of_an_unfair_queue(rt: HostRuntime) -> Result<(), Fail> {
     let rows = [(4, 3, 30), (5, 2, 20)];
-    drains::<StackLine<Entry<Parcel>>>(&rt, rt.alloc(), &rows, &[(6, 1, 10)])
+    drains::<StackLine<Parcel>>(&rt, rt.alloc(), &rows, &[(6, 1, 10)])
 }
 
 #[test]

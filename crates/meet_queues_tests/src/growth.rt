@@ -7,14 +7,14 @@ use crate::places::{Fair, Place, Shown, Unfair};
 use meet_core::Dual;
 use meet_history::Book;
 use meet_line::Line;
-use meet_tickets::{Entry, Refusal};
+use meet_tickets::Refusal;
 use meet_transfer::Transfer;
 use std::alloc::Global;
 use std::process::Abort;
 use std::test::Fail;
 
 /// A synchronous queue, at the second try where there was no memory at first.
-fn queue<L: Line<Entry<Parcel>>>(alloc: Global) -> Result<Dual<Parcel, L>, Fail> {
+fn queue<L: Line<Parcel>>(alloc: Global) -> Result<Dual<Parcel, L>, Fail> {
     match Dual::new(alloc, 6, 1) {
         Ok(queue) => Ok(queue),
         Err(_) => Ok(Dual::new(alloc, 6, 1).ok().ok_or("memory")?),

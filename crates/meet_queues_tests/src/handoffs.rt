@@ -6,7 +6,7 @@ use crate::places::{Place, plays};
 use meet_core::Dual;
 use meet_history::Book;
 use meet_line::{FairLine, Line, StackLine};
-use meet_tickets::{Entry, Refusal};
+use meet_tickets::Refusal;
 use meet_transfer::Transfer;
 use std::alloc::Global;
 use std::process::Abort;
@@ -140,18 +140,14 @@ fn hands_on<P: Place>(rt: &impl Abort, place: &mut P, rows: &[Row]) -> Result<()
 }
 
 /// A synchronous queue, called directly.
-fn meets<L: Line<Entry<Parcel>> + Drop>(
-    rt: &impl Abort,
-    alloc: Global,
-    rows: &[Row],
-) -> Result<(), Fail> {
+fn meets<L: Line<Parcel> + Drop>(rt: &impl Abort, alloc: Global, rows: &[Row]) -> Result<(), Fail> {
     let mut queue: Dual<Parcel, L> = Dual::new(alloc, 6, 1).ok().ok_or("memory")?;
     plays(rt, &mut queue, &REFUSED)?;
     hands_on(rt, &mut queue, rows)
 }
 
 /// A synchronous queue, called by the forms that never fail.
-fn meets_admitted<L: Line<Entry<Parcel>> + Drop>(
+fn meets_admitted<L: Line<Parcel> + Drop>(
     rt: &impl Abort,
     alloc: Global,
     rows: &[Row],
@@ -161,7 +157,7 @@ fn meets_admitted<L: Line<Entry<Parcel>> + Drop>(
 }
 
 /// A synchronous queue under a book.
-fn meets_in_a_book<L: Line<Entry<Parcel>> + Drop>(
+fn meets_in_a_book<L: Line<Parcel> + Drop>(
     rt: &impl Abort,
     alloc: Global,
     rows: &[Row],
@@ -173,16 +169,16 @@ fn meets_in_a_book<L: Line<Entry<Parcel>> + Drop>(
 
 #[test]
 fn a_fair_queue(rt: HostRuntime) -> Result<(), Fail> {
-    meets::<FairLine<Entry<Parcel>>>(&rt, rt.alloc(), &FIRST)?;
-    meets_admitted::<FairLine<Entry<Parcel>>>(&rt, rt.alloc(), &FIRST)?;
-    meets_in_a_book::<FairLine<Entry<Parcel>>>(&rt, rt.alloc(), &FIRST)
+    meets::<FairLine<Parcel>>(&rt, rt.alloc(), &FIRST)?;
+    meets_admitted::<FairLine<Parcel>>(&rt, rt.alloc(), &FIRST)?;
+    meets_in_a_book::<FairLine<Parcel>>(&rt, rt.alloc(), &FIRST)
 }
 
 #[test]
 fn an_unfair_queue(rt: HostRuntime) -> Result<(), Fail> {
-    meets::<StackLine<Entry<Parcel>>>(&rt, rt.alloc(), &LAST)?;
-    meets_admitted::<StackLine<Entry<Parcel>>>(&rt, rt.alloc(), &LAST)?;
-    meets_in_a_book::<StackLine<Entry<Parcel>>>(&rt, rt.alloc(), &LAST)
+    meets::<StackLine<Parcel>>(&rt, rt.alloc(), &LAST)?;
+    meets_admitted::<StackLine<Parcel>>(&rt, rt.alloc(), &LAST)?;
+    meets_in_a_book::<StackLine<Parcel>>(&rt, rt.alloc(), &LAST)
 }
 
 /// A transfer queue that keeps three parcels at most.

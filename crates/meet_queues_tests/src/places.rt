@@ -6,15 +6,15 @@ use crate::answers::{
 use crate::parcels::{Ask, Parcel, Row, Told, numbered, seat, ticket};
 use meet_core::Dual;
 use meet_line::{FairLine, Line, StackLine};
-use meet_tickets::{Entry, SeatNo};
+use meet_tickets::SeatNo;
 use meet_transfer::Transfer;
 use std::process::Abort;
 use std::test::Fail;
 
 /// A synchronous queue in fair mode, and one in the default mode.
-pub type Fair = Dual<Parcel, FairLine<Entry<Parcel>>>;
+pub type Fair = Dual<Parcel, FairLine<Parcel>>;
 
-pub type Unfair = Dual<Parcel, StackLine<Entry<Parcel>>>;
+pub type Unfair = Dual<Parcel, StackLine<Parcel>>;
 
 /// Where seats ask, and are told something.
 pub trait Place {
@@ -37,7 +37,7 @@ pub fn plays<P: Place>(rt: &impl Abort, place: &mut P, rows: &[Row]) -> Result<(
     Ok(())
 }
 
-impl<L: Line<Entry<Parcel>>> Place for Dual<Parcel, L> {
+impl<L: Line<Parcel>> Place for Dual<Parcel, L> {
     fn answer<A: Abort>(&mut self, _rt: &A, at: SeatNo, ask: Ask) -> Result<Told, Fail> {
         Ok(match ask {
             Ask::Give(serial) => self.give(at, numbered(serial)).map_or_else(returned, gave),
@@ -63,7 +63,7 @@ impl<L: Line<Entry<Parcel>>> Place for Dual<Parcel, L> {
     }
 }
 
-impl<L: Line<Entry<Parcel>>> Shown for Dual<Parcel, L> {
+impl<L: Line<Parcel>> Shown for Dual<Parcel, L> {
     fn shown(&self) -> [u64; 6] {
         [
             self.room(),

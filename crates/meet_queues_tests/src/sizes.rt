@@ -6,14 +6,14 @@ use crate::places::{Place, plays};
 use meet_core::Dual;
 use meet_history::{Book, Standing, check};
 use meet_line::{FairLine, Line, StackLine};
-use meet_tickets::{Deed, Entry, Kind, Order, Record, Refusal};
+use meet_tickets::{Deed, Kind, Order, Record, Refusal};
 use meet_transfer::Transfer;
 use std::alloc::Global;
 use std::process::Abort;
 use std::test::Fail;
 
 /// The room of a synchronous queue, once there is some for a hundred thousand requests.
-fn room_of<L: Line<Entry<Parcel>> + Drop>(alloc: Global) -> Option<u64> {
+fn room_of<L: Line<Parcel> + Drop>(alloc: Global) -> Option<u64> {
     let mut queue: Dual<Parcel, L> = Dual::new(alloc, 1, 1).ok()?;
     queue.reserve(100_000).ok()?;
     Some(queue.room())
@@ -29,8 +29,8 @@ fn room_of_transfer(alloc: Global) -> Option<u64> {
 #[test]
 fn much_room(rt: HostRuntime) {
     let rooms = [
-        room_of::<FairLine<Entry<Parcel>>>(rt.alloc()),
-        room_of::<StackLine<Entry<Parcel>>>(rt.alloc()),
+        room_of::<FairLine<Parcel>>(rt.alloc()),
+        room_of::<StackLine<Parcel>>(rt.alloc()),
         room_of_transfer(rt.alloc()),
     ];
     for room in rooms {

@@ -8,7 +8,7 @@ ghost use Rattle.meet_tickets.specs.Refusals.{IsWhy};
 ghost use Rattle.meet_tickets.specs.declared.places.Order.TheVariants.{Transfer as TransferOrder};
 
 use meet_line::{FairLine, Gave, Meetings, Offered, Polled, Put, Took};
-use meet_tickets::{Base, Entry, Marked, Refusal, Refused, SeatNo, Ticket};
+use meet_tickets::{Base, Marked, Refusal, Refused, SeatNo, Ticket};
 use std::alloc::Global;
 use std::marker::Model;
 
@@ -19,7 +19,7 @@ mod probes;
 /// A transfer queue of one thread, with a bound on the items that it keeps, or none.
 #[derive(Drop)]
 pub struct Transfer<T: Marked> {
-    meetings: Meetings<T, FairLine<Entry<T>>>,
+    meetings: Meetings<T, FairLine<T>>,
     bound: Option<u64>,
 }
 

@@ -4,9 +4,9 @@ ghost use Rattle.std.specs.Prelude.{◌≡◌, ◌<◌, None};
 
 use crate::dual::Dual;
 use meet_line::{Gave, Line, Offered, Polled, Took};
-use meet_tickets::{Entry, Marked, SeatNo};
+use meet_tickets::{Marked, SeatNo};
 
-impl<T: Marked, L: Line<Entry<T>>> Dual<T, L> {
+impl<T: Marked, L: Line<T>> Dual<T, L> {
     ghost use Rattle.meet_line.specs.Queue.{places_of, admit_refusal};
     ghost use Rattle.meet_line.specs.Steps.{GiveStep, TakeStep, OfferStep, PollStep};
 

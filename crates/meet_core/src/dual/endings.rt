@@ -5,9 +5,9 @@ ghost use Rattle.meet_tickets.specs.BySeat.{open_ticket};
 
 use crate::dual::Dual;
 use meet_line::{Followed, Interrupted, Line, TakenBack};
-use meet_tickets::{Entry, Marked, Refusal, SeatNo, Ticket};
+use meet_tickets::{Marked, Refusal, SeatNo, Ticket};
 
-impl<T: Marked, L: Line<Entry<T>>> Dual<T, L> {
+impl<T: Marked, L: Line<T>> Dual<T, L> {
     ghost use Rattle.meet_line.specs.Queue.{seats_of, count_of, places_of};
     ghost use Rattle.meet_line.specs.Steps.{FollowStep, WithdrawStep, InterruptStep};
     ghost use Rattle.meet_tickets.specs.declared.refusals.Refusal.TheVariants.{NoSuchSeat, NotOpen};

@@ -24,8 +24,8 @@ pub(crate) struct MarkLine {
 /// The end at which an entry is met.
 #[derive(Drop)]
 enum ByEnd {
-    Front(FairLine<Entry<u64>>),
-    Back(StackLine<Entry<u64>>),
+    Front(FairLine<u64>),
+    Back(StackLine<u64>),
 }
 
 impl Model for MarkLine {

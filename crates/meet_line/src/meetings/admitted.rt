@@ -6,9 +6,9 @@ ghost use Rattle.meet_tickets.specs.Meeting.{kept_count};
 use crate::answers::{Gave, Offered, Polled, Put, Took};
 use crate::line::Line;
 use crate::meetings::Meetings;
-use meet_tickets::{Entry, Marked, SeatNo};
+use meet_tickets::{Marked, SeatNo};
 
-impl<T: Marked, L: Line<Entry<T>>> Meetings<T, L> {
+impl<T: Marked, L: Line<T>> Meetings<T, L> {
     ghost use Rattle.meet_line.specs.Queue.{places_of, admit_refusal};
     ghost use Rattle.meet_line.specs.Steps.{GiveStep, PutStep, TakeStep, OfferStep, PollStep};
 

@@ -31,10 +31,7 @@ fn marked_all<T: Marked>(alloc: Global, list: &[&Entry<T>]) -> Result<Vec<Entry<
 }
 
 /// The entries of a line as a base names them, in order of arrival.
-fn marked_line<T: Marked, L: Line<Entry<T>>>(
-    alloc: Global,
-    line: &L,
-) -> Result<Vec<Entry<u64>>, Refusal>
+fn marked_line<T: Marked, L: Line<T>>(alloc: Global, line: &L) -> Result<Vec<Entry<u64>>, Refusal>
     ensures entries { IfOk result (λ copies. copies.items ≡ map (marked_entry T.mark_of) (L.entries line.now)) }
     ensures memory { IfErr result (λ why. why ≡ Memory) }
 {
@@ -45,7 +42,7 @@ fn marked_line<T: Marked, L: Line<Entry<T>>>(
     }
 }
 
-impl<T: Marked, L: Line<Entry<T>>> Meetings<T, L> {
+impl<T: Marked, L: Line<T>> Meetings<T, L> {
     /// The base of this queue, where so many records were folded away. The only refusal is Memory.
     pub fn base(&self, alloc: Global, gone: u64) -> Result<Base, Refusal>
         ensures base { IfOk result (IsBaseOf (moment_of_queue T.mark_of self.now) gone) }

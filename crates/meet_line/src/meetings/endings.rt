@@ -9,7 +9,7 @@ use crate::line::Line;
 use crate::meetings::Meetings;
 use meet_tickets::{Entry, Hold, Marked, Refusal, SeatNo, Ticket};
 
-impl<T: Marked, L: Line<Entry<T>>> Meetings<T, L> {
+impl<T: Marked, L: Line<T>> Meetings<T, L> {
     ghost use Rattle.meet_line.specs.Queue.{seats_of, count_of, places_of};
     ghost use Rattle.meet_line.specs.Steps.{FollowStep, WithdrawStep, InterruptStep, CutsWaiting};
     ghost use Rattle.meet_tickets.specs.declared.refusals.Refusal.TheVariants.{NoSuchSeat, NotOpen};

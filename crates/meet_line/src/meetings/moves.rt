@@ -11,7 +11,7 @@ use crate::meeting::{collect, meet, release, serve};
 use crate::meetings::Meetings;
 use meet_tickets::{Entry, Hold, Marked, SeatNo, Side, Ticket};
 
-impl<T: Marked, L: Line<Entry<T>>> Meetings<T, L> {
+impl<T: Marked, L: Line<T>> Meetings<T, L> {
     ghost use Rattle.meet_line.specs.Queue.{seats_of, count_of, places_of};
     ghost use Rattle.meet_line.specs.Steps.{Leaves, HandsOver, Fetches};
 

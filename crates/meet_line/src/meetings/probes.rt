@@ -8,9 +8,9 @@ ghost use Rattle.meet_tickets.specs.declared.places.Side.TheVariants.{Giver, Tak
 
 use crate::line::Line;
 use crate::meetings::Meetings;
-use meet_tickets::{Entry, Marked, SeatNo, Side, Ticket};
+use meet_tickets::{Marked, SeatNo, Side, Ticket};
 
-impl<T: Marked, L: Line<Entry<T>>> Meetings<T, L> {
+impl<T: Marked, L: Line<T>> Meetings<T, L> {
     ghost use Rattle.meet_line.specs.Queue.{seats_of, count_of, IsSound};
 
     /// The seat's open ticket, if it has one.

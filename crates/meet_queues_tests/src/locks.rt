@@ -1,0 +1,71 @@
+//! A lock over a queue's book is let go, whatever the items and the line, with all that waits there.
+
+use crate::parcels::{Ask, Parcel, Told};
+use crate::places::plays;
+use meet_core::Dual;
+use meet_history::Book;
+use meet_line::{FairLine, Line, StackLine};
+use meet_tickets::Marked;
+use std::alloc::Global;
+use std::process::Abort;
+use std::sync::{Mutex, Wait};
+use std::test::Fail;
+
+/// A lock over the book of a queue.
+type Locked<T, L> = Mutex<Book<Dual<T, L>>>;
+
+/// Lets anything go that can be let go.
+fn let_go<X: Drop>(value: X) {
+    let _value = value;
+}
+
+/// A lock is let go as it is.
+fn let_go_as_it_is<T: Marked + Drop, L: Line<T> + Drop>(lock: Locked<T, L>) {
+    let _lock = lock;
+}
+
+/// A lock is made, and let go.
+fn let_go_as_it_is_made<T: Marked + Drop, L: Line<T> + Drop>(book: Book<Dual<T, L>>) {
+    let _lock = Mutex::new(book);
+}
+
+/// A lock is let go through a bound.
+fn let_go_through_a_bound<T: Marked + Drop, L: Line<T> + Drop>(lock: Locked<T, L>) {
+    let_go(lock);
+}
+
+/// The book of a new queue with two seats.
+fn book_of<L: Line<Parcel>>(alloc: Global) -> Result<Book<Dual<Parcel, L>>, Fail> {
+    Ok(Book::of_queue(alloc, 2, 1, 10).ok().ok_or("memory")?)
+}
+
+/// A lock over the book of a new queue, in which a taker waits.
+fn lock_of<L: Line<Parcel> + Drop>(
+    rt: &(impl Abort + Wait),
+    alloc: Global,
+) -> Result<Locked<Parcel, L>, Fail> {
+    let lock = Mutex::new(book_of(alloc)?);
+    {
+        let mut book = lock.lock(rt);
+        plays(rt, &mut *book, &[(0, Ask::Take, Told::Waits(1))])?;
+    }
+    Ok(lock)
+}
+
+/// A lock over a queue in which a taker waits is let go in each way.
+fn is_let_go<L: Line<Parcel> + Drop>(rt: &(impl Abort + Wait), alloc: Global) -> Result<(), Fail> {
+    let_go_as_it_is::<Parcel, L>(lock_of(rt, alloc)?);
+    let_go_as_it_is_made::<Parcel, L>(book_of(alloc)?);
+    let_go_through_a_bound::<Parcel, L>(lock_of(rt, alloc)?);
+    Ok(())
+}
+
+#[test]
+fn a_lock_over_a_fair_queue_is_let_go(rt: HostRuntime) -> Result<(), Fail> {
+    is_let_go::<FairLine<Parcel>>(&rt, rt.alloc())
+}
+
+#[test]
+fn a_lock_over_a_stack_is_let_go(rt: HostRuntime) -> Result<(), Fail> {
+    is_let_go::<StackLine<Parcel>>(&rt, rt.alloc())
+}
