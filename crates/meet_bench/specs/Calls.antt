@@ -1,8 +1,10 @@
 -- The calls of each shape, by their numbers from 0.
 use Rattle.std.specs.Prelude.{ℕ, ◌*◌, ◌-◌, ◌/◌, ◌%◌, ◌^◌, nat_lt, ◌==◌, List, map, if◌then◌else◌}
 use Rattle.std.specs.List.{range_with_len}
+use Rattle.meet_tickets.specs.declared.places.End.{End}
+use Rattle.meet_tickets.specs.declared.places.End.TheVariants.{Front, Back}
 use Rattle.meet_tickets.specs.declared.places.Order.{Order}
-use Rattle.meet_tickets.specs.declared.places.Order.TheVariants.{Fair, Unfair, Transfer}
+use Rattle.meet_tickets.specs.Meeting.{end_of}
 use Rattle.meet_history.specs.declared.calls.Call.{Call}
 use Rattle.meet_history.specs.declared.calls.Verb.TheVariants.{Put, Take, Follow, Cancel}
 use Rattle.meet_bench.specs.declared.tasks.Shape.{Shape}
@@ -17,10 +19,9 @@ abbrev pub chance : (among n : ℕ) → ℕ
 chance among n = n * n % 2 ^ 64 * 11400714819323198485 % 2 ^ 64 / 2 ^ 44 % among
 
 -- the giver that a round's taker meets: the one that waits longest, or the newest
-unfoldable pub giver_met : Order → (waiting round : ℕ) → ℕ
-giver_met Fair waiting round = round % waiting
-giver_met Unfair waiting round = waiting - 1
-giver_met Transfer waiting round = round % waiting
+unfoldable pub giver_met : End → (waiting round : ℕ) → ℕ
+giver_met Front waiting round = round % waiting
+giver_met Back waiting round = waiting - 1
 
 -- a call of a round: a taker meets this giver, which is told so, and gives anew
 unfoldable pub round_call : (giver n step : ℕ) → Call
@@ -32,7 +33,7 @@ round_call giver n step =
 unfoldable pub meeting_call : Order → (waiting n : ℕ) → Call
 meeting_call order waiting n =
     if nat_lt n waiting then record { seat = seat_at n; verb = Put n }
-    else round_call (seat_at (giver_met order waiting ((n - waiting) / 3))) n ((n - waiting) % 3)
+    else round_call (seat_at (giver_met (end_of order) waiting ((n - waiting) / 3))) n ((n - waiting) % 3)
 
 -- a taker anywhere in the line takes its ticket back, and waits anew
 unfoldable pub again_call : (taker step : ℕ) → Call

@@ -6,7 +6,7 @@ ghost use Rattle.meet_bench.specs.Calls.{seat_at, chance, giver_met, round_call,
 
 use crate::tasks::Shape;
 use meet_history::{Call, Verb};
-use meet_tickets::{Order, SeatNo};
+use meet_tickets::{End, Order, SeatNo};
 use std::alloc::{AllocError, Global};
 
 /// How many seats have a giver or a taker each; the one behind them takes what is given.
@@ -33,14 +33,13 @@ fn chance(among: u64, number: u64) -> u64
 
 /// The giver that a round's taker meets.
 #[tactic(auto, unfolding(crate::specs::Calls::giver_met))]
-fn giver_met(order: Order, waiting: u64, round: u64) -> u64
+fn giver_met(end: End, waiting: u64, round: u64) -> u64
     requires { 1 ≤ waiting }
-    ensures { result ≡ giver_met order waiting round }
+    ensures { result ≡ giver_met end waiting round }
 {
-    match order {
-        Order::Fair => round % waiting,
-        Order::Unfair => waiting - 1,
-        Order::Transfer => round % waiting,
+    match end {
+        End::Front => round % waiting,
+        End::Back => waiting - 1,
     }
 }
 
@@ -82,7 +81,7 @@ fn meeting_call(order: Order, waiting: u64, number: u64) -> Call
         };
     }
     let behind = number - waiting;
-    let giver = seat_at(giver_met(order, waiting, behind / 3));
+    let giver = seat_at(giver_met(order.end(), waiting, behind / 3));
     round_call(giver, number, behind % 3)
 }
 

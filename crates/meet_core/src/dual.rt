@@ -81,7 +81,7 @@ impl<T: Marked, L: Line<T>> Dual<T, L> {
     /// refused at entry where it is flagged. Refuses what `admit` does, then Memory, never where there is room; the item
     /// comes back.
     pub fn give(&mut self, seat: SeatNo, item: T) -> Result<Gave<T>, Refused<T>>
-        ensures step { IfOk result (λ answer. GiveStep T.mark_of L.order self.old seat item answer self.new) }
+        ensures step { IfOk result (λ answer. GiveStep T.mark_of L.end self.old seat item answer self.new) }
         ensures admitted { IfOk result (λ _. admit_refusal self.old seat ≡ None) }
         ensures enough { 0 < self.old.room → admit_refusal self.old seat ≡ None → IsOk result }
         ensures places { places_of self.old ≤ places_of self.new }
@@ -95,7 +95,7 @@ impl<T: Marked, L: Line<T>> Dual<T, L> {
     /// `SynchronousQueue.take` up to its wait: the item comes from the giver that is met, or the taker goes to the line, or
     /// is refused at entry where it is flagged. Refuses what `admit` does, then Memory, never where there is room.
     pub fn take(&mut self, seat: SeatNo) -> Result<Took<T>, Refusal>
-        ensures step { IfOk result (λ answer. TakeStep T.mark_of L.order self.old seat answer self.new) }
+        ensures step { IfOk result (λ answer. TakeStep T.mark_of L.end self.old seat answer self.new) }
         ensures admitted { IfOk result (λ _. admit_refusal self.old seat ≡ None) }
         ensures enough { 0 < self.old.room → admit_refusal self.old seat ≡ None → IsOk result }
         ensures places { places_of self.old ≤ places_of self.new }
@@ -108,7 +108,7 @@ impl<T: Marked, L: Line<T>> Dual<T, L> {
     /// `SynchronousQueue.offer`: the item goes to the taker that is met, or comes back. It takes no memory, and refuses
     /// what `admit` does; the item comes back then too.
     pub fn offer(&mut self, seat: SeatNo, item: T) -> Result<Offered<T>, Refused<T>>
-        ensures step { IfOk result (λ answer. OfferStep T.mark_of L.order self.old item answer self.new) }
+        ensures step { IfOk result (λ answer. OfferStep T.mark_of L.end self.old item answer self.new) }
         ensures admitted { IfOk result (λ _. admit_refusal self.old seat ≡ None) }
         ensures places { places_of self.new ≡ places_of self.old }
         ensures why { IfErr result (λ refused. admit_refusal self.old seat ≡ Some refused.why) }
@@ -121,7 +121,7 @@ impl<T: Marked, L: Line<T>> Dual<T, L> {
     /// `SynchronousQueue.poll`: the item comes from the giver that is met, if one is there. It takes no memory, and refuses
     /// what `admit` does.
     pub fn poll(&mut self, seat: SeatNo) -> Result<Polled<T>, Refusal>
-        ensures step { IfOk result (λ answer. PollStep T.mark_of L.order self.old answer self.new) }
+        ensures step { IfOk result (λ answer. PollStep T.mark_of L.end self.old answer self.new) }
         ensures admitted { IfOk result (λ _. admit_refusal self.old seat ≡ None) }
         ensures places { places_of self.new ≡ places_of self.old }
         ensures why { IfErr result (λ why. admit_refusal self.old seat ≡ Some why) }

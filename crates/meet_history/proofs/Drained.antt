@@ -5,12 +5,13 @@ use Rattle.std.specs.Option.{option_map_or}
 use Rattle.std.proofs.lemmas.Bool.{le-ltb, ltb-false}
 use Rattle.meet_tickets.specs.declared.lines.Entry.{Entry}
 use Rattle.meet_tickets.specs.declared.places.Side.TheVariants.{Taker}
-use Rattle.meet_tickets.specs.declared.places.Order.{Order}
+use Rattle.meet_tickets.specs.declared.places.End.{End}
 use Rattle.meet_tickets.specs.declared.places.Kind.{Kind}
 use Rattle.meet_tickets.specs.declared.records.Deed.{Deed}
 use Rattle.meet_tickets.specs.declared.records.Deed.TheVariants.{TakeMeets, TakeFails}
 use Rattle.meet_tickets.specs.declared.refusals.Refusal.{Refusal}
 use Rattle.meet_tickets.specs.declared.refusals.Refusal.TheVariants.{Memory, HistoryFull, TicketsSpent, SeatOpen, NoSuchSeat, NotOpen, Differs, SeatMissing, Contended, Worn, BadSizes, PolicyNeedsBuffer, NoThread, BadLine, BadTrace, ReadFault, WriteFault}
+use Rattle.meet_tickets.specs.Meeting.{end_of}
 use Rattle.meet_tickets.specs.BySeat.{paired, meets, owed_of}
 use Rattle.meet_tickets.specs.Refusals.{refusal_of}
 use Rattle.meet_line.specs.Queue.{Queue, seats_of, count_of}
@@ -54,13 +55,13 @@ module _ (setup : Setup) (seat : ℕ) where
       ∙ ap (λ d. stepped setup p seat p.next d None) is
 
   -- one poll
-  one-poll : (old new : Queue ℕ) (written : ℕ) (answer : DualAnswer ℕ) (receipt : Received Deed) → request_refusal setup (place_at old written) seat ≡ None → DualStep (λ m. m) setup.kind.order old seat Poll answer new → dual_record (λ m. m) seat Poll answer ≡ Some receipt.entry → receipt.place ≡ written + 1 → take setup (place_at old written) seat immediate ≡ told_turn seat receipt new (written + 1)
+  one-poll : (old new : Queue ℕ) (written : ℕ) (answer : DualAnswer ℕ) (receipt : Received Deed) → request_refusal setup (place_at old written) seat ≡ None → DualStep (λ m. m) (end_of setup.kind.order) old seat Poll answer new → dual_record (λ m. m) seat Poll answer ≡ Some receipt.entry → receipt.place ≡ written + 1 → take setup (place_at old written) seat immediate ≡ told_turn seat receipt new (written + 1)
   one-poll old new written (ToPoll (Meets t u item)) receipt none (e, found, ticket, own, uses) is place =
       let p : Place = place_at old written in
       let entry : made seat t (TakeMeets item u) ≡ receipt.entry = cc in
       let deed : take_deed setup.kind p.seats seat immediate ≡ TakeMeets item u = ap (λ o. option_map_or (λ (f : Entry ℕ). TakeMeets (unwrap_or f.item 0) f.ticket) o (take_alone p.seats seat immediate)) found ∙ ap (λ o. TakeMeets (unwrap_or o 0) e.ticket) own ∙ ap (λ v. TakeMeets item v) (sym ticket) in
       let record_is : made seat old.next (TakeMeets item u) ≡ receipt.entry = ap (λ v. made seat v (TakeMeets item u)) (sym uses.used) ∙ entry in
-      let seats_is : meets setup.kind (seats_of old) old.next None Taker ≡ seats_of new = ap (λ o. option_map_or (paired (λ m. m) setup.kind.order (seats_of old) old.next None) o (seats_of old)) found ∙ ap (λ v. paired (λ m. m) setup.kind.order (seats_of old) v None e) (sym uses.used) ∙ sym uses.left in
+      let seats_is : meets setup.kind (seats_of old) old.next None Taker ≡ seats_of new = ap (λ o. option_map_or (paired (λ m. m) (end_of setup.kind.order) (seats_of old) old.next None) o (seats_of old)) found ∙ ap (λ v. paired (λ m. m) (end_of setup.kind.order) (seats_of old) v None e) (sym uses.used) ∙ sym uses.left in
       take-made p (TakeMeets item u) none deed
       ∙ (λ i. record {
         replies = record { seat = seat; outcome = Recorded (sym place i) (record_is i).ticket (answer_of (record_is i).deed None) } ∷ [];
@@ -86,15 +87,15 @@ module _ (setup : Setup) (seat : ℕ) where
   one-poll old new written (ToInterrupt answer) receipt none step is place = absurd step
 
   -- no poll changes how many seats there are
-  same-count : (order : Order) (old new : Queue ℕ) (answer : DualAnswer ℕ) → DualStep (λ m. m) order old seat Poll answer new → count_of new ≡ count_of old
-  same-count order old new (ToPoll (Meets t u item)) (e, found, ticket, own, uses) = uses.count
-  same-count order old new (ToPoll (Fails t)) (alone, uses) = uses.count
-  same-count order old new (ToGive answer) step = absurd step
-  same-count order old new (ToOffer answer) step = absurd step
-  same-count order old new (ToTake answer) step = absurd step
-  same-count order old new (ToFollowUp answer) step = absurd step
-  same-count order old new (ToWithdrawal answer) step = absurd step
-  same-count order old new (ToInterrupt answer) step = absurd step
+  same-count : (end : End) (old new : Queue ℕ) (answer : DualAnswer ℕ) → DualStep (λ m. m) end old seat Poll answer new → count_of new ≡ count_of old
+  same-count end old new (ToPoll (Meets t u item)) (e, found, ticket, own, uses) = uses.count
+  same-count end old new (ToPoll (Fails t)) (alone, uses) = uses.count
+  same-count end old new (ToGive answer) step = absurd step
+  same-count end old new (ToOffer answer) step = absurd step
+  same-count end old new (ToTake answer) step = absurd step
+  same-count end old new (ToFollowUp answer) step = absurd step
+  same-count end old new (ToWithdrawal answer) step = absurd step
+  same-count end old new (ToInterrupt answer) step = absurd step
 
   -- nor does one of any kind
   queue-poll : (old new : Queue ℕ) (written : ℕ) (answer : QueueAnswer ℕ) (receipt : Received Deed) → request_refusal setup (place_at old written) seat ≡ None → QueueStep (λ m. m) setup.kind old seat (Dual Poll) answer new → queue_record (λ m. m) seat (Dual Poll) answer ≡ Some receipt.entry → receipt.place ≡ written + 1 → take setup (place_at old written) seat immediate ≡ told_turn seat receipt new (written + 1)
@@ -102,7 +103,7 @@ module _ (setup : Setup) (seat : ℕ) where
   queue-poll old new written (ToPut answer) receipt none step is place = absurd step
 
   queue-count : (k : Kind) (old new : Queue ℕ) (answer : QueueAnswer ℕ) → QueueStep (λ m. m) k old seat (Dual Poll) answer new → count_of new ≡ count_of old
-  queue-count k old new (ToDual answer) step = same-count k.order old new answer step
+  queue-count k old new (ToDual answer) step = same-count (end_of k.order) old new answer step
   queue-count k old new (ToPut answer) step = absurd step
 
   -- a place whose seats are there, with what is refused there

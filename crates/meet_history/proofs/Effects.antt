@@ -8,14 +8,15 @@ use Rattle.meet_tickets.specs.declared.lines.Hold.{Hold}
 use Rattle.meet_tickets.specs.declared.lines.Hold.TheVariants.{Free, Waiting, Handed, Served, Cut}
 use Rattle.meet_tickets.specs.declared.places.Side.{Side}
 use Rattle.meet_tickets.specs.declared.places.Side.TheVariants.{Giver, Taker}
+use Rattle.meet_tickets.specs.declared.places.End.{End}
+use Rattle.meet_tickets.specs.declared.places.End.TheVariants.{Front, Back}
 use Rattle.meet_tickets.specs.declared.places.Order.{Order}
 use Rattle.meet_tickets.specs.declared.places.Kind.{Kind}
-use Rattle.meet_tickets.specs.declared.places.Order.TheVariants.{Fair, Unfair, Transfer}
 use Rattle.meet_tickets.specs.declared.records.Cause.TheVariants.{Cancelled, Expired, Interrupted}
 use Rattle.meet_tickets.specs.declared.records.Record.{Record}
 use Rattle.meet_tickets.specs.declared.records.Deed.{Deed}
 use Rattle.meet_tickets.specs.declared.records.Deed.TheVariants.{GiveWaits, GiveMeets, GiveFails, GiveKept, TakeWaits, TakeMeets, TakeFails, EntryInterrupted, Done, Got, Withdrawn, Interrupt}
-use Rattle.meet_tickets.specs.Meeting.{partner, kept_count}
+use Rattle.meet_tickets.specs.Meeting.{end_of, keeps, partner, kept_count}
 use Rattle.meet_tickets.specs.BySeat.{Seats, put_at, is_open, open_ticket, owed_of, unmet, without_first, entry_of, queued, paired, paired_hold, released, flagged, left, cut_off, is_request, Allows, seats_after, meets}
 use Rattle.meet_tickets.proofs.Admitted.{IsAdmitted-from}
 use Rattle.meet_line.specs.Queue.{Queue, seats_of, count_of, places_of, admit_refusal, Stands, IsSound}
@@ -46,11 +47,11 @@ use Rattle.meet_history.specs.declared.told.QueueCall.{QueueCall}
 use Rattle.meet_history.specs.declared.told.QueueCall.TheVariants.{Put as PutItem, Dual}
 use Rattle.meet_history.specs.declared.told.QueueAnswer.{QueueAnswer}
 use Rattle.meet_history.specs.declared.told.QueueAnswer.TheVariants.{Put as ToPut, Dual as ToDual}
-use Rattle.meet_history.specs.OneThread.{put_form, keeping}
-use Rattle.meet_history.specs.QueueSteps.{QueueStep, queue_refusal, queue_need, put_record, queue_record}
+use Rattle.meet_history.specs.OneThread.{put_form, waiting, keeping}
+use Rattle.meet_history.specs.QueueSteps.{dual_call, QueueStep, queue_refusal, queue_need, put_record, queue_record}
 use Rattle.meet_history.specs.DualRecords.{made, give_record, offer_record, take_record, poll_record, follow_record, back_record, interrupt_record, dual_record}
 use Rattle.meet_line.specs.Seen.{marked_entry, marked_hold, marked}
-use Rattle.meet_history.specs.DualSteps.{DualStep, dual_refusal, dual_need, dual_owed}
+use Rattle.meet_history.specs.DualSteps.{DualStep, synchronous, kind_of, dual_refusal, dual_need, dual_owed}
 use Rattle.meet_history.proofs.Marking.{partner-marked, entry_of-marked, kept-marked, queued-marked, paired-marked, released-marked, left-marked, cut_off-marked}
 use Rattle.meet_history.proofs.Owed.{owed-same, owed-more, owed-fewer}
 
@@ -72,10 +73,9 @@ abbrev pub HasEffect : {T : Type 0} → (T → ℕ) → Kind → Queue T → Que
 HasEffect mark k old new need r = MatchOption r (new ≡ old) (λ r. Writes mark k old new r × Costs old new need 1)
 
 -- what leaves a line doesn't lengthen it
-unmet-short : {X : Type 0} (order : Order) (line : List (Entry X)) → length (unmet order line) ≤ length line
-unmet-short Fair line = omega (arith, length-drop 1 line)
-unmet-short Unfair line = omega (arith, length-take (length line - 1) line)
-unmet-short Transfer line = omega (arith, length-drop 1 line)
+unmet-short : {X : Type 0} (end : End) (line : List (Entry X)) → length (unmet end line) ≤ length line
+unmet-short Front line = omega (arith, length-drop 1 line)
+unmet-short Back line = omega (arith, length-take (length line - 1) line)
 
 without-short : {X : Type 0} (t : ℕ) (line : List (Entry X)) → length (without_first (λ e. e.ticket == t) line) ≤ length line
 without-short t [] = omega arith
@@ -93,11 +93,23 @@ entry-open line (Handed t u mark) e found = refl
 entry-open line (Served t u item) e found = refl
 entry-open line (Cut t item) e found = refl
 
--- only a transfer queue keeps items
-keeps-only : (order : Order) → put_form order ≡ keeping → order ≡ Transfer
-keeps-only Fair keeps = cc
-keeps-only Unfair keeps = cc
-keeps-only Transfer keeps = refl
+-- only a place that keeps items keeps one
+keeps-only : (order : Order) → put_form order ≡ keeping → keeps order ≡ true
+keeps-only order = by_test (keeps order)
+  where
+    by_test : (b : Bool) → cond b keeping waiting ≡ keeping → b ≡ true
+    by_test true e = refl
+    by_test false e = cc
+
+-- what a met seat holds is open, as it was
+pub met-open : {T : Type 0} (mark : T → ℕ) (end : End) (old : Queue T) (side : Side) (t : ℕ) (item : Option T) (e : Entry T) → IsSound old.line (seats_of old).holds old.next → partner end old.line side ≡ Some e → is_open (paired_hold mark e.ticket e.item t item) ≡ true → owed_of (count_of old) (paired mark end (seats_of old) t item e).holds ≡ dual_owed old
+met-open mark end old side t item e sound found opened = by_waits e.waits refl
+  where
+    by_waits : (w : Bool) → e.waits ≡ w → owed_of (count_of old) (cond w (put_at (seats_of old).holds e.seat (paired_hold mark e.ticket e.item t item)) (seats_of old).holds) ≡ dual_owed old
+    by_waits true waits =
+        let stands : Stands (seats_of old).holds old.next e = Stands-partner end side e sound found in
+        owed-same (seats_of old).holds (count_of old) e.seat (paired_hold mark e.ticket e.item t item) (opened ∙ sym (ap is_open (stands.held waits)))
+    by_waits false waits = refl
 
 module _ {T : Type 0} (mark : T → ℕ) (k : Kind) (old new : Queue T) where
   abbrev now : Seats ℕ
@@ -130,17 +142,17 @@ module _ {T : Type 0} (mark : T → ℕ) (k : Kind) (old new : Queue T) where
       record { owed = omega (arith, same, owed); line = omega (arith, long, line) }
 
   -- the partner as histories see it
-  found-marked : (side : Side) (e : Entry T) → partner k.order old.line side ≡ Some e → partner k.order now.line side ≡ Some (marked_entry mark e)
-  found-marked side e found = partner-marked mark k.order old.line side ∙ ap (option_map (marked_entry mark)) found
+  found-marked : (side : Side) (e : Entry T) → partner (end_of k.order) old.line side ≡ Some e → partner (end_of k.order) now.line side ≡ Some (marked_entry mark e)
+  found-marked side e found = partner-marked mark (end_of k.order) old.line side ∙ ap (option_map (marked_entry mark)) found
 
-  alone-marked : (side : Side) → partner k.order old.line side ≡ None → partner k.order now.line side ≡ None
-  alone-marked side alone = partner-marked mark k.order old.line side ∙ ap (option_map (marked_entry mark)) alone
+  alone-marked : (side : Side) → partner (end_of k.order) old.line side ≡ None → partner (end_of k.order) now.line side ≡ None
+  alone-marked side alone = partner-marked mark (end_of k.order) old.line side ∙ ap (option_map (marked_entry mark)) alone
 
   -- a meeting leaves the same
-  meets-marked : (t : ℕ) (item : Option T) (side : Side) (e : Entry T) → partner k.order old.line side ≡ Some e → marked mark (paired mark k.order (seats_of old) t item e) ≡ meets k now t (option_map mark item) side
+  meets-marked : (t : ℕ) (item : Option T) (side : Side) (e : Entry T) → partner (end_of k.order) old.line side ≡ Some e → marked mark (paired mark (end_of k.order) (seats_of old) t item e) ≡ meets k now t (option_map mark item) side
   meets-marked t item side e found =
-      paired-marked mark k.order (seats_of old) t item e
-      ∙ sym (ap (λ o. option_map_or (paired (λ m. m) k.order now t (option_map mark item)) o now) (found-marked side e found))
+      paired-marked mark (end_of k.order) (seats_of old) t item e
+      ∙ sym (ap (λ o. option_map_or (paired (λ m. m) (end_of k.order) now t (option_map mark item)) o now) (found-marked side e found))
 
   -- an item may be kept for histories where it may be kept
   may-marked : MatchOption k.bound ⊤ (λ most. kept_count old.line < most) → MatchOption k.bound ⊤ (λ most. kept_count now.line < most)
@@ -156,36 +168,26 @@ module _ {T : Type 0} (mark : T → ℕ) (k : Kind) (old new : Queue T) where
   free-marked : (i : ℕ) → (seats_of old).holds i ≡ Free → now.holds i ≡ Free
   free-marked i free = ap (marked_hold mark) free
 
-  -- what a met seat holds is open, as it was
-  pub met-open : (side : Side) (t : ℕ) (item : Option T) (e : Entry T) → IsSound old.line (seats_of old).holds old.next → partner k.order old.line side ≡ Some e → is_open (paired_hold mark e.ticket e.item t item) ≡ true → owed_of (count_of old) (paired mark k.order (seats_of old) t item e).holds ≡ dual_owed old
-  met-open side t item e sound found opened = by_waits e.waits refl
-    where
-      by_waits : (w : Bool) → e.waits ≡ w → owed_of (count_of old) (cond w (put_at (seats_of old).holds e.seat (paired_hold mark e.ticket e.item t item)) (seats_of old).holds) ≡ dual_owed old
-      by_waits true waits =
-          let stands : Stands (seats_of old).holds old.next e = Stands-partner k.order side e sound found in
-          owed-same (seats_of old).holds (count_of old) e.seat (paired_hold mark e.ticket e.item t item) (opened ∙ sym (ap is_open (stands.held waits)))
-      by_waits false waits = refl
-
   -- a giver that meets
-  hands-effect : (i t u : ℕ) (item : T) → IsSound old.line (seats_of old).holds old.next → (seats_of old).holds i ≡ Free → HandsTo mark k.order old item t u new → Writes mark k old new (made i t (GiveMeets (mark item) u)) × Costs old new 2 1
+  hands-effect : (i t u : ℕ) (item : T) → IsSound old.line (seats_of old).holds old.next → (seats_of old).holds i ≡ Free → HandsTo mark (end_of k.order) old item t u new → Writes mark k old new (made i t (GiveMeets (mark item) u)) × Costs old new 2 1
   hands-effect i t u item sound free (e, found, ticket, none, uses) = (
     writes-request i t (GiveMeets (mark item) u) _ refl uses
         (free-marked i free, (marked_entry mark e, found-marked Giver e found, sym ticket, ap (option_map mark) none))
         (meets-marked t (Some item) Giver e found),
     costs-from 2 1 _ uses.count uses.left
-        (omega (arith, met-open Giver t (Some item) e sound found (ap (λ o. is_open (paired_hold mark e.ticket o t (Some item))) none)))
-        (omega (arith, unmet-short k.order old.line)),
+        (omega (arith, met-open mark (end_of k.order) old Giver t (Some item) e sound found (ap (λ o. is_open (paired_hold mark e.ticket o t (Some item))) none)))
+        (omega (arith, unmet-short (end_of k.order) old.line)),
   )
 
   -- a taker that meets
-  gets-effect : (i t u : ℕ) (item : T) → IsSound old.line (seats_of old).holds old.next → (seats_of old).holds i ≡ Free → GetsFrom mark k.order old t u item new → Writes mark k old new (made i t (TakeMeets (mark item) u)) × Costs old new 2 1
+  gets-effect : (i t u : ℕ) (item : T) → IsSound old.line (seats_of old).holds old.next → (seats_of old).holds i ≡ Free → GetsFrom mark (end_of k.order) old t u item new → Writes mark k old new (made i t (TakeMeets (mark item) u)) × Costs old new 2 1
   gets-effect i t u item sound free (e, found, ticket, own, uses) = (
     writes-request i t (TakeMeets (mark item) u) _ refl uses
         (free-marked i free, (marked_entry mark e, found-marked Taker e found, sym ticket, ap (option_map mark) own))
         (meets-marked t None Taker e found),
     costs-from 2 1 _ uses.count uses.left
-        (omega (arith, met-open Taker t None e sound found (ap (λ o. is_open (paired_hold mark e.ticket o t None)) own)))
-        (omega (arith, unmet-short k.order old.line)),
+        (omega (arith, met-open mark (end_of k.order) old Taker t None e sound found (ap (λ o. is_open (paired_hold mark e.ticket o t None)) own)))
+        (omega (arith, unmet-short (end_of k.order) old.line)),
   )
 
   -- a request that goes to the line
@@ -200,32 +202,32 @@ module _ {T : Type 0} (mark : T → ℕ) (k : Kind) (old new : Queue T) where
   same-costs : (t : ℕ) (flags : ℕ → Bool) → Uses old new t (record (seats_of old) { flags = flags }) → Costs old new 2 1
   same-costs t flags uses = costs-from 2 1 _ uses.count uses.left (omega arith) (omega arith)
 
-  give-effect : (i : ℕ) (item : T) (answer : Gave T) → IsSound old.line (seats_of old).holds old.next → (seats_of old).holds i ≡ Free → GiveStep mark k.order old i item answer new → Writes mark k old new (give_record i (mark item) answer) × Costs old new 2 1
+  give-effect : (i : ℕ) (item : T) (answer : Gave T) → IsSound old.line (seats_of old).holds old.next → (seats_of old).holds i ≡ Free → GiveStep mark (end_of k.order) old i item answer new → Writes mark k old new (give_record i (mark item) answer) × Costs old new 2 1
   give-effect i item (GiverWaits t) sound free (alone, flag, uses) =
       (writes-request i t (GiveWaits (mark item)) _ refl uses (free-marked i free, alone-marked Giver alone, flag) (queued-marked mark (seats_of old) i t (Some item) true), waits-costs i t (Some item) uses)
   give-effect i item (GiverMeets t u) sound free step = hands-effect i t u item sound free step
   give-effect i item (GiverInterrupted t back) sound free (alone, flag, same, uses) =
       (writes-request i t (EntryInterrupted Giver) _ refl uses (free-marked i free, alone-marked Giver alone, flag) refl, same-costs t _ uses)
 
-  offer-effect : (i : ℕ) (item : T) (answer : Offered T) → IsSound old.line (seats_of old).holds old.next → (seats_of old).holds i ≡ Free → OfferStep mark k.order old item answer new → Writes mark k old new (offer_record i (mark item) answer) × Costs old new 2 1
+  offer-effect : (i : ℕ) (item : T) (answer : Offered T) → IsSound old.line (seats_of old).holds old.next → (seats_of old).holds i ≡ Free → OfferStep mark (end_of k.order) old item answer new → Writes mark k old new (offer_record i (mark item) answer) × Costs old new 2 1
   offer-effect i item (OfferMeets t u) sound free step = hands-effect i t u item sound free step
   offer-effect i item (OfferFails t back) sound free (alone, same, uses) =
       (writes-request i t (GiveFails (mark item)) _ refl uses (free-marked i free, alone-marked Giver alone) refl, same-costs t _ uses)
 
-  take-effect : (i : ℕ) (answer : Took T) → IsSound old.line (seats_of old).holds old.next → (seats_of old).holds i ≡ Free → TakeStep mark k.order old i answer new → Writes mark k old new (take_record mark i answer) × Costs old new 2 1
+  take-effect : (i : ℕ) (answer : Took T) → IsSound old.line (seats_of old).holds old.next → (seats_of old).holds i ≡ Free → TakeStep mark (end_of k.order) old i answer new → Writes mark k old new (take_record mark i answer) × Costs old new 2 1
   take-effect i (TakerWaits t) sound free (alone, flag, uses) =
       (writes-request i t TakeWaits _ refl uses (free-marked i free, alone-marked Taker alone, flag) (queued-marked mark (seats_of old) i t None true), waits-costs i t None uses)
   take-effect i (TakerMeets t u item) sound free step = gets-effect i t u item sound free step
   take-effect i (TakerInterrupted t) sound free (alone, flag, uses) =
       (writes-request i t (EntryInterrupted Taker) _ refl uses (free-marked i free, alone-marked Taker alone, flag) refl, same-costs t _ uses)
 
-  poll-effect : (i : ℕ) (answer : Polled T) → IsSound old.line (seats_of old).holds old.next → (seats_of old).holds i ≡ Free → PollStep mark k.order old answer new → Writes mark k old new (poll_record mark i answer) × Costs old new 2 1
+  poll-effect : (i : ℕ) (answer : Polled T) → IsSound old.line (seats_of old).holds old.next → (seats_of old).holds i ≡ Free → PollStep mark (end_of k.order) old answer new → Writes mark k old new (poll_record mark i answer) × Costs old new 2 1
   poll-effect i (PollMeets t u item) sound free step = gets-effect i t u item sound free step
   poll-effect i (PollFails t) sound free (alone, uses) =
       (writes-request i t TakeFails _ refl uses (free-marked i free, alone-marked Taker alone) refl, same-costs t _ uses)
 
   -- a giver's item that is kept opens no ticket
-  put-effect : (i : ℕ) (item : T) (answer : Put T) → IsSound old.line (seats_of old).holds old.next → (seats_of old).holds i ≡ Free → k.order ≡ Transfer → PutStep mark k.order k.bound old i item answer new → Writes mark k old new (put_record i (mark item) answer) × Costs old new 2 1
+  put-effect : (i : ℕ) (item : T) (answer : Put T) → IsSound old.line (seats_of old).holds old.next → (seats_of old).holds i ≡ Free → keeps k.order ≡ true → PutStep mark (end_of k.order) k.bound old i item answer new → Writes mark k old new (put_record i (mark item) answer) × Costs old new 2 1
   put-effect i item (PutKept t) sound free keeps (alone, room, uses) =
       let e : Entry T = record { ticket = t; seat = i; item = Some item; waits = false } in (
         writes-request i t (GiveKept (mark item)) _ refl uses (free-marked i free, alone-marked Giver alone, (keeps, may-marked room)) (queued-marked mark (seats_of old) i t (Some item) false),
@@ -289,7 +291,7 @@ module _ {T : Type 0} (mark : T → ℕ) (k : Kind) (old new : Queue T) where
       )
 
   -- an admitted call, whatever it is
-  call-effect : (i : ℕ) (call : DualCall T) (answer : DualAnswer T) → IsSound old.line (seats_of old).holds old.next → dual_refusal old i call ≡ None → DualStep mark k.order old i call answer new → HasEffect mark k old new (dual_need call) (dual_record mark i call answer)
+  call-effect : (i : ℕ) (call : DualCall T) (answer : DualAnswer T) → IsSound old.line (seats_of old).holds old.next → dual_refusal old i call ≡ None → DualStep mark (end_of k.order) old i call answer new → HasEffect mark k old new (dual_need call) (dual_record mark i call answer)
   call-effect i (Give item) (ToGive answer) sound none step = give-effect i item answer sound (free-seat i none) step
   call-effect i (Offer item) (ToOffer answer) sound none step = offer-effect i item answer sound (free-seat i none) step
   call-effect i Take (ToTake answer) sound none step = take-effect i answer sound (free-seat i none) step
@@ -308,7 +310,7 @@ module _ {T : Type 0} (mark : T → ℕ) (k : Kind) (old new : Queue T) where
   queue-effect i (Dual call) (ToPut answer) sound none step = absurd step
 
   -- by the record that was told
-  pub dual-made : (i : ℕ) (call : DualCall T) (answer : DualAnswer T) (r : Option (Record Deed)) → r ≡ dual_record mark i call answer → IsSound old.line (seats_of old).holds old.next → dual_refusal old i call ≡ None → DualStep mark k.order old i call answer new → HasEffect mark k old new (dual_need call) r
+  pub dual-made : (i : ℕ) (call : DualCall T) (answer : DualAnswer T) (r : Option (Record Deed)) → r ≡ dual_record mark i call answer → IsSound old.line (seats_of old).holds old.next → dual_refusal old i call ≡ None → DualStep mark (end_of k.order) old i call answer new → HasEffect mark k old new (dual_need call) r
   dual-made i call answer r is sound none step = subst (λ r. HasEffect mark k old new (dual_need call) r) (sym is) (call-effect i call answer sound none step)
 
   pub queue-made : (i : ℕ) (call : QueueCall T) (answer : QueueAnswer T) (r : Option (Record Deed)) → r ≡ queue_record mark i call answer → IsSound old.line (seats_of old).holds old.next → queue_refusal old i call ≡ None → QueueStep mark k old i call answer new → HasEffect mark k old new (queue_need call) r
@@ -325,3 +327,22 @@ module _ {T : Type 0} (mark : T → ℕ) (k : Kind) (old new : Queue T) where
   effect-room need (Some r) (writes, costs) places =
       let whole : length new.line + new.room ≡ length old.line + old.room = places in
       omega (arith, whole, costs.line)
+
+-- a place is met at the end at which its line is
+synchronous-end : (end : End) → end_of (synchronous end) ≡ end
+synchronous-end Front = refl
+synchronous-end Back = refl
+
+-- a synchronous queue's step, by the record that was told
+pub synchronous-made : {T : Type 0} (mark : T → ℕ) (end : End) (old new : Queue T) (i : ℕ) (call : DualCall T) (answer : DualAnswer T) (r : Option (Record Deed)) → r ≡ dual_record mark i call answer → IsSound old.line (seats_of old).holds old.next → dual_refusal old i call ≡ None → DualStep mark end old i call answer new → HasEffect mark (kind_of end) old new (dual_need call) r
+synchronous-made mark end old new i call answer r is sound none step =
+    dual-made mark (kind_of end) old new i call answer r is sound none (subst (λ e. DualStep mark e old i call answer new) (sym (synchronous-end end)) step)
+
+-- it keeps nothing, so a put of it waits
+synchronous-waits : (end : End) → put_form (synchronous end) ≡ waiting
+synchronous-waits Front = refl
+synchronous-waits Back = refl
+
+pub synchronous-step : {T : Type 0} (mark : T → ℕ) (end : End) (old : Queue T) (i : ℕ) (call : QueueCall T) (answer : DualAnswer T) (new : Queue T) → DualStep mark end old i (dual_call call) answer new → QueueStep mark (kind_of end) old i call (ToDual answer) new
+synchronous-step mark end old i (PutItem item) answer new step = (synchronous-waits end, subst (λ e. DualStep mark e old i (Give item) answer new) (sym (synchronous-end end)) step)
+synchronous-step mark end old i (Dual call) answer new step = subst (λ e. DualStep mark e old i call answer new) (sym (synchronous-end end)) step

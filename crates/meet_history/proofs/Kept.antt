@@ -1,8 +1,8 @@
 -- How many kept entries are left of a line.
 use Rattle.std.proofs.Common.{◌≡◌, ℕ, ◌+◌, ◌-◌, ◌==◌, refl, sym, ap, ◌∙◌, Option, Some, None, List, [], ◌∷◌, length, find, arith}
 use Rattle.meet_tickets.specs.declared.lines.Entry.{Entry}
-use Rattle.meet_tickets.specs.declared.places.Order.{Order}
-use Rattle.meet_tickets.specs.declared.places.Order.TheVariants.{Fair, Unfair, Transfer}
+use Rattle.meet_tickets.specs.declared.places.End.{End}
+use Rattle.meet_tickets.specs.declared.places.End.TheVariants.{Front, Back}
 use Rattle.meet_tickets.specs.Meeting.{met, waiting_count, kept_count}
 use Rattle.meet_tickets.specs.BySeat.{unmet, without_first}
 use Rattle.std.specs.Option.{option_map_or}
@@ -13,12 +13,11 @@ use Rattle.meet_history.specs.declared.checker.Standing.{Standing}
 use Rattle.meet_history.specs.Marks.{count_if_kept}
 
 -- the one that is met leaves, if anybody is there
-pub kept-unmet : (order : Order) (line : List (Entry ℕ)) (o : Option (Entry ℕ)) → o ≡ met order line → kept_count (unmet order line) + count_if_kept o ≡ kept_count line
-kept-unmet Fair [] None is = refl
-kept-unmet Unfair [] None is = refl
-kept-unmet Transfer [] None is = refl
-kept-unmet order (x ∷ line) None is = absurd (met-some order x line (sym is))
-kept-unmet order line (Some e) is = kept-met order line e (sym is)
+pub kept-unmet : (end : End) (line : List (Entry ℕ)) (o : Option (Entry ℕ)) → o ≡ met end line → kept_count (unmet end line) + count_if_kept o ≡ kept_count line
+kept-unmet Front [] None is = refl
+kept-unmet Back [] None is = refl
+kept-unmet end (x ∷ line) None is = absurd (met-some end x line (sym is))
+kept-unmet end line (Some e) is = kept-met end line e (sym is)
 
 -- the one of a ticket leaves, if it is there
 pub kept-without : (t : ℕ) (line : List (Entry ℕ)) (o : Option (Entry ℕ)) → o ≡ find (λ e. e.ticket == t) line → kept_count (without_first (λ e. e.ticket == t) line) + count_if_kept o ≡ kept_count line

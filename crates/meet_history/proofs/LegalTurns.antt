@@ -9,7 +9,6 @@ use Rattle.meet_tickets.specs.declared.lines.Hold.{Hold}
 use Rattle.meet_tickets.specs.declared.lines.Hold.TheVariants.{Free, Waiting, Handed, Served, Cut}
 use Rattle.meet_tickets.specs.declared.places.Side.TheVariants.{Giver, Taker}
 use Rattle.meet_tickets.specs.declared.places.Order.{Order}
-use Rattle.meet_tickets.specs.declared.places.Order.TheVariants.{Fair, Unfair, Transfer}
 use Rattle.meet_tickets.specs.declared.places.Kind.{Kind}
 use Rattle.meet_tickets.specs.declared.records.Record.{Record}
 use Rattle.meet_tickets.specs.declared.records.Cause.{Cause}
@@ -17,7 +16,7 @@ use Rattle.meet_tickets.specs.declared.records.Cause.TheVariants.{Cancelled, Exp
 use Rattle.meet_tickets.specs.declared.records.Deed.{Deed}
 use Rattle.meet_tickets.specs.declared.records.Deed.TheVariants.{GiveWaits, GiveMeets, GiveFails, GiveKept, TakeWaits, TakeMeets, TakeFails, EntryInterrupted, Done, Got, Withdrawn, Interrupt}
 use Rattle.meet_tickets.specs.declared.refusals.Refusal.{Refusal}
-use Rattle.meet_tickets.specs.Meeting.{partner, Alone, kept_count, count_on}
+use Rattle.meet_tickets.specs.Meeting.{end_of, keeps, partner, Alone, kept_count, count_on}
 use Rattle.meet_tickets.specs.BySeat.{Seats, Moment, Fits, Allows, IsFree, entry_of, paired, cut_off, flagged, cut_ticket, is_request, seats_after, moment_of, IsLegalBySeatFrom}
 use Rattle.meet_tickets.specs.Refusals.{refusal_of}
 use Rattle.meet_tickets.proofs.Continued.{legal-append, moment_of-append}
@@ -34,9 +33,9 @@ use Rattle.meet_history.proofs.Within.{by_cases, IsWithin, IsWithin-after}
 use Rattle.meet_history.specs.OneThread.{Place, Turn, start, silent, refused, written, joined, Form, waiting, immediate, keeping, may_keep, give_alone, give_deed, take_alone, take_deed, stepped, answer_of, request_refusal, request, give, take, follow, withdraw, interrupt, interrupt_refusal, cut_named, polls, drain, drain_refusal, put_form, offer_form, turn_of, turn, turns}
 
 -- a meeting leaves a line of one side
-HasOneSide-meets : (k : Kind) (s : Seats ℕ) (t : ℕ) (item : Option ℕ) (o : Option (Entry ℕ)) → HasOneSide s.line → HasOneSide (option_map_or (paired (λ mark. mark) k.order s t item) o s).line
+HasOneSide-meets : (k : Kind) (s : Seats ℕ) (t : ℕ) (item : Option ℕ) (o : Option (Entry ℕ)) → HasOneSide s.line → HasOneSide (option_map_or (paired (λ mark. mark) (end_of k.order) s t item) o s).line
 HasOneSide-meets k s t item None one = one
-HasOneSide-meets k s t item (Some e) one = HasOneSide-unmet k.order s.line one
+HasOneSide-meets k s t item (Some e) one = HasOneSide-unmet (end_of k.order) s.line one
 
 -- so does an interrupt
 HasOneSide-interrupted : (s : Seats ℕ) (j : ℕ) (o : Option (Entry ℕ)) → HasOneSide s.line → HasOneSide (option_map_or (cut_off s j) o (flagged s j true)).line
@@ -45,12 +44,12 @@ HasOneSide-interrupted s j (Some e) one = HasOneSide-without_first e.ticket s.li
 
 -- so does each deed that is allowed
 HasOneSide-after : (k : Kind) (s : Seats ℕ) (i t : ℕ) (deed : Deed) → HasOneSide s.line → Allows k s i t deed → HasOneSide (seats_after k s i t deed).line
-HasOneSide-after k s i t (GiveWaits m) one allowed = HasOneSide-added k.order s.line Giver _ one allowed.1 refl
-HasOneSide-after k s i t (GiveMeets m u) one allowed = HasOneSide-meets k s t (Some m) (partner k.order s.line Giver) one
+HasOneSide-after k s i t (GiveWaits m) one allowed = HasOneSide-added (end_of k.order) s.line Giver _ one allowed.1 refl
+HasOneSide-after k s i t (GiveMeets m u) one allowed = HasOneSide-meets k s t (Some m) (partner (end_of k.order) s.line Giver) one
 HasOneSide-after k s i t (GiveFails m) one allowed = one
-HasOneSide-after k s i t (GiveKept m) one allowed = HasOneSide-added k.order s.line Giver _ one allowed.1 refl
-HasOneSide-after k s i t TakeWaits one allowed = HasOneSide-added k.order s.line Taker _ one allowed.1 refl
-HasOneSide-after k s i t (TakeMeets m u) one allowed = HasOneSide-meets k s t None (partner k.order s.line Taker) one
+HasOneSide-after k s i t (GiveKept m) one allowed = HasOneSide-added (end_of k.order) s.line Giver _ one allowed.1 refl
+HasOneSide-after k s i t TakeWaits one allowed = HasOneSide-added (end_of k.order) s.line Taker _ one allowed.1 refl
+HasOneSide-after k s i t (TakeMeets m u) one allowed = HasOneSide-meets k s t None (partner (end_of k.order) s.line Taker) one
 HasOneSide-after k s i t TakeFails one allowed = one
 HasOneSide-after k s i t (EntryInterrupted side) one allowed = one
 HasOneSide-after k s i t Done one allowed = one
@@ -125,25 +124,25 @@ may_keep-true : (bound : Option ℕ) (count : ℕ) → option_map_or (λ most. n
 may_keep-true None count e = tt
 may_keep-true (Some most) count e = ltb-true count most e
 
--- a give fits; only a transfer queue keeps an item
-give_fits : (setup : Setup) (p : Place) (seat mark : ℕ) (form : Form) → HasOneSide p.seats.line → (form ≡ keeping → setup.kind.order ≡ Transfer) → IsFree p.seats seat → Allows setup.kind p.seats seat p.next (give_deed setup.kind p.seats seat form mark)
-give_fits setup p seat mark form one keeps free =
-    by_cases (λ deed. Allows setup.kind p.seats seat p.next deed) (partner setup.kind.order p.seats.line Giver) (λ e. GiveMeets mark e.ticket) (give_alone setup.kind p.seats seat form mark)
-    (λ e found. (free, (e, found, refl, none-from e.item (partner-other setup.kind.order p.seats.line Giver e one found))))
-    (λ alone. by_form form keeps alone)
+-- a give fits; only a place that keeps items keeps one
+give_fits : (setup : Setup) (p : Place) (seat mark : ℕ) (form : Form) → HasOneSide p.seats.line → (form ≡ keeping → keeps setup.kind.order ≡ true) → IsFree p.seats seat → Allows setup.kind p.seats seat p.next (give_deed setup.kind p.seats seat form mark)
+give_fits setup p seat mark form one kept free =
+    by_cases (λ deed. Allows setup.kind p.seats seat p.next deed) (partner (end_of setup.kind.order) p.seats.line Giver) (λ e. GiveMeets mark e.ticket) (give_alone setup.kind p.seats seat form mark)
+    (λ e found. (free, (e, found, refl, none-from e.item (partner-other (end_of setup.kind.order) p.seats.line Giver e one found))))
+    (λ alone. by_form form kept alone)
   where
-    by_form : (f : Form) → (f ≡ keeping → setup.kind.order ≡ Transfer) → Alone setup.kind p.seats.line Giver → Allows setup.kind p.seats seat p.next (give_alone setup.kind p.seats seat f mark)
-    by_form waiting keeps alone = cond_both (p.seats.flags seat) (EntryInterrupted Giver) (GiveWaits mark) (λ deed. Allows setup.kind p.seats seat p.next deed) (λ flag. (free, alone, flag)) (λ flag. (free, alone, flag))
-    by_form immediate keeps alone = (free, alone)
-    by_form keeping keeps alone = cond_both (may_keep setup.kind p.seats.line) (GiveKept mark) (GiveFails mark) (λ deed. Allows setup.kind p.seats seat p.next deed)
-        (λ may. (free, alone, (keeps refl, may_keep-true setup.kind.bound (kept_count p.seats.line) may)))
+    by_form : (f : Form) → (f ≡ keeping → keeps setup.kind.order ≡ true) → Alone setup.kind p.seats.line Giver → Allows setup.kind p.seats seat p.next (give_alone setup.kind p.seats seat f mark)
+    by_form waiting kept alone = cond_both (p.seats.flags seat) (EntryInterrupted Giver) (GiveWaits mark) (λ deed. Allows setup.kind p.seats seat p.next deed) (λ flag. (free, alone, flag)) (λ flag. (free, alone, flag))
+    by_form immediate kept alone = (free, alone)
+    by_form keeping kept alone = cond_both (may_keep setup.kind p.seats.line) (GiveKept mark) (GiveFails mark) (λ deed. Allows setup.kind p.seats seat p.next deed)
+        (λ may. (free, alone, (kept refl, may_keep-true setup.kind.bound (kept_count p.seats.line) may)))
         (λ full. (free, alone))
 
 -- a take fits
 take_fits : (setup : Setup) (p : Place) (seat : ℕ) (form : Form) → HasOneSide p.seats.line → IsFree p.seats seat → Allows setup.kind p.seats seat p.next (take_deed setup.kind p.seats seat form)
 take_fits setup p seat form one free =
-    by_cases (λ deed. Allows setup.kind p.seats seat p.next deed) (partner setup.kind.order p.seats.line Taker) (λ e. TakeMeets (unwrap_or e.item 0) e.ticket) (take_alone p.seats seat form)
-    (λ e found. (free, (e, found, refl, some-from e.item (partner-other setup.kind.order p.seats.line Taker e one found))))
+    by_cases (λ deed. Allows setup.kind p.seats seat p.next deed) (partner (end_of setup.kind.order) p.seats.line Taker) (λ e. TakeMeets (unwrap_or e.item 0) e.ticket) (take_alone p.seats seat form)
+    (λ e found. (free, (e, found, refl, some-from e.item (partner-other (end_of setup.kind.order) p.seats.line Taker e one found))))
     (λ alone. by_form form alone)
   where
     some-from : (o : Option ℕ) → not (is_some o) ≡ false → o ≡ Some (unwrap_or o 0)
@@ -163,7 +162,7 @@ request_legal setup last p seat deed item ready fits =
     (λ none. IsLegalTurn-written setup last p (record { seat = seat; ticket = p.next; deed = deed }) (λ n. Recorded n p.next (answer_of deed item)) ready (record { above = λ _. ready.below; allowed = fits (admitted setup p seat none).free }) (λ _. (refl, (admitted setup p seat none).there)))
 
 -- so gives and takes are legal
-give_legal : (setup : Setup) (last : ℕ) (p : Place) (seat mark : ℕ) (form : Form) → (form ≡ keeping → setup.kind.order ≡ Transfer) → IsReady setup.seats last p → IsLegalTurn setup last p (give setup p seat form mark)
+give_legal : (setup : Setup) (last : ℕ) (p : Place) (seat mark : ℕ) (form : Form) → (form ≡ keeping → keeps setup.kind.order ≡ true) → IsReady setup.seats last p → IsLegalTurn setup last p (give setup p seat form mark)
 give_legal setup last p seat mark form keeps ready =
     request_legal setup last p seat (give_deed setup.kind p.seats seat form mark) (Some mark) ready (give_fits setup p seat mark form ready.one_side keeps)
 
@@ -219,16 +218,20 @@ drain_legal setup last p seat k ready =
     (λ why is. IsLegalTurn-silent setup last p seat (Refused why) ready)
     (λ none. IsLegalTurn-joined setup last p (polls setup p seat k) (λ q. silent q seat (Drained k)) (polls_legal setup last p seat k ready) (λ l later. IsLegalTurn-silent setup l (polls setup p seat k).place seat (Drained k) later))
 
--- only a transfer queue's puts and offers keep
-put_form-keeps : (order : Order) → put_form order ≡ keeping → order ≡ Transfer
-put_form-keeps Fair e = cc
-put_form-keeps Unfair e = cc
-put_form-keeps Transfer e = refl
+-- only the puts and offers of a place that keeps items keep
+put_form-keeps : (order : Order) → put_form order ≡ keeping → keeps order ≡ true
+put_form-keeps order = by_test (keeps order)
+  where
+    by_test : (b : Bool) → cond b keeping waiting ≡ keeping → b ≡ true
+    by_test true e = refl
+    by_test false e = cc
 
-offer_form-keeps : (order : Order) → offer_form order ≡ keeping → order ≡ Transfer
-offer_form-keeps Fair e = cc
-offer_form-keeps Unfair e = cc
-offer_form-keeps Transfer e = refl
+offer_form-keeps : (order : Order) → offer_form order ≡ keeping → keeps order ≡ true
+offer_form-keeps order = by_test (keeps order)
+  where
+    by_test : (b : Bool) → cond b keeping immediate ≡ keeping → b ≡ true
+    by_test true e = refl
+    by_test false e = cc
 
 -- the turn of a call is legal
 turn_legal : (setup : Setup) (last : ℕ) (p : Place) (seat : ℕ) (verb : Verb) → IsReady setup.seats last p → IsLegalTurn setup last p (turn_of setup p seat verb)

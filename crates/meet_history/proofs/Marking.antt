@@ -9,8 +9,8 @@ use Rattle.meet_tickets.specs.declared.lines.Hold.{Hold}
 use Rattle.meet_tickets.specs.declared.lines.Hold.TheVariants.{Free, Waiting, Handed, Served, Cut}
 use Rattle.meet_tickets.specs.declared.places.Side.{Side}
 use Rattle.meet_tickets.specs.declared.places.Side.TheVariants.{Giver, Taker}
-use Rattle.meet_tickets.specs.declared.places.Order.{Order}
-use Rattle.meet_tickets.specs.declared.places.Order.TheVariants.{Fair, Unfair, Transfer}
+use Rattle.meet_tickets.specs.declared.places.End.{End}
+use Rattle.meet_tickets.specs.declared.places.End.TheVariants.{Front, Back}
 use Rattle.std.proofs.lemmas.List.Sums.{sum_by-cons}
 use Rattle.meet_tickets.specs.Meeting.{is_on, met, partner, kept_count}
 use Rattle.meet_tickets.specs.BySeat.{Seats, put_at, unmet, without_first, entry_of, queued, paired, paired_hold, released, left, cut_off}
@@ -27,25 +27,23 @@ module _ {T : Type 0} (mark : T → ℕ) where
   is_on-marked Taker e = ap not (some-marked e.item)
 
   -- whom a request meets
-  met-marked : (order : Order) (line : List (Entry T)) → met order (map (marked_entry mark) line) ≡ option_map (marked_entry mark) (met order line)
-  met-marked Fair line = slice_get-map (marked_entry mark) line 0
-  met-marked Unfair line = ap (λ n. slice_get (map (marked_entry mark) line) (n - 1)) (length-map line (marked_entry mark)) ∙ slice_get-map (marked_entry mark) line (length line - 1)
-  met-marked Transfer line = slice_get-map (marked_entry mark) line 0
+  met-marked : (end : End) (line : List (Entry T)) → met end (map (marked_entry mark) line) ≡ option_map (marked_entry mark) (met end line)
+  met-marked Front line = slice_get-map (marked_entry mark) line 0
+  met-marked Back line = ap (λ n. slice_get (map (marked_entry mark) line) (n - 1)) (length-map line (marked_entry mark)) ∙ slice_get-map (marked_entry mark) line (length line - 1)
 
-  pub partner-marked : (order : Order) (line : List (Entry T)) (side : Side) → partner order (map (marked_entry mark) line) side ≡ option_map (marked_entry mark) (partner order line side)
-  partner-marked order [] side = refl
-  partner-marked order (e ∷ line) side =
-      (λ i. cond (is_on-marked side e i) None (met-marked order (e ∷ line) i)) ∙ by_test (is_on side e) (met order (e ∷ line))
+  pub partner-marked : (end : End) (line : List (Entry T)) (side : Side) → partner end (map (marked_entry mark) line) side ≡ option_map (marked_entry mark) (partner end line side)
+  partner-marked end [] side = refl
+  partner-marked end (e ∷ line) side =
+      (λ i. cond (is_on-marked side e i) None (met-marked end (e ∷ line) i)) ∙ by_test (is_on side e) (met end (e ∷ line))
     where
       by_test : (b : Bool) (o : Option (Entry T)) → cond b None (option_map (marked_entry mark) o) ≡ option_map (marked_entry mark) (cond b None o)
       by_test true o = refl
       by_test false o = refl
 
   -- what is left of a line
-  unmet-marked : (order : Order) (line : List (Entry T)) → map (marked_entry mark) (unmet order line) ≡ unmet order (map (marked_entry mark) line)
-  unmet-marked Fair line = sym (drop-map (marked_entry mark) 1 line)
-  unmet-marked Unfair line = sym (ap (λ n. take (n - 1) (map (marked_entry mark) line)) (length-map line (marked_entry mark)) ∙ take-map (marked_entry mark) (length line - 1) line)
-  unmet-marked Transfer line = sym (drop-map (marked_entry mark) 1 line)
+  unmet-marked : (end : End) (line : List (Entry T)) → map (marked_entry mark) (unmet end line) ≡ unmet end (map (marked_entry mark) line)
+  unmet-marked Front line = sym (drop-map (marked_entry mark) 1 line)
+  unmet-marked Back line = sym (ap (λ n. take (n - 1) (map (marked_entry mark) line)) (length-map line (marked_entry mark)) ∙ take-map (marked_entry mark) (length line - 1) line)
 
   find-marked : (t : ℕ) (line : List (Entry T)) → find (λ e. e.ticket == t) (map (marked_entry mark) line) ≡ option_map (marked_entry mark) (find (λ e. e.ticket == t) line)
   find-marked t [] = refl
@@ -103,8 +101,8 @@ module _ {T : Type 0} (mark : T → ℕ) where
       by_test true = put_at-marked s.holds i (Waiting t)
       by_test false = refl
 
-  pub paired-marked : (order : Order) (s : Seats T) (t : ℕ) (item : Option T) (e : Entry T) → marked mark (paired mark order s t item e) ≡ paired (λ m. m) order (marked mark s) t (option_map mark item) (marked_entry mark e)
-  paired-marked order s t item e = λ j. record { line = unmet-marked order s.line j; holds = by_test e.waits j; flags = s.flags }
+  pub paired-marked : (end : End) (s : Seats T) (t : ℕ) (item : Option T) (e : Entry T) → marked mark (paired mark end s t item e) ≡ paired (λ m. m) end (marked mark s) t (option_map mark item) (marked_entry mark e)
+  paired-marked end s t item e = λ j. record { line = unmet-marked end s.line j; holds = by_test e.waits j; flags = s.flags }
     where
       hold : Hold T
       hold = paired_hold mark e.ticket e.item t item

@@ -7,11 +7,11 @@ use Rattle.meet_tickets.specs.declared.lines.Entry.{Entry}
 use Rattle.meet_tickets.specs.declared.lines.Hold.{Hold}
 use Rattle.meet_tickets.specs.declared.lines.Hold.TheVariants.{Free, Waiting}
 use Rattle.meet_tickets.specs.declared.places.Side.TheVariants.{Giver, Taker}
-use Rattle.meet_tickets.specs.declared.places.Order.{Order}
-use Rattle.meet_tickets.specs.declared.places.Order.TheVariants.{Transfer as TransferOrder}
+use Rattle.meet_tickets.specs.declared.places.End.{End}
+use Rattle.meet_tickets.specs.declared.places.End.TheVariants.{Front}
 use Rattle.meet_tickets.specs.declared.places.Kind.{Kind}
 use Rattle.meet_tickets.specs.declared.refusals.Refusal.TheVariants.{NoSuchSeat, SeatOpen, TicketsSpent}
-use Rattle.meet_tickets.specs.Meeting.{count_on}
+use Rattle.meet_tickets.specs.Meeting.{end_of, count_on}
 use Rattle.meet_tickets.specs.BySeat.{Seats, put_at, is_open, owed_of, paired_hold}
 use Rattle.meet_tickets.specs.Refusals.{refusal_of}
 use Rattle.meet_tickets.proofs.Admitted.{IsAdmitted, IsAdmitted-from}
@@ -30,7 +30,7 @@ use Rattle.meet_transfer.specs.Bounded.{Bounded}
 use Rattle.meet_history.specs.QueueSteps.{QueueStep, BoundedStep, bounded_kind, queue_record}
 use Rattle.meet_history.specs.Queues.{QueueOfKind}
 use Rattle.meet_history.specs.DualRecords.{dual_record}
-use Rattle.meet_history.specs.DualSteps.{DualStep, kind_of, dual_refusal, dual_owed, dual_available, dual_left}
+use Rattle.meet_history.specs.DualSteps.{DualStep, dual_refusal, dual_owed, dual_available, dual_left}
 use Rattle.meet_history.proofs.Effects.{met-open}
 
 -- a request is admitted where its seat is there and free, and a ticket is left
@@ -59,35 +59,35 @@ others-free q seat e hold free true held =
     ap (λ b. cond b hold ((seats_of q).holds seat)) (ne_eqb seat e.seat apart) ∙ free
 others-free q seat e hold free false held = free
 
-pub poll-takes : {T : Type 0} (mark : T → ℕ) (order : Order) (old : Queue T) → IsSound old.line (seats_of old).holds old.next → (seat : ℕ) (answer : DualAnswer T) (new : Queue T) → DualStep mark order old seat Poll answer new → dual_refusal old seat Poll ≡ None → 0 < dual_available old → TakesOne dual_available dual_left dual_owed (λ q. dual_refusal q seat Poll) (dual_record mark seat Poll answer) old new
-poll-takes {T} mark order old sound seat (ToPoll (Meets t u item)) new (e, found, ticket, own, uses) none some =
+pub poll-takes : {T : Type 0} (mark : T → ℕ) (end : End) (old : Queue T) → IsSound old.line (seats_of old).holds old.next → (seat : ℕ) (answer : DualAnswer T) (new : Queue T) → DualStep mark end old seat Poll answer new → dual_refusal old seat Poll ≡ None → 0 < dual_available old → TakesOne dual_available dual_left dual_owed (λ q. dual_refusal q seat Poll) (dual_record mark seat Poll answer) old new
+poll-takes {T} mark end old sound seat (ToPoll (Meets t u item)) new (e, found, ticket, own, uses) none some =
     let admitted : IsAdmitted (count_of old) old.next (seats_of old) seat = IsAdmitted-from (count_of old) old.next (seats_of old) seat none in
-    let giver : HasGiver order old.line = giver-there order old.line (HasOneSide-sound sound) some in
-    let stands : Stands (seats_of old).holds old.next e = Stands-partner order Taker e sound found in
+    let giver : HasGiver end old.line = giver-there end old.line (HasOneSide-sound sound) some in
+    let stands : Stands (seats_of old).holds old.next e = Stands-partner end Taker e sound found in
     let used : new.next ≡ old.next + 1 = uses.next in
     record {
       recorded = refl;
       available = ap (λ (s : Seats T). count_on Giver s.line + 1) uses.left ∙ giver.fewer;
       left = omega (arith, used, admitted.few);
-      owed = ap (λ n. owed_of n (seats_of new).holds) uses.count ∙ ap (λ (s : Seats T). owed_of (count_of old) s.holds) uses.left ∙ met-open mark (kind_of order) old new Taker t None e sound found (ap (λ o. is_open (paired_hold mark e.ticket o t None)) own);
+      owed = ap (λ n. owed_of n (seats_of new).holds) uses.count ∙ ap (λ (s : Seats T). owed_of (count_of old) s.holds) uses.left ∙ met-open mark end old Taker t None e sound found (ap (λ o. is_open (paired_hold mark e.ticket o t None)) own);
       free = λ more. admitted-from (count_of new) new.next (seats_of new) seat
           (omega (arith, admitted.there, uses.count))
           (ap (λ s. s.holds seat) uses.left ∙ others-free old seat e (paired_hold mark e.ticket e.item t None) admitted.free e.waits stands.held)
           (omega (arith, more));
     }
-poll-takes mark order old sound seat (ToPoll (Fails t)) new (alone, uses) none some =
-    let giver : HasGiver order old.line = giver-there order old.line (HasOneSide-sound sound) some in
+poll-takes mark end old sound seat (ToPoll (Fails t)) new (alone, uses) none some =
+    let giver : HasGiver end old.line = giver-there end old.line (HasOneSide-sound sound) some in
     absurd (let is : None ≡ Some giver.giver = sym alone ∙ giver.met in cc)
-poll-takes mark order old sound seat (ToGive answer) new step none some = absurd step
-poll-takes mark order old sound seat (ToOffer answer) new step none some = absurd step
-poll-takes mark order old sound seat (ToTake answer) new step none some = absurd step
-poll-takes mark order old sound seat (ToFollowUp answer) new step none some = absurd step
-poll-takes mark order old sound seat (ToWithdrawal answer) new step none some = absurd step
-poll-takes mark order old sound seat (ToInterrupt answer) new step none some = absurd step
+poll-takes mark end old sound seat (ToGive answer) new step none some = absurd step
+poll-takes mark end old sound seat (ToOffer answer) new step none some = absurd step
+poll-takes mark end old sound seat (ToTake answer) new step none some = absurd step
+poll-takes mark end old sound seat (ToFollowUp answer) new step none some = absurd step
+poll-takes mark end old sound seat (ToWithdrawal answer) new step none some = absurd step
+poll-takes mark end old sound seat (ToInterrupt answer) new step none some = absurd step
 
 -- so takes one of any kind
 pub queue-takes : {T : Type 0} (mark : T → ℕ) (k : Kind) (old : Queue T) → IsSound old.line (seats_of old).holds old.next → (seat : ℕ) (answer : QueueAnswer T) (new : Queue T) → QueueStep mark k old seat (Dual Poll) answer new → dual_refusal old seat Poll ≡ None → 0 < dual_available old → TakesOne dual_available dual_left dual_owed (λ q. dual_refusal q seat Poll) (queue_record mark seat (Dual Poll) answer) old new
-queue-takes mark k old sound seat (ToDual answer) new step none some = poll-takes mark k.order old sound seat answer new step none some
+queue-takes mark k old sound seat (ToDual answer) new step none some = poll-takes mark (end_of k.order) old sound seat answer new step none some
 queue-takes mark k old sound seat (ToPut answer) new step none some = absurd step
 
 -- with a bound, which stays
@@ -97,20 +97,20 @@ bounded-takes mark old sound seat answer new step none some =
     record { recorded = one.recorded; available = one.available; left = one.left; owed = one.owed; free = one.free }
 
 -- what a poll of a queue takes
-abbrev PollTakes : Order → Queue ℕ → Type 0
-PollTakes order old =
-    (seat : ℕ) (answer : DualAnswer ℕ) (new : Queue ℕ) → DualStep (λ m. m) order old seat Poll answer new → dual_refusal old seat Poll ≡ None → 0 < dual_available old → TakesOne dual_available dual_left dual_owed (λ q. dual_refusal q seat Poll) (dual_record (λ m. m) seat Poll answer) old new
+abbrev PollTakes : End → Queue ℕ → Type 0
+PollTakes end old =
+    (seat : ℕ) (answer : DualAnswer ℕ) (new : Queue ℕ) → DualStep (λ m. m) end old seat Poll answer new → dual_refusal old seat Poll ≡ None → 0 < dual_available old → TakesOne dual_available dual_left dual_owed (λ q. dual_refusal q seat Poll) (dual_record (λ m. m) seat Poll answer) old new
 
 -- one of any kind takes as much
-pub any-takes : (old : QueueOfKind) (k : Kind) (q : Queue ℕ) → record { kind = k; queue = q } ≡ old → PollTakes k.order q → (seat : ℕ) (answer : QueueAnswer ℕ) (new : QueueOfKind) → (new.kind ≡ old.kind) × QueueStep (λ m. m) old.kind old.queue seat (Dual Poll) answer new.queue → dual_refusal old.queue seat Poll ≡ None → 0 < dual_available old.queue → TakesOne (λ any. dual_available any.queue) (λ any. dual_left any.queue) (λ any. dual_owed any.queue) (λ any. dual_refusal any.queue seat Poll) (queue_record (λ m. m) seat (Dual Poll) answer) old new
+pub any-takes : (old : QueueOfKind) (k : Kind) (q : Queue ℕ) → record { kind = k; queue = q } ≡ old → PollTakes (end_of k.order) q → (seat : ℕ) (answer : QueueAnswer ℕ) (new : QueueOfKind) → (new.kind ≡ old.kind) × QueueStep (λ m. m) old.kind old.queue seat (Dual Poll) answer new.queue → dual_refusal old.queue seat Poll ≡ None → 0 < dual_available old.queue → TakesOne (λ any. dual_available any.queue) (λ any. dual_left any.queue) (λ any. dual_owed any.queue) (λ any. dual_refusal any.queue seat Poll) (queue_record (λ m. m) seat (Dual Poll) answer) old new
 any-takes old k q is takes seat (ToPut answer) new step none some = absurd step.1
 any-takes old k q is takes seat (ToDual answer) new step none some =
-    let here : PollTakes old.kind.order old.queue = subst (λ (o : QueueOfKind). PollTakes o.kind.order o.queue) is takes in
+    let here : PollTakes (end_of old.kind.order) old.queue = subst (λ (o : QueueOfKind). PollTakes (end_of o.kind.order) o.queue) is takes in
     let one = here seat answer new.queue step.1 none some in
     record { recorded = one.recorded; available = one.available; left = one.left; owed = one.owed; free = one.free }
 
 -- and so does one with a bound
-pub kept-takes : (old : Bounded ℕ) → ((seat : ℕ) (answer : QueueAnswer ℕ) (new : Bounded ℕ) → BoundedStep (λ m. m) old seat (Dual Poll) answer new → dual_refusal old.queue seat Poll ≡ None → 0 < dual_available old.queue → TakesOne (λ b. dual_available b.queue) (λ b. dual_left b.queue) (λ b. dual_owed b.queue) (λ b. dual_refusal b.queue seat Poll) (queue_record (λ m. m) seat (Dual Poll) answer) old new) → PollTakes TransferOrder old.queue
+pub kept-takes : (old : Bounded ℕ) → ((seat : ℕ) (answer : QueueAnswer ℕ) (new : Bounded ℕ) → BoundedStep (λ m. m) old seat (Dual Poll) answer new → dual_refusal old.queue seat Poll ≡ None → 0 < dual_available old.queue → TakesOne (λ b. dual_available b.queue) (λ b. dual_left b.queue) (λ b. dual_owed b.queue) (λ b. dual_refusal b.queue seat Poll) (queue_record (λ m. m) seat (Dual Poll) answer) old new) → PollTakes Front old.queue
 kept-takes old takes seat answer new step none some =
     let one = takes seat (ToDual answer) (record { queue = new; bound = old.bound }) (refl, step) none some in
     record { recorded = one.recorded; available = one.available; left = one.left; owed = one.owed; free = one.free }

@@ -8,7 +8,7 @@ use Rattle.meet_tickets.specs.declared.places.Side.TheVariants.{Giver}
 use Rattle.meet_tickets.specs.declared.places.Kind.{Kind}
 use Rattle.meet_tickets.specs.declared.records.Deed.{Deed}
 use Rattle.meet_tickets.specs.declared.records.Deed.TheVariants.{GiveWaits, GiveMeets, GiveFails, GiveKept, EntryInterrupted}
-use Rattle.meet_tickets.specs.Meeting.{partner, kept_count}
+use Rattle.meet_tickets.specs.Meeting.{end_of, partner, kept_count}
 use Rattle.meet_tickets.specs.BySeat.{Seats, paired, meets, is_request, seats_after}
 use Rattle.meet_line.specs.Queue.{seats_of}
 use Rattle.meet_line.specs.Steps.{GiveStep, PutStep}
@@ -59,14 +59,14 @@ module _ (old : Stepping) (seat mark : ℕ) (new : Stepping) where
       })
 
   -- without a partner, by its form
-  alone-deed : (form : Form) → partner kind.order here.line Giver ≡ None → give_deed kind here seat form mark ≡ give_alone kind here seat form mark
+  alone-deed : (form : Form) → partner (end_of kind.order) here.line Giver ≡ None → give_deed kind here seat form mark ≡ give_alone kind here seat form mark
   alone-deed form alone = ap (λ o. option_map_or (λ (e : Entry ℕ). GiveMeets mark e.ticket) o (give_alone kind here seat form mark)) alone
 
-  met-deed : (form : Form) (e : Entry ℕ) (u : ℕ) → partner kind.order here.line Giver ≡ Some e → u ≡ e.ticket → give_deed kind here seat form mark ≡ GiveMeets mark u
+  met-deed : (form : Form) (e : Entry ℕ) (u : ℕ) → partner (end_of kind.order) here.line Giver ≡ Some e → u ≡ e.ticket → give_deed kind here seat form mark ≡ GiveMeets mark u
   met-deed form e u found is = ap (λ o. option_map_or (λ (f : Entry ℕ). GiveMeets mark f.ticket) o (give_alone kind here seat form mark)) found ∙ ap (GiveMeets mark) (sym is)
 
-  met-seats : (t : ℕ) (e : Entry ℕ) → partner kind.order here.line Giver ≡ Some e → paired (λ m. m) kind.order here t (Some mark) e ≡ meets kind here t (Some mark) Giver
-  met-seats t e found = sym (ap (λ o. option_map_or (paired (λ m. m) kind.order here t (Some mark)) o here) found)
+  met-seats : (t : ℕ) (e : Entry ℕ) → partner (end_of kind.order) here.line Giver ≡ Some e → paired (λ m. m) (end_of kind.order) here t (Some mark) e ≡ meets kind here t (Some mark) Giver
+  met-seats t e found = sym (ap (λ o. option_map_or (paired (λ m. m) (end_of kind.order) here t (Some mark)) o here) found)
 
   -- an item more may be kept, or not
   may : MatchOption kind.bound ⊤ (λ most. kept_count here.line < most) → may_keep kind here.line ≡ true
@@ -84,7 +84,7 @@ module _ (old : Stepping) (seat mark : ℕ) (new : Stepping) where
       by_bound (Some most) many = le-ltb (kept_count here.line) most many
 
   -- a queue that keeps items
-  kept-turn : (answer : PutAnswer ℕ) → request_refusal old.setup (place_of old) seat ≡ None → new.setup ≡ old.setup → new.records ≡ old.records ++ put_record seat mark answer ∷ [] → PutStep (λ m. m) kind.order kind.bound old.queue seat mark answer new.queue → TakesTurn (give old.setup (place_of old) seat keeping mark) old new (told new seat (step_of_put answer mark))
+  kept-turn : (answer : PutAnswer ℕ) → request_refusal old.setup (place_of old) seat ≡ None → new.setup ≡ old.setup → new.records ≡ old.records ++ put_record seat mark answer ∷ [] → PutStep (λ m. m) (end_of kind.order) kind.bound old.queue seat mark answer new.queue → TakesTurn (give old.setup (place_of old) seat keeping mark) old new (told new seat (step_of_put answer mark))
   kept-turn (Kept t) none setup records (alone, room, uses) =
       given-turn keeping t (GiveKept mark) none (alone-deed keeping alone ∙ ap (λ b. cond b (GiveKept mark) (GiveFails mark)) (may room)) refl uses.used setup records uses.next uses.left
   kept-turn (PutMeets t u) none setup records (e, found, ticket, own, uses) =
@@ -94,7 +94,7 @@ module _ (old : Stepping) (seat mark : ℕ) (new : Stepping) where
       (given-turn keeping t (GiveFails mark) none (alone-deed keeping alone ∙ ap (λ b. cond b (GiveKept mark) (GiveFails mark)) (may-not full)) refl uses.used setup records uses.next uses.left)
 
   -- and one that waits
-  waits-turn : (answer : Gave ℕ) → request_refusal old.setup (place_of old) seat ≡ None → new.setup ≡ old.setup → new.records ≡ old.records ++ give_record seat mark answer ∷ [] → GiveStep (λ m. m) kind.order old.queue seat mark answer new.queue → TakesTurn (give old.setup (place_of old) seat waiting mark) old new (told new seat (step_of_give answer mark))
+  waits-turn : (answer : Gave ℕ) → request_refusal old.setup (place_of old) seat ≡ None → new.setup ≡ old.setup → new.records ≡ old.records ++ give_record seat mark answer ∷ [] → GiveStep (λ m. m) (end_of kind.order) old.queue seat mark answer new.queue → TakesTurn (give old.setup (place_of old) seat waiting mark) old new (told new seat (step_of_give answer mark))
   waits-turn (Waits t) none setup records (alone, flag, uses) =
       given-turn waiting t (GiveWaits mark) none (alone-deed waiting alone ∙ ap (λ b. cond b (EntryInterrupted Giver) (GiveWaits mark)) flag) refl uses.used setup records uses.next uses.left
   waits-turn (Meets t u) none setup records (e, found, ticket, own, uses) =

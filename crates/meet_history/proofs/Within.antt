@@ -12,7 +12,7 @@ use Rattle.meet_tickets.specs.declared.places.Kind.{Kind}
 use Rattle.meet_tickets.specs.declared.records.Cause.TheVariants.{Cancelled, Expired, Interrupted}
 use Rattle.meet_tickets.specs.declared.records.Deed.{Deed}
 use Rattle.meet_tickets.specs.declared.records.Deed.TheVariants.{GiveWaits, GiveMeets, GiveFails, GiveKept, TakeWaits, TakeMeets, TakeFails, EntryInterrupted, Done, Got, Withdrawn, Interrupt}
-use Rattle.meet_tickets.specs.Meeting.{partner}
+use Rattle.meet_tickets.specs.Meeting.{end_of, partner}
 use Rattle.meet_tickets.specs.BySeat.{Seats, put_at, entry_of, paired, paired_hold, meets, queued, released, left, interrupted, cut_off, flagged, is_request, seats_after}
 use Rattle.meet_tickets.proofs.Sides.{partner-there, All-unmet, All-without_first}
 use Rattle.meet_tickets.proofs.Whereabouts.{put_at_there}
@@ -42,11 +42,11 @@ put_free count holds i beyond j above = by_test (j == i) (beyond j above)
 -- a meeting leaves it so
 IsWithin-meets : (k : Kind) (count : ℕ) (s : Seats ℕ) (t : ℕ) (item : Option ℕ) (side : Side) → IsWithin count s → IsWithin count (meets k s t item side)
 IsWithin-meets k count s t item side within =
-    by_cases (IsWithin count) (partner k.order s.line side) (paired (λ mark. mark) k.order s t item) s
+    by_cases (IsWithin count) (partner (end_of k.order) s.line side) (paired (λ mark. mark) (end_of k.order) s t item) s
     (λ e found. record {
-      lined = All-unmet (λ f. f.seat < count) k.order s.line within.lined;
+      lined = All-unmet (λ f. f.seat < count) (end_of k.order) s.line within.lined;
       beyond = λ j above. cond_both e.waits (put_at s.holds e.seat (paired_hold (λ mark. mark) e.ticket e.item t item)) s.holds (λ holds. holds j ≡ Free)
-          (λ _. put_below count s.holds e.seat (paired_hold (λ mark. mark) e.ticket e.item t item) (partner-there (λ f. f.seat < count) k.order s.line side e within.lined found) within.beyond j above)
+          (λ _. put_below count s.holds e.seat (paired_hold (λ mark. mark) e.ticket e.item t item) (partner-there (λ f. f.seat < count) (end_of k.order) s.line side e within.lined found) within.beyond j above)
           (λ _. within.beyond j above);
     })
     (λ none. within)

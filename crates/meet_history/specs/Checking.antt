@@ -2,8 +2,6 @@
 use Rattle.std.specs.Prelude.{◌≡◌, ◌≢◌, ℕ, ◌+◌, ◌<◌, ◌≤◌, Bool, true, false, Some, List, [], ◌∷◌, ◌++◌, length}
 use Rattle.meet_tickets.specs.declared.lines.Entry.{Entry}
 use Rattle.meet_tickets.specs.declared.places.Kind.{Kind}
-use Rattle.meet_tickets.specs.declared.places.Order.{Order}
-use Rattle.meet_tickets.specs.declared.places.Order.TheVariants.{Fair, Unfair, Transfer}
 use Rattle.meet_tickets.specs.declared.records.Record.{Record}
 use Rattle.meet_tickets.specs.declared.records.Deed.{Deed}
 use Rattle.meet_tickets.specs.declared.records.Deed.TheVariants.{Done, Got, Withdrawn}
@@ -56,12 +54,6 @@ pub record IsIllegalAt (k : Kind) (records : List (Record Deed)) (number : ℕ) 
 abbrev pub IsCheckFault : Kind → List (Record Deed) → CheckFault → Type 0
 IsCheckFault k records (Illegal number why) = IsIllegalAt k records number why
 IsCheckFault k records Memory = Unit {0}
-
--- the order of a line in which requests of this order find their partner
-abbrev pub line_order : Order → Order
-line_order Fair = Fair
-line_order Unfair = Unfair
-line_order Transfer = Fair
 
 -- what a checker shows of itself
 pub record Checked : Type 0 where

@@ -6,7 +6,7 @@ use Rattle.std.proofs.Math.Path.{ap₂}
 use Rattle.std.proofs.lemmas.List.Sums.{sum_by-cons}
 use Rattle.meet_tickets.specs.declared.lines.Hold.{Hold}
 use Rattle.meet_tickets.specs.declared.lines.Hold.TheVariants.{Free, Waiting, Handed, Served, Cut}
-use Rattle.meet_tickets.specs.declared.places.Order.{Order}
+use Rattle.meet_tickets.specs.declared.places.End.{End}
 use Rattle.meet_tickets.specs.declared.places.Kind.{Kind}
 use Rattle.meet_tickets.specs.declared.records.Record.{Record}
 use Rattle.meet_tickets.specs.declared.records.Deed.{Deed}
@@ -54,29 +54,29 @@ roomy-uses q room new t seats uses = record { used = uses.used; last = uses.last
 roomy-leaves : {T : Type 0} (q : Queue T) (room : ℕ) (new : Queue T) (seats : Seats T) → Leaves (roomy q room) new seats → Leaves q new seats
 roomy-leaves q room new seats leaves = record { last = leaves.last; next = leaves.next; count = leaves.count; left = leaves.left }
 
-pub roomy-hands : {T : Type 0} (mark : T → ℕ) (order : Order) (q : Queue T) (room : ℕ) (item : T) (t u : ℕ) (new : Queue T) → HandsTo mark order (roomy q room) item t u new → HandsTo mark order q item t u new
-roomy-hands mark order q room item t u new (e, found, ticket, none, uses) = (e, found, ticket, none, roomy-uses q room new t _ uses)
+pub roomy-hands : {T : Type 0} (mark : T → ℕ) (end : End) (q : Queue T) (room : ℕ) (item : T) (t u : ℕ) (new : Queue T) → HandsTo mark end (roomy q room) item t u new → HandsTo mark end q item t u new
+roomy-hands mark end q room item t u new (e, found, ticket, none, uses) = (e, found, ticket, none, roomy-uses q room new t _ uses)
 
-roomy-gets : {T : Type 0} (mark : T → ℕ) (order : Order) (q : Queue T) (room : ℕ) (t u : ℕ) (item : T) (new : Queue T) → GetsFrom mark order (roomy q room) t u item new → GetsFrom mark order q t u item new
-roomy-gets mark order q room t u item new (e, found, ticket, own, uses) = (e, found, ticket, own, roomy-uses q room new t _ uses)
+roomy-gets : {T : Type 0} (mark : T → ℕ) (end : End) (q : Queue T) (room : ℕ) (t u : ℕ) (item : T) (new : Queue T) → GetsFrom mark end (roomy q room) t u item new → GetsFrom mark end q t u item new
+roomy-gets mark end q room t u item new (e, found, ticket, own, uses) = (e, found, ticket, own, roomy-uses q room new t _ uses)
 
-pub roomy-steps : {T : Type 0} (mark : T → ℕ) (order : Order) (q : Queue T) (room seat : ℕ) (call : DualCall T) (answer : DualAnswer T) (new : Queue T) → 0 < dual_need call → DualStep mark order (roomy q room) seat call answer new → DualStep mark order q seat call answer new
-roomy-steps mark order q room seat (Give item) (ToGive (GiverWaits t)) new need (alone, flag, uses) = (alone, flag, roomy-uses q room new t _ uses)
-roomy-steps mark order q room seat (Give item) (ToGive (GiverMeets t u)) new need step = roomy-hands mark order q room item t u new step
-roomy-steps mark order q room seat (Give item) (ToGive (GiverInterrupted t back)) new need (alone, flag, same, uses) = (alone, flag, same, roomy-uses q room new t _ uses)
-roomy-steps mark order q room seat (Offer item) (ToOffer (OfferMeets t u)) new need step = roomy-hands mark order q room item t u new step
-roomy-steps mark order q room seat (Offer item) (ToOffer (OfferFails t back)) new need (alone, same, uses) = (alone, same, roomy-uses q room new t _ uses)
-roomy-steps mark order q room seat Take (ToTake (TakerWaits t)) new need (alone, flag, uses) = (alone, flag, roomy-uses q room new t _ uses)
-roomy-steps mark order q room seat Take (ToTake (TakerMeets t u item)) new need step = roomy-gets mark order q room t u item new step
-roomy-steps mark order q room seat Take (ToTake (TakerInterrupted t)) new need (alone, flag, uses) = (alone, flag, roomy-uses q room new t _ uses)
-roomy-steps mark order q room seat Poll (ToPoll (PollMeets t u item)) new need step = roomy-gets mark order q room t u item new step
-roomy-steps mark order q room seat Poll (ToPoll (PollFails t)) new need (alone, uses) = (alone, roomy-uses q room new t _ uses)
-roomy-steps mark order q room seat (Interrupt j) (ToInterrupt (CutOff t)) new need (e, found, ticket, leaves) = (e, found, ticket, roomy-leaves q room new _ leaves)
-roomy-steps mark order q room seat (Interrupt j) (ToInterrupt Flagged) new need (none, leaves) = (none, roomy-leaves q room new _ leaves)
-roomy-steps mark order q room seat (FollowUp t) answer new need step = absurd (omega arith)
-roomy-steps mark order q room seat (Cancel t) answer new need step = absurd (omega arith)
-roomy-steps mark order q room seat (Expire t) answer new need step = absurd (omega arith)
-roomy-steps mark order q room seat call answer new need step = absurd step
+pub roomy-steps : {T : Type 0} (mark : T → ℕ) (end : End) (q : Queue T) (room seat : ℕ) (call : DualCall T) (answer : DualAnswer T) (new : Queue T) → 0 < dual_need call → DualStep mark end (roomy q room) seat call answer new → DualStep mark end q seat call answer new
+roomy-steps mark end q room seat (Give item) (ToGive (GiverWaits t)) new need (alone, flag, uses) = (alone, flag, roomy-uses q room new t _ uses)
+roomy-steps mark end q room seat (Give item) (ToGive (GiverMeets t u)) new need step = roomy-hands mark end q room item t u new step
+roomy-steps mark end q room seat (Give item) (ToGive (GiverInterrupted t back)) new need (alone, flag, same, uses) = (alone, flag, same, roomy-uses q room new t _ uses)
+roomy-steps mark end q room seat (Offer item) (ToOffer (OfferMeets t u)) new need step = roomy-hands mark end q room item t u new step
+roomy-steps mark end q room seat (Offer item) (ToOffer (OfferFails t back)) new need (alone, same, uses) = (alone, same, roomy-uses q room new t _ uses)
+roomy-steps mark end q room seat Take (ToTake (TakerWaits t)) new need (alone, flag, uses) = (alone, flag, roomy-uses q room new t _ uses)
+roomy-steps mark end q room seat Take (ToTake (TakerMeets t u item)) new need step = roomy-gets mark end q room t u item new step
+roomy-steps mark end q room seat Take (ToTake (TakerInterrupted t)) new need (alone, flag, uses) = (alone, flag, roomy-uses q room new t _ uses)
+roomy-steps mark end q room seat Poll (ToPoll (PollMeets t u item)) new need step = roomy-gets mark end q room t u item new step
+roomy-steps mark end q room seat Poll (ToPoll (PollFails t)) new need (alone, uses) = (alone, roomy-uses q room new t _ uses)
+roomy-steps mark end q room seat (Interrupt j) (ToInterrupt (CutOff t)) new need (e, found, ticket, leaves) = (e, found, ticket, roomy-leaves q room new _ leaves)
+roomy-steps mark end q room seat (Interrupt j) (ToInterrupt Flagged) new need (none, leaves) = (none, roomy-leaves q room new _ leaves)
+roomy-steps mark end q room seat (FollowUp t) answer new need step = absurd (omega arith)
+roomy-steps mark end q room seat (Cancel t) answer new need step = absurd (omega arith)
+roomy-steps mark end q room seat (Expire t) answer new need step = absurd (omega arith)
+roomy-steps mark end q room seat call answer new need step = absurd step
 
 -- what holds nothing for histories holds nothing
 free-from : {T : Type 0} (mark : T → ℕ) (hold : Hold T) → marked_hold mark hold ≡ Free → hold ≡ Free

@@ -1,7 +1,10 @@
 -- The calls that each queue has, as a book makes them: their steps, refusals and costs, and the histories that lead to a queue.
 use Rattle.std.specs.Prelude.{◌≡◌, ℕ, ◌-◌, ◌^◌, ◌<◌, Option, None, List}
 use Rattle.meet_tickets.specs.declared.places.Side.TheVariants.{Giver}
+use Rattle.meet_tickets.specs.declared.places.End.{End}
+use Rattle.meet_tickets.specs.declared.places.End.TheVariants.{Front, Back}
 use Rattle.meet_tickets.specs.declared.places.Order.{Order}
+use Rattle.meet_tickets.specs.declared.places.Order.TheVariants.{Fair, Unfair}
 use Rattle.meet_tickets.specs.declared.places.Kind.{Kind}
 use Rattle.meet_tickets.specs.declared.records.Record.{Record}
 use Rattle.meet_tickets.specs.declared.records.Deed.{Deed}
@@ -19,16 +22,16 @@ use Rattle.meet_history.specs.declared.told.DualAnswer.{DualAnswer}
 use Rattle.meet_history.specs.declared.told.DualAnswer.TheVariants.{Gave as ToGive, Offered as ToOffer, Took as ToTake, Polled as ToPoll, Followed as ToFollowUp, TakenBack as ToWithdrawal, Interrupted as ToInterrupt}
 
 -- a seat's call makes the queue's step, with an answer of its own kind
-abbrev pub DualStep : {T : Type 0} → (T → ℕ) → Order → Queue T → (seat : ℕ) → DualCall T → DualAnswer T → Queue T → Type 0
-DualStep mark order old i (Give item) (ToGive answer) new = GiveStep mark order old i item answer new
-DualStep mark order old i (Offer item) (ToOffer answer) new = OfferStep mark order old item answer new
-DualStep mark order old i Take (ToTake answer) new = TakeStep mark order old i answer new
-DualStep mark order old i Poll (ToPoll answer) new = PollStep mark order old answer new
-DualStep mark order old i (FollowUp t) (ToFollowUp answer) new = FollowStep old i t answer new
-DualStep mark order old i (Cancel t) (ToWithdrawal answer) new = WithdrawStep old i t answer new
-DualStep mark order old i (Expire t) (ToWithdrawal answer) new = WithdrawStep old i t answer new
-DualStep mark order old i (Interrupt j) (ToInterrupt answer) new = InterruptStep old j answer new
-DualStep mark order old i call answer new = ⊥
+abbrev pub DualStep : {T : Type 0} → (T → ℕ) → End → Queue T → (seat : ℕ) → DualCall T → DualAnswer T → Queue T → Type 0
+DualStep mark end old i (Give item) (ToGive answer) new = GiveStep mark end old i item answer new
+DualStep mark end old i (Offer item) (ToOffer answer) new = OfferStep mark end old item answer new
+DualStep mark end old i Take (ToTake answer) new = TakeStep mark end old i answer new
+DualStep mark end old i Poll (ToPoll answer) new = PollStep mark end old answer new
+DualStep mark end old i (FollowUp t) (ToFollowUp answer) new = FollowStep old i t answer new
+DualStep mark end old i (Cancel t) (ToWithdrawal answer) new = WithdrawStep old i t answer new
+DualStep mark end old i (Expire t) (ToWithdrawal answer) new = WithdrawStep old i t answer new
+DualStep mark end old i (Interrupt j) (ToInterrupt answer) new = InterruptStep old j answer new
+DualStep mark end old i call answer new = ⊥
 
 -- why an ending is refused
 abbrev pub ending_refusal : {T : Type 0} → Queue T → (seat ticket : ℕ) → Option Refusal
@@ -68,9 +71,14 @@ dual_available q = count_on Giver q.line
 abbrev pub dual_left : {T : Type 0} → Queue T → ℕ
 dual_left q = 2 ^ 63 - q.next
 
--- a place of this order, without a bound
-abbrev pub kind_of : Order → Kind
-kind_of order = record { order = order; bound = None }
+-- the order of a synchronous place whose entries are met at this end (SynchronousQueue in fair mode, or in its default mode)
+abbrev pub synchronous : End → Order
+synchronous Front = Fair
+synchronous Back = Unfair
+
+-- its kind
+abbrev pub kind_of : End → Kind
+kind_of end = record { order = synchronous end; bound = None }
 
 -- these records are legal after this base, their last ticket is the queue's, and they leave what the queue's seats hold
 pub record LeadsTo {T : Type 0} (mark : T → ℕ) (k : Kind) (b : Based) (records : List (Record Deed)) (q : Queue T) : Type 0 where

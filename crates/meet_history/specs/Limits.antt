@@ -1,15 +1,13 @@
 -- Which places there are.
-use Rattle.std.specs.Prelude.{ℕ, ◌^◌, ◌<◌, ◌≤◌, Option, Some, None, ⊤}
+use Rattle.std.specs.Prelude.{◌≡◌, ℕ, ◌^◌, ◌<◌, ◌≤◌, true, Option, Some, None, ⊤}
 use Rattle.meet_tickets.specs.declared.places.Order.{Order}
-use Rattle.meet_tickets.specs.declared.places.Order.TheVariants.{Fair, Unfair, Transfer}
+use Rattle.meet_tickets.specs.Meeting.{keeps}
 use Rattle.meet_history.specs.declared.setups.Setup.{Setup}
 
--- only a transfer queue has a bound, from 1 to 1,048,576
+-- only a place that keeps items has a bound, from 1 to 1,048,576
 abbrev pub FitsBound : Order → Option ℕ → Type 0
 FitsBound order None = ⊤
-FitsBound Fair (Some n) = ⊥
-FitsBound Unfair (Some n) = ⊥
-FitsBound Transfer (Some n) = (1 ≤ n) × (n ≤ 1048576)
+FitsBound order (Some n) = (keeps order ≡ true) × (1 ≤ n) × (n ≤ 1048576)
 
 -- a place's numbers are in their limits
 pub record IsInLimits (setup : Setup) : Type 0 where

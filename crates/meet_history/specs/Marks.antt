@@ -1,32 +1,32 @@
 -- What the line of a history's marks shows of itself.
 use Rattle.std.specs.Prelude.{ℕ, List, Option, Some, None, not, if◌then◌else◌}
 use Rattle.meet_tickets.specs.declared.lines.Entry.{Entry}
-use Rattle.meet_tickets.specs.declared.places.Order.{Order}
-use Rattle.meet_tickets.specs.declared.places.Order.TheVariants.{Fair, Unfair}
+use Rattle.meet_tickets.specs.declared.places.End.{End}
+use Rattle.meet_tickets.specs.declared.places.End.TheVariants.{Front, Back}
 use Rattle.meet_history.specs.declared.checker.line.ByEnd.{ByEnd}
-use Rattle.meet_history.specs.declared.checker.line.ByEnd.TheVariants.{Front, Back}
+use Rattle.meet_history.specs.declared.checker.line.ByEnd.TheVariants.{Front as AtFront, Back as AtBack}
 
--- an order, the entries that stand in it, and room for more
+-- the end at which an entry is met, the entries that stand there, and room for more
 pub record MarkedLine : Type 0 where
-  pub order : Order  -- which entry is met
+  pub end : End
   pub entries : List (Entry ℕ)
   pub room : ℕ  -- how many entries more it takes without growth
   pub newest : ℕ  -- no entry's ticket is above this one
 
--- each end has its order
-abbrev pub end_order : ByEnd → Order
-end_order (Front line) = Fair
-end_order (Back line) = Unfair
+-- the end at which they are met
+abbrev pub met_end : ByEnd → End
+met_end (AtFront line) = Front
+met_end (AtBack line) = Back
 
 -- the entries, at whichever end they are met
 abbrev pub entries_of : ByEnd → List (Entry ℕ)
-entries_of (Front line) = line.entries
-entries_of (Back line) = line.entries
+entries_of (AtFront line) = line.entries
+entries_of (AtBack line) = line.entries
 
 -- the room, at whichever end they are met
 abbrev pub room_of : ByEnd → ℕ
-room_of (Front line) = line.room
-room_of (Back line) = line.room
+room_of (AtFront line) = line.room
+room_of (AtBack line) = line.room
 
 -- one for a kept entry, else 0
 abbrev pub count_if_kept : Option (Entry ℕ) → ℕ

@@ -6,7 +6,6 @@ use Rattle.meet_tickets.specs.declared.lines.Hold.{Hold}
 use Rattle.meet_tickets.specs.declared.lines.Hold.TheVariants.{Free, Waiting, Handed, Served, Cut}
 use Rattle.meet_tickets.specs.declared.places.Side.TheVariants.{Giver, Taker}
 use Rattle.meet_tickets.specs.declared.places.Order.{Order}
-use Rattle.meet_tickets.specs.declared.places.Order.TheVariants.{Fair, Unfair, Transfer}
 use Rattle.meet_tickets.specs.declared.places.Kind.{Kind}
 use Rattle.meet_tickets.specs.declared.records.Record.{Record}
 use Rattle.meet_tickets.specs.declared.records.Cause.{Cause}
@@ -15,7 +14,7 @@ use Rattle.meet_tickets.specs.declared.records.Deed.{Deed}
 use Rattle.meet_tickets.specs.declared.records.Deed.TheVariants.{GiveWaits, GiveMeets, GiveFails, GiveKept, TakeWaits, TakeMeets, TakeFails, EntryInterrupted, Done, Got, Withdrawn, Interrupt}
 use Rattle.meet_tickets.specs.declared.refusals.Refusal.{Refusal}
 use Rattle.meet_tickets.specs.declared.refusals.Refusal.TheVariants.{NotOpen}
-use Rattle.meet_tickets.specs.Meeting.{partner, kept_count, waiting_count, count_on}
+use Rattle.meet_tickets.specs.Meeting.{end_of, keeps, partner, kept_count, waiting_count, count_on}
 use Rattle.meet_tickets.specs.BySeat.{Seats, nobody, entry_of, cut_ticket, owed_of, settled_of, is_request, seats_after}
 use Rattle.meet_tickets.specs.Refusals.{refusal_of, absent_refusal}
 use Rattle.meet_history.specs.Booking.{call_refusal}
@@ -98,7 +97,7 @@ give_alone k s seat keeping mark = if may_keep k s.line then GiveKept mark else 
 -- the deed of a give: the partner is met, if there is one
 abbrev pub give_deed : Kind → Seats ℕ → (seat : ℕ) → Form → (mark : ℕ) → Deed
 give_deed k s seat form mark =
-    option_map_or (λ e. GiveMeets mark e.ticket) (partner k.order s.line Giver) (give_alone k s seat form mark)
+    option_map_or (λ e. GiveMeets mark e.ticket) (partner (end_of k.order) s.line Giver) (give_alone k s seat form mark)
 
 -- the deed of a take without a partner
 abbrev pub take_alone : Seats ℕ → (seat : ℕ) → Form → Deed
@@ -109,7 +108,7 @@ take_alone s seat keeping = TakeFails
 -- the deed of a take: the partner is met, if there is one
 abbrev pub take_deed : Kind → Seats ℕ → (seat : ℕ) → Form → Deed
 take_deed k s seat form =
-    option_map_or (λ e. TakeMeets (unwrap_or e.item 0) e.ticket) (partner k.order s.line Taker) (take_alone s seat form)
+    option_map_or (λ e. TakeMeets (unwrap_or e.item 0) e.ticket) (partner (end_of k.order) s.line Taker) (take_alone s seat form)
 
 -- the answer to a deed; `item` is the giver's item, where it comes back; an interrupt is told otherwise, and its row is never used
 abbrev pub answer_of : Deed → (item : Option ℕ) → Answer
@@ -200,33 +199,23 @@ drain setup p seat k =
 
 -- SynchronousQueue.size is 0; LinkedTransferQueue.size counts the givers, kept or waiting
 abbrev pub size_of : Order → List (Entry ℕ) → ℕ
-size_of Fair line = 0
-size_of Unfair line = 0
-size_of Transfer line = count_on Giver line
+size_of order line = if keeps order then count_on Giver line else 0
 
 -- SynchronousQueue.remainingCapacity, and that of LinkedTransferQueue
 abbrev pub remaining_of : Order → ℕ
-remaining_of Fair = 0
-remaining_of Unfair = 0
-remaining_of Transfer = 2147483647
+remaining_of order = if keeps order then 2147483647 else 0
 
 -- SynchronousQueue.peek is always empty; LinkedTransferQueue.peek is the first giver's item
 abbrev pub peek_of : Order → List (Entry ℕ) → Option ℕ
-peek_of Fair line = None
-peek_of Unfair line = None
-peek_of Transfer line = option_and_then (λ e. e.item) (slice_get line 0)
+peek_of order line = if keeps order then option_and_then (λ e. e.item) (slice_get line 0) else None
 
 -- SynchronousQueue.put waits; LinkedTransferQueue.put keeps its item
 abbrev pub put_form : Order → Form
-put_form Fair = waiting
-put_form Unfair = waiting
-put_form Transfer = keeping
+put_form order = if keeps order then keeping else waiting
 
 -- SynchronousQueue.offer fails at once; LinkedTransferQueue.offer is its put
 abbrev pub offer_form : Order → Form
-offer_form Fair = immediate
-offer_form Unfair = immediate
-offer_form Transfer = keeping
+offer_form order = if keeps order then keeping else immediate
 
 -- the turn of each verb
 abbrev pub turn_of : Setup → Place → (seat : ℕ) → Verb → Turn

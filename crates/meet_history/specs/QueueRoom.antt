@@ -2,6 +2,7 @@
 use Rattle.std.proofs.Common.{◌≡◌, ℕ, ◌<◌, refl}
 use Rattle.std.specs.Prelude.{MatchOption, ⊤}
 use Rattle.meet_tickets.specs.declared.places.Kind.{Kind}
+use Rattle.meet_tickets.specs.Meeting.{end_of}
 use Rattle.meet_line.specs.Queue.{Queue}
 use Rattle.meet_line.specs.declared.answers.Put.TheVariants.{Kept, Meets, Fails}
 use Rattle.meet_history.specs.declared.told.DualCall.TheVariants.{Give}
@@ -17,10 +18,10 @@ roomy-queue-refusal q room seat call = roomy-refusal q room seat (dual_call call
 
 pub roomy-queue-steps : {T : Type 0} (mark : T → ℕ) (k : Kind) (q : Queue T) (room seat : ℕ) (call : QueueCall T) (answer : QueueAnswer T) (new : Queue T) → 0 < queue_need call → QueueStep mark k (roomy q room) seat call answer new → QueueStep mark k q seat call answer new
 roomy-queue-steps mark k q room seat (Put item) (ToPut (Kept t)) new need (keeps, (alone, few, uses)) = (keeps, (alone, few, roomy-uses q room new t _ uses))
-roomy-queue-steps mark k q room seat (Put item) (ToPut (Meets t u)) new need (keeps, step) = (keeps, roomy-hands mark k.order q room item t u new step)
+roomy-queue-steps mark k q room seat (Put item) (ToPut (Meets t u)) new need (keeps, step) = (keeps, roomy-hands mark (end_of k.order) q room item t u new step)
 roomy-queue-steps mark k q room seat (Put item) (ToPut (Fails t back)) new need (keeps, (alone, full, same, uses)) = (keeps, (alone, full, same, roomy-uses q room new t _ uses))
-roomy-queue-steps mark k q room seat (Put item) (ToDual answer) new need (waits, step) = (waits, roomy-steps mark k.order q room seat (Give item) answer new need step)
-roomy-queue-steps mark k q room seat (Dual call) (ToDual answer) new need step = roomy-steps mark k.order q room seat call answer new need step
+roomy-queue-steps mark k q room seat (Put item) (ToDual answer) new need (waits, step) = (waits, roomy-steps mark (end_of k.order) q room seat (Give item) answer new need step)
+roomy-queue-steps mark k q room seat (Dual call) (ToDual answer) new need step = roomy-steps mark (end_of k.order) q room seat call answer new need step
 roomy-queue-steps mark k q room seat (Dual call) (ToPut answer) new need step = absurd step
 
 pub own-queue-record : {T : Type 0} (mark : T → ℕ) (seat : ℕ) (call : QueueCall T) (answer : QueueAnswer T) → MatchOption (queue_record mark seat call answer) ⊤ (λ r. r.seat ≡ seat)

@@ -6,6 +6,7 @@ use Rattle.meet_tickets.specs.declared.records.Record.{Record}
 use Rattle.meet_tickets.specs.declared.records.Deed.{Deed}
 use Rattle.meet_tickets.specs.declared.records.Deed.TheVariants.{GiveMeets, GiveFails, GiveKept}
 use Rattle.meet_tickets.specs.declared.refusals.Refusal.{Refusal}
+use Rattle.meet_tickets.specs.Meeting.{end_of}
 use Rattle.meet_line.specs.Queue.{Queue}
 use Rattle.meet_line.specs.Steps.{PutStep}
 use Rattle.meet_line.specs.declared.answers.Put.{Put as PutAnswer}
@@ -29,9 +30,9 @@ dual_call (Dual call) = call
 -- a seat's call makes the queue's step: a put keeps the item or fails where the place keeps items, and else waits
 -- (LinkedTransferQueue.put, SynchronousQueue.put)
 abbrev pub QueueStep : {T : Type 0} → (T → ℕ) → Kind → Queue T → (seat : ℕ) → QueueCall T → QueueAnswer T → Queue T → Type 0
-QueueStep mark k old i (Put item) (ToPut answer) new = (put_form k.order ≡ keeping) × PutStep mark k.order k.bound old i item answer new
-QueueStep mark k old i (Put item) (ToDual answer) new = (put_form k.order ≡ waiting) × DualStep mark k.order old i (Give item) answer new
-QueueStep mark k old i (Dual call) (ToDual answer) new = DualStep mark k.order old i call answer new
+QueueStep mark k old i (Put item) (ToPut answer) new = (put_form k.order ≡ keeping) × PutStep mark (end_of k.order) k.bound old i item answer new
+QueueStep mark k old i (Put item) (ToDual answer) new = (put_form k.order ≡ waiting) × DualStep mark (end_of k.order) old i (Give item) answer new
+QueueStep mark k old i (Dual call) (ToDual answer) new = DualStep mark (end_of k.order) old i call answer new
 QueueStep mark k old i (Dual call) (ToPut answer) new = ⊥
 
 -- why a call is refused, HistoryFull and Memory aside

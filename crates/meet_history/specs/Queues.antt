@@ -1,6 +1,6 @@
 -- What the queue of a place shows of itself, whatever its kind.
 use Rattle.std.specs.Prelude.{ℕ}
-use Rattle.meet_tickets.specs.declared.places.Order.TheVariants.{Fair as FairOrder, Unfair as UnfairOrder}
+use Rattle.meet_tickets.specs.declared.places.End.TheVariants.{Front, Back}
 use Rattle.meet_tickets.specs.declared.places.Kind.{Kind}
 use Rattle.meet_line.specs.Queue.{Queue}
 use Rattle.meet_history.specs.DualSteps.{kind_of}
@@ -15,6 +15,6 @@ pub record QueueOfKind : Type 0 where
 
 -- each variant has its kind
 abbrev pub of_kind : ByKind → QueueOfKind
-of_kind (Fair q) = record { kind = kind_of FairOrder; queue = q }
-of_kind (Unfair q) = record { kind = kind_of UnfairOrder; queue = q }
+of_kind (Fair q) = record { kind = kind_of Front; queue = q }
+of_kind (Unfair q) = record { kind = kind_of Back; queue = q }
 of_kind (Transfer q) = record { kind = bounded_kind q.bound; queue = q.queue }

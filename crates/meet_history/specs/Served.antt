@@ -1,22 +1,20 @@
 -- The verbs that a place serves.
-use Rattle.std.specs.Prelude.{Bool, true, false}
+use Rattle.std.specs.Prelude.{Bool, true, false, if◌then◌else◌}
 use Rattle.meet_tickets.specs.declared.places.Order.{Order}
-use Rattle.meet_tickets.specs.declared.places.Order.TheVariants.{Fair, Unfair, Transfer}
+use Rattle.meet_tickets.specs.Meeting.{keeps}
 use Rattle.meet_history.specs.declared.calls.Verb.{Verb}
 use Rattle.meet_history.specs.declared.calls.Verb.TheVariants.{Transfer as TransferItem, Try, Drain, Consumers}
 
--- a synchronous place, be it fair or unfair, serves all verbs but those that LinkedTransferQueue alone has
+-- a synchronous place serves all verbs but those that LinkedTransferQueue alone has
 abbrev pub serves_synchronous : Verb → Bool
 serves_synchronous (TransferItem n) = false
 serves_synchronous (Try n) = false
 serves_synchronous Consumers = false
 serves_synchronous verb = true
 
--- a transfer queue serves all
+-- a place that keeps items, as LinkedTransferQueue does, serves all
 abbrev pub serves : Order → Verb → Bool
-serves Fair verb = serves_synchronous verb
-serves Unfair verb = serves_synchronous verb
-serves Transfer verb = true
+serves order verb = if keeps order then true else serves_synchronous verb
 
 -- every verb but a drain has one reply
 abbrev pub IsOne : Verb → Type 0

@@ -1,7 +1,7 @@
 //! The checker of histories: are these records legal?
 
 ghost use Rattle.std.specs.Prelude.{◌≡◌, ℕ, ◌<◌, ◌≤◌, ◌↔◌, None, IsTrue, IfOk, IfErr, OnOk};
-ghost use Rattle.meet_tickets.specs.Meeting.{partner};
+ghost use Rattle.meet_tickets.specs.Meeting.{end_of, partner};
 ghost use Rattle.meet_tickets.specs.ByLists.{IsLegal};
 ghost use Rattle.meet_tickets.specs.BySeat.{beginning, IsFree, Fits, moment_after};
 ghost use Rattle.meet_tickets.specs.declared.refusals.Refusal.TheVariants.{Memory};
@@ -66,13 +66,14 @@ pub(crate) struct Checker {
 
 impl Model for Checker {
     ghost use Rattle.std.specs.Prelude.{◌≡◌, ◌≤◌, length};
-    ghost use Rattle.meet_history.specs.Checking.{Checked, line_order};
+    ghost use Rattle.meet_tickets.specs.Meeting.{end_of};
+    ghost use Rattle.meet_history.specs.Checking.{Checked};
 
     ghost Value = { Checked };
 
     ghost view = { λ c. record { kind = c.kind; last = c.last; line = c.line.entries; room = c.line.room; table = c.seats } };
 
-    ghost invariant = { λ c. (length c.seats.holds ≡ 1024) × (c.line.order ≡ line_order c.kind.order) × (c.line.newest ≤ c.last) };
+    ghost invariant = { λ c. (length c.seats.holds ≡ 1024) × (c.line.end ≡ end_of c.kind.order) × (c.line.newest ≤ c.last) };
 }
 
 impl Checker {
@@ -89,7 +90,7 @@ impl Checker {
         Ok(Checker {
             kind,
             last: 0,
-            line: MarkLine::new(alloc, kind.order),
+            line: MarkLine::new(alloc, kind.order.end()),
             seats,
         })
     }
@@ -114,7 +115,7 @@ impl Checker {
 
     /// Whether a request of this side finds nobody.
     fn is_alone(&self, side: Side) -> bool
-        ensures { IsTrue result ↔ (partner self.now.kind.order (moment_at self.now).seats.line side ≡ None) }
+        ensures { IsTrue result ↔ (partner (end_of self.now.kind.order) (moment_at self.now).seats.line side ≡ None) }
     {
         match self.line.first() {
             None => true,

@@ -32,9 +32,9 @@ impl<T: Marked, L: Line<T>> Object for Dual<T, L> {
 
     ghost gone_of = { λ base. base.gone };
 
-    ghost leads = { λ base records q. LeadsTo T.mark_of (kind_of L.order) base records q };
+    ghost leads = { λ base records q. LeadsTo T.mark_of (kind_of L.end) base records q };
 
-    ghost steps = { λ old seat call answer new. DualStep T.mark_of L.order old seat call answer new };
+    ghost steps = { λ old seat call answer new. DualStep T.mark_of L.end old seat call answer new };
 
     ghost record_of = { λ seat call answer. dual_record T.mark_of seat call answer };
 
@@ -56,11 +56,11 @@ impl<T: Marked, L: Line<T>> Object for Dual<T, L> {
 
     ghost same_owed = { λ q room. refl };
 
-    ghost same_leads = { λ q room base records leads. roomy-leads T.mark_of (kind_of L.order) q room base records leads };
+    ghost same_leads = { λ q room base records leads. roomy-leads T.mark_of (kind_of L.end) q room base records leads };
 
-    ghost same_steps = { λ q room seat call answer new need step. roomy-steps T.mark_of L.order q room seat call answer new need step };
+    ghost same_steps = { λ q room seat call answer new need step. roomy-steps T.mark_of L.end q room seat call answer new need step };
 
-    ghost fresh_owes = { λ q leads. roomy-fresh T.mark_of (kind_of L.order) q leads };
+    ghost fresh_owes = { λ q leads. roomy-fresh T.mark_of (kind_of L.end) q leads };
 
     ghost none_gone = { refl };
 
@@ -173,7 +173,7 @@ fn make<T: Marked, L: Line<T>>(
 ) -> entries::Answered<T>
     requires admitted { dual_refusal queue.old seat call ≡ None }
     requires room { 0 < dual_need call → 0 < queue.old.room }
-    ensures step { DualStep T.mark_of L.order queue.old seat call result.0 queue.new }
+    ensures step { DualStep T.mark_of L.end queue.old seat call result.0 queue.new }
     ensures entry { result.1 ≡ dual_record T.mark_of seat call result.0 }
     ensures places { places_of queue.new ≡ places_of queue.old }
 {

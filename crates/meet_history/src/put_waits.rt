@@ -4,7 +4,6 @@ ghost use Rattle.std.specs.Prelude.{◌≡◌, ◌≢◌, ◌+◌, ◌<◌, ◌�
 ghost use Rattle.meet_tickets.specs.declared.records.Record.{Record};
 ghost use Rattle.meet_tickets.specs.declared.records.Deed.{Deed};
 ghost use Rattle.meet_tickets.specs.declared.refusals.Refusal.TheVariants.{Memory, HistoryFull};
-ghost use Rattle.meet_history.specs.OneThread.{put_form, waiting};
 ghost use Rattle.meet_tickets.specs.Bases.{Based};
 ghost use Rattle.meet_history.specs.DualSteps.{kind_of, LeadsTo, dual_owed};
 ghost use Rattle.meet_history.specs.QueueSteps.{QueueStep, queue_refusal, queue_need, queue_record};
@@ -38,13 +37,12 @@ pub(crate) fn step<T: Marked, L: Line<T>>(
     seat: SeatNo,
     call: QueueCall<T>,
 ) -> (QueueAnswer<T>, Option<Record<Deed>>)
-    requires order { put_form L.order ≡ waiting }
     requires admitted { queue_refusal queue.old seat call ≡ None }
     requires room { 0 < queue_need call → 0 < queue.old.room }
-    ensures step { QueueStep T.mark_of (kind_of L.order) queue.old seat call result.0 queue.new }
+    ensures step { QueueStep T.mark_of (kind_of L.end) queue.old seat call result.0 queue.new }
     ensures entry { result.1 ≡ queue_record T.mark_of seat call result.0 }
-    ensures leads { (base : Based) (records : List (Record Deed)) → LeadsTo T.mark_of (kind_of L.order) base records queue.old
-        → LeadsTo T.mark_of (kind_of L.order) base (records ++ option_to_list result.1) queue.new }
+    ensures leads { (base : Based) (records : List (Record Deed)) → LeadsTo T.mark_of (kind_of L.end) base records queue.old
+        → LeadsTo T.mark_of (kind_of L.end) base (records ++ option_to_list result.1) queue.new }
     ensures owed { length (option_to_list result.1) + dual_owed queue.new ≤ dual_owed queue.old + queue_need call }
     ensures room { queue.old.room ≤ queue.new.room + 1 }
 {

@@ -1,9 +1,8 @@
 //! The queue of a place, whatever its kind.
 
-ghost use Rattle.std.specs.Prelude.{◌≡◌, ◌≤◌, ◌<◌, ◌^◌, None, [], refl, IfOk, IfErr};
-ghost use Rattle.meet_tickets.specs.declared.places.Order.TheVariants.{Transfer as TransferOrder};
+ghost use Rattle.std.specs.Prelude.{◌≡◌, ◌≤◌, ◌<◌, ◌^◌, true, None, [], refl, IfOk, IfErr};
 ghost use Rattle.meet_tickets.specs.declared.places.Side.TheVariants.{Taker};
-ghost use Rattle.meet_tickets.specs.Meeting.{waiting_count, kept_count, count_on};
+ghost use Rattle.meet_tickets.specs.Meeting.{keeps, waiting_count, kept_count, count_on};
 ghost use Rattle.meet_tickets.specs.BySeat.{nobody, open_ticket, settled_of};
 ghost use Rattle.meet_line.specs.Queue.{seats_of, count_of, places_of};
 ghost use Rattle.meet_tickets.specs.Bases.{no_base, IsBaseOf};
@@ -162,7 +161,7 @@ impl AnyQueue {
 
     /// `LinkedTransferQueue.getWaitingConsumerCount`: the takers in the line of a transfer queue.
     pub fn waiting_consumers(&self) -> u64
-        requires { self.now.kind.order ≡ TransferOrder }
+        requires { keeps self.now.kind.order ≡ true }
         ensures { result ≡ count_on Taker self.now.queue.line }
     {
         match &self.queue {

@@ -1,7 +1,7 @@
 //! The transfer queue as a book's place.
 
 ghost use Rattle.std.specs.Prelude.{◌≡◌, ◌+◌, ◌^◌, ◌<◌, ◌≢◌, ◌≤◌, Some, None, refl, [], option_to_list, length, IfOk, IfErr, Option};
-ghost use Rattle.meet_tickets.specs.declared.places.Order.TheVariants.{Transfer as TransferOrder};
+ghost use Rattle.meet_tickets.specs.declared.places.End.TheVariants.{Front};
 ghost use Rattle.meet_tickets.specs.BySeat.{nobody};
 ghost use Rattle.meet_tickets.specs.declared.refusals.Refusal.TheVariants.{Memory, HistoryFull};
 ghost use Rattle.meet_line.specs.Queue.{seats_of, count_of, places_of, admit_refusal};
@@ -225,7 +225,7 @@ fn make_dual<T: Marked>(
 ) -> entries::Answered<T>
     requires admitted { dual_refusal queue.old.queue seat call ≡ None }
     requires room { 0 < dual_need call → 0 < queue.old.queue.room }
-    ensures step { DualStep T.mark_of TransferOrder queue.old.queue seat call result.0 queue.new.queue }
+    ensures step { DualStep T.mark_of Front queue.old.queue seat call result.0 queue.new.queue }
     ensures bound { queue.new.bound ≡ queue.old.bound }
     ensures entry { result.1 ≡ dual_record T.mark_of seat call result.0 }
     ensures places { places_of queue.new.queue ≡ places_of queue.old.queue }

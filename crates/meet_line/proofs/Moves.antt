@@ -5,7 +5,7 @@ use Rattle.std.proofs.lemmas.Bool.{eq-eqb}
 use Rattle.meet_tickets.specs.declared.lines.Entry.{Entry}
 use Rattle.meet_tickets.specs.declared.lines.Hold.{Hold}
 use Rattle.meet_tickets.specs.declared.lines.Hold.TheVariants.{Free, Handed, Served, Cut}
-use Rattle.meet_tickets.specs.declared.places.Order.{Order}
+use Rattle.meet_tickets.specs.declared.places.End.{End}
 use Rattle.meet_tickets.specs.declared.places.Side.TheVariants.{Giver}
 use Rattle.meet_tickets.specs.Meeting.{is_on}
 use Rattle.meet_tickets.specs.BySeat.{Seats, put_at, unmet, paired, paired_hold, left, cut_off}
@@ -35,8 +35,8 @@ pub record Holds {T : Type 0} (old new : Queue T) (seat : ℕ) (hold : Hold T) :
   pub next : new.next ≡ old.next
 
 -- the partner left the line, and its seat holds the pair
-pub Leaves-paired : {T : Type 0} (mark : T → ℕ) (order : Order) (old new : Queue T) (e : Entry T) (t : ℕ) (item : Option T) → IsTrue e.waits → new.line ≡ unmet order old.line → Holds old new e.seat (paired_hold mark e.ticket e.item t item) → Leaves old new (paired mark order (seats_of old) t item e)
-Leaves-paired mark order old new e t item waits line h =
+pub Leaves-paired : {T : Type 0} (mark : T → ℕ) (end : End) (old new : Queue T) (e : Entry T) (t : ℕ) (item : Option T) → IsTrue e.waits → new.line ≡ unmet end old.line → Holds old new e.seat (paired_hold mark e.ticket e.item t item) → Leaves old new (paired mark end (seats_of old) t item e)
+Leaves-paired mark end old new e t item waits line h =
     let hold : Hold _ = paired_hold mark e.ticket e.item t item in
     record {
       last = h.last;
@@ -48,8 +48,8 @@ Leaves-paired mark order old new e t item waits line h =
     }
 
 -- the partner left the line, and was kept: no seat holds anything else
-pub Leaves-kept : {T : Type 0} (mark : T → ℕ) (order : Order) (old new : Queue T) (e : Entry T) (t : ℕ) (item : Option T) → e.waits ≡ false → new.line ≡ unmet order old.line → new.table ≡ old.table → new.last ≡ old.last → new.next ≡ old.next → Leaves old new (paired mark order (seats_of old) t item e)
-Leaves-kept mark order old new e t item kept line table last next =
+pub Leaves-kept : {T : Type 0} (mark : T → ℕ) (end : End) (old new : Queue T) (e : Entry T) (t : ℕ) (item : Option T) → e.waits ≡ false → new.line ≡ unmet end old.line → new.table ≡ old.table → new.last ≡ old.last → new.next ≡ old.next → Leaves old new (paired mark end (seats_of old) t item e)
+Leaves-kept mark end old new e t item kept line table last next =
     let hold : Hold _ = paired_hold mark e.ticket e.item t item in
     record {
       last = last;

@@ -9,7 +9,7 @@ use Rattle.meet_tickets.specs.declared.lines.Hold.{Hold}
 use Rattle.meet_tickets.specs.declared.lines.Hold.TheVariants.{Free, Waiting}
 use Rattle.meet_tickets.specs.declared.places.Side.{Side}
 use Rattle.meet_tickets.specs.declared.places.Side.TheVariants.{Giver, Taker}
-use Rattle.meet_tickets.specs.declared.places.Order.{Order}
+use Rattle.meet_tickets.specs.declared.places.End.{End}
 use Rattle.meet_tickets.specs.Meeting.{partner, kept_count}
 use Rattle.meet_tickets.specs.BySeat.{put_at, unmet, without_first, open_ticket}
 use Rattle.meet_tickets.proofs.Keeping.{partner-waits}
@@ -38,8 +38,8 @@ pub HasOneSide-sound : {T : Type 0} {line : List (Entry T)} {holds : ℕ → Hol
 HasOneSide-sound sound = λ i j d before below. (sound.fellows i j d before below).side
 
 -- the partner stands as all do
-pub Stands-partner : {T : Type 0} {line : List (Entry T)} {holds : ℕ → Hold T} {next : ℕ} (order : Order) (side : Side) (e : Entry T) → IsSound line holds next → partner order line side ≡ Some e → Stands holds next e
-Stands-partner {line = line} {holds = holds} {next = next} order side e sound found = partner-there (Stands holds next) order line side e sound.standing found
+pub Stands-partner : {T : Type 0} {line : List (Entry T)} {holds : ℕ → Hold T} {next : ℕ} (end : End) (side : Side) (e : Entry T) → IsSound line holds next → partner end line side ≡ Some e → Stands holds next e
+Stands-partner {line = line} {holds = holds} {next = next} end side e sound found = partner-there (Stands holds next) end line side e sound.standing found
 
 -- an entry waits, and is what its seat holds
 pub record IsMet {T : Type 0} (holds : ℕ → Hold T) (e : Entry T) : Type 0 where
@@ -56,10 +56,10 @@ pub waits-taker : {T : Type 0} (holds : ℕ → Hold T) (next : ℕ) (e : Entry 
 waits-taker {T} holds next e stands none = not-kept e.waits (λ kept. (let same : IsSome {T = T} None = subst IsSome none (stands.given kept) in cc))
 
 -- which a giver meets
-pub held-taker : {T : Type 0} {line : List (Entry T)} {holds : ℕ → Hold T} {next : ℕ} (order : Order) (e : Entry T) → IsSound line holds next → partner order line Giver ≡ Some e → IsMet holds e
-held-taker {line = line} {holds = holds} {next = next} order e sound found =
-    let stands : Stands holds next e = Stands-partner order Giver e sound found in
-    let waits : e.waits ≡ true = waits-taker holds next e stands (none-from e.item (partner-other order line Giver e (HasOneSide-sound sound) found)) in
+pub held-taker : {T : Type 0} {line : List (Entry T)} {holds : ℕ → Hold T} {next : ℕ} (end : End) (e : Entry T) → IsSound line holds next → partner end line Giver ≡ Some e → IsMet holds e
+held-taker {line = line} {holds = holds} {next = next} end e sound found =
+    let stands : Stands holds next e = Stands-partner end Giver e sound found in
+    let waits : e.waits ≡ true = waits-taker holds next e stands (none-from e.item (partner-other end line Giver e (HasOneSide-sound sound) found)) in
     record { waits = waits; held = stands.held waits }
 
 -- and so does an entry whose ticket is open
@@ -70,10 +70,10 @@ waits-open {line = line} {holds = holds} {next = next} i t e sound waits found =
     not-kept e.waits (λ kept. stands.closed kept i (ap open_ticket waits ∙ ap (λ n. Some n) (sym ticket)))
 
 -- where nothing is kept, the partner waits
-pub IsMet-partner : {T : Type 0} {line : List (Entry T)} {holds : ℕ → Hold T} {next : ℕ} (order : Order) (side : Side) (e : Entry T) → IsSound line holds next → kept_count line ≡ 0 → partner order line side ≡ Some e → IsMet holds e
-IsMet-partner {line = line} order side e sound none found =
-    let waits = partner-waits order line side e none found in
-    record { waits = waits; held = (Stands-partner order side e sound found).held waits }
+pub IsMet-partner : {T : Type 0} {line : List (Entry T)} {holds : ℕ → Hold T} {next : ℕ} (end : End) (side : Side) (e : Entry T) → IsSound line holds next → kept_count line ≡ 0 → partner end line side ≡ Some e → IsMet holds e
+IsMet-partner {line = line} end side e sound none found =
+    let waits = partner-waits end line side e none found in
+    record { waits = waits; held = (Stands-partner end side e sound found).held waits }
 
 -- a new ticket is above all of the line
 pub newest : {T : Type 0} {line : List (Entry T)} {holds : ℕ → Hold T} {next : ℕ} → IsSound line holds next → All (λ e. e.ticket < next) line
@@ -143,28 +143,28 @@ IsSound-settled {line = line} {holds = holds} i hold sound settled apart =
     IsSound-gone i hold sound (λ k d below waits same. settled (get_or line k d).ticket (ap holds (sym same) ∙ (sound.standing k d below).held waits)) apart
 
 -- the partner leaves the line
-pub IsSound-unmet : {T : Type 0} {line : List (Entry T)} {holds : ℕ → Hold T} {next : ℕ} (order : Order) → IsSound line holds next → IsSound (unmet order line) holds next
-IsSound-unmet {line = line} {holds = holds} {next = next} order sound = record {
-  standing = All-unmet (Stands holds next) order line sound.standing;
-  fellows = AllPairs-unmet AreFellows order line sound.fellows;
+pub IsSound-unmet : {T : Type 0} {line : List (Entry T)} {holds : ℕ → Hold T} {next : ℕ} (end : End) → IsSound line holds next → IsSound (unmet end line) holds next
+IsSound-unmet {line = line} {holds = holds} {next = next} end sound = record {
+  standing = All-unmet (Stands holds next) end line sound.standing;
+  fellows = AllPairs-unmet AreFellows end line sound.fellows;
   opened = sound.opened;
   tickets_from = sound.tickets_from;
   tickets_to = sound.tickets_to;
 }
 
 -- it waited, and its seat holds what came of its ticket
-pub IsSound-met : {T : Type 0} {line : List (Entry T)} {holds : ℕ → Hold T} {next : ℕ} (order : Order) (side : Side) (e : Entry T) (hold : Hold T) → IsSound line holds next → partner order line side ≡ Some e → e.waits ≡ true → open_ticket hold ≡ Some e.ticket → IsSound (unmet order line) (put_at holds e.seat hold) next
-IsSound-met {line = line} {holds = holds} {next = next} order side e hold sound found waits is =
-    let left : IsSound (unmet order line) holds next = IsSound-unmet order sound in
-    let stands : Stands holds next e = Stands-partner order side e sound found in
-    let others : All (AreFellows e) (unmet order line) = met-apart AreFellows order line e sound.fellows (partner-met order line side e found) turned in
+pub IsSound-met : {T : Type 0} {line : List (Entry T)} {holds : ℕ → Hold T} {next : ℕ} (end : End) (side : Side) (e : Entry T) (hold : Hold T) → IsSound line holds next → partner end line side ≡ Some e → e.waits ≡ true → open_ticket hold ≡ Some e.ticket → IsSound (unmet end line) (put_at holds e.seat hold) next
+IsSound-met {line = line} {holds = holds} {next = next} end side e hold sound found waits is =
+    let left : IsSound (unmet end line) holds next = IsSound-unmet end sound in
+    let stands : Stands holds next e = Stands-partner end side e sound found in
+    let others : All (AreFellows e) (unmet end line) = met-apart AreFellows end line e sound.fellows (partner-met end line side e found) turned in
     IsSound-gone e.seat hold left
     (λ k d below also same.
-    (let f = get_or (unmet order line) k d in
+    (let f = get_or (unmet end line) k d in
     let held : Waiting f.ticket ≡ Waiting e.ticket = sym ((left.standing k d below).held also) ∙ ap holds same ∙ stands.held waits in
     let tickets : e.ticket ≡ f.ticket = cc in
     (others k d below).tickets tickets))
-    (IsApart-ticket (unmet order line) next e.ticket hold is (λ k d below same. (others k d below).tickets (sym same)) stands.used)
+    (IsApart-ticket (unmet end line) next e.ticket hold is (λ k d below same. (others k d below).tickets (sym same)) stands.used)
 
 -- the entry of a ticket leaves the line, and the seat that held it is free
 pub IsSound-removed : {T : Type 0} {line : List (Entry T)} {holds : ℕ → Hold T} {next : ℕ} (i t : ℕ) (e : Entry T) → IsSound line holds next → holds i ≡ Waiting t → find (λ f. f.ticket == t) line ≡ Some e → IsSound (without_first (λ f. f.ticket == t) line) (put_at holds i Free) next
@@ -202,18 +202,18 @@ All-one P x holds zero d below = holds
 All-one P x holds (suc k) d below = absurd (omega arith)
 
 -- a request finds nobody of the other side
-abbrev pub IsAlone : {T : Type 0} → Order → List (Entry T) → Option T → Type 0
-IsAlone order line item = MatchOption item (partner order line Taker ≡ None) (λ _. partner order line Giver ≡ None)
+abbrev pub IsAlone : {T : Type 0} → End → List (Entry T) → Option T → Type 0
+IsAlone end line item = MatchOption item (partner end line Taker ≡ None) (λ _. partner end line Giver ≡ None)
 
 -- it stands on the side of the line
-fellow-side : {T : Type 0} (order : Order) (line : List (Entry T)) (e : Entry T) (own : Option T) → e.item ≡ own → HasOneSide line → IsAlone order line own → All (λ f. is_some f.item ≡ is_some e.item) line
-fellow-side order line e None is one alone = alone-same order line Taker e one alone (ap (λ o. is_none o) is)
-fellow-side order line e (Some x) is one alone = alone-same order line Giver e one alone (ap (λ o. is_some o) is)
+fellow-side : {T : Type 0} (end : End) (line : List (Entry T)) (e : Entry T) (own : Option T) → e.item ≡ own → HasOneSide line → IsAlone end line own → All (λ f. is_some f.item ≡ is_some e.item) line
+fellow-side end line e None is one alone = alone-same end line Taker e one alone (ap (λ o. is_none o) is)
+fellow-side end line e (Some x) is one alone = alone-same end line Giver e one alone (ap (λ o. is_some o) is)
 
 -- an entry with a new ticket goes to the line's end
-IsSound-added : {T : Type 0} {line : List (Entry T)} {holds : ℕ → Hold T} {next : ℕ} (order : Order) (e : Entry T) → IsSound line holds next → Stands holds next e → All (λ f. f.ticket < e.ticket) line → IsAlone order line e.item → IsSound (line ++ e ∷ []) holds next
-IsSound-added {line = line} {holds = holds} {next = next} order e sound stands earlier alone =
-    let sides : All (λ f. is_some f.item ≡ is_some e.item) line = fellow-side order line e e.item refl (HasOneSide-sound sound) alone in
+IsSound-added : {T : Type 0} {line : List (Entry T)} {holds : ℕ → Hold T} {next : ℕ} (end : End) (e : Entry T) → IsSound line holds next → Stands holds next e → All (λ f. f.ticket < e.ticket) line → IsAlone end line e.item → IsSound (line ++ e ∷ []) holds next
+IsSound-added {line = line} {holds = holds} {next = next} end e sound stands earlier alone =
+    let sides : All (λ f. is_some f.item ≡ is_some e.item) line = fellow-side end line e e.item refl (HasOneSide-sound sound) alone in
     record {
       standing = All-append (Stands holds next) line (e ∷ []) sound.standing (All-one (Stands holds next) e stands);
       fellows = all_pairs_push AreFellows line e sound.fellows (λ k d below. record {
@@ -226,12 +226,12 @@ IsSound-added {line = line} {holds = holds} {next = next} order e sound stands e
     }
 
 -- a request goes to the line's end, and its seat holds its ticket
-pub IsSound-queued : {T : Type 0} {line : List (Entry T)} {holds : ℕ → Hold T} {next : ℕ} (order : Order) (i t : ℕ) (item : Option T) → IsSound line holds next → holds i ≡ Free → All (λ f. f.ticket < t) line → t < next → IsAlone order line item → IsSound (line ++ record { ticket = t; seat = i; item = item; waits = true } ∷ []) (put_at holds i (Waiting t)) next
-IsSound-queued {T} {line = line} {holds = holds} {next = next} order i t item sound free earlier used alone =
+pub IsSound-queued : {T : Type 0} {line : List (Entry T)} {holds : ℕ → Hold T} {next : ℕ} (end : End) (i t : ℕ) (item : Option T) → IsSound line holds next → holds i ≡ Free → All (λ f. f.ticket < t) line → t < next → IsAlone end line item → IsSound (line ++ record { ticket = t; seat = i; item = item; waits = true } ∷ []) (put_at holds i (Waiting t)) next
+IsSound-queued {T} {line = line} {holds = holds} {next = next} end i t item sound free earlier used alone =
     let e : Entry T = record { ticket = t; seat = i; item = item; waits = true } in
     let others : All (λ f. f.ticket ≢ t) line = λ k d below same. (let less : (get_or line k d).ticket < t = earlier k d below in omega arith) in
     let before : IsSound line (put_at holds i (Waiting t)) next = IsSound-settled i (Waiting t) sound (λ ticket held. (let same : Free ≡ Waiting ticket = sym free ∙ held in cc)) (IsApart-ticket line next t (Waiting t) refl others used) in
-    IsSound-added order e before (record {
+    IsSound-added end e before (record {
       held = λ _. ap (λ b. cond b (Waiting t) (holds i)) (eq-eqb i i refl);
       given = λ kept. absurd (let same : true ≡ false = kept in cc);
       closed = λ kept. absurd (let same : true ≡ false = kept in cc);
@@ -239,10 +239,10 @@ IsSound-queued {T} {line = line} {holds = holds} {next = next} order i t item so
     }) earlier alone
 
 -- an item goes to the line's end and is kept, and its ticket is open nowhere
-pub IsSound-kept : {T : Type 0} {line : List (Entry T)} {holds : ℕ → Hold T} {next : ℕ} (order : Order) (i t : ℕ) (item : T) → IsSound line holds next → ((seat : ℕ) → open_ticket (holds seat) ≢ Some t) → All (λ f. f.ticket < t) line → t < next → partner order line Giver ≡ None → IsSound (line ++ record { ticket = t; seat = i; item = Some item; waits = false } ∷ []) holds next
-IsSound-kept {T} order i t item sound closed earlier used alone =
+pub IsSound-kept : {T : Type 0} {line : List (Entry T)} {holds : ℕ → Hold T} {next : ℕ} (end : End) (i t : ℕ) (item : T) → IsSound line holds next → ((seat : ℕ) → open_ticket (holds seat) ≢ Some t) → All (λ f. f.ticket < t) line → t < next → partner end line Giver ≡ None → IsSound (line ++ record { ticket = t; seat = i; item = Some item; waits = false } ∷ []) holds next
+IsSound-kept {T} end i t item sound closed earlier used alone =
     let e : Entry T = record { ticket = t; seat = i; item = Some item; waits = false } in
-    IsSound-added order e sound (record {
+    IsSound-added end e sound (record {
       held = λ waits. absurd (let same : false ≡ true = waits in cc);
       given = λ _. refl;
       closed = λ _. closed;

@@ -2,7 +2,7 @@
 use Rattle.std.specs.Prelude.{◌≡◌, ℕ, ◌+◌, ◌<◌, ◌≤◌, true, false, ⊤, Option, Some, None, IfSome, MatchOption}
 use Rattle.meet_tickets.specs.declared.lines.Entry.{Entry}
 use Rattle.meet_tickets.specs.declared.lines.Hold.TheVariants.{Waiting, Handed, Served, Cut}
-use Rattle.meet_tickets.specs.declared.places.Order.{Order}
+use Rattle.meet_tickets.specs.declared.places.End.{End}
 use Rattle.meet_tickets.specs.declared.places.Side.TheVariants.{Giver, Taker}
 use Rattle.meet_tickets.specs.Meeting.{partner, kept_count}
 use Rattle.meet_tickets.specs.BySeat.{Seats, entry_of, queued, paired, flagged, released, left, cut_off}
@@ -40,60 +40,60 @@ pub record Leaves {T : Type 0} (old new : Queue T) (seats : Seats T) : Type 0 wh
   pub left : seats_of new ≡ seats
 
 -- the giver of ticket t met the taker of ticket u, which brought nothing
-abbrev pub HandsTo : {T : Type 0} → (T → ℕ) → Order → Queue T → (item : T) → (t u : ℕ) → Queue T → Type 0
-HandsTo {T} mark order old item t u new =
-    (e : Entry T) × (partner order old.line Giver ≡ Some e) × (u ≡ e.ticket) × (e.item ≡ None) × Uses old new t (paired mark order (seats_of old) t (Some item) e)
+abbrev pub HandsTo : {T : Type 0} → (T → ℕ) → End → Queue T → (item : T) → (t u : ℕ) → Queue T → Type 0
+HandsTo {T} mark end old item t u new =
+    (e : Entry T) × (partner end old.line Giver ≡ Some e) × (u ≡ e.ticket) × (e.item ≡ None) × Uses old new t (paired mark end (seats_of old) t (Some item) e)
 
 -- the taker of ticket t met the giver of ticket u, and got the item that this one presented
-abbrev pub GetsFrom : {T : Type 0} → (T → ℕ) → Order → Queue T → (t u : ℕ) → (item : T) → Queue T → Type 0
-GetsFrom {T} mark order old t u item new =
-    (e : Entry T) × (partner order old.line Taker ≡ Some e) × (u ≡ e.ticket) × (e.item ≡ Some item) × Uses old new t (paired mark order (seats_of old) t None e)
+abbrev pub GetsFrom : {T : Type 0} → (T → ℕ) → End → Queue T → (t u : ℕ) → (item : T) → Queue T → Type 0
+GetsFrom {T} mark end old t u item new =
+    (e : Entry T) × (partner end old.line Taker ≡ Some e) × (u ≡ e.ticket) × (e.item ≡ Some item) × Uses old new t (paired mark end (seats_of old) t None e)
 
 -- the same of a giver whose ticket t was drawn before
-abbrev pub HandsOver : {T : Type 0} → (T → ℕ) → Order → Queue T → (item : T) → (t u : ℕ) → Queue T → Type 0
-HandsOver {T} mark order old item t u new =
-    (e : Entry T) × (partner order old.line Giver ≡ Some e) × (u ≡ e.ticket) × (e.item ≡ None) × Leaves old new (paired mark order (seats_of old) t (Some item) e)
+abbrev pub HandsOver : {T : Type 0} → (T → ℕ) → End → Queue T → (item : T) → (t u : ℕ) → Queue T → Type 0
+HandsOver {T} mark end old item t u new =
+    (e : Entry T) × (partner end old.line Giver ≡ Some e) × (u ≡ e.ticket) × (e.item ≡ None) × Leaves old new (paired mark end (seats_of old) t (Some item) e)
 
 -- and of such a taker
-abbrev pub Fetches : {T : Type 0} → (T → ℕ) → Order → Queue T → (t u : ℕ) → (item : T) → Queue T → Type 0
-Fetches {T} mark order old t u item new =
-    (e : Entry T) × (partner order old.line Taker ≡ Some e) × (u ≡ e.ticket) × (e.item ≡ Some item) × Leaves old new (paired mark order (seats_of old) t None e)
+abbrev pub Fetches : {T : Type 0} → (T → ℕ) → End → Queue T → (t u : ℕ) → (item : T) → Queue T → Type 0
+Fetches {T} mark end old t u item new =
+    (e : Entry T) × (partner end old.line Taker ≡ Some e) × (u ≡ e.ticket) × (e.item ≡ Some item) × Leaves old new (paired mark end (seats_of old) t None e)
 
 -- a give that waits: with a partner they meet; without one it goes to the line, or is refused at entry
-abbrev pub GiveStep : {T : Type 0} → (T → ℕ) → Order → Queue T → (seat : ℕ) → (item : T) → Gave T → Queue T → Type 0
-GiveStep mark order old seat item (Waits t) new =
-    (partner order old.line Giver ≡ None) × ((seats_of old).flags seat ≡ false) × Uses old new t (queued (seats_of old) seat t (Some item) true)
-GiveStep mark order old seat item (Meets t u) new = HandsTo mark order old item t u new
-GiveStep mark order old seat item (EntryInterrupted t back) new =
-    (partner order old.line Giver ≡ None) × ((seats_of old).flags seat ≡ true) × (back ≡ item) × Uses old new t (flagged (seats_of old) seat false)
+abbrev pub GiveStep : {T : Type 0} → (T → ℕ) → End → Queue T → (seat : ℕ) → (item : T) → Gave T → Queue T → Type 0
+GiveStep mark end old seat item (Waits t) new =
+    (partner end old.line Giver ≡ None) × ((seats_of old).flags seat ≡ false) × Uses old new t (queued (seats_of old) seat t (Some item) true)
+GiveStep mark end old seat item (Meets t u) new = HandsTo mark end old item t u new
+GiveStep mark end old seat item (EntryInterrupted t back) new =
+    (partner end old.line Giver ≡ None) × ((seats_of old).flags seat ≡ true) × (back ≡ item) × Uses old new t (flagged (seats_of old) seat false)
 
 -- an immediate give: with a partner they meet; without one it fails, and only its ticket is used
-abbrev pub OfferStep : {T : Type 0} → (T → ℕ) → Order → Queue T → (item : T) → Offered T → Queue T → Type 0
-OfferStep mark order old item (OfferMeets t u) new = HandsTo mark order old item t u new
-OfferStep mark order old item (Fails t back) new =
-    (partner order old.line Giver ≡ None) × (back ≡ item) × Uses old new t (seats_of old)
+abbrev pub OfferStep : {T : Type 0} → (T → ℕ) → End → Queue T → (item : T) → Offered T → Queue T → Type 0
+OfferStep mark end old item (OfferMeets t u) new = HandsTo mark end old item t u new
+OfferStep mark end old item (Fails t back) new =
+    (partner end old.line Giver ≡ None) × (back ≡ item) × Uses old new t (seats_of old)
 
 -- a give that is kept (LinkedTransferQueue.put; that no more than so many are kept is our choice): with a partner they
 -- meet; without one the item goes to the line where no bound says otherwise, and its seat stays free; it looks at no flag
-abbrev pub PutStep : {T : Type 0} → (T → ℕ) → Order → (bound : Option ℕ) → Queue T → (seat : ℕ) → (item : T) → Put T → Queue T → Type 0
-PutStep mark order bound old seat item (Kept t) new =
-    (partner order old.line Giver ≡ None) × MatchOption bound ⊤ (λ most. kept_count old.line < most) × Uses old new t (queued (seats_of old) seat t (Some item) false)
-PutStep mark order bound old seat item (PutMeets t u) new = HandsTo mark order old item t u new
-PutStep mark order bound old seat item (PutFails t back) new =
-    (partner order old.line Giver ≡ None) × MatchOption bound ⊥ (λ most. most ≤ kept_count old.line) × (back ≡ item) × Uses old new t (seats_of old)
+abbrev pub PutStep : {T : Type 0} → (T → ℕ) → End → (bound : Option ℕ) → Queue T → (seat : ℕ) → (item : T) → Put T → Queue T → Type 0
+PutStep mark end bound old seat item (Kept t) new =
+    (partner end old.line Giver ≡ None) × MatchOption bound ⊤ (λ most. kept_count old.line < most) × Uses old new t (queued (seats_of old) seat t (Some item) false)
+PutStep mark end bound old seat item (PutMeets t u) new = HandsTo mark end old item t u new
+PutStep mark end bound old seat item (PutFails t back) new =
+    (partner end old.line Giver ≡ None) × MatchOption bound ⊥ (λ most. most ≤ kept_count old.line) × (back ≡ item) × Uses old new t (seats_of old)
 
 -- a take that waits
-abbrev pub TakeStep : {T : Type 0} → (T → ℕ) → Order → Queue T → (seat : ℕ) → Took T → Queue T → Type 0
-TakeStep mark order old seat (TakerWaits t) new =
-    (partner order old.line Taker ≡ None) × ((seats_of old).flags seat ≡ false) × Uses old new t (queued (seats_of old) seat t None true)
-TakeStep mark order old seat (TakerMeets t u item) new = GetsFrom mark order old t u item new
-TakeStep mark order old seat (TakerInterrupted t) new =
-    (partner order old.line Taker ≡ None) × ((seats_of old).flags seat ≡ true) × Uses old new t (flagged (seats_of old) seat false)
+abbrev pub TakeStep : {T : Type 0} → (T → ℕ) → End → Queue T → (seat : ℕ) → Took T → Queue T → Type 0
+TakeStep mark end old seat (TakerWaits t) new =
+    (partner end old.line Taker ≡ None) × ((seats_of old).flags seat ≡ false) × Uses old new t (queued (seats_of old) seat t None true)
+TakeStep mark end old seat (TakerMeets t u item) new = GetsFrom mark end old t u item new
+TakeStep mark end old seat (TakerInterrupted t) new =
+    (partner end old.line Taker ≡ None) × ((seats_of old).flags seat ≡ true) × Uses old new t (flagged (seats_of old) seat false)
 
 -- an immediate take
-abbrev pub PollStep : {T : Type 0} → (T → ℕ) → Order → Queue T → Polled T → Queue T → Type 0
-PollStep mark order old (PollMeets t u item) new = GetsFrom mark order old t u item new
-PollStep mark order old (TakerFails t) new = (partner order old.line Taker ≡ None) × Uses old new t (seats_of old)
+abbrev pub PollStep : {T : Type 0} → (T → ℕ) → End → Queue T → Polled T → Queue T → Type 0
+PollStep mark end old (PollMeets t u item) new = GetsFrom mark end old t u item new
+PollStep mark end old (TakerFails t) new = (partner end old.line Taker ≡ None) × Uses old new t (seats_of old)
 
 -- the follow-up of a seat's open ticket
 abbrev pub FollowStep : {T : Type 0} → Queue T → (seat ticket : ℕ) → Followed T → Queue T → Type 0

@@ -1,7 +1,7 @@
 //! The line of a fair place: who came first is met first.
 
 ghost use Rattle.std.specs.Prelude.{◌≡◌, ◌≢◌, ◌+◌, ◌<◌, [], ◌∷◌, ◌++◌, All};
-ghost use Rattle.meet_tickets.specs.declared.places.Order.TheVariants.{Fair};
+ghost use Rattle.meet_tickets.specs.declared.places.End.TheVariants.{Front};
 
 use crate::line::Line;
 use meet_tickets::{Entry, Refusal, Ticket};
@@ -33,7 +33,7 @@ impl<T> Line<T> for FairLine<T> {
 
     ghost spare = { λ line. line.room };
 
-    ghost order = { Fair };
+    ghost end = { Front };
 
     fn empty(alloc: Global) -> Self {
         FairLine {

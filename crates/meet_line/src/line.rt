@@ -5,7 +5,7 @@ ghost use Rattle.std.specs.Slice.{IsItemAt};
 ghost use Rattle.meet_tickets.specs.Meeting.{met};
 ghost use Rattle.meet_tickets.specs.BySeat.{unmet, without_first};
 ghost use Rattle.meet_tickets.specs.declared.lines.Entry.{Entry};
-ghost use Rattle.meet_tickets.specs.declared.places.Order.{Order};
+ghost use Rattle.meet_tickets.specs.declared.places.End.{End};
 ghost use Rattle.meet_tickets.specs.declared.refusals.Refusal.TheVariants.{Memory};
 
 use meet_tickets::{Entry, Refusal, Ticket};
@@ -19,8 +19,8 @@ pub trait Line<T> {
     /// How many entries more may come without growth.
     ghost spare: { Self → ℕ };
 
-    /// Which entry is met.
-    ghost order: { Order };
+    /// The end at which an entry is met.
+    ghost end: { End };
 
     /// A line with nobody in it, and no room.
     fn empty(alloc: Global) -> Self
@@ -45,8 +45,8 @@ pub trait Line<T> {
 
     /// The entry that is met leaves the line, if anybody is there.
     fn meet(&mut self) -> Option<Entry<T>>
-        ensures entry { result ≡ met order (entries self.old) }
-        ensures entries { entries self.new ≡ unmet order (entries self.old) }
+        ensures entry { result ≡ met end (entries self.old) }
+        ensures entries { entries self.new ≡ unmet end (entries self.old) }
         ensures room { spare self.new ≡ spare self.old + length (option_to_list result) };
 
     /// The entry of this ticket leaves the line, if it is there; the others keep their order.

@@ -12,8 +12,8 @@ use meet_tickets::{Entry, Hold, Marked, Side, Ticket};
 
 /// Takes the partner of a request of this side out of the line.
 pub(crate) fn meet<T, L: Line<T>>(line: &mut L, side: Side) -> Option<Entry<T>>
-    ensures partner { result ≡ partner L.order (L.entries line.old) side }
-    ensures rest { L.entries line.new ≡ (if is_some result then unmet L.order (L.entries line.old) else L.entries line.old) }
+    ensures partner { result ≡ partner L.end (L.entries line.old) side }
+    ensures rest { L.entries line.new ≡ (if is_some result then unmet L.end (L.entries line.old) else L.entries line.old) }
     ensures room { L.spare line.new ≡ L.spare line.old + length (option_to_list result) }
 {
     let own = match line.first() {

@@ -1,7 +1,7 @@
 //! The line of an unfair place: who came last is met first.
 
 ghost use Rattle.std.specs.Prelude.{◌≡◌, ◌≢◌, ◌+◌, ◌<◌, [], ◌∷◌, ◌++◌, All};
-ghost use Rattle.meet_tickets.specs.declared.places.Order.TheVariants.{Unfair};
+ghost use Rattle.meet_tickets.specs.declared.places.End.TheVariants.{Back};
 
 use crate::line::Line;
 use meet_tickets::{Entry, Refusal, Ticket};
@@ -32,7 +32,7 @@ impl<T> Line<T> for StackLine<T> {
 
     ghost spare = { λ line. line.room };
 
-    ghost order = { Unfair };
+    ghost end = { Back };
 
     fn empty(alloc: Global) -> Self {
         StackLine {

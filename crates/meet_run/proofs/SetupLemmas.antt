@@ -102,9 +102,7 @@ limits-of most default (Some n) h low high = h
 
 pub bound-of : (order : Order) (bound : Option ℕ) → may_have order bound ≡ true → IsWithin 1048576 bound → FitsBound order bound
 bound-of order None may h = tt
-bound-of Fair (Some n) may h = absurd cc
-bound-of Unfair (Some n) may h = absurd cc
-bound-of Transfer (Some n) may h = h
+bound-of order (Some n) may h = (may, h.0, h.1)
 
 in_limits : (order : Order) (options : Options) → AreWithin options → may_have order options.bound ≡ true → IsInLimits (setup_with order options)
 in_limits order options h may =
@@ -231,9 +229,7 @@ within-of most default (Some n) low high = (low, high)
 
 pub may-of : (order : Order) (bound : Option ℕ) → FitsBound order bound → (may_have order bound ≡ true) × IsWithin 1048576 bound
 may-of order None h = (refl, tt)
-may-of Fair (Some n) h = absurd h
-may-of Unfair (Some n) h = absurd h
-may-of Transfer (Some n) h = (refl, h)
+may-of order (Some n) h = (h.0, (h.1, h.2))
 
 within : (order : Order) (o : Options) → IsInLimits (setup_with order o) → AreWithin o
 within order o h = record {

@@ -1,9 +1,10 @@
 -- What the lines of a script say.
-use Rattle.std.specs.Prelude.{ℕ, nat_lt, nat_le, Bool, true, false, ◌&&◌, Option, Some, None, option_and_then, unwrap_or, List, [], ◌∷◌, length, codes, if◌then◌else◌}
+use Rattle.std.specs.Prelude.{ℕ, nat_lt, nat_le, Bool, true, ◌&&◌, Option, Some, None, option_and_then, unwrap_or, List, [], ◌∷◌, length, codes, if◌then◌else◌}
 use Rattle.std.specs.Option.{option_map_or}
 use Rattle.std.specs.Str.{bytes_eq}
 use Rattle.meet_tickets.specs.declared.places.Order.{Order}
 use Rattle.meet_tickets.specs.declared.places.Order.TheVariants.{Fair, Unfair, Transfer}
+use Rattle.meet_tickets.specs.Meeting.{keeps}
 use Rattle.meet_history.specs.declared.calls.Call.{Call}
 use Rattle.meet_history.specs.declared.calls.Verb.{Verb}
 use Rattle.meet_history.specs.declared.calls.Verb.TheVariants.{Put, Offer, Take, Poll, Transfer as TransferItem, Try, Follow, Cancel, Expire, Interrupt, Drain, Size, Room, Peek, Consumers}
@@ -108,12 +109,10 @@ written_in rest = do
   bound ← option_in (codes " bound ") 1048576 first.1
   Some (record { seats = seats.0; cap = cap.0; first = first.0; bound = bound.0 }, bound.1)
 
--- only a transfer queue has a bound
+-- only a place that keeps items has a bound
 abbrev pub may_have : Order → (bound : Option ℕ) → Bool
 may_have order None = true
-may_have Fair (Some n) = false
-may_have Unfair (Some n) = false
-may_have Transfer (Some n) = true
+may_have order (Some n) = keeps order
 
 -- the place of an order, with the defaults of what isn't spelled out
 abbrev pub setup_with : Order → Options → Setup

@@ -100,7 +100,7 @@ fn read_options(rest: &[u8]) -> Option<(Options, &[u8])>
 pub(crate) fn may_have_bound(order: Order, bound: Option<u64>) -> bool
     ensures { result ≡ may_have order bound }
 {
-    bound.is_none() || matches!(order, Order::Transfer)
+    bound.is_none() || order.keeps()
 }
 
 /// The place, where nothing is left of the line, and it may have that bound.

@@ -16,12 +16,7 @@ pub const LONGEST_LINE: usize = 128;
 pub fn is_served(order: Order, verb: Verb) -> bool
     ensures { result ≡ serves order verb }
 {
-    match order {
-        Order::Fair | Order::Unfair => {
-            !matches!(verb, Verb::Transfer(_) | Verb::Try(_) | Verb::Consumers)
-        }
-        Order::Transfer => true,
-    }
+    order.keeps() || !matches!(verb, Verb::Transfer(_) | Verb::Try(_) | Verb::Consumers)
 }
 
 /// The verb of a word that stands alone.

@@ -6,8 +6,8 @@ use Rattle.std.proofs.lemmas.List.Sums.{sum_by-cons}
 use Rattle.std.proofs.lemmas.List.Elements.{All-head, All-tail}
 use Rattle.meet_tickets.specs.declared.lines.Entry.{Entry}
 use Rattle.meet_tickets.specs.declared.places.Side.TheVariants.{Giver, Taker}
-use Rattle.meet_tickets.specs.declared.places.Order.{Order}
-use Rattle.meet_tickets.specs.declared.places.Order.TheVariants.{Fair, Unfair, Transfer}
+use Rattle.meet_tickets.specs.declared.places.End.{End}
+use Rattle.meet_tickets.specs.declared.places.End.TheVariants.{Front, Back}
 use Rattle.meet_tickets.specs.Meeting.{is_on, met, partner, count_on}
 use Rattle.meet_tickets.specs.BySeat.{unmet}
 use Rattle.meet_tickets.proofs.Sides.{HasOneSide, All-unmet, first-side, met-some}
@@ -49,35 +49,34 @@ sides-counted {X} (e ∷ line) =
     by_item (Some x) = refl
 
 -- one leaves
-length-unmet : {X : Type 0} (order : Order) (e : Entry X) (line : List (Entry X)) → length (unmet order (e ∷ line)) + 1 ≡ length (e ∷ line)
-length-unmet Fair e line = omega arith
-length-unmet Unfair e line = omega (arith, length-take (length (e ∷ line) - 1) (e ∷ line))
-length-unmet Transfer e line = omega arith
+length-unmet : {X : Type 0} (end : End) (e : Entry X) (line : List (Entry X)) → length (unmet end (e ∷ line)) + 1 ≡ length (e ∷ line)
+length-unmet Front e line = omega arith
+length-unmet Back e line = omega (arith, length-take (length (e ∷ line) - 1) (e ∷ line))
 
 -- a line with a giver has a partner for a taker, who leaves one giver less
-pub record HasGiver {X : Type 0} (order : Order) (line : List (Entry X)) : Type 0 where
+pub record HasGiver {X : Type 0} (end : End) (line : List (Entry X)) : Type 0 where
   pub giver : Entry X
-  pub met : partner order line Taker ≡ Some giver
-  pub fewer : count_on Giver (unmet order line) + 1 ≡ count_on Giver line
+  pub met : partner end line Taker ≡ Some giver
+  pub fewer : count_on Giver (unmet end line) + 1 ≡ count_on Giver line
 
 -- in a line that isn't empty one is met
-met-there : {X : Type 0} (order : Order) (e : Entry X) (line : List (Entry X)) (o : Option (Entry X)) → met order (e ∷ line) ≡ o → (giver : Entry X) × (o ≡ Some giver)
-met-there order e line None is = absurd (met-some order e line is)
-met-there order e line (Some giver) is = (giver, refl)
+met-there : {X : Type 0} (end : End) (e : Entry X) (line : List (Entry X)) (o : Option (Entry X)) → met end (e ∷ line) ≡ o → (giver : Entry X) × (o ≡ Some giver)
+met-there end e line None is = absurd (met-some end e line is)
+met-there end e line (Some giver) is = (giver, refl)
 
-pub giver-there : {X : Type 0} (order : Order) (line : List (Entry X)) → HasOneSide line → 0 < count_on Giver line → HasGiver order line
-giver-there order [] one some = absurd (omega arith)
-giver-there {X} order (e ∷ line) one some = by_side (is_some e.item) refl
+pub giver-there : {X : Type 0} (end : End) (line : List (Entry X)) → HasOneSide line → 0 < count_on Giver line → HasGiver end line
+giver-there end [] one some = absurd (omega arith)
+giver-there {X} end (e ∷ line) one some = by_side (is_some e.item) refl
   where
-    by_side : (own : Bool) → is_some e.item ≡ own → HasGiver order (e ∷ line)
+    by_side : (own : Bool) → is_some e.item ≡ own → HasGiver end (e ∷ line)
     by_side false is = absurd (let none : count_on Giver (e ∷ line) ≡ 0 = count-same false (e ∷ line) (all_of false e line one is) in omega arith)
     by_side true is =
-        let found = met-there order e line (met order (e ∷ line)) refl in
-        let left : count_on Giver (unmet order (e ∷ line)) ≡ length (unmet order (e ∷ line)) = count-same true (unmet order (e ∷ line)) (All-unmet (λ f. true ≡ is_some f.item) order (e ∷ line) (all_of true e line one is)) in
+        let found = met-there end e line (met end (e ∷ line)) refl in
+        let left : count_on Giver (unmet end (e ∷ line)) ≡ length (unmet end (e ∷ line)) = count-same true (unmet end (e ∷ line)) (All-unmet (λ f. true ≡ is_some f.item) end (e ∷ line) (all_of true e line one is)) in
         let before : count_on Giver (e ∷ line) ≡ length (e ∷ line) = count-same true (e ∷ line) (all_of true e line one is) in
-        let less : length (unmet order (e ∷ line)) + 1 ≡ length (e ∷ line) = length-unmet order e line in
+        let less : length (unmet end (e ∷ line)) + 1 ≡ length (e ∷ line) = length-unmet end e line in
         record {
           giver = found.0;
-          met = ap (λ b. cond (not b) None (met order (e ∷ line))) is ∙ found.1;
+          met = ap (λ b. cond (not b) None (met end (e ∷ line))) is ∙ found.1;
           fewer = omega (arith, left, before, less);
         }

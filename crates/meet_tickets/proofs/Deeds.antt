@@ -9,7 +9,7 @@ use Rattle.meet_tickets.specs.declared.lines.Hold.TheVariants.{Free, Waiting, Ha
 use Rattle.meet_tickets.specs.declared.places.Side.{Side}
 use Rattle.meet_tickets.specs.declared.places.Side.TheVariants.{Giver, Taker}
 use Rattle.meet_tickets.specs.declared.places.Kind.{Kind}
-use Rattle.meet_tickets.specs.Meeting.{partner, Finds}
+use Rattle.meet_tickets.specs.Meeting.{end_of, partner, Finds}
 use Rattle.meet_tickets.specs.ByLists.{State, Pair, IsOpen, IsInLine, IsNew, without, minus, join, wait, meet, closed}
 use Rattle.meet_tickets.specs.BySeat.{Seats, Moment, queued, meets, paired, paired_hold, released, left, cut_off, interrupted, flagged, cut_ticket, entry_of}
 use Rattle.meet_tickets.specs.Agreement.{IsOnly, Holds, Agrees}
@@ -99,13 +99,13 @@ module _ {s : State} (told : Told s) where
       record { last = refl; line = refl; holds = each_join s e told.held told.holds; flags = told.flags }
 
   -- a request meets an entry, if the pair is what the entry's seat holds then
-  meets_agree : (k : Kind) (side : Side) (t : ℕ) (item : Option ℕ) (e : Entry ℕ) (pair : Pair) → partner k.order s.line side ≡ Some e →
+  meets_agree : (k : Kind) (side : Side) (t : ℕ) (item : Option ℕ) (e : Entry ℕ) (pair : Pair) → partner (end_of k.order) s.line side ≡ Some e →
       (IsOnly (meet s t e.ticket pair) e.seat e.ticket → Holds (meet s t e.ticket pair) e.seat (paired_hold (λ mark. mark) e.ticket e.item t item)) →
       Agrees (meet s t e.ticket pair) (moment_at t (meets k (seats_of told) t item side))
   meets_agree k side t item e pair met here = subst (λ seats. Agrees (meet s t e.ticket pair) (moment_at t seats)) (sym one) same
     where
       pairs : Entry ℕ → Seats ℕ
-      pairs x = paired (λ mark. mark) k.order (seats_of told) t item x
+      pairs x = paired (λ mark. mark) (end_of k.order) (seats_of told) t item x
 
       one : meets k (seats_of told) t item side ≡ pairs e
       one = ap (λ o. option_map_or pairs o (seats_of told)) met
@@ -113,9 +113,9 @@ module _ {s : State} (told : Told s) where
       same : Agrees (meet s t e.ticket pair) (moment_at t (pairs e))
       same = record {
         last = refl;
-        line = sym (partner_leaves k.order s.line side e told.reached.distinct met);
+        line = sym (partner_leaves (end_of k.order) s.line side e told.reached.distinct met);
         holds = each_meet s told.reached t e pair told.held (paired_hold (λ mark. mark) e.ticket e.item t item)
-            (Contains-partner k.order s.line side e met) told.holds here;
+            (Contains-partner (end_of k.order) s.line side e met) told.holds here;
         flags = told.flags;
       }
 
@@ -160,7 +160,7 @@ module _ {s : State} (told : Told s) where
 
   -- the partner's ticket is in the line
   pub partner_in_line : (k : Kind) (side : Side) (u : ℕ) (item : Option ℕ) → Finds k s.line side u item → told.reached.place u ≡ InLine
-  partner_in_line k side u item f = place_in_line s told.reached u (f.0, Contains-partner k.order s.line side f.0 f.1, f.2)
+  partner_in_line k side u item f = place_in_line s told.reached u (f.0, Contains-partner (end_of k.order) s.line side f.0 f.1, f.2)
 
   -- a ticket that is elsewhere is in no part of the line
   less_elsewhere : (t : ℕ) → told.reached.place t ≢ InLine → IsLess t s.line s.line

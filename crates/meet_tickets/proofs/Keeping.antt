@@ -4,8 +4,8 @@ use Rattle.std.specs.Prelude.{All}
 use Rattle.std.proofs.lemmas.List.Sums.{sum_by-cons, sum_by_push}
 use Rattle.std.proofs.lemmas.List.Elements.{All-nil, All-cons}
 use Rattle.meet_tickets.specs.declared.lines.Entry.{Entry}
-use Rattle.meet_tickets.specs.declared.places.Order.{Order}
-use Rattle.meet_tickets.specs.declared.places.Order.TheVariants.{Fair, Unfair, Transfer}
+use Rattle.meet_tickets.specs.declared.places.End.{End}
+use Rattle.meet_tickets.specs.declared.places.End.TheVariants.{Front, Back}
 use Rattle.meet_tickets.specs.declared.places.Side.{Side}
 use Rattle.meet_tickets.specs.Meeting.{met, partner, waiting_count, kept_count}
 use Rattle.meet_tickets.specs.BySeat.{unmet, without_first}
@@ -49,11 +49,10 @@ kept-last (suc n) (x ∷ line) e is long =
     omega (arith, rest, kept-cons x line, kept-cons x (take n line))
 
 -- the one that is met leaves
-pub kept-met : {X : Type 0} (order : Order) (line : List (Entry X)) (e : Entry X) → met order line ≡ Some e → kept_count (unmet order line) + kept_one e ≡ kept_count line
-kept-met Fair line e is = kept-first line e is
-kept-met Transfer line e is = kept-first line e is
-kept-met Unfair [] e is = cc
-kept-met Unfair (x ∷ line) e is =
+pub kept-met : {X : Type 0} (end : End) (line : List (Entry X)) (e : Entry X) → met end line ≡ Some e → kept_count (unmet end line) + kept_one e ≡ kept_count line
+kept-met Front line e is = kept-first line e is
+kept-met Back [] e is = cc
+kept-met Back (x ∷ line) e is =
     let before : length (x ∷ line) - 1 ≡ length line = omega arith in
     ap (λ n. kept_count (take n (x ∷ line)) + kept_one e) before ∙ kept-last (length line) (x ∷ line) e (ap (λ n. slice_get (x ∷ line) n) (sym before) ∙ is) refl
 
@@ -75,17 +74,17 @@ kept-found {X} t (x ∷ line) e is = by_test (x.ticket == t) (kept-found t line 
 one-waits : {X : Type 0} (e : Entry X) (rest whole : ℕ) → rest + kept_one e ≡ whole → e.waits ≡ true → rest ≡ whole
 one-waits e rest whole sum waits = let none : kept_one e ≡ 0 = ap (λ b. cond (not b) 1 0) waits in omega (arith, sum, none)
 
-pub kept-partner_waits : {X : Type 0} (order : Order) (line : List (Entry X)) (side : Side) (e : Entry X) → partner order line side ≡ Some e → e.waits ≡ true → kept_count (unmet order line) ≡ kept_count line
-kept-partner_waits order line side e found waits = one-waits e (kept_count (unmet order line)) (kept_count line) (kept-met order line e (partner-met order line side e found)) waits
+pub kept-partner_waits : {X : Type 0} (end : End) (line : List (Entry X)) (side : Side) (e : Entry X) → partner end line side ≡ Some e → e.waits ≡ true → kept_count (unmet end line) ≡ kept_count line
+kept-partner_waits end line side e found waits = one-waits e (kept_count (unmet end line)) (kept_count line) (kept-met end line e (partner-met end line side e found)) waits
 
 pub kept-found_waits : {X : Type 0} (t : ℕ) (line : List (Entry X)) (e : Entry X) → find (λ f. f.ticket == t) line ≡ Some e → e.waits ≡ true → kept_count (without_first (λ f. f.ticket == t) line) ≡ kept_count line
 kept-found_waits t line e found waits = one-waits e (kept_count (without_first (λ f. f.ticket == t) line)) (kept_count line) (kept-found t line e found) waits
 
 -- a kept one counts
-pub kept-partner_kept : {X : Type 0} (order : Order) (line : List (Entry X)) (side : Side) (e : Entry X) → partner order line side ≡ Some e → e.waits ≡ false → kept_count (unmet order line) + 1 ≡ kept_count line
-kept-partner_kept order line side e found kept =
+pub kept-partner_kept : {X : Type 0} (end : End) (line : List (Entry X)) (side : Side) (e : Entry X) → partner end line side ≡ Some e → e.waits ≡ false → kept_count (unmet end line) + 1 ≡ kept_count line
+kept-partner_kept end line side e found kept =
     let one : kept_one e ≡ 1 = ap (λ b. cond (not b) 1 0) kept in
-    omega (arith, kept-met order line e (partner-met order line side e found), one)
+    omega (arith, kept-met end line e (partner-met end line side e found), one)
 
 -- each entry waits or is kept
 pub all-counted : {X : Type 0} (line : List (Entry X)) → waiting_count line + kept_count line ≡ length line
@@ -111,8 +110,8 @@ all-wait (e ∷ line) none =
     let sum : kept_count (e ∷ line) ≡ kept_one e + kept_count line = kept-cons e line in
     All-cons (λ f. f.waits ≡ true) e line (waits-one e.waits (kept_count line) (sym sum ∙ none)) (all-wait line (omega (arith, sum, none)))
 
-pub partner-waits : {X : Type 0} (order : Order) (line : List (Entry X)) (side : Side) (e : Entry X) → kept_count line ≡ 0 → partner order line side ≡ Some e → e.waits ≡ true
-partner-waits order line side e none found = partner-there (λ f. f.waits ≡ true) order line side e (all-wait line none) found
+pub partner-waits : {X : Type 0} (end : End) (line : List (Entry X)) (side : Side) (e : Entry X) → kept_count line ≡ 0 → partner end line side ≡ Some e → e.waits ≡ true
+partner-waits end line side e none found = partner-there (λ f. f.waits ≡ true) end line side e (all-wait line none) found
 
 -- the same of a line that is told by an equation
 pub kept-joined : {X : Type 0} (line line' : List (Entry X)) (e : Entry X) → line' ≡ line ++ e ∷ [] → e.waits ≡ true → kept_count line' ≡ kept_count line
@@ -121,11 +120,11 @@ kept-joined line line' e is waits = ap kept_count is ∙ kept-queued line e wait
 pub kept-more : {X : Type 0} (line line' : List (Entry X)) (e : Entry X) → line' ≡ line ++ e ∷ [] → e.waits ≡ false → kept_count line' ≡ kept_count line + 1
 kept-more line line' e is kept = ap kept_count is ∙ kept-kept line e kept
 
-pub kept-paired : {X : Type 0} (order : Order) (line line' : List (Entry X)) (side : Side) (e : Entry X) → partner order line side ≡ Some e → line' ≡ unmet order line → e.waits ≡ true → kept_count line' ≡ kept_count line
-kept-paired order line line' side e found is waits = ap kept_count is ∙ kept-partner_waits order line side e found waits
+pub kept-paired : {X : Type 0} (end : End) (line line' : List (Entry X)) (side : Side) (e : Entry X) → partner end line side ≡ Some e → line' ≡ unmet end line → e.waits ≡ true → kept_count line' ≡ kept_count line
+kept-paired end line line' side e found is waits = ap kept_count is ∙ kept-partner_waits end line side e found waits
 
-pub kept-fetched : {X : Type 0} (order : Order) (line line' : List (Entry X)) (side : Side) (e : Entry X) → partner order line side ≡ Some e → line' ≡ unmet order line → e.waits ≡ false → kept_count line' + 1 ≡ kept_count line
-kept-fetched order line line' side e found is kept = ap (λ l. kept_count l + 1) is ∙ kept-partner_kept order line side e found kept
+pub kept-fetched : {X : Type 0} (end : End) (line line' : List (Entry X)) (side : Side) (e : Entry X) → partner end line side ≡ Some e → line' ≡ unmet end line → e.waits ≡ false → kept_count line' + 1 ≡ kept_count line
+kept-fetched end line line' side e found is kept = ap (λ l. kept_count l + 1) is ∙ kept-partner_kept end line side e found kept
 
 pub kept-removed : {X : Type 0} (t : ℕ) (line line' : List (Entry X)) (e : Entry X) → find (λ f. f.ticket == t) line ≡ Some e → line' ≡ without_first (λ f. f.ticket == t) line → e.waits ≡ true → kept_count line' ≡ kept_count line
 kept-removed t line line' e found is waits = ap kept_count is ∙ kept-found_waits t line e found waits

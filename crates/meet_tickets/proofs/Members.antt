@@ -5,8 +5,8 @@ use Rattle.std.proofs.lemmas.List.Elements.{Contains-push_cases, All-filter, All
 use Rattle.std.proofs.lemmas.Option.{slice_get_within, get_or_from_slice_get}
 use Rattle.meet_tickets.specs.declared.lines.Entry.{Entry}
 use Rattle.meet_tickets.specs.declared.places.Side.{Side}
-use Rattle.meet_tickets.specs.declared.places.Order.{Order}
-use Rattle.meet_tickets.specs.declared.places.Order.TheVariants.{Fair, Unfair, Transfer}
+use Rattle.meet_tickets.specs.declared.places.End.{End}
+use Rattle.meet_tickets.specs.declared.places.End.TheVariants.{Front, Back}
 use Rattle.meet_tickets.specs.Meeting.{partner, met}
 use Rattle.meet_tickets.specs.ByLists.{without}
 use Rattle.meet_tickets.specs.BySeat.{unmet, without_first}
@@ -116,26 +116,24 @@ without_last (suc n) (x ∷ line) e long d h =
     ∙ sym (without_tail e.ticket x line (λ s. d.0 e (Contains-slice_get line n e h) (sym s)))
 
 -- the line without the entry that is met
-met_leaves : (order : Order) (line : List (Entry ℕ)) (e : Entry ℕ) → IsDistinct line → met order line ≡ Some e →
-    unmet order line ≡ without e.ticket line
-met_leaves Fair [] e d h = absurd (cc)
-met_leaves Fair (x ∷ line) e d h = without_head_same x line e d.0 h
-met_leaves Transfer [] e d h = absurd (cc)
-met_leaves Transfer (x ∷ line) e d h = without_head_same x line e d.0 h
-met_leaves Unfair [] e d h = absurd (cc)
-met_leaves Unfair (x ∷ line) e d h =
+met_leaves : (end : End) (line : List (Entry ℕ)) (e : Entry ℕ) → IsDistinct line → met end line ≡ Some e →
+    unmet end line ≡ without e.ticket line
+met_leaves Front [] e d h = absurd (cc)
+met_leaves Front (x ∷ line) e d h = without_head_same x line e d.0 h
+met_leaves Back [] e d h = absurd (cc)
+met_leaves Back (x ∷ line) e d h =
     let front : suc (length line) - 1 ≡ length line = omega arith in
     rw front (without_last (length line) (x ∷ line) e refl d (rw front at h))
 
 -- the partner stands in the line
-pub Contains-partner : (order : Order) (line : List (Entry ℕ)) (side : Side) (e : Entry ℕ) → partner order line side ≡ Some e →
+pub Contains-partner : (end : End) (line : List (Entry ℕ)) (side : Side) (e : Entry ℕ) → partner end line side ≡ Some e →
     Contains line e
-Contains-partner order line side e h = partner-there (Contains line) order line side e (All-contains_itself line) h
+Contains-partner end line side e h = partner-there (Contains line) end line side e (All-contains_itself line) h
 
 -- the line without the partner, by its place and by its ticket
-pub partner_leaves : (order : Order) (line : List (Entry ℕ)) (side : Side) (e : Entry ℕ) → IsDistinct line →
-    partner order line side ≡ Some e → unmet order line ≡ without e.ticket line
-partner_leaves order line side e d h = met_leaves order line e d (partner-met order line side e h)
+pub partner_leaves : (end : End) (line : List (Entry ℕ)) (side : Side) (e : Entry ℕ) → IsDistinct line →
+    partner end line side ≡ Some e → unmet end line ≡ without e.ticket line
+partner_leaves end line side e d h = met_leaves end line e d (partner-met end line side e h)
 
 -- the first entry of this ticket
 abbrev pub IsFirst : ℕ → List (Entry ℕ) → Entry ℕ → Type 0

@@ -13,7 +13,7 @@ use Rattle.meet_tickets.specs.declared.places.Kind.{Kind}
 use Rattle.meet_tickets.specs.declared.records.Cause.TheVariants.{Cancelled, Expired, Interrupted}
 use Rattle.meet_tickets.specs.declared.records.Deed.{Deed}
 use Rattle.meet_tickets.specs.declared.records.Deed.TheVariants.{GiveWaits, GiveMeets, GiveFails, GiveKept, TakeWaits, TakeMeets, TakeFails, EntryInterrupted, Done, Got, Withdrawn, Interrupt}
-use Rattle.meet_tickets.specs.Meeting.{is_on, Alone, MayKeep, kept_count}
+use Rattle.meet_tickets.specs.Meeting.{end_of, is_on, Alone, MayKeep, kept_count}
 use Rattle.meet_tickets.specs.ByLists.{State, Pair, Open, IsOpen, IsStep, without, after}
 use Rattle.meet_tickets.specs.Bases.{MayStand}
 use Rattle.meet_tickets.proofs.Members.{Contains-cases, Contains-unfiltered}
@@ -61,7 +61,7 @@ line-filter k p line l = record {
 line-push : (k : Kind) (side : Side) (line : List (Entry ℕ)) (e : Entry ℕ) → IsLine k line → Alone k line side → is_on side e ≡ true →
     ((f : Entry ℕ) → Contains line f → f.ticket < e.ticket) → MayStand k e → MatchOption k.bound ⊤ (λ most. kept_count (line ++ e ∷ []) ≤ most) → IsLine k (line ++ e ∷ [])
 line-push k side line e l alone on above may few = record {
-  one_side = HasOneSide-added k.order line side e l.one_side alone on;
+  one_side = HasOneSide-added (end_of k.order) line side e l.one_side alone on;
   rises = all_pairs_push (λ f g. f.ticket < g.ticket) line e l.rises (All-weaker (Contains line) (λ f. f.ticket < e.ticket) above line (All-contains_itself line));
   kept = All-push (MayStand k) line e l.kept may;
   few = few;

@@ -17,7 +17,7 @@ use Rattle.meet_tickets.specs.declared.records.Cause.{Cause}
 use Rattle.meet_tickets.specs.declared.records.Cause.TheVariants.{Cancelled, Expired, Interrupted}
 use Rattle.meet_tickets.specs.declared.records.Deed.{Deed}
 use Rattle.meet_tickets.specs.declared.records.Deed.TheVariants.{GiveWaits, GiveMeets, GiveFails, GiveKept, TakeWaits, TakeMeets, TakeFails, EntryInterrupted, Done, Got, Withdrawn, Interrupt}
-use Rattle.meet_tickets.specs.Meeting.{Finds}
+use Rattle.meet_tickets.specs.Meeting.{end_of, Finds}
 use Rattle.meet_tickets.specs.ByLists.{State, IsOpen, IsInLine, IsStep, without, after}
 use Rattle.meet_tickets.specs.BySeat.{put_at, open_ticket, is_request, paired, paired_hold, meets, interrupted, cut_off, flagged, moment_after}
 use Rattle.meet_tickets.specs.Agreement.{Holds}
@@ -171,7 +171,7 @@ module _ {s : State} (told : Told s) (k : Kind) (history : List (Record Deed)) (
       e = found.0
 
       there : Contains s.line e
-      there = Contains-partner k.order s.line side e found.1
+      there = Contains-partner (end_of k.order) s.line side e found.1
 
       is : IsLined e.waits (said history u)
       is = subst (λ y. IsLined e.waits (said history y)) found.2 (fated.lined e there)
@@ -181,7 +181,7 @@ module _ {s : State} (told : Told s) (k : Kind) (history : List (Record Deed)) (
 
       held_then : (meets k (seats_of told) t own side).holds ≡ (if e.waits then put_at told.held e.seat x else told.held)
       held_then =
-          ap (λ o. (option_map_or (paired (λ mark. mark) k.order (seats_of told) t own) o (seats_of told)).holds) found.1
+          ap (λ o. (option_map_or (paired (λ mark. mark) (end_of k.order) (seats_of told) t own) o (seats_of told)).holds) found.1
           ∙ ap (λ y. if e.waits then put_at told.held e.seat y else told.held) holds
 
       unnamed : (y : ℕ) → y ≢ u → meets_it y (recorded i t d) ≡ false

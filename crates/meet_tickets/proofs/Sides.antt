@@ -8,8 +8,8 @@ use Rattle.std.proofs.lemmas.Option.{slice_get-get_or, slice_get_within, get_or_
 use Rattle.meet_tickets.specs.declared.lines.Entry.{Entry}
 use Rattle.meet_tickets.specs.declared.places.Side.{Side}
 use Rattle.meet_tickets.specs.declared.places.Side.TheVariants.{Giver, Taker}
-use Rattle.meet_tickets.specs.declared.places.Order.{Order}
-use Rattle.meet_tickets.specs.declared.places.Order.TheVariants.{Fair, Unfair, Transfer}
+use Rattle.meet_tickets.specs.declared.places.End.{End}
+use Rattle.meet_tickets.specs.declared.places.End.TheVariants.{Front, Back}
 use Rattle.meet_tickets.specs.Meeting.{is_on, met, partner}
 use Rattle.meet_tickets.specs.BySeat.{unmet, without_first}
 
@@ -39,10 +39,9 @@ AllPairs-take R (suc n) (x ∷ xs) pairs =
     AllPairs-cons R x (take n xs) (All-take (R x) n xs (AllPairs-head R x xs pairs)) (AllPairs-take R n xs (AllPairs-tail R x xs pairs))
 
 -- what holds of a line holds of what is left of it
-pub All-unmet : {X : Type 0} (P : Entry X → Type 0) (order : Order) (line : List (Entry X)) → All P line → All P (unmet order line)
-All-unmet P Fair line all = All-drop P 1 line all
-All-unmet P Unfair line all = All-take P (length line - 1) line all
-All-unmet P Transfer line all = All-drop P 1 line all
+pub All-unmet : {X : Type 0} (P : Entry X → Type 0) (end : End) (line : List (Entry X)) → All P line → All P (unmet end line)
+All-unmet P Front line all = All-drop P 1 line all
+All-unmet P Back line all = All-take P (length line - 1) line all
 
 pub All-without_first : {X : Type 0} (P : Entry X → Type 0) (t : ℕ) (line : List (Entry X)) → All P line → All P (without_first (λ f. f.ticket == t) line)
 All-without_first P t [] all = all
@@ -51,10 +50,9 @@ All-without_first P t (e ∷ line) all =
     (λ _. All-tail P e line all)
     (λ _. All-cons P e (without_first (λ f. f.ticket == t) line) (All-head P e line all) (All-without_first P t line (All-tail P e line all)))
 
-pub AllPairs-unmet : {X : Type 0} (R : Entry X → Entry X → Type 0) (order : Order) (line : List (Entry X)) → AllPairs R line → AllPairs R (unmet order line)
-AllPairs-unmet R Fair line pairs = AllPairs-drop R line pairs
-AllPairs-unmet R Unfair line pairs = AllPairs-take R (length line - 1) line pairs
-AllPairs-unmet R Transfer line pairs = AllPairs-drop R line pairs
+pub AllPairs-unmet : {X : Type 0} (R : Entry X → Entry X → Type 0) (end : End) (line : List (Entry X)) → AllPairs R line → AllPairs R (unmet end line)
+AllPairs-unmet R Front line pairs = AllPairs-drop R line pairs
+AllPairs-unmet R Back line pairs = AllPairs-take R (length line - 1) line pairs
 
 pub AllPairs-without_first : {X : Type 0} (R : Entry X → Entry X → Type 0) (t : ℕ) (line : List (Entry X)) → AllPairs R line → AllPairs R (without_first (λ f. f.ticket == t) line)
 AllPairs-without_first R t [] pairs = pairs
@@ -64,18 +62,16 @@ AllPairs-without_first R t (e ∷ line) pairs =
     (λ _. AllPairs-cons R e (without_first (λ f. f.ticket == t) line) (All-without_first (R e) t line (AllPairs-head R e line pairs)) (AllPairs-without_first R t line (AllPairs-tail R e line pairs)))
 
 -- the entry that is met stands in the line
-met-there : {X : Type 0} (P : Entry X → Type 0) (order : Order) (line : List (Entry X)) (e : Entry X) → All P line → met order line ≡ Some e → P e
-met-there P Fair line e all is = All-read P line 0 e all is
-met-there P Unfair line e all is = All-read P line (length line - 1) e all is
-met-there P Transfer line e all is = All-read P line 0 e all is
+met-there : {X : Type 0} (P : Entry X → Type 0) (end : End) (line : List (Entry X)) (e : Entry X) → All P line → met end line ≡ Some e → P e
+met-there P Front line e all is = All-read P line 0 e all is
+met-there P Back line e all is = All-read P line (length line - 1) e all is
 
 -- in a line that isn't empty one is met
-pub met-some : {X : Type 0} (order : Order) (x : Entry X) (line : List (Entry X)) → met order (x ∷ line) ≡ None → ⊥
-met-some Fair x line none = cc
-met-some Unfair x line none =
+pub met-some : {X : Type 0} (end : End) (x : Entry X) (line : List (Entry X)) → met end (x ∷ line) ≡ None → ⊥
+met-some Front x line none = cc
+met-some Back x line none =
     let last : slice_get (x ∷ line) (length (x ∷ line) - 1) ≡ Some (get_or (x ∷ line) (length (x ∷ line) - 1) x) = slice_get-get_or (x ∷ line) (length (x ∷ line) - 1) x (omega arith) in
     cc
-met-some Transfer x line none = cc
 
 -- one is met where the first is on the other side
 other_side : {A : Type 0} (own : Bool) (o : Option A) (e : A) → cond own None o ≡ Some e → (own ≡ false) × (o ≡ Some e)
@@ -88,13 +84,13 @@ own_side true o some none = refl
 own_side false o some none = absurd (some none)
 
 -- the partner is the entry that is met
-pub partner-met : {X : Type 0} (order : Order) (line : List (Entry X)) (side : Side) (e : Entry X) → partner order line side ≡ Some e → met order line ≡ Some e
-partner-met order [] side e found = cc
-partner-met order (x ∷ line) side e found = (other_side (is_on side x) (met order (x ∷ line)) e found).1
+pub partner-met : {X : Type 0} (end : End) (line : List (Entry X)) (side : Side) (e : Entry X) → partner end line side ≡ Some e → met end line ≡ Some e
+partner-met end [] side e found = cc
+partner-met end (x ∷ line) side e found = (other_side (is_on side x) (met end (x ∷ line)) e found).1
 
 -- the partner stands in the line: what holds of all holds of it
-pub partner-there : {X : Type 0} (P : Entry X → Type 0) (order : Order) (line : List (Entry X)) (side : Side) (e : Entry X) → All P line → partner order line side ≡ Some e → P e
-partner-there P order line side e all found = met-there P order line e all (partner-met order line side e found)
+pub partner-there : {X : Type 0} (P : Entry X → Type 0) (end : End) (line : List (Entry X)) (side : Side) (e : Entry X) → All P line → partner end line side ≡ Some e → P e
+partner-there P end line side e all found = met-there P end line e all (partner-met end line side e found)
 
 -- entries of one side are both on this side, or both not
 same_side : {X : Type 0} (side : Side) (e f : Entry X) → is_some e.item ≡ is_some f.item → is_on side e ≡ is_on side f
@@ -117,31 +113,31 @@ pub first-side : {X : Type 0} (x : Entry X) (line : List (Entry X)) → HasOneSi
 first-side x line one = All-cons (λ f. is_some x.item ≡ is_some f.item) x line refl (AllPairs-head (λ e f. is_some e.item ≡ is_some f.item) x line one)
 
 -- the partner stands on the other side
-pub partner-other : {X : Type 0} (order : Order) (line : List (Entry X)) (side : Side) (e : Entry X) → HasOneSide line → partner order line side ≡ Some e → is_on side e ≡ false
-partner-other order [] side e one found = cc
-partner-other order (x ∷ line) side e one found =
-    let met_is : (is_on side x ≡ false) × (met order (x ∷ line) ≡ Some e) = other_side (is_on side x) (met order (x ∷ line)) e found in
-    let same : is_some x.item ≡ is_some e.item = met-there (λ f. is_some x.item ≡ is_some f.item) order (x ∷ line) e (first-side x line one) met_is.1 in
+pub partner-other : {X : Type 0} (end : End) (line : List (Entry X)) (side : Side) (e : Entry X) → HasOneSide line → partner end line side ≡ Some e → is_on side e ≡ false
+partner-other end [] side e one found = cc
+partner-other end (x ∷ line) side e one found =
+    let met_is : (is_on side x ≡ false) × (met end (x ∷ line) ≡ Some e) = other_side (is_on side x) (met end (x ∷ line)) e found in
+    let same : is_some x.item ≡ is_some e.item = met-there (λ f. is_some x.item ≡ is_some f.item) end (x ∷ line) e (first-side x line one) met_is.1 in
     sym (same_side side x e same) ∙ met_is.0
 
 -- what is left of a line of one side has one side
-pub HasOneSide-unmet : {X : Type 0} (order : Order) (line : List (Entry X)) → HasOneSide line → HasOneSide (unmet order line)
-HasOneSide-unmet order line one = AllPairs-unmet (λ e f. is_some e.item ≡ is_some f.item) order line one
+pub HasOneSide-unmet : {X : Type 0} (end : End) (line : List (Entry X)) → HasOneSide line → HasOneSide (unmet end line)
+HasOneSide-unmet end line one = AllPairs-unmet (λ e f. is_some e.item ≡ is_some f.item) end line one
 
 pub HasOneSide-without_first : {X : Type 0} (t : ℕ) (line : List (Entry X)) → HasOneSide line → HasOneSide (without_first (λ f. f.ticket == t) line)
 HasOneSide-without_first t line one = AllPairs-without_first (λ e f. is_some e.item ≡ is_some f.item) t line one
 
 -- a request without a partner finds entries of its own side only
-pub alone-same : {X : Type 0} (order : Order) (line : List (Entry X)) (side : Side) (e : Entry X) → HasOneSide line → partner order line side ≡ None → is_on side e ≡ true → All (λ f. is_some f.item ≡ is_some e.item) line
-alone-same order [] side e one alone on = All-nil (λ f. is_some f.item ≡ is_some e.item)
-alone-same order (x ∷ line) side e one alone on =
-    let same : is_some x.item ≡ is_some e.item = same_item side x e (own_side (is_on side x) (met order (x ∷ line)) (met-some order x line) alone ∙ sym on) in
+pub alone-same : {X : Type 0} (end : End) (line : List (Entry X)) (side : Side) (e : Entry X) → HasOneSide line → partner end line side ≡ None → is_on side e ≡ true → All (λ f. is_some f.item ≡ is_some e.item) line
+alone-same end [] side e one alone on = All-nil (λ f. is_some f.item ≡ is_some e.item)
+alone-same end (x ∷ line) side e one alone on =
+    let same : is_some x.item ≡ is_some e.item = same_item side x e (own_side (is_on side x) (met end (x ∷ line)) (met-some end x line) alone ∙ sym on) in
     All-weaker (λ f. is_some x.item ≡ is_some f.item) (λ f. is_some f.item ≡ is_some e.item) (λ f first. sym first ∙ same) (x ∷ line) (first-side x line one)
 
 -- its entry at the line's end leaves the line of one side
-pub HasOneSide-added : {X : Type 0} (order : Order) (line : List (Entry X)) (side : Side) (e : Entry X) → HasOneSide line → partner order line side ≡ None → is_on side e ≡ true → HasOneSide (line ++ e ∷ [])
-HasOneSide-added order line side e one alone on =
-    all_pairs_push (λ f g. is_some f.item ≡ is_some g.item) line e one (alone-same order line side e one alone on)
+pub HasOneSide-added : {X : Type 0} (end : End) (line : List (Entry X)) (side : Side) (e : Entry X) → HasOneSide line → partner end line side ≡ None → is_on side e ≡ true → HasOneSide (line ++ e ∷ [])
+HasOneSide-added end line side e one alone on =
+    all_pairs_push (λ f g. is_some f.item ≡ is_some g.item) line e one (alone-same end line side e one alone on)
 
 -- the first of a line is related to the rest
 first-apart : {X : Type 0} (R : Entry X → Entry X → Type 0) (line : List (Entry X)) (e : Entry X) → AllPairs R line → slice_get line 0 ≡ Some e → All (λ f. R e f) (drop 1 line)
@@ -156,10 +152,9 @@ last-apart R (suc n) (x ∷ line) e pairs is turn =
     All-cons (λ f. R e f) x (take n line) (turn x e (All-read (R x) line n e (AllPairs-head R x line pairs) is)) (last-apart R n line e (AllPairs-tail R x line pairs) is turn)
 
 -- what is left is related to the one that was met
-pub met-apart : {X : Type 0} (R : Entry X → Entry X → Type 0) (order : Order) (line : List (Entry X)) (e : Entry X) → AllPairs R line → met order line ≡ Some e → ((x y : Entry X) → R x y → R y x) → All (λ f. R e f) (unmet order line)
-met-apart R Fair line e pairs is turn = first-apart R line e pairs is
-met-apart R Unfair line e pairs is turn = last-apart R (length line - 1) line e pairs is turn
-met-apart R Transfer line e pairs is turn = first-apart R line e pairs is
+pub met-apart : {X : Type 0} (R : Entry X → Entry X → Type 0) (end : End) (line : List (Entry X)) (e : Entry X) → AllPairs R line → met end line ≡ Some e → ((x y : Entry X) → R x y → R y x) → All (λ f. R e f) (unmet end line)
+met-apart R Front line e pairs is turn = first-apart R line e pairs is
+met-apart R Back line e pairs is turn = last-apart R (length line - 1) line e pairs is turn
 
 -- what is found by its ticket has it
 pub found-ticket : {X : Type 0} (t : ℕ) (line : List (Entry X)) (e : Entry X) → find (λ f. f.ticket == t) line ≡ Some e → e.ticket ≡ t

@@ -7,13 +7,12 @@ use Rattle.meet_tickets.specs.declared.lines.Hold.{Hold}
 use Rattle.meet_tickets.specs.declared.lines.Hold.TheVariants.{Free, Waiting, Handed, Served, Cut}
 use Rattle.meet_tickets.specs.declared.places.Side.{Side}
 use Rattle.meet_tickets.specs.declared.places.Side.TheVariants.{Giver, Taker}
-use Rattle.meet_tickets.specs.declared.places.Order.TheVariants.{Transfer}
 use Rattle.meet_tickets.specs.declared.places.Kind.{Kind}
 use Rattle.meet_tickets.specs.declared.records.Record.{Record}
 use Rattle.meet_tickets.specs.declared.records.Deed.{Deed}
 use Rattle.meet_tickets.specs.declared.bases.OpenPair.{OpenPair}
 use Rattle.meet_tickets.specs.declared.bases.OpenCut.{OpenCut}
-use Rattle.meet_tickets.specs.Meeting.{kept_count}
+use Rattle.meet_tickets.specs.Meeting.{keeps, kept_count}
 use Rattle.meet_tickets.specs.ByLists.{State, Pair, IsLegalFrom}
 use Rattle.meet_tickets.specs.BySeat.{Moment, moment_of}
 
@@ -85,9 +84,9 @@ moment_of_base b = record {
   };
 }
 
--- a kept entry is a giver's, in a transfer queue
+-- a kept entry is a giver's, in a place that keeps items
 abbrev pub MayStand : Kind → Entry ℕ → Type 0
-MayStand k e = e.waits ≡ false → (is_some e.item ≡ true) × (k.order ≡ Transfer)
+MayStand k e = e.waits ≡ false → (is_some e.item ≡ true) × (keeps k.order ≡ true)
 
 -- a base is well formed
 pub record IsWellFormed (k : Kind) (b : Based) : Type 0 where

@@ -8,14 +8,14 @@ use Rattle.meet_tickets.specs.declared.lines.Hold.{Hold}
 use Rattle.meet_tickets.specs.declared.lines.Hold.TheVariants.{Free, Waiting, Handed, Served, Cut}
 use Rattle.meet_tickets.specs.declared.places.Side.{Side}
 use Rattle.meet_tickets.specs.declared.places.Side.TheVariants.{Giver, Taker}
-use Rattle.meet_tickets.specs.declared.places.Order.{Order}
-use Rattle.meet_tickets.specs.declared.places.Order.TheVariants.{Fair, Unfair, Transfer}
+use Rattle.meet_tickets.specs.declared.places.End.{End}
+use Rattle.meet_tickets.specs.declared.places.End.TheVariants.{Front, Back}
 use Rattle.meet_tickets.specs.declared.places.Kind.{Kind}
 use Rattle.meet_tickets.specs.declared.records.Record.{Record}
 use Rattle.meet_tickets.specs.declared.records.Cause.TheVariants.{Cancelled, Expired, Interrupted}
 use Rattle.meet_tickets.specs.declared.records.Deed.{Deed}
 use Rattle.meet_tickets.specs.declared.records.Deed.TheVariants.{GiveWaits, GiveMeets, GiveFails, GiveKept, TakeWaits, TakeMeets, TakeFails, EntryInterrupted, Done, Got, Withdrawn, Interrupt}
-use Rattle.meet_tickets.specs.Meeting.{partner, Alone, Finds, MayKeep}
+use Rattle.meet_tickets.specs.Meeting.{end_of, partner, Alone, Finds, MayKeep}
 
 -- the line, and what each seat has open
 pub record Seats (X : Type 0) : Type 0 where
@@ -68,10 +68,9 @@ entry_of line (Served t u item) = None
 entry_of line (Cut t item) = None
 
 -- the line without the entry that is met
-abbrev pub unmet : {E : Type 0} → Order → List E → List E
-unmet Fair line = drop 1 line
-unmet Unfair line = take (length line - 1) line
-unmet Transfer line = drop 1 line
+abbrev pub unmet : {E : Type 0} → End → List E → List E
+unmet Front line = drop 1 line
+unmet Back line = take (length line - 1) line
 
 -- the line without its first entry that passes
 abbrev pub without_first : {E : Type 0} → (E → Bool) → List E → List E
@@ -99,9 +98,9 @@ paired_hold mark t None u brought = served t u brought
 paired_hold mark t (Some item) u brought = Handed t u (mark item)
 
 -- the met entry leaves the line; where it waits, its seat holds the pair
-abbrev pub paired : {X : Type 0} → (X → ℕ) → Order → Seats X → (ticket : ℕ) → Option X → Entry X → Seats X
-paired mark order s t item e = record s {
-  line = unmet order s.line;
+abbrev pub paired : {X : Type 0} → (X → ℕ) → End → Seats X → (ticket : ℕ) → Option X → Entry X → Seats X
+paired mark end s t item e = record s {
+  line = unmet end s.line;
   holds = if e.waits then put_at s.holds e.seat (paired_hold mark e.ticket e.item t item) else s.holds;
 }
 
@@ -131,7 +130,7 @@ cut_ticket s j = option_map_or (λ e. e.ticket) (entry_of s.line (s.holds j)) 0
 
 -- a meeting of histories, where an item is its own mark
 abbrev pub meets : Kind → Seats ℕ → (ticket : ℕ) → Option ℕ → Side → Seats ℕ
-meets k s t item side = option_map_or (paired (λ mark. mark) k.order s t item) (partner k.order s.line side) s
+meets k s t item side = option_map_or (paired (λ mark. mark) (end_of k.order) s t item) (partner (end_of k.order) s.line side) s
 
 -- the seat holds nothing
 abbrev pub IsFree : {X : Type 0} → Seats X → ℕ → Type 0

@@ -1,8 +1,10 @@
 -- Whom a request meets. Both tellings of the rules speak of a place's line in these words.
-use Rattle.std.specs.Prelude.{◌≡◌, ℕ, ◌-◌, ◌<◌, Bool, not, ⊤, Option, Some, None, is_some, is_none, List, [], ◌∷◌, length, slice_get, count_by, MatchOption, if◌then◌else◌}
+use Rattle.std.specs.Prelude.{◌≡◌, ℕ, ◌-◌, ◌<◌, Bool, true, false, not, ⊤, Option, Some, None, is_some, is_none, List, [], ◌∷◌, length, slice_get, count_by, MatchOption, if◌then◌else◌}
 use Rattle.meet_tickets.specs.declared.lines.Entry.{Entry}
 use Rattle.meet_tickets.specs.declared.places.Side.{Side}
 use Rattle.meet_tickets.specs.declared.places.Side.TheVariants.{Giver, Taker}
+use Rattle.meet_tickets.specs.declared.places.End.{End}
+use Rattle.meet_tickets.specs.declared.places.End.TheVariants.{Front, Back}
 use Rattle.meet_tickets.specs.declared.places.Order.{Order}
 use Rattle.meet_tickets.specs.declared.places.Order.TheVariants.{Fair, Unfair, Transfer}
 use Rattle.meet_tickets.specs.declared.places.Kind.{Kind}
@@ -12,26 +14,37 @@ abbrev pub is_on : {X : Type 0} → Side → Entry X → Bool
 is_on Giver e = is_some e.item
 is_on Taker e = is_none e.item
 
--- which entry is met: the first (SynchronousQueue in fair mode, LinkedTransferQueue), or the last
--- (SynchronousQueue in its default mode; that it is exactly last in, first out is our choice)
-abbrev pub met : {E : Type 0} → Order → List E → Option E
-met Fair line = slice_get line 0
-met Unfair line = slice_get line (length line - 1)
-met Transfer line = slice_get line 0
+-- the end of its line at which a place's entries are met: the front (SynchronousQueue in fair mode, LinkedTransferQueue), or the
+-- back (SynchronousQueue in its default mode; that it is exactly last in, first out is our choice)
+abbrev pub end_of : Order → End
+end_of Fair = Front
+end_of Unfair = Back
+end_of Transfer = Front
+
+-- whether a place keeps the items of givers that went on (LinkedTransferQueue alone)
+abbrev pub keeps : Order → Bool
+keeps Fair = false
+keeps Unfair = false
+keeps Transfer = true
+
+-- which entry is met: the first, or the last
+abbrev pub met : {E : Type 0} → End → List E → Option E
+met Front line = slice_get line 0
+met Back line = slice_get line (length line - 1)
 
 -- the partner of a request: nobody where the line is empty or holds the request's own side (Scherer and Scott 2004);
 -- a line has one side, so its first entry tells
-abbrev pub partner : {X : Type 0} → Order → List (Entry X) → Side → Option (Entry X)
-partner order [] side = None
-partner order (e ∷ line) side = if is_on side e then None else met order (e ∷ line)
+abbrev pub partner : {X : Type 0} → End → List (Entry X) → Side → Option (Entry X)
+partner end [] side = None
+partner end (e ∷ line) side = if is_on side e then None else met end (e ∷ line)
 
 -- a request of this side has no partner
 abbrev pub Alone : {X : Type 0} → Kind → List (Entry X) → Side → Type 0
-Alone k line side = partner k.order line side ≡ None
+Alone k line side = partner (end_of k.order) line side ≡ None
 
 -- the partner has this ticket and presents this item
 abbrev pub Finds : {X : Type 0} → Kind → List (Entry X) → Side → ℕ → Option X → Type 0
-Finds {X} k line side ticket item = (e : Entry X) × (partner k.order line side ≡ Some e) × (e.ticket ≡ ticket) × (e.item ≡ item)
+Finds {X} k line side ticket item = (e : Entry X) × (partner (end_of k.order) line side ≡ Some e) × (e.ticket ≡ ticket) × (e.item ≡ item)
 
 -- how many entries wait: their tickets are open
 abbrev pub waiting_count : {X : Type 0} → List (Entry X) → ℕ
@@ -45,6 +58,6 @@ kept_count line = count_by (λ e. not e.waits) line
 abbrev pub count_on : {X : Type 0} → Side → List (Entry X) → ℕ
 count_on side line = count_by (is_on side) line
 
--- an item may be kept in a transfer queue that isn't full (LinkedTransferQueue.put; the bound is our choice)
+-- an item may be kept in a place that keeps items and isn't full (LinkedTransferQueue.put; the bound is our choice)
 abbrev pub MayKeep : {X : Type 0} → Kind → List (Entry X) → Type 0
-MayKeep k line = (k.order ≡ Transfer) × MatchOption k.bound ⊤ (λ most. kept_count line < most)
+MayKeep k line = (keeps k.order ≡ true) × MatchOption k.bound ⊤ (λ most. kept_count line < most)

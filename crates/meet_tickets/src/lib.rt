@@ -22,6 +22,6 @@ pub use laws::{
 };
 pub use lines::{Entry, Hold};
 pub use names::{SeatNo, Ticket};
-pub use places::{Kind, Order, Side};
+pub use places::{End, Kind, Order, Side};
 pub use records::{Cause, Deed, Record};
 pub use refusals::{Refusal, Refused};

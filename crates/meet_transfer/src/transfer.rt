@@ -5,7 +5,7 @@ ghost use Rattle.meet_tickets.specs.Bases.{IsBaseOf};
 ghost use Rattle.meet_tickets.specs.BySeat.{nobody};
 ghost use Rattle.meet_line.specs.Seen.{moment_of_queue};
 ghost use Rattle.meet_tickets.specs.Refusals.{IsWhy};
-ghost use Rattle.meet_tickets.specs.declared.places.Order.TheVariants.{Transfer as TransferOrder};
+ghost use Rattle.meet_tickets.specs.declared.places.End.TheVariants.{Front};
 
 use meet_line::{FairLine, Gave, Meetings, Offered, Polled, Put, Took};
 use meet_tickets::{Base, Marked, Refusal, Refused, SeatNo, Ticket};
@@ -104,7 +104,7 @@ impl<T: Marked> Transfer<T> {
     /// in the line, and its giver goes on, or fails where as many items are kept as the bound says. It looks at no flag.
     /// Refuses what `admit` does, then Memory, never where there is room; the item comes back.
     pub fn put(&mut self, seat: SeatNo, item: T) -> Result<Put<T>, Refused<T>>
-        ensures step { IfOk result (λ answer. PutStep T.mark_of TransferOrder self.old.bound self.old.queue seat item answer self.new.queue) }
+        ensures step { IfOk result (λ answer. PutStep T.mark_of Front self.old.bound self.old.queue seat item answer self.new.queue) }
         ensures admitted { IfOk result (λ _. admit_refusal self.old.queue seat ≡ None) }
         ensures enough { 0 < self.old.queue.room → admit_refusal self.old.queue seat ≡ None → IsOk result }
         ensures places { places_of self.old.queue ≤ places_of self.new.queue }
@@ -120,7 +120,7 @@ impl<T: Marked> Transfer<T> {
     /// behind who stands there, or is refused at entry where it is flagged. Refuses what `admit` does, then Memory, never
     /// where there is room; the item comes back.
     pub fn transfer(&mut self, seat: SeatNo, item: T) -> Result<Gave<T>, Refused<T>>
-        ensures step { IfOk result (λ answer. GiveStep T.mark_of TransferOrder self.old.queue seat item answer self.new.queue) }
+        ensures step { IfOk result (λ answer. GiveStep T.mark_of Front self.old.queue seat item answer self.new.queue) }
         ensures admitted { IfOk result (λ _. admit_refusal self.old.queue seat ≡ None) }
         ensures enough { 0 < self.old.queue.room → admit_refusal self.old.queue seat ≡ None → IsOk result }
         ensures places { places_of self.old.queue ≤ places_of self.new.queue }
@@ -135,7 +135,7 @@ impl<T: Marked> Transfer<T> {
     /// `LinkedTransferQueue.tryTransfer`: the item goes to the taker that is met, or comes back. It takes no memory, and
     /// refuses what `admit` does; the item comes back then too.
     pub fn try_transfer(&mut self, seat: SeatNo, item: T) -> Result<Offered<T>, Refused<T>>
-        ensures step { IfOk result (λ answer. OfferStep T.mark_of TransferOrder self.old.queue item answer self.new.queue) }
+        ensures step { IfOk result (λ answer. OfferStep T.mark_of Front self.old.queue item answer self.new.queue) }
         ensures admitted { IfOk result (λ _. admit_refusal self.old.queue seat ≡ None) }
         ensures places { places_of self.new.queue ≡ places_of self.old.queue }
         ensures bound { self.new.bound ≡ self.old.bound }
@@ -150,7 +150,7 @@ impl<T: Marked> Transfer<T> {
     /// or the taker goes to the line, or is refused at entry where it is flagged. Refuses what `admit` does, then Memory,
     /// never where there is room.
     pub fn take(&mut self, seat: SeatNo) -> Result<Took<T>, Refusal>
-        ensures step { IfOk result (λ answer. TakeStep T.mark_of TransferOrder self.old.queue seat answer self.new.queue) }
+        ensures step { IfOk result (λ answer. TakeStep T.mark_of Front self.old.queue seat answer self.new.queue) }
         ensures admitted { IfOk result (λ _. admit_refusal self.old.queue seat ≡ None) }
         ensures enough { 0 < self.old.queue.room → admit_refusal self.old.queue seat ≡ None → IsOk result }
         ensures places { places_of self.old.queue ≤ places_of self.new.queue }
@@ -164,7 +164,7 @@ impl<T: Marked> Transfer<T> {
     /// `LinkedTransferQueue.poll`: the item comes from the giver that stands there longest, kept or waiting, if one is there.
     /// It takes no memory, and refuses what `admit` does.
     pub fn poll(&mut self, seat: SeatNo) -> Result<Polled<T>, Refusal>
-        ensures step { IfOk result (λ answer. PollStep T.mark_of TransferOrder self.old.queue answer self.new.queue) }
+        ensures step { IfOk result (λ answer. PollStep T.mark_of Front self.old.queue answer self.new.queue) }
         ensures admitted { IfOk result (λ _. admit_refusal self.old.queue seat ≡ None) }
         ensures places { places_of self.new.queue ≡ places_of self.old.queue }
         ensures bound { self.new.bound ≡ self.old.bound }

@@ -14,7 +14,7 @@ impl<T: Marked, L: Line<T>> Dual<T, L> {
     pub fn give_admitted(&mut self, seat: SeatNo, item: T) -> Gave<T>
         requires admitted { admit_refusal self.old seat ≡ None }
         requires room { 0 < self.old.room }
-        ensures step { GiveStep T.mark_of L.order self.old seat item result self.new }
+        ensures step { GiveStep T.mark_of L.end self.old seat item result self.new }
         ensures places { places_of self.new ≡ places_of self.old }
     {
         self.meetings.give_admitted(seat, item)
@@ -24,7 +24,7 @@ impl<T: Marked, L: Line<T>> Dual<T, L> {
     pub fn take_admitted(&mut self, seat: SeatNo) -> Took<T>
         requires admitted { admit_refusal self.old seat ≡ None }
         requires room { 0 < self.old.room }
-        ensures step { TakeStep T.mark_of L.order self.old seat result self.new }
+        ensures step { TakeStep T.mark_of L.end self.old seat result self.new }
         ensures places { places_of self.new ≡ places_of self.old }
     {
         self.meetings.take_admitted(seat)
@@ -33,7 +33,7 @@ impl<T: Marked, L: Line<T>> Dual<T, L> {
     /// An offer that is admitted.
     pub fn offer_admitted(&mut self, seat: SeatNo, item: T) -> Offered<T>
         requires { admit_refusal self.old seat ≡ None }
-        ensures step { OfferStep T.mark_of L.order self.old item result self.new }
+        ensures step { OfferStep T.mark_of L.end self.old item result self.new }
         ensures places { places_of self.new ≡ places_of self.old }
     {
         self.meetings.offer_admitted(seat, item)
@@ -42,7 +42,7 @@ impl<T: Marked, L: Line<T>> Dual<T, L> {
     /// A poll that is admitted.
     pub fn poll_admitted(&mut self, seat: SeatNo) -> Polled<T>
         requires { admit_refusal self.old seat ≡ None }
-        ensures step { PollStep T.mark_of L.order self.old result self.new }
+        ensures step { PollStep T.mark_of L.end self.old result self.new }
         ensures places { places_of self.new ≡ places_of self.old }
     {
         self.meetings.poll_admitted(seat)

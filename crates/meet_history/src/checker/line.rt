@@ -1,15 +1,14 @@
-//! The line of a history's marks, met in the order of its place.
+//! The line of a history's marks, met at the end of its place.
 
 ghost use Rattle.std.specs.Prelude.{◌≡◌, ◌≢◌, ◌+◌, ◌<◌, ◌==◌, [], ◌∷◌, ◌++◌, find, length, All, OnOk, IfErr, option_to_list, is_some, if◌then◌else◌};
 ghost use Rattle.std.specs.Slice.{IsItemAt};
 ghost use Rattle.meet_tickets.specs.Meeting.{met, partner, kept_count};
 ghost use Rattle.meet_tickets.specs.BySeat.{unmet, without_first};
 ghost use Rattle.meet_tickets.specs.declared.refusals.Refusal.TheVariants.{Memory};
-ghost use Rattle.meet_history.specs.Checking.{line_order};
-ghost use Rattle.meet_history.specs.Marks.{end_order, entries_of, room_of, count_if_kept};
+ghost use Rattle.meet_history.specs.Marks.{met_end, entries_of, room_of, count_if_kept};
 
 use meet_line::{FairLine, Line, StackLine};
-use meet_tickets::{Entry, Order, Refusal, Side, Ticket};
+use meet_tickets::{End, Entry, Refusal, Side, Ticket};
 use std::alloc::Global;
 use std::marker::Model;
 
@@ -31,25 +30,25 @@ enum ByEnd {
 impl Model for MarkLine {
     ghost use Rattle.std.specs.Prelude.{◌≡◌, ◌≤◌, All};
     ghost use Rattle.meet_tickets.specs.Meeting.{kept_count};
-    ghost use Rattle.meet_history.specs.Marks.{MarkedLine, end_order, entries_of, room_of};
+    ghost use Rattle.meet_history.specs.Marks.{MarkedLine, met_end, entries_of, room_of};
 
     ghost Value = { MarkedLine };
 
-    ghost view = { λ marks. record { order = end_order marks.line; entries = entries_of marks.line; room = room_of marks.line; newest = marks.newest } };
+    ghost view = { λ marks. record { end = met_end marks.line; entries = entries_of marks.line; room = room_of marks.line; newest = marks.newest } };
 
     ghost invariant = { λ marks. All (λ e. e.ticket ≤ marks.newest) (entries_of marks.line) × (marks.kept ≡ kept_count (entries_of marks.line)) };
 }
 
 impl MarkLine {
-    /// A line with nobody in it, for a place of this order.
-    pub(crate) fn new(alloc: Global, order: Order) -> Self
-        ensures order { result.order ≡ line_order order }
+    /// A line with nobody in it, whose entries are met at this end.
+    pub(crate) fn new(alloc: Global, end: End) -> Self
+        ensures end { result.end ≡ end }
         ensures entries { result.entries ≡ [] }
         ensures newest { result.newest ≡ 0 }
     {
-        let line = match order {
-            Order::Fair | Order::Transfer => ByEnd::Front(FairLine::empty(alloc)),
-            Order::Unfair => ByEnd::Back(StackLine::empty(alloc)),
+        let line = match end {
+            End::Front => ByEnd::Front(FairLine::empty(alloc)),
+            End::Back => ByEnd::Back(StackLine::empty(alloc)),
         };
         MarkLine {
             line,
@@ -60,7 +59,7 @@ impl MarkLine {
 
     /// Makes room for an entry more. The only refusal is Memory.
     pub(crate) fn reserve(&mut self) -> Result<(), Refusal>
-        ensures order { self.new.order ≡ self.old.order }
+        ensures end { self.new.end ≡ self.old.end }
         ensures entries { self.new.entries ≡ self.old.entries }
         ensures newest { self.new.newest ≡ self.old.newest }
         ensures room { OnOk result (0 < self.new.room) }
@@ -76,7 +75,7 @@ impl MarkLine {
     pub(crate) fn push_back(&mut self, entry: Entry<u64>)
         requires room { 0 < self.old.room }
         requires above { self.old.newest < entry.ticket }
-        ensures order { self.new.order ≡ self.old.order }
+        ensures end { self.new.end ≡ self.old.end }
         ensures entries { self.new.entries ≡ self.old.entries ++ entry ∷ [] }
         ensures newest { self.new.newest ≡ entry.ticket }
     {
@@ -90,9 +89,9 @@ impl MarkLine {
 
     /// The entry that is met leaves the line, if anybody is there.
     fn meet(&mut self) -> Option<Entry<u64>>
-        ensures order { self.new.order ≡ self.old.order }
-        ensures entry { result ≡ met self.old.order self.old.entries }
-        ensures entries { self.new.entries ≡ unmet self.old.order self.old.entries }
+        ensures end { self.new.end ≡ self.old.end }
+        ensures entry { result ≡ met self.old.end self.old.entries }
+        ensures entries { self.new.entries ≡ unmet self.old.end self.old.entries }
         ensures newest { self.new.newest ≡ self.old.newest }
     {
         let met = meet_by(&mut self.line);
@@ -102,9 +101,9 @@ impl MarkLine {
 
     /// The partner of a request of this side leaves the line, if it has one.
     pub(crate) fn partner(&mut self, side: Side) -> Option<Entry<u64>>
-        ensures order { self.new.order ≡ self.old.order }
-        ensures partner { result ≡ partner self.old.order self.old.entries side }
-        ensures entries { self.new.entries ≡ (if is_some result then unmet self.old.order self.old.entries else self.old.entries) }
+        ensures end { self.new.end ≡ self.old.end }
+        ensures partner { result ≡ partner self.old.end self.old.entries side }
+        ensures entries { self.new.entries ≡ (if is_some result then unmet self.old.end self.old.entries else self.old.entries) }
         ensures newest { self.new.newest ≡ self.old.newest }
     {
         let own = match self.first() {
@@ -116,7 +115,7 @@ impl MarkLine {
 
     /// The entry of this ticket leaves the line, if it is there.
     pub(crate) fn remove(&mut self, ticket: Ticket) -> Option<Entry<u64>>
-        ensures order { self.new.order ≡ self.old.order }
+        ensures end { self.new.end ≡ self.old.end }
         ensures entry { result ≡ find (λ e. e.ticket == ticket) self.old.entries }
         ensures entries { self.new.entries ≡ without_first (λ e. e.ticket == ticket) self.old.entries }
         ensures newest { self.new.newest ≡ self.old.newest }
@@ -165,7 +164,7 @@ fn len_of(line: &ByEnd) -> u64
 fn push_by(line: &mut ByEnd, entry: Entry<u64>)
     requires room { 0 < room_of line.old }
     requires fresh { All (λ e. e.ticket ≢ entry.ticket) (entries_of line.old) }
-    ensures order { end_order line.new ≡ end_order line.old }
+    ensures end { met_end line.new ≡ met_end line.old }
     ensures entries { entries_of line.new ≡ entries_of line.old ++ entry ∷ [] }
 {
     match line {
@@ -176,9 +175,9 @@ fn push_by(line: &mut ByEnd, entry: Entry<u64>)
 
 /// The entry that is met leaves its line.
 fn meet_by(line: &mut ByEnd) -> Option<Entry<u64>>
-    ensures order { end_order line.new ≡ end_order line.old }
-    ensures entry { result ≡ met (end_order line.old) (entries_of line.old) }
-    ensures entries { entries_of line.new ≡ unmet (end_order line.old) (entries_of line.old) }
+    ensures end { met_end line.new ≡ met_end line.old }
+    ensures entry { result ≡ met (met_end line.old) (entries_of line.old) }
+    ensures entries { entries_of line.new ≡ unmet (met_end line.old) (entries_of line.old) }
 {
     match line {
         ByEnd::Front(line) => line.meet(),
@@ -188,7 +187,7 @@ fn meet_by(line: &mut ByEnd) -> Option<Entry<u64>>
 
 /// The entry of this ticket leaves its line.
 fn remove_by(line: &mut ByEnd, ticket: Ticket) -> Option<Entry<u64>>
-    ensures order { end_order line.new ≡ end_order line.old }
+    ensures end { met_end line.new ≡ met_end line.old }
     ensures entry { result ≡ find (λ e. e.ticket == ticket) (entries_of line.old) }
     ensures entries { entries_of line.new ≡ without_first (λ e. e.ticket == ticket) (entries_of line.old) }
 {

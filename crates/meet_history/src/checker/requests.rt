@@ -7,7 +7,7 @@ ghost use Rattle.meet_tickets.specs.declared.places.Side.TheVariants.{Giver};
 ghost use Rattle.meet_history.specs.Checking.{moment_at};
 
 use crate::checker::Checker;
-use meet_tickets::{Deed, Entry, Hold, Order, SeatNo, Side, Ticket};
+use meet_tickets::{Deed, Entry, Hold, SeatNo, Side, Ticket};
 
 impl Checker {
     /// Takes a request's record in, if the rules give it, where its seat is free and its ticket is new.
@@ -135,7 +135,7 @@ impl Checker {
         true
     }
 
-    /// An item is kept, in a transfer queue that has a place for it, where nobody takes it.
+    /// An item is kept, in a place that keeps items and has room for one more, where nobody takes it.
     fn keeps(&mut self, seat: SeatNo, ticket: Ticket, mark: u64) -> bool
         requires room { 0 < self.old.room }
         requires above { self.old.last < ticket }
@@ -155,7 +155,7 @@ impl Checker {
     fn may_keep(&self) -> bool
         ensures { IsTrue result ↔ MayKeep self.now.kind self.now.line }
     {
-        if self.kind.order != Order::Transfer {
+        if !self.kind.order.keeps() {
             return false;
         }
         match self.kind.bound {

@@ -6,7 +6,7 @@ use crate::replies::Reply;
 use crate::stepper::{Stepper, refused_unless_memory};
 use crate::steps::Step;
 use crate::told::{DualCall, QueueAnswer, QueueCall};
-use meet_tickets::{Order, Refusal, SeatNo};
+use meet_tickets::{Refusal, SeatNo};
 
 impl Stepper {
     ghost use Rattle.meet_history.specs.OneThread.{request_refusal, give, take, waiting, immediate, put_form, offer_form};
@@ -35,10 +35,10 @@ impl Stepper {
         ensures turn { IfOk result (TakesTurn (give self.old.setup (place_of self.old) seat (offer_form self.old.setup.kind.order) mark) self.old self.new) }
         ensures memory { IfErr result (LacksMemory (request_refusal self.old.setup (place_of self.old) seat) self.old self.new) }
     {
-        match self.setup.kind.order {
-            Order::Fair => self.give_now(seat, mark),
-            Order::Unfair => self.give_now(seat, mark),
-            Order::Transfer => self.put(seat, mark),
+        if self.setup.kind.order.keeps() {
+            self.put(seat, mark)
+        } else {
+            self.give_now(seat, mark)
         }
     }
 

@@ -16,7 +16,7 @@ impl<T: Marked, L: Line<T>> Meetings<T, L> {
     pub fn give_admitted(&mut self, seat: SeatNo, item: T) -> Gave<T>
         requires admitted { admit_refusal self.old seat ≡ None }
         requires room { 0 < self.old.room }
-        ensures step { GiveStep T.mark_of L.order self.old seat item result self.new }
+        ensures step { GiveStep T.mark_of L.end self.old seat item result self.new }
         ensures places { places_of self.new ≡ places_of self.old }
         ensures kept { kept_count self.new.line ≡ kept_count self.old.line }
     {
@@ -38,7 +38,7 @@ impl<T: Marked, L: Line<T>> Meetings<T, L> {
     pub fn put_admitted(&mut self, seat: SeatNo, item: T, bound: Option<u64>) -> Put<T>
         requires admitted { admit_refusal self.old seat ≡ None }
         requires room { 0 < self.old.room }
-        ensures step { PutStep T.mark_of L.order bound self.old seat item result self.new }
+        ensures step { PutStep T.mark_of L.end bound self.old seat item result self.new }
         ensures places { places_of self.new ≡ places_of self.old }
     {
         let ticket = self.draw();
@@ -56,7 +56,7 @@ impl<T: Marked, L: Line<T>> Meetings<T, L> {
     pub fn take_admitted(&mut self, seat: SeatNo) -> Took<T>
         requires admitted { admit_refusal self.old seat ≡ None }
         requires room { 0 < self.old.room }
-        ensures step { TakeStep T.mark_of L.order self.old seat result self.new }
+        ensures step { TakeStep T.mark_of L.end self.old seat result self.new }
         ensures places { places_of self.new ≡ places_of self.old }
         ensures kept { kept_count self.new.line ≤ kept_count self.old.line }
     {
@@ -77,7 +77,7 @@ impl<T: Marked, L: Line<T>> Meetings<T, L> {
     /// An offer that is admitted.
     pub fn offer_admitted(&mut self, seat: SeatNo, item: T) -> Offered<T>
         requires { admit_refusal self.old seat ≡ None }
-        ensures step { OfferStep T.mark_of L.order self.old item result self.new }
+        ensures step { OfferStep T.mark_of L.end self.old item result self.new }
         ensures places { places_of self.new ≡ places_of self.old }
         ensures kept { kept_count self.new.line ≡ kept_count self.old.line }
     {
@@ -91,7 +91,7 @@ impl<T: Marked, L: Line<T>> Meetings<T, L> {
     /// A poll that is admitted.
     pub fn poll_admitted(&mut self, seat: SeatNo) -> Polled<T>
         requires { admit_refusal self.old seat ≡ None }
-        ensures step { PollStep T.mark_of L.order self.old result self.new }
+        ensures step { PollStep T.mark_of L.end self.old result self.new }
         ensures places { places_of self.new ≡ places_of self.old }
         ensures kept { kept_count self.new.line ≤ kept_count self.old.line }
     {

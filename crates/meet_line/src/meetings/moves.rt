@@ -34,10 +34,10 @@ impl<T: Marked, L: Line<T>> Meetings<T, L> {
 
     /// Hands the item to the taker that is met, and answers its ticket; without one the item comes back.
     pub(super) fn hand(&mut self, ticket: Ticket, item: T) -> Result<Ticket, T>
-        ensures met { IfOk result (λ with. HandsOver T.mark_of L.order self.old item ticket with self.new) }
+        ensures met { IfOk result (λ with. HandsOver T.mark_of L.end self.old item ticket with self.new) }
         ensures places { IfOk result (λ _. places_of self.new ≡ places_of self.old) }
         ensures kept { kept_count self.new.line ≡ kept_count self.old.line }
-        ensures alone { IfErr result (λ _. partner L.order self.old.line Giver ≡ None) }
+        ensures alone { IfErr result (λ _. partner L.end self.old.line Giver ≡ None) }
         ensures back { IfErr result (λ back. back ≡ item) }
         ensures unchanged { IfErr result (λ _. self.new ≡ self.old) }
     {
@@ -49,10 +49,10 @@ impl<T: Marked, L: Line<T>> Meetings<T, L> {
 
     /// Fetches the item of the giver that is met, with its ticket.
     pub(super) fn fetch(&mut self, ticket: Ticket) -> Option<(Ticket, T)>
-        ensures met { IfSome result (λ got. Fetches T.mark_of L.order self.old ticket got.0 got.1 self.new) }
+        ensures met { IfSome result (λ got. Fetches T.mark_of L.end self.old ticket got.0 got.1 self.new) }
         ensures places { places_of self.new ≡ places_of self.old }
         ensures kept { kept_count self.new.line ≤ kept_count self.old.line }
-        ensures alone { IfNone result (partner L.order self.old.line Taker ≡ None) }
+        ensures alone { IfNone result (partner L.end self.old.line Taker ≡ None) }
         ensures unchanged { IfNone result (self.new ≡ self.old) }
     {
         let giver = meet(&mut self.line, Side::Taker)?;
@@ -71,7 +71,7 @@ impl<T: Marked, L: Line<T>> Meetings<T, L> {
         requires room { 0 < self.old.room }
         requires new { All (λ e. e.ticket < ticket) self.old.line }
         requires used { ticket < self.old.next }
-        requires alone { MatchOption item (partner L.order self.old.line Taker ≡ None) (λ _. partner L.order self.old.line Giver ≡ None) }
+        requires alone { MatchOption item (partner L.end self.old.line Taker ≡ None) (λ _. partner L.end self.old.line Giver ≡ None) }
         ensures queued { Leaves self.old self.new (queued (seats_of self.old) seat ticket item true) }
         ensures kept { kept_count self.new.line ≡ kept_count self.old.line }
         ensures places { places_of self.new ≡ places_of self.old }
@@ -92,7 +92,7 @@ impl<T: Marked, L: Line<T>> Meetings<T, L> {
         requires unopened { (seat : ℕ) → open_ticket ((seats_of self.old).holds seat) ≢ Some ticket }
         requires used { ticket < self.old.next }
         requires countable { kept_count self.old.line + 1 < self.old.next }
-        requires alone { partner L.order self.old.line Giver ≡ None }
+        requires alone { partner L.end self.old.line Giver ≡ None }
         ensures queued { Leaves self.old self.new (queued (seats_of self.old) seat ticket (Some item) false) }
         ensures places { places_of self.new ≡ places_of self.old }
     {

@@ -1,7 +1,7 @@
 //! The requests of a queue, once they are admitted: none of them fails.
 
 ghost use Rattle.std.specs.Prelude.{◌≡◌, ◌<◌, None};
-ghost use Rattle.meet_tickets.specs.declared.places.Order.TheVariants.{Transfer as TransferOrder};
+ghost use Rattle.meet_tickets.specs.declared.places.End.TheVariants.{Front};
 
 use crate::transfer::Transfer;
 use meet_line::{Gave, Offered, Polled, Put, Took};
@@ -15,7 +15,7 @@ impl<T: Marked> Transfer<T> {
     pub fn put_admitted(&mut self, seat: SeatNo, item: T) -> Put<T>
         requires admitted { admit_refusal self.old.queue seat ≡ None }
         requires room { 0 < self.old.queue.room }
-        ensures step { PutStep T.mark_of TransferOrder self.old.bound self.old.queue seat item result self.new.queue }
+        ensures step { PutStep T.mark_of Front self.old.bound self.old.queue seat item result self.new.queue }
         ensures places { places_of self.new.queue ≡ places_of self.old.queue }
         ensures bound { self.new.bound ≡ self.old.bound }
     {
@@ -26,7 +26,7 @@ impl<T: Marked> Transfer<T> {
     pub fn transfer_admitted(&mut self, seat: SeatNo, item: T) -> Gave<T>
         requires admitted { admit_refusal self.old.queue seat ≡ None }
         requires room { 0 < self.old.queue.room }
-        ensures step { GiveStep T.mark_of TransferOrder self.old.queue seat item result self.new.queue }
+        ensures step { GiveStep T.mark_of Front self.old.queue seat item result self.new.queue }
         ensures places { places_of self.new.queue ≡ places_of self.old.queue }
         ensures bound { self.new.bound ≡ self.old.bound }
     {
@@ -36,7 +36,7 @@ impl<T: Marked> Transfer<T> {
     /// An immediate transfer that is admitted.
     pub fn try_transfer_admitted(&mut self, seat: SeatNo, item: T) -> Offered<T>
         requires { admit_refusal self.old.queue seat ≡ None }
-        ensures step { OfferStep T.mark_of TransferOrder self.old.queue item result self.new.queue }
+        ensures step { OfferStep T.mark_of Front self.old.queue item result self.new.queue }
         ensures places { places_of self.new.queue ≡ places_of self.old.queue }
         ensures bound { self.new.bound ≡ self.old.bound }
     {
@@ -47,7 +47,7 @@ impl<T: Marked> Transfer<T> {
     pub fn take_admitted(&mut self, seat: SeatNo) -> Took<T>
         requires admitted { admit_refusal self.old.queue seat ≡ None }
         requires room { 0 < self.old.queue.room }
-        ensures step { TakeStep T.mark_of TransferOrder self.old.queue seat result self.new.queue }
+        ensures step { TakeStep T.mark_of Front self.old.queue seat result self.new.queue }
         ensures places { places_of self.new.queue ≡ places_of self.old.queue }
         ensures bound { self.new.bound ≡ self.old.bound }
     {
@@ -57,7 +57,7 @@ impl<T: Marked> Transfer<T> {
     /// A poll that is admitted.
     pub fn poll_admitted(&mut self, seat: SeatNo) -> Polled<T>
         requires { admit_refusal self.old.queue seat ≡ None }
-        ensures step { PollStep T.mark_of TransferOrder self.old.queue result self.new.queue }
+        ensures step { PollStep T.mark_of Front self.old.queue result self.new.queue }
         ensures places { places_of self.new.queue ≡ places_of self.old.queue }
         ensures bound { self.new.bound ≡ self.old.bound }
     {

@@ -7,32 +7,32 @@ use Rattle.meet_line.proofs.meetings.Meetings.fetch.Goals as goal
 
 pub collect-requires-clause-seat : goal.collect-requires-clause-seat
 collect-requires-clause-seat g c =
-    there-waiting _ _ _ ((Stands-partner g.L.Line.order Taker c.in_ok-giver.giver c.self.invariant.0 (sym c.in_ok-giver.ensures.partner)).held c.if-giver.true)
+    there-waiting _ _ _ ((Stands-partner g.L.Line.end Taker c.in_ok-giver.giver c.self.invariant.0 (sym c.in_ok-giver.ensures.partner)).held c.if-giver.true)
 
 pub collect-requires-clause-no_item : goal.collect-requires-clause-no_item
 collect-requires-clause-no_item g c =
-    subst HasNoItem (sym ((Stands-partner g.L.Line.order Taker c.in_ok-giver.giver c.self.invariant.0 (sym c.in_ok-giver.ensures.partner)).held c.if-giver.true)) tt
+    subst HasNoItem (sym ((Stands-partner g.L.Line.end Taker c.in_ok-giver.giver c.self.invariant.0 (sym c.in_ok-giver.ensures.partner)).held c.if-giver.true)) tt
 
 pub invariant_of-self-then-giver : goal.invariant_of-self-then-giver
 invariant_of-self-then-giver g c = (
-  rw (c.in_ok-giver.ensures.rest, c.collect.ensures.held) (IsSound-met g.L.Line.order Taker c.in_ok-giver.giver _ c.self.invariant.0 (sym c.in_ok-giver.ensures.partner) c.if-giver.true refl),
-  c.self.invariant.1 ∙ sym (kept-paired g.L.Line.order _ _ Taker c.in_ok-giver.giver (sym c.in_ok-giver.ensures.partner) c.in_ok-giver.ensures.rest c.if-giver.true),
+  rw (c.in_ok-giver.ensures.rest, c.collect.ensures.held) (IsSound-met g.L.Line.end Taker c.in_ok-giver.giver _ c.self.invariant.0 (sym c.in_ok-giver.ensures.partner) c.if-giver.true refl),
+  c.self.invariant.1 ∙ sym (kept-paired g.L.Line.end _ _ Taker c.in_ok-giver.giver (sym c.in_ok-giver.ensures.partner) c.in_ok-giver.ensures.rest c.if-giver.true),
   c.self.invariant.2,
 )
 
 pub overflow_sub-self : goal.overflow_sub-self
 overflow_sub-self g c =
-    let less = kept-fetched g.L.Line.order _ _ Taker c.in_ok-giver.giver (sym c.in_ok-giver.ensures.partner) c.in_ok-giver.ensures.rest c.if-giver.false in
+    let less = kept-fetched g.L.Line.end _ _ Taker c.in_ok-giver.giver (sym c.in_ok-giver.ensures.partner) c.in_ok-giver.ensures.rest c.if-giver.false in
     omega (arith, less, c.self.invariant.1)
 
 pub release-requires : goal.release-requires
 release-requires g c =
-    (Stands-partner g.L.Line.order Taker c.in_ok-giver.giver c.self.invariant.0 (sym c.in_ok-giver.ensures.partner)).given c.if-giver.false
+    (Stands-partner g.L.Line.end Taker c.in_ok-giver.giver c.self.invariant.0 (sym c.in_ok-giver.ensures.partner)).given c.if-giver.false
 
 pub invariant_of-self-else-giver : goal.invariant_of-self-else-giver
 invariant_of-self-else-giver g c =
-    let less = kept-fetched g.L.Line.order _ _ Taker c.in_ok-giver.giver (sym c.in_ok-giver.ensures.partner) c.in_ok-giver.ensures.rest c.if-giver.false in (
-      rw c.in_ok-giver.ensures.rest (IsSound-unmet g.L.Line.order c.self.invariant.0),
+    let less = kept-fetched g.L.Line.end _ _ Taker c.in_ok-giver.giver (sym c.in_ok-giver.ensures.partner) c.in_ok-giver.ensures.rest c.if-giver.false in (
+      rw c.in_ok-giver.ensures.rest (IsSound-unmet g.L.Line.end c.self.invariant.0),
       omega (arith, less, c.self.invariant.1),
       omega (arith, c.self.invariant.2),
     )

@@ -13,38 +13,38 @@ use Rattle.meet_line.proofs.meetings.Meetings.hand.Goals as goal
 
 pub serve-requires-clause-seat : goal.serve-requires-clause-seat
 serve-requires-clause-seat g c =
-    there-waiting _ _ _ (held-taker g.L.Line.order c.in-Some.taker c.self.invariant.0 (sym c.in-Some.ensures.partner)).held
+    there-waiting _ _ _ (held-taker g.L.Line.end c.in-Some.taker c.self.invariant.0 (sym c.in-Some.ensures.partner)).held
 
 pub serve-requires-clause-no_item : goal.serve-requires-clause-no_item
 serve-requires-clause-no_item g c =
-    subst HasNoItem (sym (held-taker g.L.Line.order c.in-Some.taker c.self.invariant.0 (sym c.in-Some.ensures.partner)).held) tt
+    subst HasNoItem (sym (held-taker g.L.Line.end c.in-Some.taker c.self.invariant.0 (sym c.in-Some.ensures.partner)).held) tt
 
 pub invariant_of-self : goal.invariant_of-self
 invariant_of-self g c =
     let found = sym c.in-Some.ensures.partner in
-    let waits = (held-taker g.L.Line.order c.in-Some.taker c.self.invariant.0 found).waits in (
-      rw (c.in-Some.ensures.rest, c.serve.ensures.held) (IsSound-met g.L.Line.order Giver c.in-Some.taker _ c.self.invariant.0 found waits refl),
-      c.self.invariant.1 ∙ sym (kept-paired g.L.Line.order _ _ Giver c.in-Some.taker found c.in-Some.ensures.rest waits),
+    let waits = (held-taker g.L.Line.end c.in-Some.taker c.self.invariant.0 found).waits in (
+      rw (c.in-Some.ensures.rest, c.serve.ensures.held) (IsSound-met g.L.Line.end Giver c.in-Some.taker _ c.self.invariant.0 found waits refl),
+      c.self.invariant.1 ∙ sym (kept-paired g.L.Line.end _ _ Giver c.in-Some.taker found c.in-Some.ensures.rest waits),
       c.self.invariant.2,
     )
 
 pub returns-in-Some-clause-kept : goal.returns-in-Some-clause-kept
 returns-in-Some-clause-kept g c =
     let found = sym c.in-Some.ensures.partner in
-    rw (← c.self.view_is) (kept-paired g.L.Line.order _ _ Giver c.in-Some.taker found c.in-Some.ensures.rest (held-taker g.L.Line.order c.in-Some.taker c.self.invariant.0 found).waits)
+    rw (← c.self.view_is) (kept-paired g.L.Line.end _ _ Giver c.in-Some.taker found c.in-Some.ensures.rest (held-taker g.L.Line.end c.in-Some.taker c.self.invariant.0 found).waits)
 
 pub returns-in-Some-clause-met : goal.returns-in-Some-clause-met
 returns-in-Some-clause-met g c =
     let found = sym c.in-Some.ensures.partner in
     let taker = c.in-Some.taker in
     let old : Queue g.row.T.Denot = record { line = g.L.Line.entries c.self.inside.line; room = g.L.Line.spare c.self.inside.line; table = c.self.inside.seats; last = c.self.inside.last; next = c.self.inside.next } in
-    let off : is_on Giver taker ≡ false = partner-other g.L.Line.order old.line Giver taker (HasOneSide-sound c.self.invariant.0) found in
+    let off : is_on Giver taker ≡ false = partner-other g.L.Line.end old.line Giver taker (HasOneSide-sound c.self.invariant.0) found in
     rw (← c.self.view_is) (
       taker,
       found,
       c.serve.ensures.ticket,
       none-from taker.item off,
-      Leaves-paired g.T.Marked.mark_of g.L.Line.order old _ taker c.args.ticket (Some c.args.item) (held-taker g.L.Line.order taker c.self.invariant.0 found).waits c.in-Some.ensures.rest (record {
+      Leaves-paired g.T.Marked.mark_of g.L.Line.end old _ taker c.args.ticket (Some c.args.item) (held-taker g.L.Line.end taker c.self.invariant.0 found).waits c.in-Some.ensures.rest (record {
         holds = c.serve.ensures.held ∙ ap (λ hold. put_at (hold_at old.table.holds) taker.seat hold) (paired_hold-taker g.T.Marked.mark_of taker c.args.ticket c.args.item off);
         count = c.serve.ensures.count;
         flags = c.serve.ensures.flags;

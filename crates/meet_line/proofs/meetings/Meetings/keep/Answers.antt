@@ -7,7 +7,7 @@ use Rattle.meet_line.proofs.meetings.Meetings.keep.Goals as goal
 pub invariant_of-self : goal.invariant_of-self
 invariant_of-self g c =
     let few : kept_count (g.L.Line.entries c.self.inside.line) + 1 < c.self.inside.next = rw (← c.self.view_is) at c.requires.countable in (
-      rw c.push_back.ensures.entries (IsSound-kept g.L.Line.order c.args.seat c.args.ticket c.args.item c.self.invariant.0
+      rw c.push_back.ensures.entries (IsSound-kept g.L.Line.end c.args.seat c.args.ticket c.args.item c.self.invariant.0
           (rw (← c.self.view_is) at c.requires.unopened)
           (rw (← c.self.view_is) at c.requires.new)
           (rw (← c.self.view_is) at c.requires.used)
