@@ -3,6 +3,7 @@ use Rattle.std.proofs.Common.{◌≡◌, ℕ, ◌≤◌, List, [], ◌∷◌, Op
 use Rattle.std.proofs.lemmas.Bool.{lt-ltb}
 use Rattle.std.specs.Prelude.{codes, IfSome}
 use Rattle.std.specs.Option.{option_map}
+use Rattle.meet_tickets.specs.Limits.{most_records}
 use Rattle.meet_run.specs.Words.{word_of, rest_of}
 use Rattle.meet_run.specs.Grammar.{option_in}
 use Rattle.meet_run.proofs.CallLemmas.{bind-some}
@@ -34,14 +35,14 @@ end-is task (b ∷ rest) found e = absurd cc
 with-fits : (shape : Shape) (rest : List ℕ) (task : Task) → task_with shape rest ≡ Some task → FitsTask task
 unfolding task_with
 with-fits shape rest task e =
-    let waiting = bind-some (number_in (codes " waiting ") 1048576 rest) _ task e in
-    let calls = bind-some (number_in (codes " calls ") 1048576 waiting.0.1) _ task waiting.2 in
+    let waiting = bind-some (number_in (codes " waiting ") most_records rest) _ task e in
+    let calls = bind-some (number_in (codes " calls ") most_records waiting.0.1) _ task waiting.2 in
     let runs = bind-some (number_in (codes " runs ") 1000 calls.0.1) _ task calls.2 in
     let checks = bind-some (number_in (codes " checks ") 1000 runs.0.1) _ task runs.2 in
     let made : Task = record { shape = shape; waiting = waiting.0.0; calls = calls.0.0; runs = runs.0.0; checks = checks.0.0 } in
     subst FitsTask (end-is made checks.0.1 task checks.2) (record {
-      waiting = number-fits (codes " waiting ") 1048576 rest waiting.0 (lit≤ tt) waiting.1;
-      calls = number-fits (codes " calls ") 1048576 waiting.0.1 calls.0 (lit≤ tt) calls.1;
+      waiting = number-fits (codes " waiting ") most_records rest waiting.0 (lit≤ tt) waiting.1;
+      calls = number-fits (codes " calls ") most_records waiting.0.1 calls.0 (lit≤ tt) calls.1;
       runs = number-fits (codes " runs ") 1000 calls.0.1 runs.0 (lit≤ tt) runs.1;
       checks = number-fits (codes " checks ") 1000 runs.0.1 checks.0 (lit≤ tt) checks.1;
     })

@@ -3,6 +3,7 @@
 use Rattle.std.specs.Prelude.{ℕ, ◌≤◌, nat_lt, Option, Some, None, unwrap_or, List, [], ◌∷◌, length, codes, if◌then◌else◌}
 use Rattle.std.specs.Option.{option_map}
 use Rattle.std.specs.Str.{bytes_eq}
+use Rattle.meet_tickets.specs.Limits.{most_records}
 use Rattle.meet_run.specs.Words.{word_of, rest_of}
 use Rattle.meet_run.specs.Grammar.{◌>>=◌, option_in}
 use Rattle.meet_bench.specs.declared.tasks.Shape.{Shape}
@@ -11,8 +12,8 @@ use Rattle.meet_bench.specs.declared.tasks.Task.{Task}
 
 -- at most 1,048,576 wait and as many calls are made; they are made and checked at most 1,000 times
 pub record FitsTask (task : Task) : Type 0 where
-  pub waiting : (1 ≤ task.waiting) × (task.waiting ≤ 1048576)
-  pub calls : (1 ≤ task.calls) × (task.calls ≤ 1048576)
+  pub waiting : (1 ≤ task.waiting) × (task.waiting ≤ most_records)
+  pub calls : (1 ≤ task.calls) × (task.calls ≤ most_records)
   pub runs : (1 ≤ task.runs) × (task.runs ≤ 1000)
   pub checks : (1 ≤ task.checks) × (task.checks ≤ 1000)
 
@@ -34,8 +35,8 @@ task_at_end task (b ∷ rest) = None
 -- the task of a shape, its numbers each at most once and in this order
 unfoldable pub task_with : Shape → (rest : List ℕ) → Option Task
 task_with shape rest = do
-  waiting ← number_in (codes " waiting ") 1048576 rest
-  calls ← number_in (codes " calls ") 1048576 waiting.1
+  waiting ← number_in (codes " waiting ") most_records rest
+  calls ← number_in (codes " calls ") most_records waiting.1
   runs ← number_in (codes " runs ") 1000 calls.1
   checks ← number_in (codes " checks ") 1000 runs.1
   task_at_end (record { shape = shape; waiting = waiting.0; calls = calls.0; runs = runs.0; checks = checks.0 }) checks.1

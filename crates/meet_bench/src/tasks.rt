@@ -7,6 +7,7 @@ ghost use Rattle.meet_bench.specs.Tasks.{FitsTask, shape_of, number_in, task_at_
 use meet_run::first_line::read_option;
 use meet_run::grammar::LONGEST_LINE;
 use meet_run::words::split_word;
+use meet_tickets::MOST_RECORDS;
 
 /// What calls do again and again.
 #[derive(Clone, Copy, PartialEq, Eq, Debug)]
@@ -30,9 +31,6 @@ pub struct Task {
     /// How often their records are checked.
     pub checks: u64,
 }
-
-/// The most that wait, and the most calls.
-const MOST: u64 = 1_048_576;
 
 /// How often calls are made or checked at most.
 const MOST_TIMES: u64 = 1000;
@@ -73,8 +71,8 @@ fn finish_task(task: Task, rest: &[u8]) -> Option<Task>
 fn read_numbers(shape: Shape, rest: &[u8]) -> Option<Task>
     ensures { result ≡ task_with shape rest.now }
 {
-    let (waiting, rest) = read_named(b" waiting ", MOST, rest)?;
-    let (calls, rest) = read_named(b" calls ", MOST, rest)?;
+    let (waiting, rest) = read_named(b" waiting ", MOST_RECORDS, rest)?;
+    let (calls, rest) = read_named(b" calls ", MOST_RECORDS, rest)?;
     let (runs, rest) = read_named(b" runs ", MOST_TIMES, rest)?;
     let (checks, rest) = read_named(b" checks ", MOST_TIMES, rest)?;
     let task = Task {

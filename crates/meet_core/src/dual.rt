@@ -1,10 +1,11 @@
 //! The dual queue: givers and takers that meet.
 
-ghost use Rattle.std.specs.Prelude.{◌≡◌, ◌^◌, ◌≤◌, ◌<◌, ◌-◌, Some, None, IsOk, IfOk, IfErr, OnOk, OnErr};
+ghost use Rattle.std.specs.Prelude.{◌+◌, ◌≡◌, ◌≤◌, ◌<◌, ◌-◌, Some, None, IsOk, IfOk, IfErr, OnOk, OnErr};
 ghost use Rattle.meet_tickets.specs.Meeting.{waiting_count, kept_count, count_on};
 ghost use Rattle.meet_tickets.specs.BySeat.{nobody, open_ticket, owed_of, settled_of};
 ghost use Rattle.meet_tickets.specs.declared.places.Side.TheVariants.{Giver};
 ghost use Rattle.meet_tickets.specs.Bases.{IsBaseOf};
+ghost use Rattle.meet_tickets.specs.Limits.{most_seats, last_ticket};
 ghost use Rattle.meet_tickets.specs.Refusals.{IsWhy};
 ghost use Rattle.meet_line.specs.Seen.{moment_of_queue};
 
@@ -39,12 +40,12 @@ impl<T: Marked, L: Line<T>> Dual<T, L> {
     ghost use Rattle.meet_line.specs.Steps.{GiveStep, TakeStep, OfferStep, PollStep};
     ghost use Rattle.meet_tickets.specs.declared.refusals.Refusal.TheVariants.{Memory};
 
-    /// A queue with no room yet, with this many seats, at most 1,024, and this first ticket, 1 to 2^63 - 1. The only refusal is
+    /// A queue with no room yet, with this many seats, at most 65,536, and this first ticket, 1 to 2^63 - 1. The only refusal is
     /// Memory.
     pub fn new(alloc: Global, seats: u64, first: u64) -> Result<Self, Refusal>
-        requires seats { seats ≤ 1024 }
+        requires seats { seats ≤ most_seats }
         requires first_from { 0 < first }
-        requires first_to { first < 2 ^ 63 }
+        requires first_to { first ≤ last_ticket }
         ensures fresh { IfOk result (λ queue. seats_of queue ≡ nobody) }
         ensures seats { IfOk result (λ queue. count_of queue ≡ seats) }
         ensures unused { IfOk result (λ queue. queue.last ≡ 0) }
@@ -154,7 +155,7 @@ impl<T: Marked, L: Line<T>> Dual<T, L> {
     /// How many tickets are open.
     pub fn owed(&self) -> u64
         ensures value { result ≡ owed_of (count_of self.now) (seats_of self.now).holds }
-        ensures few { result ≤ 1024 }
+        ensures few { result ≤ most_seats }
     {
         self.meetings.owed()
     }
@@ -183,7 +184,7 @@ impl<T: Marked, L: Line<T>> Dual<T, L> {
 
     /// How many tickets are left.
     pub fn tickets_left(&self) -> u64
-        ensures { result ≡ 2 ^ 63 - self.now.next }
+        ensures { result ≡ last_ticket + 1 - self.now.next }
     {
         self.meetings.tickets_left()
     }

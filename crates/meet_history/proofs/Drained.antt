@@ -1,5 +1,5 @@
 -- A drain of the book is a drain of one thread.
-use Rattle.std.proofs.Common.{◌≡◌, ℕ, zero, suc, ◌+◌, ◌-◌, ◌^◌, ◌<◌, ◌≤◌, refl, sym, ap, ◌∙◌, subst, Bool, true, false, cond, Option, Some, None, List, [], ◌∷◌, ◌++◌, map, length, append-nil, arith}
+use Rattle.std.proofs.Common.{◌≡◌, ℕ, zero, suc, ◌+◌, ◌-◌, ◌<◌, ◌≤◌, refl, sym, ap, ◌∙◌, subst, Bool, true, false, cond, Option, Some, None, List, [], ◌∷◌, ◌++◌, map, length, append-nil, arith}
 use Rattle.std.specs.Prelude.{unwrap_or, nat_lt}
 use Rattle.std.specs.Option.{option_map_or}
 use Rattle.std.proofs.lemmas.Bool.{le-ltb, ltb-false}
@@ -13,6 +13,7 @@ use Rattle.meet_tickets.specs.declared.refusals.Refusal.{Refusal}
 use Rattle.meet_tickets.specs.declared.refusals.Refusal.TheVariants.{Memory, HistoryFull, TicketsSpent, SeatOpen, NoSuchSeat, NotOpen, Differs, SeatMissing, Contended, Worn, BadSizes, PolicyNeedsBuffer, NoThread, BadLine, BadTrace, ReadFault, WriteFault}
 use Rattle.meet_tickets.specs.Meeting.{end_of}
 use Rattle.meet_tickets.specs.BySeat.{paired, meets, owed_of}
+use Rattle.meet_tickets.specs.Limits.{last_ticket}
 use Rattle.meet_tickets.specs.Refusals.{refusal_of}
 use Rattle.meet_line.specs.Queue.{Queue, seats_of, count_of}
 use Rattle.meet_line.specs.declared.answers.Polled.TheVariants.{Meets, Fails}
@@ -183,8 +184,8 @@ module _ (setup : Setup) (seat : ℕ) where
   -- the book's reason against a drain is that of the place
   pub drain_refusal-is : (q : Queue ℕ) (cap written k : ℕ) → cap ≡ setup.cap → count_of q ≡ setup.seats → drain_refusal_by (dual_refusal q seat Poll) (dual_left q) k (nat_lt cap (written + dual_owed q + (k + 1))) ≡ drain_refusal setup (place_at q written) seat k
   drain_refusal-is q cap written k same count =
-      ap (λ n. drain_refusal_by (refusal_of n q.next (seats_of q) seat) (2 ^ 63 - q.next) k (nat_lt cap (written + owed_of n (seats_of q).holds + (k + 1)))) count
-      ∙ ap (λ n. drain_refusal_by (refusal_of setup.seats q.next (seats_of q) seat) (2 ^ 63 - q.next) k (nat_lt n (written + owed_of setup.seats (seats_of q).holds + (k + 1)))) same
+      ap (λ n. drain_refusal_by (refusal_of n q.next (seats_of q) seat) (last_ticket + 1 - q.next) k (nat_lt cap (written + owed_of n (seats_of q).holds + (k + 1)))) count
+      ∙ ap (λ n. drain_refusal_by (refusal_of setup.seats q.next (seats_of q) seat) (last_ticket + 1 - q.next) k (nat_lt n (written + owed_of setup.seats (seats_of q).holds + (k + 1)))) same
 
   -- a drain that is refused, and one that isn't
   pub drain-refused : (p : Place) (k : ℕ) (why : Refusal) → drain_refusal setup p seat k ≡ Some why → drain setup p seat k ≡ refused p seat why

@@ -13,4 +13,5 @@ pub mod Polling
 pub mod Putting
 pub mod RecordCounts
 pub mod Recorded
+pub mod Seated
 pub mod Within

@@ -1,7 +1,7 @@
 -- A poll of a queue in which a giver stands.
-use Rattle.std.proofs.Common.{◌≡◌, ◌≢◌, ℕ, ◌+◌, ◌^◌, ◌<◌, refl, sym, ap, ◌∙◌, subst, Bool, true, false, cond, Some, None, arith}
-use Rattle.std.specs.Prelude.{nat_le}
-use Rattle.std.proofs.lemmas.Bool.{ne_eqb}
+use Rattle.std.proofs.Common.{◌≤◌, ◌≡◌, ◌≢◌, ℕ, ◌+◌, ◌<◌, refl, sym, ap, ◌∙◌, subst, Bool, true, false, cond, Some, None, arith}
+use Rattle.std.specs.Prelude.{nat_lt, nat_le}
+use Rattle.std.proofs.lemmas.Bool.{ne_eqb, le-ltb}
 use Rattle.std.proofs.lemmas.Bool.Decides.{leb_tells}
 use Rattle.meet_tickets.specs.declared.lines.Entry.{Entry}
 use Rattle.meet_tickets.specs.declared.lines.Hold.{Hold}
@@ -13,6 +13,7 @@ use Rattle.meet_tickets.specs.declared.places.Kind.{Kind}
 use Rattle.meet_tickets.specs.declared.refusals.Refusal.TheVariants.{NoSuchSeat, SeatOpen, TicketsSpent}
 use Rattle.meet_tickets.specs.Meeting.{end_of, count_on}
 use Rattle.meet_tickets.specs.BySeat.{Seats, put_at, is_open, owed_of, paired_hold}
+use Rattle.meet_tickets.specs.Limits.{last_ticket}
 use Rattle.meet_tickets.specs.Refusals.{refusal_of}
 use Rattle.meet_tickets.proofs.Admitted.{IsAdmitted, IsAdmitted-from}
 use Rattle.meet_tickets.proofs.Counted.{HasGiver, giver-there}
@@ -34,17 +35,17 @@ use Rattle.meet_history.specs.DualSteps.{DualStep, dual_refusal, dual_owed, dual
 use Rattle.meet_history.proofs.Effects.{met-open}
 
 -- a request is admitted where its seat is there and free, and a ticket is left
-admitted-from : {X : Type 0} (count next : ℕ) (s : Seats X) (seat : ℕ) → seat < count → s.holds seat ≡ Free → next < 2 ^ 63 → refusal_of count next s seat ≡ None
+admitted-from : {X : Type 0} (count next : ℕ) (s : Seats X) (seat : ℕ) → seat < count → s.holds seat ≡ Free → next ≤ last_ticket → refusal_of count next s seat ≡ None
 admitted-from count next s seat there free few =
     let low : nat_le count seat ≡ false = grind (arith, leb_tells) in
-    let left : nat_le (2 ^ 63) next ≡ false = grind (arith, leb_tells) in
+    let left : nat_lt last_ticket next ≡ false = le-ltb last_ticket next few in
     λ i. cond (low i) (Some NoSuchSeat) (cond (is_open (free i)) (Some SeatOpen) (cond (left i) (Some TicketsSpent) None))
 
 -- a request isn't refused for want of a ticket where one is left
 pub not-spent : {T : Type 0} (q : Queue T) (seat : ℕ) → 0 < dual_left q → dual_refusal q seat Poll ≢ Some TicketsSpent
 not-spent q seat some spent =
-    let left : nat_le (2 ^ 63) q.next ≡ false = grind (arith, leb_tells) in
-    by_test (nat_le (count_of q) seat) (is_open ((seats_of q).holds seat)) (nat_le (2 ^ 63) q.next) left spent
+    let left : nat_lt last_ticket q.next ≡ false = le-ltb last_ticket q.next (omega arith) in
+    by_test (nat_le (count_of q) seat) (is_open ((seats_of q).holds seat)) (nat_lt last_ticket q.next) left spent
   where
     by_test : (a b c : Bool) → c ≡ false → cond a (Some NoSuchSeat) (cond b (Some SeatOpen) (cond c (Some TicketsSpent) None)) ≡ Some TicketsSpent → ⊥
     by_test true b c low is = cc

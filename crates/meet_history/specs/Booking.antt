@@ -1,9 +1,10 @@
 -- What a book answers for a call.
-use Rattle.std.specs.Prelude.{ℕ, ◌^◌, ◌+◌, nat_le, None, Bool, nat_lt, length, Option, Some, option_map, if◌then◌else◌}
+use Rattle.std.specs.Prelude.{ℕ, ◌+◌, None, Bool, nat_lt, length, Option, Some, option_map, if◌then◌else◌}
 use Rattle.std.specs.Option.{option_map_or}
 use Rattle.meet_tickets.specs.declared.records.Record.{Record}
 use Rattle.meet_tickets.specs.declared.refusals.Refusal.{Refusal}
 use Rattle.meet_tickets.specs.declared.refusals.Refusal.TheVariants.{HistoryFull}
+use Rattle.meet_tickets.specs.Limits.{most_gone}
 use Rattle.meet_history.specs.Booked.{Booked}
 use Rattle.meet_history.specs.Received.{Received}
 
@@ -25,4 +26,4 @@ record_of_receipt receipt = option_map (λ r. r.entry) receipt
 
 -- why a book can't fold its records away, Memory aside, where so many are gone
 abbrev pub cut_refusal : {O B D : Type 0} → (gone : ℕ) → Booked O B D → Option Refusal
-cut_refusal gone book = if nat_le (2 ^ 63) (gone + length book.records) then Some HistoryFull else None
+cut_refusal gone book = if nat_lt most_gone (gone + length book.records) then Some HistoryFull else None

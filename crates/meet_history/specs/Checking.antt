@@ -1,10 +1,10 @@
 -- Why a record can't come next, and what the checker shows of itself.
-use Rattle.std.specs.Prelude.{◌≡◌, ◌≢◌, ℕ, ◌+◌, ◌<◌, ◌≤◌, Bool, true, false, Some, List, [], ◌∷◌, ◌++◌, length}
+use Rattle.std.specs.Prelude.{◌≡◌, ◌≢◌, ℕ, ◌+◌, ◌<◌, ◌≤◌, Bool, true, false, Some, List, [], ◌∷◌, ◌++◌, length, All}
 use Rattle.meet_tickets.specs.declared.lines.Entry.{Entry}
 use Rattle.meet_tickets.specs.declared.places.Kind.{Kind}
 use Rattle.meet_tickets.specs.declared.records.Record.{Record}
 use Rattle.meet_tickets.specs.declared.records.Deed.{Deed}
-use Rattle.meet_tickets.specs.declared.records.Deed.TheVariants.{Done, Got, Withdrawn}
+use Rattle.meet_tickets.specs.declared.records.Deed.TheVariants.{Done, Got, Withdrawn, Interrupt}
 use Rattle.meet_tickets.specs.ByLists.{IsLegal}
 use Rattle.meet_tickets.specs.BySeat.{Moment, beginning, moment_of, open_ticket, is_open, IsFree, is_request, Allows}
 use Rattle.meet_line.specs.Table.{Table, hold_at, flag_at}
@@ -54,6 +54,15 @@ pub record IsIllegalAt (k : Kind) (records : List (Record Deed)) (number : ℕ) 
 abbrev pub IsCheckFault : Kind → List (Record Deed) → CheckFault → Type 0
 IsCheckFault k records (Illegal number why) = IsIllegalAt k records number why
 IsCheckFault k records Memory = Unit {0}
+
+-- the seat that a record is about: that of an interrupt's target, else its own
+abbrev pub subject_of : (seat : ℕ) → Deed → ℕ
+subject_of seat (Interrupt target) = target
+subject_of seat deed = seat
+
+-- each entry's seat is in a table of so many seats
+abbrev pub AreSeated : (count : ℕ) → List (Entry ℕ) → Type 0
+AreSeated count line = All (λ e. e.seat < count) line
 
 -- what a checker shows of itself
 pub record Checked : Type 0 where

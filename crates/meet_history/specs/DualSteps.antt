@@ -1,5 +1,5 @@
 -- The calls that each queue has, as a book makes them: their steps, refusals and costs, and the histories that lead to a queue.
-use Rattle.std.specs.Prelude.{◌≡◌, ℕ, ◌-◌, ◌^◌, ◌<◌, Option, None, List}
+use Rattle.std.specs.Prelude.{◌+◌, ◌≡◌, ℕ, ◌-◌, ◌<◌, Option, None, List}
 use Rattle.meet_tickets.specs.declared.places.Side.TheVariants.{Giver}
 use Rattle.meet_tickets.specs.declared.places.End.{End}
 use Rattle.meet_tickets.specs.declared.places.End.TheVariants.{Front, Back}
@@ -12,6 +12,7 @@ use Rattle.meet_tickets.specs.declared.refusals.Refusal.{Refusal}
 use Rattle.meet_tickets.specs.Meeting.{count_on}
 use Rattle.meet_tickets.specs.Bases.{Based, moment_of_base, IsWellFormed, IsLegalOn}
 use Rattle.meet_tickets.specs.BySeat.{moment_of, open_ticket, owed_of}
+use Rattle.meet_tickets.specs.Limits.{last_ticket}
 use Rattle.meet_tickets.specs.Refusals.{refusal_unless, absent_refusal}
 use Rattle.meet_line.specs.Seen.{marked}
 use Rattle.meet_line.specs.Queue.{Queue, seats_of, count_of, admit_refusal}
@@ -69,7 +70,7 @@ dual_available q = count_on Giver q.line
 
 -- the tickets from the next one to 2^63 - 1 are left
 abbrev pub dual_left : {T : Type 0} → Queue T → ℕ
-dual_left q = 2 ^ 63 - q.next
+dual_left q = last_ticket + 1 - q.next
 
 -- the order of a synchronous place whose entries are met at this end (SynchronousQueue in fair mode, or in its default mode)
 abbrev pub synchronous : End → Order

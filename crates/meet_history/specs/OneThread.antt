@@ -1,5 +1,5 @@
 -- The replies of a place that one thread uses, whatever seats it speaks for.
-use Rattle.std.specs.Prelude.{ℕ, zero, suc, ◌+◌, ◌-◌, ◌^◌, nat_lt, min, Bool, true, Option, Some, None, unwrap_or, List, [], ◌∷◌, ◌++◌, slice_get, if◌then◌else◌}
+use Rattle.std.specs.Prelude.{ℕ, zero, suc, ◌+◌, ◌-◌, nat_lt, min, Bool, true, Option, Some, None, unwrap_or, List, [], ◌∷◌, ◌++◌, slice_get, if◌then◌else◌}
 use Rattle.std.specs.Option.{option_map_or, option_and_then}
 use Rattle.meet_tickets.specs.declared.lines.Entry.{Entry}
 use Rattle.meet_tickets.specs.declared.lines.Hold.{Hold}
@@ -16,6 +16,7 @@ use Rattle.meet_tickets.specs.declared.refusals.Refusal.{Refusal}
 use Rattle.meet_tickets.specs.declared.refusals.Refusal.TheVariants.{NotOpen}
 use Rattle.meet_tickets.specs.Meeting.{end_of, keeps, partner, kept_count, waiting_count, count_on}
 use Rattle.meet_tickets.specs.BySeat.{Seats, nobody, entry_of, cut_ticket, owed_of, settled_of, is_request, seats_after}
+use Rattle.meet_tickets.specs.Limits.{last_ticket, told_capacity}
 use Rattle.meet_tickets.specs.Refusals.{refusal_of, absent_refusal}
 use Rattle.meet_history.specs.Booking.{call_refusal}
 use Rattle.meet_history.specs.Draining.{drain_refusal_by}
@@ -190,7 +191,7 @@ polls setup p seat (suc n) = joined (take setup p seat immediate) (λ q. polls s
 -- why a drain of k items is refused: the first that applies
 abbrev pub drain_refusal : Setup → Place → (seat k : ℕ) → Option Refusal
 drain_refusal setup p seat k =
-    drain_refusal_by (refusal_of setup.seats p.next p.seats seat) (2 ^ 63 - p.next) k (is_full setup p (k + 1))
+    drain_refusal_by (refusal_of setup.seats p.next p.seats seat) (last_ticket + 1 - p.next) k (is_full setup p (k + 1))
 
 -- a drain of k items (drainTo of either queue): all of it, or a refusal
 abbrev pub drain : Setup → Place → (seat k : ℕ) → Turn
@@ -203,7 +204,7 @@ size_of order line = if keeps order then count_on Giver line else 0
 
 -- SynchronousQueue.remainingCapacity, and that of LinkedTransferQueue
 abbrev pub remaining_of : Order → ℕ
-remaining_of order = if keeps order then 2147483647 else 0
+remaining_of order = if keeps order then told_capacity else 0
 
 -- SynchronousQueue.peek is always empty; LinkedTransferQueue.peek is the first giver's item
 abbrev pub peek_of : Order → List (Entry ℕ) → Option ℕ

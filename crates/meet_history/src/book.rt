@@ -5,12 +5,13 @@ ghost use Rattle.std.specs.Vec.{vec_capacity};
 ghost use Rattle.meet_history.specs.Booking.{book_refusal, cut_refusal, record_of_receipt};
 ghost use Rattle.meet_tickets.specs.Refusals.{IsWhy};
 ghost use Rattle.meet_tickets.specs.declared.refusals.Refusal.TheVariants.{Memory, HistoryFull};
+ghost use Rattle.meet_tickets.specs.Limits.{most_records, most_gone};
 
 mod drain;
 
 use crate::object::{Bases, Object};
 use crate::receipt::Receipt;
-use meet_tickets::{Record, Refusal, Refused, SeatNo};
+use meet_tickets::{MOST_GONE, Record, Refusal, Refused, SeatNo};
 use std::alloc::Global;
 use std::marker::Model;
 
@@ -26,8 +27,9 @@ pub struct Book<O: Object> {
 }
 
 impl<O: Object> Model for Book<O> {
-    ghost use Rattle.std.specs.Prelude.{◌+◌, ◌<◌, ◌^◌, ◌≤◌, vec_len, length};
+    ghost use Rattle.std.specs.Prelude.{◌+◌, ◌≤◌, vec_len, length};
     ghost use Rattle.std.specs.Vec.{vec_capacity};
+    ghost use Rattle.meet_tickets.specs.Limits.{most_records, most_gone};
     ghost use Rattle.meet_history.specs.Booked.{Booked};
 
     ghost Value = { Booked O O.Base O.Deed };
@@ -36,8 +38,8 @@ impl<O: Object> Model for Book<O> {
 
     ghost invariant = { λ book.
         O.leads book.base book.records.items book.object
-        × (O.gone_of book.base < 2 ^ 63)
-        × (book.cap ≤ 1048576)
+        × (O.gone_of book.base ≤ most_gone)
+        × (book.cap ≤ most_records)
         × (length book.records.items + O.owed_of book.object ≤ book.cap)
         × (vec_len book.records + O.owed_of book.object ≤ vec_capacity book.records) };
 }
@@ -47,7 +49,7 @@ impl<O: Object> Book<O> {
     pub fn new(alloc: Global, object: O, cap: u64) -> Self
         requires fresh { O.leads O.no_base [] object }
         requires cap_from { 0 < cap }
-        requires cap_to { cap ≤ 1048576 }
+        requires cap_to { cap ≤ most_records }
         ensures { result ≡ record { object = object; base = O.no_base; records = []; cap = cap } }
     {
         Book {
@@ -172,7 +174,7 @@ where
         ensures unchanged { IfErr result (λ _. self.new ≡ self.old) }
     {
         let gone = O::gone(&self.base) + self.records.len() as u64;
-        if gone >= 1 << 63 {
+        if gone > MOST_GONE {
             return Err(Refusal::HistoryFull);
         }
         let base = self.object.base(self.alloc, gone)?;

@@ -1,11 +1,12 @@
 //! The checker of histories: are these records legal?
 
-ghost use Rattle.std.specs.Prelude.{◌≡◌, ℕ, ◌<◌, ◌≤◌, ◌↔◌, None, IsTrue, IfOk, IfErr, OnOk};
+ghost use Rattle.std.specs.Prelude.{◌≡◌, ℕ, ◌<◌, ◌≤◌, ◌↔◌, length, None, IsTrue, IfOk, IfErr, OnOk};
 ghost use Rattle.meet_tickets.specs.Meeting.{end_of, partner};
 ghost use Rattle.meet_tickets.specs.ByLists.{IsLegal};
 ghost use Rattle.meet_tickets.specs.BySeat.{beginning, IsFree, Fits, moment_after};
+ghost use Rattle.meet_tickets.specs.Limits.{most_seats};
 ghost use Rattle.meet_tickets.specs.declared.refusals.Refusal.TheVariants.{Memory};
-ghost use Rattle.meet_history.specs.Checking.{IsFaulty, IsUntimely, IsCheckFault, moment_at};
+ghost use Rattle.meet_history.specs.Checking.{IsFaulty, IsUntimely, IsCheckFault, subject_of, moment_at};
 ghost use Rattle.meet_history.specs.OneThread.{standing_at};
 ghost use Rattle.meet_history.specs.Standings.{standing_in};
 
@@ -52,9 +53,6 @@ pub struct Standing {
     pub kept: u64,
 }
 
-/// How many seats the checker knows of: all that there can be.
-const SEATS: u64 = 1024;
-
 /// A place as its records leave it.
 #[derive(Drop)]
 pub(crate) struct Checker {
@@ -67,13 +65,13 @@ pub(crate) struct Checker {
 impl Model for Checker {
     ghost use Rattle.std.specs.Prelude.{◌≡◌, ◌≤◌, length};
     ghost use Rattle.meet_tickets.specs.Meeting.{end_of};
-    ghost use Rattle.meet_history.specs.Checking.{Checked};
+    ghost use Rattle.meet_history.specs.Checking.{Checked, AreSeated};
 
     ghost Value = { Checked };
 
     ghost view = { λ c. record { kind = c.kind; last = c.last; line = c.line.entries; room = c.line.room; table = c.seats } };
 
-    ghost invariant = { λ c. (length c.seats.holds ≡ 1024) × (c.line.end ≡ end_of c.kind.order) × (c.line.newest ≤ c.last) };
+    ghost invariant = { λ c. AreSeated (length c.seats.holds) c.line.entries × (c.line.end ≡ end_of c.kind.order) × (c.line.newest ≤ c.last) };
 }
 
 impl Checker {
@@ -83,7 +81,7 @@ impl Checker {
         ensures moment { IfOk result (λ checker. moment_at checker ≡ beginning) }
         ensures memory { IfErr result (λ why. why ≡ Memory) }
     {
-        let seats = match SeatTable::new(alloc, SEATS) {
+        let seats = match SeatTable::new(alloc, 0) {
             Ok(seats) => seats,
             Err(_) => return Err(Refusal::Memory),
         };
@@ -95,21 +93,25 @@ impl Checker {
         })
     }
 
-    /// Makes room for one entry more. The only refusal is Memory.
-    fn reserve(&mut self) -> Result<(), Refusal>
+    /// Makes room for one entry more, and for this seat in the table. The only refusal is Memory.
+    fn reserve(&mut self, seat: SeatNo) -> Result<(), Refusal>
         ensures kind { self.new.kind ≡ self.old.kind }
         ensures moment { moment_at self.new ≡ moment_at self.old }
         ensures room { OnOk result (0 < self.new.room) }
+        ensures seat { OnOk result (seat < length self.new.table.holds) }
         ensures memory { IfErr result (λ why. why ≡ Memory) }
     {
-        self.line.reserve()
+        match self.seats.grow(seat.number() + 1) {
+            Ok(()) => self.line.reserve(),
+            Err(_) => Err(Refusal::Memory),
+        }
     }
 
     /// What the seat has open.
     fn hold(&self, seat: SeatNo) -> &Hold<u64>
+        requires { seat < length self.now.table.holds }
         ensures { result.now ≡ (moment_at self.now).seats.holds seat }
     {
-        let _number = seat.number();
         self.seats.hold(seat)
     }
 
@@ -125,6 +127,7 @@ impl Checker {
 
     /// Whether a request of this seat with this ticket may come now.
     fn requests(&self, seat: SeatNo, ticket: Ticket) -> Result<(), Why>
+        requires { seat < length self.now.table.holds }
         ensures timely { IfOk result (λ _. IsFree (moment_at self.now).seats seat × ((moment_at self.now).last < ticket)) }
         ensures faulty { IfErr result (λ why. IsUntimely (moment_at self.now) seat ticket why) }
     {
@@ -139,15 +142,16 @@ impl Checker {
 
     /// Whether the seat is flagged.
     fn is_flagged(&self, seat: SeatNo) -> bool
+        requires { seat < length self.now.table.holds }
         ensures { result ≡ (moment_at self.now).seats.flags seat }
     {
-        let _number = seat.number();
         self.seats.is_flagged(seat)
     }
 
     /// Takes the next record in, or tells why it can't stand: the first reason that applies.
     fn next(&mut self, entry: Record<Deed>) -> Result<(), Why>
-        requires { 0 < self.old.room }
+        requires room { 0 < self.old.room }
+        requires seat { subject_of entry.seat entry.deed < length self.old.table.holds }
         ensures fits { IfOk result (λ _. Fits self.old.kind (moment_at self.old) entry) }
         ensures after { IfOk result (λ _. moment_at self.new ≡ moment_after self.old.kind (moment_at self.old) entry) }
         ensures kind { self.new.kind ≡ self.old.kind }
@@ -183,15 +187,26 @@ impl Checker {
 
     /// Where the place's tickets and items are.
     fn standing(&self) -> Standing
-        ensures standing { result ≡ standing_at 1024 (moment_at self.now).seats }
-        ensures beyond { (seat : ℕ) → 1024 ≤ seat → IsFree (moment_at self.now).seats seat }
+        ensures standing { result ≡ standing_at most_seats (moment_at self.now).seats }
+        ensures beyond { (seat : ℕ) → most_seats ≤ seat → IsFree (moment_at self.now).seats seat }
     {
+        let _seats = self.seats.count();
         let kept = self.line.kept();
         Standing {
             waiting: self.line.len() - kept,
             uncollected: self.seats.settled(),
             kept,
         }
+    }
+}
+
+/// The seat that a record is about: an interrupt's target, else its own.
+fn subject_of(entry: &Record<Deed>) -> SeatNo
+    ensures { result ≡ subject_of entry.now.seat entry.now.deed }
+{
+    match entry.deed {
+        Deed::Interrupt(target) => target,
+        _ => entry.seat,
     }
 }
 
@@ -209,7 +224,7 @@ pub fn check(alloc: Global, kind: Kind, records: &[Record<Deed>]) -> Result<Stan
     let mut number = 0u64;
     for entry in records {
         number += 1;
-        match checker.reserve() {
+        match checker.reserve(subject_of(entry)) {
             Ok(()) => {}
             Err(_) => return Err(CheckFault::Memory),
         }

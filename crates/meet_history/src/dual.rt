@@ -1,10 +1,11 @@
 //! The synchronous queue as a book's place, over either line.
 
-ghost use Rattle.std.specs.Prelude.{◌≡◌, ◌+◌, ◌^◌, ◌<◌, ◌≤◌, None, refl, [], option_to_list, length, IfOk, IfErr};
+ghost use Rattle.std.specs.Prelude.{◌≡◌, ◌+◌, ◌<◌, ◌≤◌, None, refl, [], option_to_list, length, IfOk, IfErr};
 ghost use Rattle.meet_tickets.specs.BySeat.{nobody};
 ghost use Rattle.meet_line.specs.Queue.{seats_of, count_of, places_of};
 ghost use Rattle.meet_history.specs.DualRecords.{dual_record};
 ghost use Rattle.meet_tickets.specs.Bases.{no_base, IsBaseOf};
+ghost use Rattle.meet_tickets.specs.Limits.{most_seats, most_records, last_ticket};
 ghost use Rattle.meet_line.specs.Seen.{moment_of_queue};
 ghost use Rattle.meet_history.specs.DualSteps.{DualStep, LeadsTo, kind_of, dual_refusal, dual_need, dual_owed, dual_available, dual_left};
 ghost use Rattle.meet_history.specs.DualRoom.{roomy, roomy-refusal, roomy-leads, roomy-steps, roomy-fresh, own-record};
@@ -143,14 +144,14 @@ impl<T: Marked, L: Line<T>> Drains for Dual<T, L> {
 impl<T: Marked, L: Line<T>> Book<Dual<T, L>> {
     ghost use Rattle.meet_tickets.specs.declared.refusals.Refusal.TheVariants.{Memory};
 
-    /// The book of a new queue with this many seats, at most 1,024, this first ticket, 1 to 2^63 - 1, and at most this many
+    /// The book of a new queue with this many seats, at most 65,536, this first ticket, 1 to 2^63 - 1, and at most this many
     /// records, 1 to 1,048,576. The only refusal is Memory.
     pub fn of_queue(alloc: Global, seats: u64, first: u64, cap: u64) -> Result<Self, Refusal>
-        requires seats { seats ≤ 1024 }
+        requires seats { seats ≤ most_seats }
         requires first_from { 0 < first }
-        requires first_to { first < 2 ^ 63 }
+        requires first_to { first ≤ last_ticket }
         requires cap_from { 0 < cap }
-        requires cap_to { cap ≤ 1048576 }
+        requires cap_to { cap ≤ most_records }
         ensures fresh { IfOk result (λ book. seats_of book.object ≡ nobody) }
         ensures seats { IfOk result (λ book. count_of book.object ≡ seats) }
         ensures unused { IfOk result (λ book. book.object.last ≡ 0) }

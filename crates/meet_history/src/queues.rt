@@ -1,11 +1,12 @@
 //! The queue of a place, whatever its kind.
 
-ghost use Rattle.std.specs.Prelude.{◌≡◌, ◌≤◌, ◌<◌, ◌^◌, true, None, [], refl, IfOk, IfErr};
+ghost use Rattle.std.specs.Prelude.{◌≡◌, ◌≤◌, ◌<◌, true, None, [], refl, IfOk, IfErr};
 ghost use Rattle.meet_tickets.specs.declared.places.Side.TheVariants.{Taker};
 ghost use Rattle.meet_tickets.specs.Meeting.{keeps, waiting_count, kept_count, count_on};
 ghost use Rattle.meet_tickets.specs.BySeat.{nobody, open_ticket, settled_of};
 ghost use Rattle.meet_line.specs.Queue.{seats_of, count_of, places_of};
 ghost use Rattle.meet_tickets.specs.Bases.{no_base, IsBaseOf};
+ghost use Rattle.meet_tickets.specs.Limits.{most_seats, last_ticket};
 ghost use Rattle.meet_line.specs.Seen.{moment_of_queue};
 ghost use Rattle.meet_history.specs.DualSteps.{LeadsTo, dual_refusal, dual_owed, dual_available, dual_left};
 ghost use Rattle.meet_history.specs.DualRoom.{roomy, roomy-leads, roomy-fresh};
@@ -51,13 +52,13 @@ impl AnyQueue {
     ghost use Rattle.meet_history.specs.Limits.{FitsBound};
     ghost use Rattle.meet_history.specs.OneThread.{size_of, remaining_of, peek_of};
 
-    /// A queue of this kind, with this many seats, at most 1,024, and this first ticket, 1 to 2^63 - 1. Only a transfer queue
+    /// A queue of this kind, with this many seats, at most 65,536, and this first ticket, 1 to 2^63 - 1. Only a transfer queue
     /// may have a bound, 1 to 1,048,576. The only refusal is Memory.
     pub fn new(alloc: Global, kind: Kind, seats: u64, first: u64) -> Result<Self, Refusal>
         requires bound { FitsBound kind.order kind.bound }
-        requires seats { seats ≤ 1024 }
+        requires seats { seats ≤ most_seats }
         requires first_from { 0 < first }
-        requires first_to { first < 2 ^ 63 }
+        requires first_to { first ≤ last_ticket }
         ensures kind { IfOk result (λ any. any.kind ≡ kind) }
         ensures fresh { IfOk result (λ any. seats_of any.queue ≡ nobody) }
         ensures seats { IfOk result (λ any. count_of any.queue ≡ seats) }

@@ -1,12 +1,13 @@
 //! The transfer queue as a book's place.
 
-ghost use Rattle.std.specs.Prelude.{◌≡◌, ◌+◌, ◌^◌, ◌<◌, ◌≢◌, ◌≤◌, Some, None, refl, [], option_to_list, length, IfOk, IfErr, Option};
+ghost use Rattle.std.specs.Prelude.{◌≡◌, ◌+◌, ◌<◌, ◌≢◌, ◌≤◌, Some, None, refl, [], option_to_list, length, IfOk, IfErr, Option};
 ghost use Rattle.meet_tickets.specs.declared.places.End.TheVariants.{Front};
 ghost use Rattle.meet_tickets.specs.BySeat.{nobody};
 ghost use Rattle.meet_tickets.specs.declared.refusals.Refusal.TheVariants.{Memory, HistoryFull};
 ghost use Rattle.meet_line.specs.Queue.{seats_of, count_of, places_of, admit_refusal};
 ghost use Rattle.meet_history.specs.DualRecords.{dual_record};
 ghost use Rattle.meet_tickets.specs.Bases.{no_base, IsBaseOf};
+ghost use Rattle.meet_tickets.specs.Limits.{most_seats, most_records, last_ticket};
 ghost use Rattle.meet_line.specs.Seen.{moment_of_queue};
 ghost use Rattle.meet_history.specs.DualSteps.{DualStep, LeadsTo, dual_refusal, dual_need, dual_owed, dual_available, dual_left};
 ghost use Rattle.meet_history.specs.QueueSteps.{BoundedStep, bounded_kind, queue_refusal, queue_need, queue_record};
@@ -144,7 +145,7 @@ impl<T: Marked> Drains for Transfer<T> {
 }
 
 impl<T: Marked> Book<Transfer<T>> {
-    /// The book of a new queue with this many seats, at most 1,024, this first ticket, 1 to 2^63 - 1, this bound on the items
+    /// The book of a new queue with this many seats, at most 65,536, this first ticket, 1 to 2^63 - 1, this bound on the items
     /// that it keeps, or none, and at most this many records, 1 to 1,048,576. The only refusal is Memory.
     pub fn of_transfer(
         alloc: Global,
@@ -153,11 +154,11 @@ impl<T: Marked> Book<Transfer<T>> {
         bound: Option<u64>,
         cap: u64,
     ) -> Result<Self, Refusal>
-        requires seats { seats ≤ 1024 }
+        requires seats { seats ≤ most_seats }
         requires first_from { 0 < first }
-        requires first_to { first < 2 ^ 63 }
+        requires first_to { first ≤ last_ticket }
         requires cap_from { 0 < cap }
-        requires cap_to { cap ≤ 1048576 }
+        requires cap_to { cap ≤ most_records }
         ensures fresh { IfOk result (λ book. seats_of book.object.queue ≡ nobody) }
         ensures seats { IfOk result (λ book. count_of book.object.queue ≡ seats) }
         ensures unused { IfOk result (λ book. book.object.queue.last ≡ 0) }

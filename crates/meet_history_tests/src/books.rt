@@ -1,6 +1,7 @@
 //! A book of a cell: what each step writes, its receipts, what is refused, and drains.
 
 ghost use Rattle.std.specs.Prelude.{◌≡◌, ◌<◌, ◌≤◌};
+ghost use Rattle.meet_tickets.specs.Limits.{most_records};
 
 use crate::cell::{Call, Cell, Deed, Made};
 use meet_history::{Book, Receipt};
@@ -16,7 +17,7 @@ fn seat(number: u64) -> Result<SeatNo, Fail> {
 /// A book of an empty cell with so many tickets, that makes room for so many calls at most.
 fn book_of(alloc: Global, tickets: u64, most: u64, cap: u64) -> Result<Book<Cell>, Fail>
     requires cap_from { 0 < cap }
-    requires cap_to { cap ≤ 1048576 }
+    requires cap_to { cap ≤ most_records }
 {
     Ok(Book::new(alloc, Cell::new(tickets, most)?, cap))
 }

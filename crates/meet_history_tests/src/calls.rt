@@ -37,7 +37,7 @@ pub const TRANSFER: Setup = Setup {
         order: Order::Transfer,
         bound: None,
     },
-    seats: 1024,
+    seats: 65_536,
     cap: 1_048_576,
     first: 1,
 };

@@ -1,5 +1,5 @@
 -- How many seats of a table have an open ticket.
-use Rattle.std.proofs.Common.{◌≡◌, ℕ, zero, suc, ◌+◌, Bool, false, cond, refl, sym, ◌∙◌, ap, List, [], ◌∷◌, length, get_or, replicate, arith}
+use Rattle.std.proofs.Common.{◌≡◌, ℕ, zero, suc, ◌+◌, Bool, false, cond, refl, sym, ◌∙◌, ap, List, [], ◌∷◌, ◌++◌, length, get_or, replicate, arith}
 use Rattle.std.proofs.Math.Path.{fun_ext, ap₂}
 use Rattle.std.proofs.lemmas.List.Sums.{sum_by-cons}
 use Rattle.std.specs.Prelude.{count_by}
@@ -45,3 +45,29 @@ flag_at-replicate n = fun_ext (clear_at n)
     clear_at zero k = refl
     clear_at (suc n) zero = refl
     clear_at (suc n) (suc k) = clear_at n k
+
+-- seats that hold nothing change no count
+pub count_by-more_free : {X : Type 0} (p : Hold X → Bool) → p Free ≡ false → (holds : List (Hold X)) (n : ℕ) → count_by p (holds ++ replicate n Free) ≡ count_by p holds
+count_by-more_free p free [] n = count_by-replicate_free p free n
+count_by-more_free p free (hold ∷ holds) n =
+    sum_by-cons (λ h. cond (p h) 1 0) hold (holds ++ replicate n Free)
+    ∙ ap (λ k. cond (p hold) 1 0 + k) (count_by-more_free p free holds n)
+    ∙ sym (sum_by-cons (λ h. cond (p h) 1 0) hold holds)
+
+-- nor what a seat holds
+pub hold_at-more : {T : Type 0} (holds : List (Hold T)) (n : ℕ) → hold_at (holds ++ replicate n Free) ≡ hold_at holds
+hold_at-more {T} holds n = fun_ext (at holds n)
+  where
+    at : (holds : List (Hold T)) (n k : ℕ) → hold_at (holds ++ replicate n Free) k ≡ hold_at holds k
+    at [] n k = ap (λ f. f k) (hold_at-replicate T n)
+    at (hold ∷ holds) n zero = refl
+    at (hold ∷ holds) n (suc k) = at holds n k
+
+-- and seats that aren't flagged, nor which are
+pub flag_at-more : (flags : List Bool) (n : ℕ) → flag_at (flags ++ replicate n false) ≡ flag_at flags
+flag_at-more flags n = fun_ext (at flags n)
+  where
+    at : (flags : List Bool) (n k : ℕ) → flag_at (flags ++ replicate n false) k ≡ flag_at flags k
+    at [] n k = ap (λ f. f k) (flag_at-replicate n)
+    at (flag ∷ flags) n zero = refl
+    at (flag ∷ flags) n (suc k) = at flags n k

@@ -1,5 +1,5 @@
 -- A queue stays sound.
-use Rattle.std.proofs.Common.{◌≡◌, ◌≢◌, ℕ, zero, suc, ◌+◌, ◌^◌, ◌<◌, ◌==◌, refl, sym, ◌∙◌, ap, subst, List, [], ◌∷◌, ◌++◌, length, get_or, find, arith, Option, Some, None, Bool, true, false, is_some, is_none, cond, IsSome}
+use Rattle.std.proofs.Common.{◌≤◌, ◌≡◌, ◌≢◌, ℕ, zero, suc, ◌+◌, ◌<◌, ◌==◌, refl, sym, ◌∙◌, ap, subst, List, [], ◌∷◌, ◌++◌, length, get_or, find, arith, Option, Some, None, Bool, true, false, is_some, is_none, cond, IsSome}
 use Rattle.std.specs.Prelude.{All, AllPairs, MatchOption}
 use Rattle.std.proofs.lemmas.Bool.{cond_both, ne_eqb, eq-eqb}
 use Rattle.std.proofs.lemmas.List.Elements.{All-append, All-weaker}
@@ -12,6 +12,7 @@ use Rattle.meet_tickets.specs.declared.places.Side.TheVariants.{Giver, Taker}
 use Rattle.meet_tickets.specs.declared.places.End.{End}
 use Rattle.meet_tickets.specs.Meeting.{partner, kept_count}
 use Rattle.meet_tickets.specs.BySeat.{put_at, unmet, without_first, open_ticket}
+use Rattle.meet_tickets.specs.Limits.{last_ticket}
 use Rattle.meet_tickets.proofs.Keeping.{partner-waits}
 use Rattle.meet_tickets.proofs.Partners.{none-from}
 use Rattle.meet_tickets.proofs.Sides.{HasOneSide, All-unmet, All-without_first, AllPairs-unmet, AllPairs-without_first, partner-met, partner-there, partner-other, alone-same, met-apart, found-ticket, found-there, found-apart}
@@ -84,7 +85,7 @@ pub unopened : {T : Type 0} {line : List (Entry T)} {holds : ℕ → Hold T} {ne
 unopened {next = next} sound seat same = let below : next < next = sound.opened seat next same in omega arith
 
 -- a ticket more is used
-pub IsSound-later : {T : Type 0} {line : List (Entry T)} {holds : ℕ → Hold T} {next : ℕ} → IsSound line holds next → next < 2 ^ 63 → IsSound line holds (next + 1)
+pub IsSound-later : {T : Type 0} {line : List (Entry T)} {holds : ℕ → Hold T} {next : ℕ} → IsSound line holds next → next ≤ last_ticket → IsSound line holds (next + 1)
 IsSound-later {line = line} {holds = holds} {next = next} sound few = record {
   standing = All-weaker (Stands holds next) (Stands holds (next + 1)) (λ e stands. record { held = stands.held; given = stands.given; closed = stands.closed; used = let used : e.ticket < next = stands.used in omega arith }) line sound.standing;
   fellows = sound.fellows;
@@ -94,7 +95,7 @@ IsSound-later {line = line} {holds = holds} {next = next} sound few = record {
 }
 
 -- nobody is there
-pub IsSound-new : {T : Type 0} (line : List (Entry T)) (holds : ℕ → Hold T) (next : ℕ) → line ≡ [] → holds ≡ (λ _. Free) → 0 < next → next < 2 ^ 63 → IsSound line holds next
+pub IsSound-new : {T : Type 0} (line : List (Entry T)) (holds : ℕ → Hold T) (next : ℕ) → line ≡ [] → holds ≡ (λ _. Free) → 0 < next → next ≤ last_ticket → IsSound line holds next
 IsSound-new {T} line holds next empty free from to = record {
   standing = subst (λ l. All (Stands holds next) l) (sym empty) (λ k d below. absurd (omega arith));
   fellows = subst (λ l. AllPairs AreFellows l) (sym empty) (λ i j d before below. absurd (omega arith));

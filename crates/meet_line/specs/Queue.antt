@@ -1,10 +1,11 @@
 -- What a queue shows of itself.
-use Rattle.std.specs.Prelude.{◌≡◌, ◌≢◌, ℕ, ◌+◌, ◌^◌, ◌<◌, ◌≤◌, true, false, Option, Some, is_some, IsSome, List, length, All, AllPairs}
+use Rattle.std.specs.Prelude.{◌≡◌, ◌≢◌, ℕ, ◌+◌, ◌<◌, ◌≤◌, true, false, Option, Some, is_some, IsSome, List, length, All, AllPairs}
 use Rattle.meet_tickets.specs.declared.lines.Entry.{Entry}
 use Rattle.meet_tickets.specs.declared.lines.Hold.{Hold}
 use Rattle.meet_tickets.specs.declared.lines.Hold.TheVariants.{Waiting}
 use Rattle.meet_tickets.specs.declared.refusals.Refusal.{Refusal}
 use Rattle.meet_tickets.specs.BySeat.{Seats, open_ticket}
+use Rattle.meet_tickets.specs.Limits.{last_ticket}
 use Rattle.meet_tickets.specs.Refusals.{refusal_of}
 use Rattle.meet_line.specs.Table.{Table, hold_at, flag_at}
 
@@ -51,4 +52,4 @@ pub record IsSound {T : Type 0} (line : List (Entry T)) (holds : ℕ → Hold T)
   pub fellows : AllPairs AreFellows line
   pub opened : (seat t : ℕ) → open_ticket (holds seat) ≡ Some t → t < next  -- what is open was used
   pub tickets_from : 0 < next
-  pub tickets_to : next ≤ 2 ^ 63
+  pub tickets_to : next ≤ last_ticket + 1

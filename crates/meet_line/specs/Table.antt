@@ -1,5 +1,6 @@
 -- What a table of the seats shows of itself.
-use Rattle.std.specs.Prelude.{ℕ, Bool, false, List, slice_index_or}
+use Rattle.std.specs.Prelude.{ℕ, ◌*◌, nat_le, min, max, Bool, false, List, slice_index_or, if◌then◌else◌}
+use Rattle.meet_tickets.specs.Limits.{most_seats}
 use Rattle.meet_tickets.specs.declared.lines.Hold.{Hold}
 use Rattle.meet_tickets.specs.declared.lines.Hold.TheVariants.{Free, Waiting, Handed, Served, Cut}
 
@@ -23,3 +24,8 @@ HasNoItem (Waiting t) = Unit {0}
 HasNoItem (Handed t u mark) = Unit {0}
 HasNoItem (Served t u item) = ⊥
 HasNoItem (Cut t item) = ⊥
+
+-- how many seats a table of so many has that grows to have `count`: as many as it had, where these are enough; else that many,
+-- and twice as many as it had, where a place may have so many
+abbrev pub grown : (was count : ℕ) → ℕ
+grown was count = if nat_le count was then was else min most_seats (max count (2 * was))

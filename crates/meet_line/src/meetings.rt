@@ -1,8 +1,9 @@
 //! What the queues of one thread share: givers and takers that meet in one line, and items that are kept there.
 
-ghost use Rattle.std.specs.Prelude.{◌≡◌, ◌^◌, ◌≤◌, ◌<◌, Some, None, IsOk, IfOk, IfErr, OnOk, OnErr};
+ghost use Rattle.std.specs.Prelude.{◌≡◌, ◌≤◌, ◌<◌, Some, None, IsOk, IfOk, IfErr, OnOk, OnErr};
 ghost use Rattle.meet_tickets.specs.Meeting.{kept_count};
 ghost use Rattle.meet_tickets.specs.BySeat.{nobody};
+ghost use Rattle.meet_tickets.specs.Limits.{most_seats, last_ticket};
 ghost use Rattle.meet_tickets.specs.Refusals.{IsWhy};
 
 use crate::answers::{Gave, Offered, Polled, Put, Took};
@@ -49,12 +50,12 @@ impl<T: Marked, L: Line<T>> Meetings<T, L> {
     ghost use Rattle.meet_line.specs.Steps.{GiveStep, PutStep, TakeStep, OfferStep, PollStep};
     ghost use Rattle.meet_tickets.specs.declared.refusals.Refusal.TheVariants.{Memory};
 
-    /// A queue with no room yet, with this many seats, at most 1,024, and this first ticket, 1 to 2^63 - 1. The only refusal is
+    /// A queue with no room yet, with this many seats, at most 65,536, and this first ticket, 1 to 2^63 - 1. The only refusal is
     /// Memory.
     pub fn new(alloc: Global, seats: u64, first: u64) -> Result<Self, Refusal>
-        requires seats { seats ≤ 1024 }
+        requires seats { seats ≤ most_seats }
         requires first_from { 0 < first }
-        requires first_to { first < 2 ^ 63 }
+        requires first_to { first ≤ last_ticket }
         ensures fresh { IfOk result (λ queue. seats_of queue ≡ nobody) }
         ensures seats { IfOk result (λ queue. count_of queue ≡ seats) }
         ensures unused { IfOk result (λ queue. queue.last ≡ 0) }

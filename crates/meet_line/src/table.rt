@@ -1,9 +1,13 @@
 //! The table of a place's seats: what each holds, which are flagged, and how many tickets are open.
 
-ghost use Rattle.std.specs.Prelude.{◌≡◌, ◌≤◌, ◌<◌, false, length, IfOk};
+ghost use Rattle.std.specs.Prelude.{◌≡◌, ◌+◌, ◌++◌, ◌≤◌, ◌<◌, false, length, replicate, vec_len, IsOk, IfOk, OnOk, OnErr};
+ghost use Rattle.std.specs.Vec.{vec_capacity};
 ghost use Rattle.meet_tickets.specs.BySeat.{put_at, owed_of, settled_of};
+ghost use Rattle.meet_tickets.specs.Limits.{most_seats};
+ghost use Rattle.meet_tickets.specs.declared.lines.Hold.TheVariants.{Free};
+ghost use Rattle.meet_line.specs.Table.{grown};
 
-use meet_tickets::{Hold, SeatNo};
+use meet_tickets::{Hold, MOST_SEATS, SeatNo};
 use std::alloc::{AllocError, Global};
 use std::marker::Model;
 use std::mem;
@@ -20,6 +24,7 @@ pub struct SeatTable<T> {
 impl<T> Model for SeatTable<T> {
     ghost use Rattle.std.specs.Prelude.{◌≡◌, ◌≤◌, count_by, length};
     ghost use Rattle.meet_tickets.specs.BySeat.{is_open, is_settled};
+    ghost use Rattle.meet_tickets.specs.Limits.{most_seats};
     ghost use Rattle.meet_line.specs.Table.{Table};
 
     ghost Value = { Table T };
@@ -28,19 +33,18 @@ impl<T> Model for SeatTable<T> {
 
     ghost invariant = { λ table.
         (length table.flags.items ≡ length table.holds.items)
-        × (length table.holds.items ≤ 1024)
+        × (length table.holds.items ≤ most_seats)
         × (table.owed ≡ count_by is_open table.holds.items)
         × (table.settled ≡ count_by is_settled table.holds.items) };
 }
 
 impl<T> SeatTable<T> {
     ghost use Rattle.meet_line.specs.Table.{hold_at, flag_at, HasNoItem};
-    ghost use Rattle.meet_tickets.specs.declared.lines.Hold.TheVariants.{Free};
 
-    /// A table of this many seats, at most 1,024, none of which holds anything or is flagged. The only error is want of
+    /// A table of this many seats, at most 65,536, none of which holds anything or is flagged. The only error is want of
     /// memory.
     pub fn new(alloc: Global, count: u64) -> Result<Self, AllocError>
-        requires { count ≤ 1024 }
+        requires { count ≤ most_seats }
         ensures count { IfOk result (λ table. length table.holds ≡ count) }
         ensures holds { IfOk result (λ table. hold_at table.holds ≡ (λ _. Free)) }
         ensures flags { IfOk result (λ table. flag_at table.flags ≡ (λ _. false)) }
@@ -58,10 +62,33 @@ impl<T> SeatTable<T> {
         })
     }
 
+    /// Makes it so many seats at least, at most 65,536. The new ones hold nothing and aren't flagged. It grows by what it was, or
+    /// more, so that a seat's share of all growth is a constant. The only error is want of memory.
+    pub fn grow(&mut self, count: u64) -> Result<(), AllocError>
+        requires { count ≤ most_seats }
+        ensures holds { hold_at self.new.holds ≡ hold_at self.old.holds }
+        ensures flags { flag_at self.new.flags ≡ flag_at self.old.flags }
+        ensures count { OnOk result (length self.new.holds ≡ grown (length self.old.holds) count) }
+        ensures there { OnOk result (count ≤ length self.new.holds) }
+        ensures more { length self.old.holds ≤ length self.new.holds }
+        ensures unchanged { OnErr result (self.new ≡ self.old) }
+        ensures enough { count ≤ length self.old.holds → IsOk result }
+    {
+        let was = self.count();
+        if count <= was {
+            return Ok(());
+        }
+        let more = grown_to(was, count) - was;
+        self.holds.reserve(more as usize)?;
+        self.flags.reserve(more as usize)?;
+        add_seats(&mut self.holds, &mut self.flags, more);
+        Ok(())
+    }
+
     /// How many seats there are.
     pub fn count(&self) -> u64
         ensures value { result ≡ length self.now.holds }
-        ensures in_range { length self.now.holds ≤ 1024 }
+        ensures in_range { length self.now.holds ≤ most_seats }
         ensures flags { length self.now.flags ≡ length self.now.holds }
     {
         self.holds.len() as u64
@@ -70,7 +97,7 @@ impl<T> SeatTable<T> {
     /// How many seats have an open ticket.
     pub fn owed(&self) -> u64
         ensures value { result ≡ owed_of (length self.now.holds) (hold_at self.now.holds) }
-        ensures few { result ≤ 1024 }
+        ensures few { result ≤ most_seats }
     {
         self.owed
     }
@@ -134,8 +161,37 @@ impl<T> SeatTable<T> {
     /// How many seats have an open ticket that isn't in the line.
     pub fn settled(&self) -> u64
         ensures value { result ≡ settled_of (length self.now.holds) (hold_at self.now.holds) }
-        ensures few { result ≤ 1024 }
+        ensures few { result ≤ most_seats }
     {
         self.settled
+    }
+}
+
+/// How many seats a table of so many has, once it has grown to more.
+fn grown_to(was: u64, count: u64) -> u64
+    requires more { was < count }
+    requires in_range { count ≤ most_seats }
+    ensures { result ≡ grown was count }
+{
+    let doubled = 2 * was;
+    if doubled <= count {
+        count
+    } else if doubled <= MOST_SEATS {
+        doubled
+    } else {
+        MOST_SEATS
+    }
+}
+
+/// Adds so many seats, which hold nothing and aren't flagged, where there is room for them.
+fn add_seats<T>(holds: &mut Vec<Hold<T>>, flags: &mut Vec<bool>, count: u64)
+    requires holds { vec_len holds.old + count ≤ vec_capacity holds.old }
+    requires flags { vec_len flags.old + count ≤ vec_capacity flags.old }
+    ensures holds { holds.new.items ≡ holds.old.items ++ replicate count Free }
+    ensures flags { flags.new.items ≡ flags.old.items ++ replicate count false }
+{
+    for _ in 0..count {
+        holds.push_reserved(Hold::Free);
+        flags.push_reserved(false);
     }
 }

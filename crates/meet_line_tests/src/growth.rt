@@ -2,8 +2,9 @@
 //! these tests with each allocation refused in turn.
 
 ghost use Rattle.std.specs.Prelude.{◌≡◌, ◌≤◌, OnOk};
+ghost use Rattle.meet_tickets.specs.Limits.{most_seats};
 
-use crate::parcels::{Parcel, first_serial, join, meets_in_order};
+use crate::parcels::{Parcel, first_serial, join, meets_in_order, seat};
 use meet_line::{FairLine, Line, SeatTable, StackLine};
 use meet_tickets::Refusal;
 use std::alloc::Global;
@@ -55,7 +56,7 @@ fn a_stack_grows(rt: HostRuntime) -> Result<(), Fail> {
 
 /// A table of so many seats, at the second try where there was no memory at first.
 fn table(alloc: Global, count: u64) -> Result<SeatTable<Parcel>, Fail>
-    requires { count ≤ 1024 }
+    requires { count ≤ most_seats }
 {
     match SeatTable::new(alloc, count) {
         Ok(table) => Ok(table),
@@ -65,8 +66,46 @@ fn table(alloc: Global, count: u64) -> Result<SeatTable<Parcel>, Fail>
 
 #[test]
 fn a_table_of_seats(rt: HostRuntime) -> Result<(), Fail> {
-    let table = table(rt.alloc(), 1024)?;
-    assert_eq!(rt; table.count(), 1024);
+    let table = table(rt.alloc(), 65_536)?;
+    assert_eq!(rt; table.count(), 65_536);
     assert_eq!(rt; table.owed(), 0);
+    Ok(())
+}
+
+/// Seats up to this one, at the second try where there was no memory at first, are so many.
+fn reaches(
+    rt: &impl Abort,
+    table: &mut SeatTable<Parcel>,
+    number: u64,
+    seats: u64,
+) -> Result<(), Fail> {
+    let count = seat(number)?.number() + 1;
+    let before = table.count();
+    if table.grow(count).is_err() {
+        assert_eq!(rt; table.count(), before);
+        table.grow(count).ok().ok_or("memory")?;
+    }
+    assert_eq!(rt; table.count(), seats);
+    Ok(())
+}
+
+/// The last seats that a table grows to, and how many seats it then has.
+const GROWN: [(u64, u64); 8] = [
+    (0, 1),
+    (1, 2),
+    (2, 4),
+    (3, 4),
+    (99, 100),
+    (100, 200),
+    (65_534, 65_535),
+    (65_535, 65_536),
+];
+
+#[test]
+fn a_table_of_seats_grows(rt: HostRuntime) -> Result<(), Fail> {
+    let mut table = table(rt.alloc(), 0)?;
+    for (number, seats) in &GROWN {
+        reaches(&rt, &mut table, *number, *seats)?;
+    }
     Ok(())
 }

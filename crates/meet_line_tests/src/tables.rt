@@ -70,3 +70,19 @@ fn a_flag_is_its_seats_own(rt: HostRuntime) -> Result<(), Fail> {
     assert!(rt; !table.is_flagged(seat(1)?));
     Ok(())
 }
+
+#[test]
+fn growth_keeps_what_seats_hold(rt: HostRuntime) -> Result<(), Fail> {
+    let mut table = table_of_three(rt.alloc())?;
+    let served = Hold::Served(ticket(4)?, ticket(6)?, Parcel { serial: 60 });
+    swaps(&rt, &mut table, 1, served, (None, None), (1, 1))?;
+    table.set_flag(seat(2)?, true);
+    table.grow(300).ok().ok_or("memory")?;
+    assert_eq!(rt; table.count(), 300);
+    assert_eq!(rt; (table.owed(), table.settled()), (1, 1));
+    assert_eq!(rt; seen(table.hold(seat(1)?)), (Some(4), Some(60)));
+    assert_eq!(rt; seen(table.hold(seat(299)?)), (None, None));
+    assert!(rt; table.is_flagged(seat(2)?));
+    assert!(rt; !table.is_flagged(seat(299)?));
+    Ok(())
+}

@@ -42,7 +42,7 @@ fn opens(rt: &impl Abort, queue: &Fair, wanted: [Option<u64>; 2]) -> Result<(), 
 
 #[test]
 fn of_a_synchronous_queue(rt: HostRuntime) -> Result<(), Fail> {
-    let mut queue: Fair = Dual::new(rt.alloc(), 1024, FIRST).ok().ok_or("memory")?;
+    let mut queue: Fair = Dual::new(rt.alloc(), 65_536, FIRST).ok().ok_or("memory")?;
     // Two givers come, and one is met.
     let rows = [
         (0, Ask::Give(10), Told::Waits(9223372036854775800)),
@@ -50,7 +50,7 @@ fn of_a_synchronous_queue(rt: HostRuntime) -> Result<(), Fail> {
         (2, Ask::Poll, Told::Got(9223372036854775802, FIRST, 10)),
     ];
     plays(&rt, &mut queue, &rows)?;
-    counts(&rt, &queue, [1024, 2, 1, 1, 1, 5]);
+    counts(&rt, &queue, [65_536, 2, 1, 1, 1, 5]);
     opens(&rt, &queue, [Some(FIRST), None])
 }
 
@@ -101,14 +101,16 @@ fn opens_kept(
 
 #[test]
 fn of_a_transfer_queue(rt: HostRuntime) -> Result<(), Fail> {
-    let mut queue: Transfer<Parcel> = Transfer::new(rt.alloc(), 1024, FIRST).ok().ok_or("memory")?;
+    let mut queue: Transfer<Parcel> = Transfer::new(rt.alloc(), 65_536, FIRST)
+        .ok()
+        .ok_or("memory")?;
     let rows = [
         (0, Ask::Put(10), Told::Kept(9223372036854775800)),
         (1, Ask::Give(20), Told::Waits(9223372036854775801)),
         (2, Ask::Put(30), Told::Kept(9223372036854775802)),
     ];
     plays(&rt, &mut queue, &rows)?;
-    counts_kept(&rt, &queue, [1024, 1, 1, 0, 2, 3, 0, 5]);
+    counts_kept(&rt, &queue, [65_536, 1, 1, 0, 2, 3, 0, 5]);
     looks(&rt, &queue, Some(7), false, None);
     opens_kept(&rt, &queue, [None, Some(9223372036854775801)])
 }

@@ -7,6 +7,7 @@ use Rattle.std.proofs.lemmas.Fmt.{length-decimal-le}
 use Rattle.std.proofs.lemmas.Option.{cond_some}
 use Rattle.std.proofs.lemmas.Slice.Eq.{bytes_eq-Decides}
 use Rattle.meet_tickets.specs.declared.places.Order.{Order}
+use Rattle.meet_tickets.specs.Limits.{most_seats}
 use Rattle.meet_history.specs.declared.calls.Call.{Call}
 use Rattle.meet_history.specs.declared.calls.Verb.{Verb}
 use Rattle.meet_history.specs.declared.calls.Verb.TheVariants.{Put, Offer, Take, Poll, Transfer as TransferItem, Try, Follow, Cancel, Expire, Interrupt, Drain, Size, Room, Peek, Consumers}
@@ -66,13 +67,13 @@ numbered word text n a verb spelled fits is e =
     subst (λ (v : Verb). IsNumbered word n v) same (ap (λ (w : List ℕ). w ++ 32 ∷ decimal n) is ∙ spelled, fits)
 
 -- a seat's number
-pub seat-is : (n seat : ℕ) → seat_in n ≡ Some seat → (n ≡ seat) × (n < 1024)
+pub seat-is : (n seat : ℕ) → seat_in n ≡ Some seat → (n ≡ seat) × (n < most_seats)
 unfolding seat_in
-seat-is n seat e = let p = cond_some (ltb n 1024) n seat e in (p.1, ltb-true n 1024 p.0)
+seat-is n seat e = let p = cond_some (ltb n most_seats) n seat e in (p.1, ltb-true n most_seats p.0)
 
-pub seat-again : (n : ℕ) → n < 1024 → seat_in n ≡ Some n
+pub seat-again : (n : ℕ) → n < most_seats → seat_in n ≡ Some n
 unfolding seat_in
-seat-again n lt = rw (lt-ltb n 1024 lt) refl
+seat-again n lt = rw (lt-ltb n most_seats lt) refl
 
 interrupted : (word : List ℕ) (n : ℕ) (verb : Verb) → word ≡ codes "interrupt" → interrupt_of n ≡ Some verb → IsNumbered word n verb
 unfolding interrupt_of
@@ -118,7 +119,7 @@ behind-is line (space ∷ text) verb r e =
     (cc, v.1)
 
 -- the call of a line is spelled there
-call_in-is : (line : List ℕ) (call : Call) → call_in line ≡ Some call → (line ≡ spelling call) × (call.seat < 1024) × FitsVerb call.verb
+call_in-is : (line : List ℕ) (call : Call) → call_in line ≡ Some call → (line ≡ spelling call) × (call.seat < most_seats) × FitsVerb call.verb
 unfolding call_in seat_of
 call_in-is line call e =
     let s = bind-some (seat_of (word_of line)) (λ seat. verb_behind (rest_of line) >>= λ verb. Some (record { seat = seat; verb = verb })) call e in
@@ -129,10 +130,10 @@ call_in-is line call e =
     let behind = behind-is line (rest_of line) v.0 refl v.1 in
     let word : word_of line ≡ decimal s.0 = number.0 ∙ ap (λ (k : ℕ). decimal k) seat.0 in
     let spelled : line ≡ decimal s.0 ++ 32 ∷ verb_text v.0 = sym (word-rest line) ∙ (ap (λ (w : List ℕ). w ++ rest_of line) word ∙ ap (λ (t : List ℕ). decimal s.0 ++ t) behind.0) in
-    let small : s.0 < 1024 = subst (λ (k : ℕ). k < 1024) seat.0 seat.1 in
+    let small : s.0 < most_seats = subst (λ (k : ℕ). k < most_seats) seat.0 seat.1 in
     let made : Call = record { seat = s.0; verb = v.0 } in
     let same : made ≡ call = (let inner : Some made ≡ Some call = v.2 in cc) in
-    subst (λ (c : Call). (line ≡ spelling c) × (c.seat < 1024) × FitsVerb c.verb) same (spelled, small, behind.1)
+    subst (λ (c : Call). (line ≡ spelling c) × (c.seat < most_seats) × FitsVerb c.verb) same (spelled, small, behind.1)
 
 -- ---- what is spelled is read
 
@@ -157,7 +158,7 @@ verb-again Room h = refl
 verb-again Peek h = refl
 verb-again Consumers h = refl
 
-call_in-again : (call : Call) → call.seat < 1024 → FitsVerb call.verb → call_in (spelling call) ≡ Some call
+call_in-again : (call : Call) → call.seat < most_seats → FitsVerb call.verb → call_in (spelling call) ≡ Some call
 unfolding call_in seat_of
 call_in-again call small fits =
     let wide : call.seat < 2 ^ 64 = omega arith in
@@ -184,7 +185,7 @@ verb-short Room h = lit≤ tt
 verb-short Peek h = lit≤ tt
 verb-short Consumers h = lit≤ tt
 
-spelling-short : (call : Call) → call.seat < 1024 → FitsVerb call.verb → length (spelling call) ≤ 128
+spelling-short : (call : Call) → call.seat < most_seats → FitsVerb call.verb → length (spelling call) ≤ 128
 spelling-short call small fits =
     omega (arith, length-append (decimal call.seat) (32 ∷ verb_text call.verb), number-short call.seat (omega arith), verb-short call.verb fits)
 

@@ -5,6 +5,7 @@ use Rattle.std.proofs.lemmas.Bool.{le-ltb}
 use Rattle.std.proofs.lemmas.Option.{cond_some}
 use Rattle.meet_tickets.specs.declared.places.Order.{Order}
 use Rattle.meet_tickets.specs.declared.places.Kind.{Kind}
+use Rattle.meet_tickets.specs.Limits.{most_kept}
 use Rattle.meet_history.specs.Limits.{FitsBound}
 use Rattle.meet_run.specs.Words.{word_of, rest_of, behind}
 use Rattle.meet_run.specs.Grammar.{order_of, option_in, may_have}
@@ -30,9 +31,9 @@ kind_in-is : (text : List ℕ) (kind : Kind) → kind_in text ≡ Some kind → 
 unfolding kind_in
 kind_in-is text kind e =
     let o = bind-some (order_of (word_of text)) _ kind e in
-    let b = bind-some (option_in (codes " bound ") 1048576 (rest_of text)) _ kind o.2 in
+    let b = bind-some (option_in (codes " bound ") most_kept (rest_of text)) _ kind o.2 in
     let word = order-is (word_of text) o.0 o.1 in
-    let option = option-is (codes " bound ") 1048576 (rest_of text) b.0 b.1 in
+    let option = option-is (codes " bound ") most_kept (rest_of text) b.0 b.1 in
     let end = end-is o.0 b.0.0 b.0.1 kind b.2 in
     let bound : List ℕ = option_text (codes " bound ") b.0.0 in
     let rest : rest_of text ≡ bound = option.0 ∙ (ap (λ (t : List ℕ). bound ++ t) end.0 ∙ search rules) in
@@ -64,7 +65,7 @@ head-short : (kind : Kind) → FitsBound kind.order kind.bound → length (head_
 head-short kind h =
     let p : List ℕ = place_text kind.order in
     let b : List ℕ = option_text (codes " bound ") kind.bound in
-    let bound : length b ≤ 27 = option-short (codes " bound ") 1048576 kind.bound (lit< tt) (may-of kind.order kind.bound h).1 in
+    let bound : length b ≤ 27 = option-short (codes " bound ") most_kept kind.bound (lit< tt) (may-of kind.order kind.bound h).1 in
     omega (arith, length-append p b, place-short kind.order, bound)
 
 -- ---- the law

@@ -2,6 +2,7 @@
 use Rattle.std.proofs.Common.{◌≡◌, ℕ, ◌+◌, ◌<◌, ◌≤◌, Bool, true, false, cond, ltb, List, ◌∷◌, length, Option, Some, None, refl, sym, ap, subst, ◌∙◌}
 use Rattle.std.specs.Prelude.{IfSome}
 use Rattle.std.proofs.lemmas.Bool.{lt-ltb, le-ltb}
+use Rattle.meet_tickets.specs.Limits.{most_records}
 use Rattle.meet_run.specs.declared.reading.LineRead.{LineRead}
 use Rattle.meet_run.specs.declared.reading.LineRead.TheVariants.{Line, End, TooLong, Failed}
 use Rattle.meet_run.specs.declared.next.Next.{Next}
@@ -57,7 +58,7 @@ head-too_long line long = rw (lt-ltb 128 (length line) long) refl
 
 pub record-too_long : (n : ℕ) (line : List ℕ) → 128 < length line → record_at n line ≡ None
 unfolding record_at record_of
-record-too_long n line long = rw (lt-ltb 128 (length line) long) (either None (ltb 1048577 n))
+record-too_long n line long = rw (lt-ltb 128 (length line) long) (either None (ltb (most_records + 1) n))
   where
     either : {A : Type 0} (o : Option A) (b : Bool) → cond b o o ≡ o
     either o true = refl
@@ -65,10 +66,10 @@ record-too_long n line long = rw (lt-ltb 128 (length line) long) (either None (l
 
 -- ---- lines of a trace that stand behind too many others
 
-pub record_at-past : (n : ℕ) (line : List ℕ) → 1048577 < n → record_at n line ≡ None
+pub record_at-past : (n : ℕ) (line : List ℕ) → most_records + 1 < n → record_at n line ≡ None
 unfolding record_at
-record_at-past n line past = rw (lt-ltb 1048577 n past) refl
+record_at-past n line past = rw (lt-ltb (most_records + 1) n past) refl
 
-pub record_at-within : (n : ℕ) (line : List ℕ) → n ≤ 1048577 → record_at n line ≡ record_of line
+pub record_at-within : (n : ℕ) (line : List ℕ) → n ≤ most_records + 1 → record_at n line ≡ record_of line
 unfolding record_at
-record_at-within n line within = rw (le-ltb 1048577 n within) refl
+record_at-within n line within = rw (le-ltb (most_records + 1) n within) refl

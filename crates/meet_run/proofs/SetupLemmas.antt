@@ -7,6 +7,7 @@ use Rattle.std.proofs.lemmas.Fmt.{length-decimal-le}
 use Rattle.std.proofs.lemmas.Option.{cond_some}
 use Rattle.meet_tickets.specs.declared.places.Order.{Order}
 use Rattle.meet_tickets.specs.declared.places.Order.TheVariants.{Fair, Unfair, Transfer}
+use Rattle.meet_tickets.specs.Limits.{most_seats, most_records, most_kept, last_ticket}
 use Rattle.meet_run.specs.declared.first_line.Options.{Options}
 use Rattle.meet_history.specs.declared.setups.Setup.{Setup}
 use Rattle.meet_run.specs.Words.{word_of, rest_of, behind, number_spelled}
@@ -54,22 +55,22 @@ option-is name most rest found e = go (behind name rest) refl e
 
 -- each option that is spelled out is in its limits
 record AreWithin (options : Options) : Type 0 where
-  seats : IsWithin 1024 options.seats
-  cap : IsWithin 1048576 options.cap
-  first : IsWithin 9223372036854775807 options.first
-  bound : IsWithin 1048576 options.bound
+  seats : IsWithin most_seats options.seats
+  cap : IsWithin most_records options.cap
+  first : IsWithin last_ticket options.first
+  bound : IsWithin most_kept options.bound
 
 written-is : (rest : List ℕ) (found : Options × List ℕ) → written_in rest ≡ Some found → (rest ≡ written_text found.0 ++ found.1) × AreWithin found.0
 unfolding written_in
 written-is rest found e =
-    let seats = bind-some (option_in (codes " seats ") 1024 rest) _ found e in
-    let cap = bind-some (option_in (codes " cap ") 1048576 seats.0.1) _ found seats.2 in
-    let first = bind-some (option_in (codes " first ") 9223372036854775807 cap.0.1) _ found cap.2 in
-    let bound = bind-some (option_in (codes " bound ") 1048576 first.0.1) _ found first.2 in
-    let a = option-is (codes " seats ") 1024 rest seats.0 seats.1 in
-    let b = option-is (codes " cap ") 1048576 seats.0.1 cap.0 cap.1 in
-    let c = option-is (codes " first ") 9223372036854775807 cap.0.1 first.0 first.1 in
-    let d = option-is (codes " bound ") 1048576 first.0.1 bound.0 bound.1 in
+    let seats = bind-some (option_in (codes " seats ") most_seats rest) _ found e in
+    let cap = bind-some (option_in (codes " cap ") most_records seats.0.1) _ found seats.2 in
+    let first = bind-some (option_in (codes " first ") last_ticket cap.0.1) _ found cap.2 in
+    let bound = bind-some (option_in (codes " bound ") most_kept first.0.1) _ found first.2 in
+    let a = option-is (codes " seats ") most_seats rest seats.0 seats.1 in
+    let b = option-is (codes " cap ") most_records seats.0.1 cap.0 cap.1 in
+    let c = option-is (codes " first ") last_ticket cap.0.1 first.0 first.1 in
+    let d = option-is (codes " bound ") most_kept first.0.1 bound.0 bound.1 in
     let made : Options × List ℕ = (record { seats = seats.0.0; cap = cap.0.0; first = first.0.0; bound = bound.0.0 }, bound.0.1) in
     let same : made ≡ found = (let inner : Some made ≡ Some found = bound.2 in cc) in
     let ta : List ℕ = option_text (codes " seats ") seats.0.0 in
@@ -100,16 +101,16 @@ limits-of : (most default : ℕ) (o : Option ℕ) → IsWithin most o → 1 ≤ 
 limits-of most default None h low high = (low, high)
 limits-of most default (Some n) h low high = h
 
-pub bound-of : (order : Order) (bound : Option ℕ) → may_have order bound ≡ true → IsWithin 1048576 bound → FitsBound order bound
+pub bound-of : (order : Order) (bound : Option ℕ) → may_have order bound ≡ true → IsWithin most_kept bound → FitsBound order bound
 bound-of order None may h = tt
 bound-of order (Some n) may h = (may, h.0, h.1)
 
 in_limits : (order : Order) (options : Options) → AreWithin options → may_have order options.bound ≡ true → IsInLimits (setup_with order options)
 in_limits order options h may =
-    let first = limits-of 9223372036854775807 1 options.first h.first (lit≤ tt) (lit≤ tt) in
+    let first = limits-of last_ticket 1 options.first h.first (lit≤ tt) (lit≤ tt) in
     record {
-      seats = limits-of 1024 64 options.seats h.seats (lit≤ tt) (lit≤ tt);
-      cap = limits-of 1048576 1048576 options.cap h.cap (lit≤ tt) (lit≤ tt);
+      seats = limits-of most_seats 64 options.seats h.seats (lit≤ tt) (lit≤ tt);
+      cap = limits-of most_records most_records options.cap h.cap (lit≤ tt) (lit≤ tt);
       first = (first.0, omega (arith, first.1));
       bound = bound-of order options.bound may h.bound;
     }
@@ -173,33 +174,33 @@ seats-tail : (s c f b : Option ℕ) → IsTail (seats-text s c f b)
 seats-tail None c f b = cap-tail c f b
 seats-tail (Some n) c f b = tail-space _
 
-pub bound-again : (b : Option ℕ) → IsWithin 1048576 b → option_in (codes " bound ") 1048576 (bound-text b) ≡ Some (b, [])
+pub bound-again : (b : Option ℕ) → IsWithin most_kept b → option_in (codes " bound ") most_kept (bound-text b) ≡ Some (b, [])
 unfolding behind
-bound-again None h = option-absent (codes " bound ") 1048576 [] refl
+bound-again None h = option-absent (codes " bound ") most_kept [] refl
 bound-again (Some n) h =
     let end : decimal n ≡ decimal n ++ [] = search rules in
-    option-again (codes " bound ") 1048576 n [] (bound-text (Some n)) (ap (λ (t : List ℕ). Some t) end) (lit< tt) h tail-none
+    option-again (codes " bound ") most_kept n [] (bound-text (Some n)) (ap (λ (t : List ℕ). Some t) end) (lit< tt) h tail-none
 
-first-again : (f b : Option ℕ) → IsWithin 9223372036854775807 f → option_in (codes " first ") 9223372036854775807 (first-text f b) ≡ Some (f, bound-text b)
+first-again : (f b : Option ℕ) → IsWithin last_ticket f → option_in (codes " first ") last_ticket (first-text f b) ≡ Some (f, bound-text b)
 unfolding behind
-first-again (Some n) b h = option-again (codes " first ") 9223372036854775807 n (bound-text b) (first-text (Some n) b) refl (lit< tt) h (bound-tail b)
-first-again None (Some m) h = option-absent (codes " first ") 9223372036854775807 (bound-text (Some m)) refl
-first-again None None h = option-absent (codes " first ") 9223372036854775807 [] refl
+first-again (Some n) b h = option-again (codes " first ") last_ticket n (bound-text b) (first-text (Some n) b) refl (lit< tt) h (bound-tail b)
+first-again None (Some m) h = option-absent (codes " first ") last_ticket (bound-text (Some m)) refl
+first-again None None h = option-absent (codes " first ") last_ticket [] refl
 
-cap-again : (c f b : Option ℕ) → IsWithin 1048576 c → option_in (codes " cap ") 1048576 (cap-text c f b) ≡ Some (c, first-text f b)
+cap-again : (c f b : Option ℕ) → IsWithin most_records c → option_in (codes " cap ") most_records (cap-text c f b) ≡ Some (c, first-text f b)
 unfolding behind
-cap-again (Some n) f b h = option-again (codes " cap ") 1048576 n (first-text f b) (cap-text (Some n) f b) refl (lit< tt) h (first-tail f b)
-cap-again None (Some m) b h = option-absent (codes " cap ") 1048576 (first-text (Some m) b) refl
-cap-again None None (Some m) h = option-absent (codes " cap ") 1048576 (bound-text (Some m)) refl
-cap-again None None None h = option-absent (codes " cap ") 1048576 [] refl
+cap-again (Some n) f b h = option-again (codes " cap ") most_records n (first-text f b) (cap-text (Some n) f b) refl (lit< tt) h (first-tail f b)
+cap-again None (Some m) b h = option-absent (codes " cap ") most_records (first-text (Some m) b) refl
+cap-again None None (Some m) h = option-absent (codes " cap ") most_records (bound-text (Some m)) refl
+cap-again None None None h = option-absent (codes " cap ") most_records [] refl
 
-seats-again : (s c f b : Option ℕ) → IsWithin 1024 s → option_in (codes " seats ") 1024 (seats-text s c f b) ≡ Some (s, cap-text c f b)
+seats-again : (s c f b : Option ℕ) → IsWithin most_seats s → option_in (codes " seats ") most_seats (seats-text s c f b) ≡ Some (s, cap-text c f b)
 unfolding behind
-seats-again (Some n) c f b h = option-again (codes " seats ") 1024 n (cap-text c f b) (seats-text (Some n) c f b) refl (lit< tt) h (cap-tail c f b)
-seats-again None (Some m) f b h = option-absent (codes " seats ") 1024 (cap-text (Some m) f b) refl
-seats-again None None (Some m) b h = option-absent (codes " seats ") 1024 (first-text (Some m) b) refl
-seats-again None None None (Some m) h = option-absent (codes " seats ") 1024 (bound-text (Some m)) refl
-seats-again None None None None h = option-absent (codes " seats ") 1024 [] refl
+seats-again (Some n) c f b h = option-again (codes " seats ") most_seats n (cap-text c f b) (seats-text (Some n) c f b) refl (lit< tt) h (cap-tail c f b)
+seats-again None (Some m) f b h = option-absent (codes " seats ") most_seats (cap-text (Some m) f b) refl
+seats-again None None (Some m) b h = option-absent (codes " seats ") most_seats (first-text (Some m) b) refl
+seats-again None None None (Some m) h = option-absent (codes " seats ") most_seats (bound-text (Some m)) refl
+seats-again None None None None h = option-absent (codes " seats ") most_seats [] refl
 
 written-again : (o : Options) → AreWithin o → written_in (written_text o) ≡ Some (o, [])
 unfolding written_in
@@ -227,15 +228,15 @@ within-of : (most default : ℕ) (o : Option ℕ) → 1 ≤ unwrap_or o default 
 within-of most default None low high = tt
 within-of most default (Some n) low high = (low, high)
 
-pub may-of : (order : Order) (bound : Option ℕ) → FitsBound order bound → (may_have order bound ≡ true) × IsWithin 1048576 bound
+pub may-of : (order : Order) (bound : Option ℕ) → FitsBound order bound → (may_have order bound ≡ true) × IsWithin most_kept bound
 may-of order None h = (refl, tt)
 may-of order (Some n) h = (h.0, (h.1, h.2))
 
 within : (order : Order) (o : Options) → IsInLimits (setup_with order o) → AreWithin o
 within order o h = record {
-  seats = within-of 1024 64 o.seats h.seats.0 h.seats.1;
-  cap = within-of 1048576 1048576 o.cap h.cap.0 h.cap.1;
-  first = within-of 9223372036854775807 1 o.first h.first.0 (omega (arith, h.first.1));
+  seats = within-of most_seats 64 o.seats h.seats.0 h.seats.1;
+  cap = within-of most_records most_records o.cap h.cap.0 h.cap.1;
+  first = within-of last_ticket 1 o.first h.first.0 (omega (arith, h.first.1));
   bound = (may-of order o.bound h.bound).1;
 }
 
@@ -257,10 +258,10 @@ sum-short p a b c d hp ha hb hc hd =
 
 line-short : (order : Order) (o : Options) → AreWithin o → length (place_text order ++ written_text o) ≤ 128
 line-short order o h =
-    let a : length (option_text (codes " seats ") o.seats) ≤ 27 = option-short (codes " seats ") 1024 o.seats (lit< tt) h.seats in
-    let b : length (option_text (codes " cap ") o.cap) ≤ 25 = option-short (codes " cap ") 1048576 o.cap (lit< tt) h.cap in
-    let c : length (option_text (codes " first ") o.first) ≤ 27 = option-short (codes " first ") 9223372036854775807 o.first (lit< tt) h.first in
-    let d : length (option_text (codes " bound ") o.bound) ≤ 27 = option-short (codes " bound ") 1048576 o.bound (lit< tt) h.bound in
+    let a : length (option_text (codes " seats ") o.seats) ≤ 27 = option-short (codes " seats ") most_seats o.seats (lit< tt) h.seats in
+    let b : length (option_text (codes " cap ") o.cap) ≤ 25 = option-short (codes " cap ") most_records o.cap (lit< tt) h.cap in
+    let c : length (option_text (codes " first ") o.first) ≤ 27 = option-short (codes " first ") last_ticket o.first (lit< tt) h.first in
+    let d : length (option_text (codes " bound ") o.bound) ≤ 27 = option-short (codes " bound ") most_kept o.bound (lit< tt) h.bound in
     sum-short (place_text order) (option_text (codes " seats ") o.seats) (option_text (codes " cap ") o.cap) (option_text (codes " first ") o.first) (option_text (codes " bound ") o.bound) (place-short order) a b c d
 
 -- ---- the law

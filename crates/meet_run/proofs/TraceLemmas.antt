@@ -1,7 +1,7 @@
 -- A line reads as a record exactly where it is that record's one spelling.
-use Rattle.std.proofs.Common.{◌≡◌, ℕ, ◌^◌, ◌<◌, ◌≤◌, ltb, List, [], ◌∷◌, ◌++◌, length, Option, Some, refl, sym, ap, subst, ◌∙◌, arith, rules, length-append, lit≤}
+use Rattle.std.proofs.Common.{◌≡◌, ℕ, ◌^◌, ◌<◌, ◌≤◌, ltb, leb, List, [], ◌∷◌, ◌++◌, length, Option, Some, refl, sym, ap, subst, ◌∙◌, arith, rules, length-append, lit≤}
 use Rattle.std.specs.Prelude.{decimal, codes}
-use Rattle.std.proofs.lemmas.Bool.{ltb-true, lt-ltb, le-ltb}
+use Rattle.std.proofs.lemmas.Bool.{leb-true, le-leb, le-ltb}
 use Rattle.std.proofs.lemmas.Option.{cond_some}
 use Rattle.meet_tickets.specs.declared.places.Side.{Side}
 use Rattle.meet_tickets.specs.declared.places.Side.TheVariants.{Giver, Taker}
@@ -10,6 +10,7 @@ use Rattle.meet_tickets.specs.declared.records.Cause.TheVariants.{Cancelled, Exp
 use Rattle.meet_tickets.specs.declared.records.Deed.{Deed}
 use Rattle.meet_tickets.specs.declared.records.Deed.TheVariants.{GiveWaits, GiveMeets, GiveFails, GiveKept, TakeWaits, TakeMeets, TakeFails, EntryInterrupted, Done, Got, Withdrawn, Interrupt}
 use Rattle.meet_tickets.specs.declared.records.Record.{Record}
+use Rattle.meet_tickets.specs.Limits.{most_seats, last_ticket}
 use Rattle.meet_run.specs.Words.{word_of, rest_of, number_spelled}
 use Rattle.meet_run.specs.Grammar.{◌>>=◌, seat_in, seat_of}
 use Rattle.meet_run.specs.Wording.{cause_text}
@@ -21,22 +22,22 @@ use Rattle.meet_run.proofs.CallLemmas.{bind-some, chosen, chosen-second, seat-is
 -- ---- what is read is spelled
 
 -- a ticket's word is its number
-ticket-is : (word : List ℕ) (t : ℕ) → ticket_of word ≡ Some t → (word ≡ decimal t) × (t < 2 ^ 63)
+ticket-is : (word : List ℕ) (t : ℕ) → ticket_of word ≡ Some t → (word ≡ decimal t) × (t ≤ last_ticket)
 unfolding ticket_of ticket_in
 ticket-is word t e =
     let b = bind-some (number_spelled word) ticket_in t e in
     let number = number_spelled-is word b.0 b.1 in
-    let p = cond_some (ltb b.0 (2 ^ 63)) b.0 t b.2 in
-    (number.0 ∙ ap (λ (k : ℕ). decimal k) p.1, subst (λ (k : ℕ). k < 2 ^ 63) p.1 (ltb-true b.0 (2 ^ 63) p.0))
+    let p = cond_some (leb b.0 last_ticket) b.0 t b.2 in
+    (number.0 ∙ ap (λ (k : ℕ). decimal k) p.1, subst (λ (k : ℕ). k ≤ last_ticket) p.1 (leb-true b.0 last_ticket p.0))
 
 -- a seat's word is its number
-seat_word-is : (word : List ℕ) (seat : ℕ) → seat_of word ≡ Some seat → (word ≡ decimal seat) × (seat < 1024)
+seat_word-is : (word : List ℕ) (seat : ℕ) → seat_of word ≡ Some seat → (word ≡ decimal seat) × (seat < most_seats)
 unfolding seat_of
 seat_word-is word seat e =
     let b = bind-some (number_spelled word) seat_in seat e in
     let number = number_spelled-is word b.0 b.1 in
     let p = seat-is b.0 seat b.2 in
-    (number.0 ∙ ap (λ (k : ℕ). decimal k) p.0, subst (λ (k : ℕ). k < 1024) p.0 p.1)
+    (number.0 ∙ ap (λ (k : ℕ). decimal k) p.0, subst (λ (k : ℕ). k < most_seats) p.0 p.1)
 
 side-is : (word : List ℕ) (side : Side) → side_of word ≡ Some side → word ≡ side_text side
 unfolding side_of
@@ -117,7 +118,7 @@ worded-is word value d e =
     chosen word (codes "withdrawn") (cause_of value >>= λ cause. Some (Withdrawn cause)) _ d P e1 (withdrawn-is word value d) (λ e2.
     chosen word (codes "interrupt") (seat_of value >>= λ target. Some (Interrupt target)) _ d P e2 (interrupt-is word value d) (mark-is word value d)))
 
-paired-is : (word : List ℕ) (m u : ℕ) (d : Deed) → m < 2 ^ 64 → u < 2 ^ 63 → paired_deed_of word m u ≡ Some d → IsDeed (word ++ 32 ∷ (decimal m ++ 32 ∷ decimal u)) d
+paired-is : (word : List ℕ) (m u : ℕ) (d : Deed) → m < 2 ^ 64 → u ≤ last_ticket → paired_deed_of word m u ≡ Some d → IsDeed (word ++ 32 ∷ (decimal m ++ 32 ∷ decimal u)) d
 unfolding paired_deed_of
 paired-is word m u d lm lu e =
     let pair : List ℕ = decimal m ++ 32 ∷ decimal u in
@@ -172,7 +173,7 @@ deed_behind-is line (space ∷ text) d r e =
 -- the rest of a line spells a record of this seat
 abbrev IsRest : (seat : ℕ) → (rest : List ℕ) → Record Deed → Type 0
 IsRest seat rest r =
-    (r.seat ≡ seat) × (rest ≡ 32 ∷ (decimal r.ticket ++ 32 ∷ deed_text r.deed)) × (r.ticket < 2 ^ 63) × FitsDeed r.deed
+    (r.seat ≡ seat) × (rest ≡ 32 ∷ (decimal r.ticket ++ 32 ∷ deed_text r.deed)) × (r.ticket ≤ last_ticket) × FitsDeed r.deed
 
 behind-is : (seat : ℕ) (line rest : List ℕ) (r : Record Deed) → rest_of line ≡ rest → record_behind seat rest ≡ Some r → IsRest seat rest r
 unfolding record_behind
@@ -200,16 +201,16 @@ record_in-is line r e =
     let word : word_of line ≡ decimal r.seat = seat.0 ∙ ap (λ (k : ℕ). decimal k) (sym rest.0) in
     let spelled : line ≡ record_text r =
     sym (word-rest line) ∙ (ap (λ (w : List ℕ). w ++ rest_of line) word ∙ ap (λ (t : List ℕ). decimal r.seat ++ t) rest.1) in
-    let small : r.seat < 1024 = subst (λ (k : ℕ). k < 1024) (sym rest.0) seat.1 in
+    let small : r.seat < most_seats = subst (λ (k : ℕ). k < most_seats) (sym rest.0) seat.1 in
     (spelled, record { seat = small; ticket = rest.2; deed = rest.3 })
 
 -- ---- what is spelled is read
 
-ticket-again : (t : ℕ) → t < 2 ^ 63 → ticket_of (decimal t) ≡ Some t
+ticket-again : (t : ℕ) → t ≤ last_ticket → ticket_of (decimal t) ≡ Some t
 unfolding ticket_of ticket_in
-ticket-again t lt = rw (number_spelled-decimal t (omega arith), lt-ltb t (2 ^ 63) lt) refl
+ticket-again t lt = rw (number_spelled-decimal t (omega arith), le-leb t last_ticket lt) refl
 
-seat_word-again : (seat : ℕ) → seat < 1024 → seat_of (decimal seat) ≡ Some seat
+seat_word-again : (seat : ℕ) → seat < most_seats → seat_of (decimal seat) ≡ Some seat
 unfolding seat_of
 seat_word-again seat lt = rw (number_spelled-decimal seat (omega arith), seat-again seat lt) refl
 
@@ -227,7 +228,7 @@ marked-again : (word : List ℕ) (m : ℕ) (d : Deed) → m < 2 ^ 64 → worded_
 marked-again word m d lt falls e =
     worded-again word (decimal m) d (no_space-decimal m lt) (falls ∙ (ap (λ (o : Option ℕ). o >>= marked_deed_of word) (number_spelled-decimal m lt) ∙ e))
 
-paired-again : (word : List ℕ) (m u : ℕ) (d : Deed) → m < 2 ^ 64 → u < 2 ^ 63 → paired_deed_of word m u ≡ Some d → deed_of word (32 ∷ (decimal m ++ 32 ∷ decimal u)) ≡ Some d
+paired-again : (word : List ℕ) (m u : ℕ) (d : Deed) → m < 2 ^ 64 → u ≤ last_ticket → paired_deed_of word m u ≡ Some d → deed_of word (32 ∷ (decimal m ++ 32 ∷ decimal u)) ≡ Some d
 unfolding deed_of deed_with
 paired-again word m u d lm lu e =
     let cut = tail-space (decimal u) (decimal m) (no_space-decimal m lm) in
@@ -262,7 +263,7 @@ withdrawn-again : (cause : Cause) → worded_deed_of (codes "withdrawn") (cause_
 unfolding worded_deed_of
 withdrawn-again cause = rw (cause-again cause) refl
 
-interrupt-again : (target : ℕ) → target < 1024 → worded_deed_of (codes "interrupt") (decimal target) ≡ Some (Interrupt target)
+interrupt-again : (target : ℕ) → target < most_seats → worded_deed_of (codes "interrupt") (decimal target) ≡ Some (Interrupt target)
 unfolding worded_deed_of
 interrupt-again target lt = rw (seat_word-again target lt) refl
 
@@ -284,7 +285,7 @@ deed-again (Withdrawn cause) h =
 deed-again (Interrupt target) h =
     worded-again (codes "interrupt") (decimal target) (Interrupt target) (no_space-decimal target (omega arith)) (interrupt-again target h)
 
-behind-again : (r : Record Deed) → r.ticket < 2 ^ 63 → FitsDeed r.deed → record_behind r.seat (32 ∷ (decimal r.ticket ++ 32 ∷ deed_text r.deed)) ≡ Some r
+behind-again : (r : Record Deed) → r.ticket ≤ last_ticket → FitsDeed r.deed → record_behind r.seat (32 ∷ (decimal r.ticket ++ 32 ∷ deed_text r.deed)) ≡ Some r
 unfolding record_behind
 behind-again r lt h =
     let cut = tail-space (deed_text r.deed) (decimal r.ticket) (no_space-decimal r.ticket (omega arith)) in
@@ -299,7 +300,7 @@ record_in-again r fits =
 
 -- ---- a spelling is short
 
-pair-short : (word : List ℕ) (m u : ℕ) → m < 2 ^ 64 → u < 2 ^ 63 → length word ≤ 12 → length (word ++ (decimal m ++ 32 ∷ decimal u)) ≤ 60
+pair-short : (word : List ℕ) (m u : ℕ) → m < 2 ^ 64 → u ≤ last_ticket → length word ≤ 12 → length (word ++ (decimal m ++ 32 ∷ decimal u)) ≤ 60
 pair-short word m u lm lu h =
     omega (arith, h, length-append word (decimal m ++ 32 ∷ decimal u), length-append (decimal m) (32 ∷ decimal u), number-short m lm, number-short u (omega arith))
 

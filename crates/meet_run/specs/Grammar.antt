@@ -5,6 +5,7 @@ use Rattle.std.specs.Str.{bytes_eq}
 use Rattle.meet_tickets.specs.declared.places.Order.{Order}
 use Rattle.meet_tickets.specs.declared.places.Order.TheVariants.{Fair, Unfair, Transfer}
 use Rattle.meet_tickets.specs.Meeting.{keeps}
+use Rattle.meet_tickets.specs.Limits.{most_seats, most_records, most_kept, last_ticket}
 use Rattle.meet_history.specs.declared.calls.Call.{Call}
 use Rattle.meet_history.specs.declared.calls.Verb.{Verb}
 use Rattle.meet_history.specs.declared.calls.Verb.TheVariants.{Put, Offer, Take, Poll, Transfer as TransferItem, Try, Follow, Cancel, Expire, Interrupt, Drain, Size, Room, Peek, Consumers}
@@ -24,7 +25,7 @@ provided test x = if test then Some x else None
 
 -- a seat's number
 unfoldable pub seat_in : ℕ → Option ℕ
-seat_in n = provided (nat_lt n 1024) n
+seat_in n = provided (nat_lt n most_seats) n
 
 -- the verb of a word that stands alone
 unfoldable pub bare_verb_of : (word : List ℕ) → Option Verb
@@ -103,10 +104,10 @@ option_in name most rest =
 -- the options of a first line, each at most once and in this order
 unfoldable pub written_in : (rest : List ℕ) → Option (Options × List ℕ)
 written_in rest = do
-  seats ← option_in (codes " seats ") 1024 rest
-  cap ← option_in (codes " cap ") 1048576 seats.1
-  first ← option_in (codes " first ") 9223372036854775807 cap.1
-  bound ← option_in (codes " bound ") 1048576 first.1
+  seats ← option_in (codes " seats ") most_seats rest
+  cap ← option_in (codes " cap ") most_records seats.1
+  first ← option_in (codes " first ") last_ticket cap.1
+  bound ← option_in (codes " bound ") most_kept first.1
   Some (record { seats = seats.0; cap = cap.0; first = first.0; bound = bound.0 }, bound.1)
 
 -- only a place that keeps items has a bound
@@ -119,7 +120,7 @@ abbrev pub setup_with : Order → Options → Setup
 setup_with order written = record {
   kind = record { order = order; bound = written.bound };
   seats = unwrap_or written.seats 64;
-  cap = unwrap_or written.cap 1048576;
+  cap = unwrap_or written.cap most_records;
   first = unwrap_or written.first 1;
 }
 

@@ -2,6 +2,7 @@
 use Rattle.std.specs.Prelude.{◌≡◌, ◌↔◌, ℕ, ◌^◌, ◌<◌, IsTrue, Option, Some, None, ⊤, List, [], ◌∷◌, ◌++◌, codes, decimal}
 use Rattle.meet_tickets.specs.declared.places.Order.{Order}
 use Rattle.meet_tickets.specs.declared.places.Order.TheVariants.{Fair, Unfair, Transfer}
+use Rattle.meet_tickets.specs.Limits.{most_seats}
 use Rattle.meet_history.specs.declared.calls.Call.{Call}
 use Rattle.meet_history.specs.declared.calls.Verb.{Verb}
 use Rattle.meet_history.specs.declared.calls.Verb.TheVariants.{Put, Offer, Take, Poll, Transfer as TransferItem, Try, Follow, Cancel, Expire, Interrupt, Drain, Size, Room, Peek, Consumers}
@@ -44,7 +45,7 @@ FitsVerb (Try n) = n < 2 ^ 64
 FitsVerb Follow = ⊤
 FitsVerb Cancel = ⊤
 FitsVerb Expire = ⊤
-FitsVerb (Interrupt target) = target < 1024
+FitsVerb (Interrupt target) = target < most_seats
 FitsVerb (Drain most) = most < 2 ^ 64
 FitsVerb Size = ⊤
 FitsVerb Room = ⊤
@@ -53,7 +54,7 @@ FitsVerb Consumers = ⊤
 
 -- a call has its numbers in their limits, and the place serves its verb
 pub record FitsCall (order : Order) (call : Call) : Type 0 where
-  pub seat : call.seat < 1024
+  pub seat : call.seat < most_seats
   pub verb : FitsVerb call.verb
   pub served : IsTrue (serves order call.verb)
 

@@ -1,5 +1,5 @@
 -- What the lines of a trace say (our choice of format): its first line names the place, each further one a record.
-use Rattle.std.specs.Prelude.{ℕ, ◌^◌, nat_lt, Option, Some, None, List, [], ◌∷◌, length, codes, if◌then◌else◌}
+use Rattle.std.specs.Prelude.{ℕ, nat_lt, nat_le, Option, Some, None, List, [], ◌∷◌, length, codes, if◌then◌else◌}
 use Rattle.std.specs.Str.{bytes_eq}
 use Rattle.meet_tickets.specs.declared.places.Side.{Side}
 use Rattle.meet_tickets.specs.declared.places.Side.TheVariants.{Giver, Taker}
@@ -10,12 +10,13 @@ use Rattle.meet_tickets.specs.declared.records.Cause.TheVariants.{Cancelled, Exp
 use Rattle.meet_tickets.specs.declared.records.Deed.{Deed}
 use Rattle.meet_tickets.specs.declared.records.Deed.TheVariants.{GiveWaits, GiveMeets, GiveFails, GiveKept, TakeWaits, TakeMeets, TakeFails, EntryInterrupted, Done, Got, Withdrawn, Interrupt}
 use Rattle.meet_tickets.specs.declared.records.Record.{Record}
+use Rattle.meet_tickets.specs.Limits.{most_kept, last_ticket}
 use Rattle.meet_run.specs.Words.{word_of, rest_of, behind, number_spelled}
 use Rattle.meet_run.specs.Grammar.{◌>>=◌, provided, seat_of, order_of, option_in, may_have}
 
 -- a ticket's number
 unfoldable pub ticket_in : ℕ → Option ℕ
-ticket_in n = provided (nat_lt n (2 ^ 63)) n
+ticket_in n = provided (nat_le n last_ticket) n
 
 -- the ticket of a word
 unfoldable pub ticket_of : (word : List ℕ) → Option ℕ
@@ -107,7 +108,7 @@ kind_at_end order bound (b ∷ rest) = None
 unfoldable pub kind_in : (text : List ℕ) → Option Kind
 kind_in text = do
   order ← order_of (word_of text)
-  bound ← option_in (codes " bound ") 1048576 (rest_of text)
+  bound ← option_in (codes " bound ") most_kept (rest_of text)
   kind_at_end order bound.0 bound.1
 
 -- the kind of place that a trace's first line names, however long

@@ -1,11 +1,12 @@
 -- The one spelling of a record, and of a trace's first line (our choice of format).
-use Rattle.std.specs.Prelude.{◌≡◌, ◌↔◌, ℕ, ◌^◌, ◌<◌, Some, ⊤, List, ◌∷◌, ◌++◌, codes, decimal}
+use Rattle.std.specs.Prelude.{◌≤◌, ◌≡◌, ◌↔◌, ℕ, ◌^◌, ◌<◌, Some, ⊤, List, ◌∷◌, ◌++◌, codes, decimal}
 use Rattle.meet_tickets.specs.declared.places.Side.{Side}
 use Rattle.meet_tickets.specs.declared.places.Side.TheVariants.{Giver, Taker}
 use Rattle.meet_tickets.specs.declared.places.Kind.{Kind}
 use Rattle.meet_tickets.specs.declared.records.Deed.{Deed}
 use Rattle.meet_tickets.specs.declared.records.Deed.TheVariants.{GiveWaits, GiveMeets, GiveFails, GiveKept, TakeWaits, TakeMeets, TakeFails, EntryInterrupted, Done, Got, Withdrawn, Interrupt}
 use Rattle.meet_tickets.specs.declared.records.Record.{Record}
+use Rattle.meet_tickets.specs.Limits.{most_seats, last_ticket}
 use Rattle.meet_history.specs.Limits.{FitsBound}
 use Rattle.meet_run.specs.Wording.{cause_text}
 use Rattle.meet_run.specs.Spelling.{place_text, option_text}
@@ -41,7 +42,7 @@ record_text r = decimal r.seat ++ 32 ∷ (decimal r.ticket ++ 32 ∷ deed_text r
 
 -- a mark and a partner's ticket are in their limits
 abbrev pub FitsPair : (mark partner : ℕ) → Type 0
-FitsPair m u = (m < 2 ^ 64) × (u < 2 ^ 63)
+FitsPair m u = (m < 2 ^ 64) × (u ≤ last_ticket)
 
 -- a deed's numbers are in their limits
 abbrev pub FitsDeed : Deed → Type 0
@@ -56,12 +57,12 @@ FitsDeed (EntryInterrupted side) = ⊤
 FitsDeed Done = ⊤
 FitsDeed (Got m u) = FitsPair m u
 FitsDeed (Withdrawn cause) = ⊤
-FitsDeed (Interrupt target) = target < 1024
+FitsDeed (Interrupt target) = target < most_seats
 
 -- a record has its numbers in their limits
 pub record FitsRecord (r : Record Deed) : Type 0 where
-  pub seat : r.seat < 1024
-  pub ticket : r.ticket < 2 ^ 63
+  pub seat : r.seat < most_seats
+  pub ticket : r.ticket ≤ last_ticket
   pub deed : FitsDeed r.deed
 
 -- a line reads as a record exactly where it is that record's one spelling

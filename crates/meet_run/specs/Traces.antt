@@ -1,5 +1,5 @@
 -- What a whole trace says, and what is found of it; and the trace that a script leaves.
-use Rattle.std.specs.Prelude.{◌≡◌, ◌⊎◌, ℕ, nat_lt, Bool, true, false, Option, Some, None, Result, Ok, Err, List, [], ◌∷◌, length, if◌then◌else◌}
+use Rattle.std.specs.Prelude.{◌+◌, ◌≡◌, ◌⊎◌, ℕ, nat_lt, Bool, true, false, Option, Some, None, Result, Ok, Err, List, [], ◌∷◌, length, if◌then◌else◌}
 use Rattle.std.specs.Io.KnownBytes.{Appends}
 use Rattle.std.specs.Option.{option_map_or}
 use Rattle.meet_tickets.specs.declared.places.Kind.{Kind}
@@ -8,6 +8,7 @@ use Rattle.meet_tickets.specs.declared.records.Record.{Record}
 use Rattle.meet_tickets.specs.declared.refusals.Refusal.{Refusal}
 use Rattle.meet_tickets.specs.declared.refusals.Refusal.TheVariants.{Memory, BadTrace, ReadFault, WriteFault}
 use Rattle.meet_tickets.specs.ByLists.{IsLegal}
+use Rattle.meet_tickets.specs.Limits.{most_records}
 use Rattle.meet_history.specs.declared.checker.Why.{Why}
 use Rattle.meet_history.specs.declared.setups.Setup.{Setup}
 use Rattle.meet_history.specs.Checking.{IsIllegalAt}
@@ -25,7 +26,7 @@ use Rattle.meet_run.specs.Writing.{AppendsFront}
 
 -- the record of a line with this number: a trace has at most 1,048,576 of them, and no line behind these (our choice)
 unfoldable pub record_at : (n : ℕ) → (line : List ℕ) → Option (Record Deed)
-record_at n line = if nat_lt 1048577 n then None else record_of line
+record_at n line = if nat_lt (most_records + 1) n then None else record_of line
 
 -- the records of the lines behind a trace's first
 abbrev pub records_behind : (lines : List (List ℕ)) → Listed (Record Deed)

@@ -9,16 +9,7 @@ ghost use Rattle.meet_run.specs.Grammar.{order_of, option_value, option_in, writ
 use crate::grammar::LONGEST_LINE;
 use crate::words::{read_number, split_word};
 use meet_history::Setup;
-use meet_tickets::{Kind, Order};
-
-/// The most seats of a place.
-const MOST_SEATS: u64 = 1024;
-/// The most records of a place.
-const MOST_RECORDS: u64 = 1_048_576;
-/// The last ticket.
-const LAST_TICKET: u64 = 9_223_372_036_854_775_807;
-/// The most items that a bound may let a place keep.
-pub(crate) const MOST_KEPT: u64 = 1_048_576;
+use meet_tickets::{Kind, LAST_TICKET, MOST_KEPT, MOST_RECORDS, MOST_SEATS, Order};
 
 /// The options that a first line spells out.
 #[derive(Clone, Copy, PartialEq, Eq, Debug)]

@@ -16,7 +16,7 @@ use crate::grammar::{LONGEST_LINE, read_call};
 use crate::reading::{LineRead, read_line};
 use crate::trace_grammar::{read_head, read_record};
 use meet_history::{Call, Setup};
-use meet_tickets::{Deed, Kind, Order, Record};
+use meet_tickets::{Deed, Kind, MOST_RECORDS, Order, Record};
 use std::io::Read;
 
 /// What the next line is.
@@ -87,9 +87,6 @@ pub fn next_head<R: Read>(reader: &mut R, turns: &mut u64, line: &mut Vec<u8>) -
     let came = read_line(reader, turns, line);
     next_of(came, read_head(line.as_slice()))
 }
-
-/// The most records of a trace.
-const MOST_RECORDS: u64 = 1_048_576;
 
 /// The record of a line behind so many others: a trace's first line, and one for each record.
 fn read_record_behind(read: u64, line: &[u8]) -> Option<Record<Deed>>

@@ -4,10 +4,10 @@ ghost use Rattle.std.specs.Prelude.{◌≡◌, IfSome};
 ghost use Rattle.meet_run.specs.TraceSpelling.{FitsRecord, FitsHead};
 ghost use Rattle.meet_run.specs.TraceGrammar.{ticket_of, side_of, cause_of, bare_deed_of, marked_deed_of, worded_deed_of, paired_deed_of, deed_with, deed_of, deed_behind, record_behind, record_in, record_of, kind_at_end, kind_in, head_in, head_of};
 
-use crate::first_line::{MOST_KEPT, may_have_bound, read_option, read_order, strip_front};
+use crate::first_line::{may_have_bound, read_option, read_order, strip_front};
 use crate::grammar::{LONGEST_LINE, read_seat};
 use crate::words::{read_number, split_word};
-use meet_tickets::{Cause, Deed, Kind, Order, Record, SeatNo, Side, Ticket};
+use meet_tickets::{Cause, Deed, Kind, MOST_KEPT, Order, Record, SeatNo, Side, Ticket};
 
 /// The ticket of a word.
 #[tactic(auto, unfolding(crate::specs::TraceGrammar::ticket_of, crate::specs::TraceGrammar::ticket_in))]

@@ -3,5 +3,6 @@ pub mod Bases
 pub mod ByLists
 pub mod BySeat
 pub mod Fates
+pub mod Limits
 pub mod Meeting
 pub mod Refusals

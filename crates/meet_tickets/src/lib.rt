@@ -8,6 +8,7 @@ pub mod bases;
 pub mod fates;
 pub mod items;
 pub mod laws;
+pub mod limits;
 pub mod lines;
 pub mod names;
 pub mod places;
@@ -19,6 +20,9 @@ pub use fates::Fate;
 pub use items::Marked;
 pub use laws::{
     bases_are_one, bases_fold, bases_show_fates, bases_stand, tellings_agree, tellings_agree_on,
+};
+pub use limits::{
+    LAST_TICKET, MOST_GONE, MOST_KEPT, MOST_RECORDS, MOST_SEATS, TOLD_CAPACITY, limits_agree,
 };
 pub use lines::{Entry, Hold};
 pub use names::{SeatNo, Ticket};

@@ -1,7 +1,9 @@
 //! Tickets and seats: the two kinds of number by which a place's records name things.
 
-ghost use Rattle.std.specs.Prelude.{◌≡◌, ℕ, ◌^◌, ◌<◌, SomeIff};
+ghost use Rattle.std.specs.Prelude.{◌≡◌, ℕ, ◌≤◌, ◌<◌, SomeIff};
+ghost use Rattle.meet_tickets.specs.Limits.{most_seats, last_ticket};
 
+use crate::limits::{LAST_TICKET, MOST_SEATS};
 use std::marker::Model;
 
 /// The number of a request, 1 to 2^63 - 1; 0 names no ticket.
@@ -15,7 +17,7 @@ impl Model for Ticket {
 
     ghost view = { λ ticket. ticket.number };
 
-    ghost invariant = { λ ticket. ticket.number < 2 ^ 63 };
+    ghost invariant = { λ ticket. ticket.number ≤ last_ticket };
 
     ghost inverse = { λ number. record { number = number } };
 }
@@ -23,9 +25,9 @@ impl Model for Ticket {
 impl Ticket {
     /// The ticket of this number, or none where the number is 2^63 or more.
     pub fn new(number: u64) -> Option<Self>
-        ensures { SomeIff result (number < 2 ^ 63) number }
+        ensures { SomeIff result (number ≤ last_ticket) number }
     {
-        if number < 1 << 63 {
+        if number <= LAST_TICKET {
             Some(Ticket { number })
         } else {
             None
@@ -35,13 +37,13 @@ impl Ticket {
     /// The ticket's number.
     pub fn number(&self) -> u64
         ensures value { result ≡ self.now }
-        ensures in_range { self.now < 2 ^ 63 }
+        ensures in_range { self.now ≤ last_ticket }
     {
         self.number
     }
 }
 
-/// The number of a seat, 0 to 1,023.
+/// The number of a seat, 0 to 65,535.
 #[derive(Clone, Copy, PartialEq, Eq, PartialOrd, Ord, Hash, Debug)]
 pub struct SeatNo {
     number: u64,
@@ -52,17 +54,17 @@ impl Model for SeatNo {
 
     ghost view = { λ seat. seat.number };
 
-    ghost invariant = { λ seat. seat.number < 1024 };
+    ghost invariant = { λ seat. seat.number < most_seats };
 
     ghost inverse = { λ number. record { number = number } };
 }
 
 impl SeatNo {
-    /// The seat of this number, or none where the number is 1,024 or more.
+    /// The seat of this number, or none where the number is 65,536 or more.
     pub fn new(number: u64) -> Option<Self>
-        ensures { SomeIff result (number < 1024) number }
+        ensures { SomeIff result (number < most_seats) number }
     {
-        if number < 1024 {
+        if number < MOST_SEATS {
             Some(SeatNo { number })
         } else {
             None
@@ -72,7 +74,7 @@ impl SeatNo {
     /// The seat's number.
     pub fn number(&self) -> u64
         ensures value { result ≡ self.now }
-        ensures in_range { self.now < 1024 }
+        ensures in_range { self.now < most_seats }
     {
         self.number
     }

@@ -1,8 +1,9 @@
 //! The transfer queue: givers that wait or leave their item in the line, and takers.
 
-ghost use Rattle.std.specs.Prelude.{◌≡◌, ◌^◌, ◌≤◌, ◌<◌, Some, None, IsOk, IfOk, IfErr, OnOk, OnErr};
+ghost use Rattle.std.specs.Prelude.{◌≡◌, ◌≤◌, ◌<◌, Some, None, IsOk, IfOk, IfErr, OnOk, OnErr};
 ghost use Rattle.meet_tickets.specs.Bases.{IsBaseOf};
 ghost use Rattle.meet_tickets.specs.BySeat.{nobody};
+ghost use Rattle.meet_tickets.specs.Limits.{most_seats, last_ticket};
 ghost use Rattle.meet_line.specs.Seen.{moment_of_queue};
 ghost use Rattle.meet_tickets.specs.Refusals.{IsWhy};
 ghost use Rattle.meet_tickets.specs.declared.places.End.TheVariants.{Front};
@@ -36,12 +37,12 @@ impl<T: Marked> Transfer<T> {
     ghost use Rattle.meet_line.specs.Steps.{GiveStep, PutStep, TakeStep, OfferStep, PollStep};
     ghost use Rattle.meet_tickets.specs.declared.refusals.Refusal.TheVariants.{Memory};
 
-    /// A queue without a bound and with no room yet, with this many seats, at most 1,024, and this first ticket, 1 to 2^63 - 1.
+    /// A queue without a bound and with no room yet, with this many seats, at most 65,536, and this first ticket, 1 to 2^63 - 1.
     /// The only refusal is Memory.
     pub fn new(alloc: Global, seats: u64, first: u64) -> Result<Self, Refusal>
-        requires seats { seats ≤ 1024 }
+        requires seats { seats ≤ most_seats }
         requires first_from { 0 < first }
-        requires first_to { first < 2 ^ 63 }
+        requires first_to { first ≤ last_ticket }
         ensures fresh { IfOk result (λ made. seats_of made.queue ≡ nobody) }
         ensures seats { IfOk result (λ made. count_of made.queue ≡ seats) }
         ensures unused { IfOk result (λ made. made.queue.last ≡ 0) }
@@ -60,9 +61,9 @@ impl<T: Marked> Transfer<T> {
     /// A queue that keeps at most this many items, any number of them: with 0 it keeps none. Seats, first ticket and refusal
     /// as of `new`.
     pub fn with_bound(alloc: Global, seats: u64, first: u64, bound: u64) -> Result<Self, Refusal>
-        requires seats { seats ≤ 1024 }
+        requires seats { seats ≤ most_seats }
         requires first_from { 0 < first }
-        requires first_to { first < 2 ^ 63 }
+        requires first_to { first ≤ last_ticket }
         ensures fresh { IfOk result (λ made. seats_of made.queue ≡ nobody) }
         ensures seats { IfOk result (λ made. count_of made.queue ≡ seats) }
         ensures unused { IfOk result (λ made. made.queue.last ≡ 0) }

@@ -1,6 +1,6 @@
 //! The endings of a history's open tickets, and its interrupts.
 
-ghost use Rattle.std.specs.Prelude.{◌≡◌, ℕ, ◌↔◌, ◌==◌, true, Option, IsTrue, IsSome};
+ghost use Rattle.std.specs.Prelude.{◌≡◌, ℕ, ◌<◌, ◌↔◌, ◌==◌, length, true, Option, IsTrue, IsSome};
 ghost use Rattle.std.specs.Option.{option_map_or};
 ghost use Rattle.meet_tickets.specs.BySeat.{entry_of, without_first, released, left, interrupted, cut_ticket, Allows, seats_after};
 ghost use Rattle.meet_tickets.specs.declared.lines.Hold.TheVariants.{Waiting, Handed, Served, Cut};
@@ -13,7 +13,8 @@ use meet_tickets::{Cause, Deed, Entry, Hold, SeatNo, Ticket};
 impl Checker {
     /// Takes an ending's record in, if the rules give it.
     pub(super) fn takes_ending(&mut self, seat: SeatNo, ticket: Ticket, deed: Deed) -> bool
-        requires { is_ending deed ≡ true }
+        requires seat { seat < length self.old.table.holds }
+        requires ending { is_ending deed ≡ true }
         ensures allowed { IsTrue result ↔ Allows self.old.kind (moment_at self.old).seats seat ticket deed }
         ensures seats { IsTrue result → (moment_at self.new).seats ≡ seats_after self.old.kind (moment_at self.old).seats seat ticket deed }
         ensures last { self.new.last ≡ self.old.last }
@@ -35,6 +36,7 @@ impl Checker {
 
     /// Takes a withdrawal's record in, if the rules give it.
     fn takes_back(&mut self, seat: SeatNo, ticket: Ticket, cause: Cause) -> bool
+        requires { seat < length self.old.table.holds }
         ensures allowed { IsTrue result ↔ Allows self.old.kind (moment_at self.old).seats seat ticket (Withdrawn cause) }
         ensures seats { IsTrue result → (moment_at self.new).seats ≡ seats_after self.old.kind (moment_at self.old).seats seat ticket (Withdrawn cause) }
         ensures last { self.new.last ≡ self.old.last }
@@ -51,6 +53,7 @@ impl Checker {
 
     /// The seat's open ticket ends, if it may.
     fn ends(&mut self, seat: SeatNo, may: bool) -> bool
+        requires { seat < length self.old.table.holds }
         ensures same { result ≡ may }
         ensures seats { IsTrue result → (moment_at self.new).seats ≡ released (moment_at self.old).seats seat }
         ensures last { self.new.last ≡ self.old.last }
@@ -64,16 +67,17 @@ impl Checker {
 
     /// The seat's open ticket ends.
     fn release(&mut self, seat: SeatNo)
+        requires { seat < length self.old.table.holds }
         ensures seats { (moment_at self.new).seats ≡ released (moment_at self.old).seats seat }
         ensures last { self.new.last ≡ self.old.last }
         ensures kind { self.new.kind ≡ self.old.kind }
     {
-        let _number = seat.number();
         self.seats.replace(seat, Hold::Free);
     }
 
     /// This ticket leaves the line and ends, if it is the seat's and stands there.
     fn withdraws(&mut self, seat: SeatNo, ticket: Ticket) -> bool
+        requires { seat < length self.old.table.holds }
         ensures allowed { IsTrue result ↔ (((moment_at self.old).seats.holds seat ≡ Waiting ticket) × IsSome (entry_of self.old.line ((moment_at self.old).seats.holds seat))) }
         ensures seats { IsTrue result → (moment_at self.new).seats ≡ left (moment_at self.old).seats seat ticket }
         ensures last { self.new.last ≡ self.old.last }
@@ -85,7 +89,6 @@ impl Checker {
         match self.line.remove(ticket) {
             None => false,
             Some(_) => {
-                let _number = seat.number();
                 self.seats.replace(seat, Hold::Free);
                 true
             }
@@ -95,12 +98,12 @@ impl Checker {
     /// The target's ticket is cut where it stands in the line, and else the target is flagged. Whether this is the ticket
     /// that an interrupt names: the one that was cut, or 0.
     pub(super) fn interrupts(&mut self, target: SeatNo, ticket: Ticket) -> bool
+        requires { target < length self.old.table.holds }
         ensures allowed { IsTrue result ↔ (ticket ≡ cut_ticket (moment_at self.old).seats target) }
         ensures seats { (moment_at self.new).seats ≡ interrupted (moment_at self.old).seats target }
         ensures last { self.new.last ≡ self.old.last }
         ensures kind { self.new.kind ≡ self.old.kind }
     {
-        let _number = target.number();
         match self.cut_out(target) {
             Some(entry) => {
                 let Entry {
@@ -121,6 +124,7 @@ impl Checker {
 
     /// What stands in the line for this seat leaves it.
     fn cut_out(&mut self, seat: SeatNo) -> Option<Entry<u64>>
+        requires { seat < length self.old.table.holds }
         ensures entry { result ≡ entry_of self.old.line ((moment_at self.old).seats.holds seat) }
         ensures line { self.new.line ≡ option_map_or (λ entry. without_first (λ e. e.ticket == entry.ticket) self.old.line) result self.old.line }
         ensures table { self.new.table ≡ self.old.table }

@@ -1,6 +1,6 @@
 //! The requests of a history.
 
-ghost use Rattle.std.specs.Prelude.{◌≡◌, ◌<◌, ◌↔◌, true, false, Some, IsTrue};
+ghost use Rattle.std.specs.Prelude.{◌≡◌, ◌<◌, ◌↔◌, length, true, false, Some, IsTrue};
 ghost use Rattle.meet_tickets.specs.Meeting.{Alone, Finds, MayKeep};
 ghost use Rattle.meet_tickets.specs.BySeat.{queued, paired_hold, meets, flagged, IsFree, is_request, Allows, seats_after};
 ghost use Rattle.meet_tickets.specs.declared.places.Side.TheVariants.{Giver};
@@ -12,6 +12,7 @@ use meet_tickets::{Deed, Entry, Hold, SeatNo, Side, Ticket};
 impl Checker {
     /// Takes a request's record in, if the rules give it, where its seat is free and its ticket is new.
     pub(super) fn takes_request(&mut self, seat: SeatNo, ticket: Ticket, deed: Deed) -> bool
+        requires seat { seat < length self.old.table.holds }
         requires room { 0 < self.old.room }
         requires request { is_request deed ≡ true }
         requires free { IsFree (moment_at self.old).seats seat }
@@ -36,6 +37,7 @@ impl Checker {
 
     /// A request without a partner waits, if its seat isn't flagged.
     fn waits(&mut self, seat: SeatNo, ticket: Ticket, side: Side, item: Option<u64>) -> bool
+        requires seat { seat < length self.old.table.holds }
         requires room { 0 < self.old.room }
         requires above { self.old.last < ticket }
         ensures allowed { IsTrue result ↔ (Alone self.old.kind self.old.line side × ((moment_at self.old).seats.flags seat ≡ false)) }
@@ -52,13 +54,13 @@ impl Checker {
 
     /// A new entry goes to the line's end.
     fn join(&mut self, seat: SeatNo, ticket: Ticket, item: Option<u64>, waits: bool)
+        requires seat { seat < length self.old.table.holds }
         requires room { 0 < self.old.room }
         requires above { self.old.last < ticket }
         ensures seats { (moment_at self.new).seats ≡ queued (moment_at self.old).seats seat ticket item waits }
         ensures last { self.new.last ≡ ticket }
         ensures kind { self.new.kind ≡ self.old.kind }
     {
-        let _number = seat.number();
         self.line.push_back(Entry {
             ticket,
             seat,
@@ -97,7 +99,6 @@ impl Checker {
             waits,
         } = entry;
         if waits {
-            let _number = seat.number();
             self.seats.replace(seat, paired(met, own, ticket, brought));
         }
         self.last = ticket.number();
@@ -120,7 +121,8 @@ impl Checker {
 
     /// A request without a partner is refused at entry, if its seat is flagged.
     fn is_refused_at_entry(&mut self, seat: SeatNo, ticket: Ticket, side: Side) -> bool
-        requires { self.old.last < ticket }
+        requires seat { seat < length self.old.table.holds }
+        requires above { self.old.last < ticket }
         ensures allowed { IsTrue result ↔ (Alone self.old.kind self.old.line side × ((moment_at self.old).seats.flags seat ≡ true)) }
         ensures seats { IsTrue result → (moment_at self.new).seats ≡ flagged (moment_at self.old).seats seat false }
         ensures last { IsTrue result → self.new.last ≡ ticket }
@@ -129,7 +131,6 @@ impl Checker {
         if !self.is_alone(side) || !self.is_flagged(seat) {
             return false;
         }
-        let _number = seat.number();
         self.seats.set_flag(seat, false);
         self.last = ticket.number();
         true
@@ -137,6 +138,7 @@ impl Checker {
 
     /// An item is kept, in a place that keeps items and has room for one more, where nobody takes it.
     fn keeps(&mut self, seat: SeatNo, ticket: Ticket, mark: u64) -> bool
+        requires seat { seat < length self.old.table.holds }
         requires room { 0 < self.old.room }
         requires above { self.old.last < ticket }
         ensures allowed { IsTrue result ↔ (Alone self.old.kind self.old.line Giver × MayKeep self.old.kind self.old.line) }

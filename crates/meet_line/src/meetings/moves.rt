@@ -1,8 +1,9 @@
 //! The moves that the steps of a queue are made of.
 
-ghost use Rattle.std.specs.Prelude.{◌≡◌, ◌≢◌, ℕ, ◌+◌, ◌^◌, ◌<◌, ◌≤◌, ⊤, Some, None, IfOk, IfErr, IfSome, IfNone, MatchOption, All, true, false};
+ghost use Rattle.std.specs.Prelude.{◌≡◌, ◌≢◌, ℕ, ◌+◌, ◌<◌, ◌≤◌, ⊤, Some, None, IfOk, IfErr, IfSome, IfNone, MatchOption, All, true, false};
 ghost use Rattle.meet_tickets.specs.Meeting.{partner, kept_count};
 ghost use Rattle.meet_tickets.specs.BySeat.{queued, open_ticket, entry_of, left};
+ghost use Rattle.meet_tickets.specs.Limits.{last_ticket};
 ghost use Rattle.meet_tickets.specs.declared.lines.Hold.TheVariants.{Free};
 ghost use Rattle.meet_tickets.specs.declared.places.Side.TheVariants.{Giver, Taker};
 
@@ -17,7 +18,7 @@ impl<T: Marked, L: Line<T>> Meetings<T, L> {
 
     /// Uses up the next ticket.
     pub(super) fn draw(&mut self) -> Ticket
-        requires { self.old.next < 2 ^ 63 }
+        requires { self.old.next ≤ last_ticket }
         ensures ticket { result ≡ self.old.next }
         ensures newest { All (λ e. e.ticket < result) self.old.line }
         ensures unopened { (seat : ℕ) → open_ticket ((seats_of self.old).holds seat) ≢ Some result }

@@ -1,14 +1,15 @@
 //! What a queue shows of itself, each at constant cost.
 
-ghost use Rattle.std.specs.Prelude.{◌≡◌, ◌^◌, ◌≤◌, ◌-◌, option_map, slice_get};
+ghost use Rattle.std.specs.Prelude.{◌+◌, ◌≡◌, ◌≤◌, ◌-◌, option_map, slice_get};
 ghost use Rattle.std.specs.Option.{option_and_then};
 ghost use Rattle.meet_tickets.specs.Meeting.{waiting_count, kept_count, count_on};
 ghost use Rattle.meet_tickets.specs.BySeat.{open_ticket, owed_of, settled_of};
+ghost use Rattle.meet_tickets.specs.Limits.{most_seats, last_ticket};
 ghost use Rattle.meet_tickets.specs.declared.places.Side.TheVariants.{Giver, Taker};
 
 use crate::line::Line;
 use crate::meetings::Meetings;
-use meet_tickets::{Marked, SeatNo, Side, Ticket};
+use meet_tickets::{LAST_TICKET, Marked, SeatNo, Side, Ticket};
 
 impl<T: Marked, L: Line<T>> Meetings<T, L> {
     ghost use Rattle.meet_line.specs.Queue.{seats_of, count_of, IsSound};
@@ -41,7 +42,7 @@ impl<T: Marked, L: Line<T>> Meetings<T, L> {
     /// How many tickets are open.
     pub fn owed(&self) -> u64
         ensures value { result ≡ owed_of (count_of self.now) (seats_of self.now).holds }
-        ensures few { result ≤ 1024 }
+        ensures few { result ≤ most_seats }
     {
         self.seats.owed()
     }
@@ -102,9 +103,9 @@ impl<T: Marked, L: Line<T>> Meetings<T, L> {
 
     /// How many tickets are left.
     pub fn tickets_left(&self) -> u64
-        ensures { result ≡ 2 ^ 63 - self.now.next }
+        ensures { result ≡ last_ticket + 1 - self.now.next }
     {
-        (1 << 63) - self.next
+        LAST_TICKET + 1 - self.next
     }
 
     /// What is always true of a queue: each entry of its line has a used ticket, and is what its seat holds where it waits;

@@ -1,13 +1,14 @@
 //! What a queue shows of itself, each at constant cost. None of these calls takes memory.
 
-ghost use Rattle.std.specs.Prelude.{◌≡◌, ◌^◌, ◌≤◌, ◌-◌, nat_lt, option_map, slice_get};
+ghost use Rattle.std.specs.Prelude.{◌+◌, ◌≡◌, ◌≤◌, ◌-◌, nat_lt, option_map, slice_get};
 ghost use Rattle.std.specs.Option.{option_and_then};
 ghost use Rattle.meet_tickets.specs.Meeting.{waiting_count, kept_count, count_on};
 ghost use Rattle.meet_tickets.specs.BySeat.{open_ticket, owed_of, settled_of};
+ghost use Rattle.meet_tickets.specs.Limits.{most_seats, last_ticket, told_capacity};
 ghost use Rattle.meet_tickets.specs.declared.places.Side.TheVariants.{Giver, Taker};
 
 use crate::transfer::Transfer;
-use meet_tickets::{Marked, SeatNo, Ticket};
+use meet_tickets::{Marked, SeatNo, TOLD_CAPACITY, Ticket};
 
 impl<T: Marked> Transfer<T> {
     ghost use Rattle.meet_line.specs.Queue.{seats_of, count_of, IsSound};
@@ -42,9 +43,9 @@ impl<T: Marked> Transfer<T> {
 
     /// `LinkedTransferQueue.remainingCapacity`: always 2,147,483,647, with a bound too (our choice).
     pub fn remaining_capacity(&self) -> u64
-        ensures { result ≡ 2147483647 }
+        ensures { result ≡ told_capacity }
     {
-        2_147_483_647
+        TOLD_CAPACITY
     }
 
     /// How many items are kept at most, or none.
@@ -78,7 +79,7 @@ impl<T: Marked> Transfer<T> {
     /// How many tickets are open. A kept item owes nothing.
     pub fn owed(&self) -> u64
         ensures value { result ≡ owed_of (count_of self.now.queue) (seats_of self.now.queue).holds }
-        ensures few { result ≤ 1024 }
+        ensures few { result ≤ most_seats }
     {
         self.meetings.owed()
     }
@@ -106,7 +107,7 @@ impl<T: Marked> Transfer<T> {
 
     /// How many tickets are left.
     pub fn tickets_left(&self) -> u64
-        ensures { result ≡ 2 ^ 63 - self.now.queue.next }
+        ensures { result ≡ last_ticket + 1 - self.now.queue.next }
     {
         self.meetings.tickets_left()
     }

@@ -2,6 +2,7 @@ use Rattle.std.proofs.Common.{◌≡◌, ◌+◌, ◌∙◌, ap, sym, subst, tak
 use Rattle.std.proofs.lemmas.List.{take_all}
 use Rattle.meet_tickets.specs.ByLists.{IsLegal}
 use Rattle.meet_tickets.specs.BySeat.{beginning, moment_of, IsLegalBySeat}
+use Rattle.meet_tickets.specs.Limits.{most_seats}
 use Rattle.meet_tickets.proofs.Histories.{tellings_are_one}
 use Rattle.meet_tickets.proofs.Standings.{StandsAs, stands_as}
 use Rattle.meet_history.specs.Checking.{IsFaulty, moment_at}
@@ -41,5 +42,5 @@ returns-clause-standing c =
     let all : take c.loop-entry.entry-index c.args.records.now ≡ c.args.records.now = take_all _ _ c.loop-entry-test.false in
     let leaves : moment_at c.loop-entry.checker ≡ moment_of c.args.kind beginning c.args.records.now = c.loop-entry.invariant.moment ∙ ap (moment_of c.args.kind beginning) all in
     let legal : IsLegal c.args.kind c.args.records.now = (tellings_are_one c.args.kind c.args.records.now).legal.1 (subst (IsLegalBySeat c.args.kind) all c.loop-entry.invariant.legal) in
-    let stands : StandsAs c.args.kind c.args.records.now 1024 = stands_as c.args.kind c.args.records.now 1024 legal (λ seat above. ap (λ m. m.seats.holds seat) (sym leaves) ∙ c.standing.ensures.beyond seat above) in
-    c.standing.ensures.standing ∙ ap (λ m. standing_at 1024 m.seats) leaves ∙ standings-same (sym stands.waiting) (sym stands.uncollected) (sym stands.kept)
+    let stands : StandsAs c.args.kind c.args.records.now most_seats = stands_as c.args.kind c.args.records.now most_seats legal (λ seat above. ap (λ m. m.seats.holds seat) (sym leaves) ∙ c.standing.ensures.beyond seat above) in
+    c.standing.ensures.standing ∙ ap (λ m. standing_at most_seats m.seats) leaves ∙ standings-same (sym stands.waiting) (sym stands.uncollected) (sym stands.kept)
