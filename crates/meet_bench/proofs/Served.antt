@@ -2,7 +2,7 @@
 use Rattle.std.proofs.Common.{IsTrue, Bool, true, false, cond, refl}
 use Rattle.meet_tickets.specs.declared.places.Order.{Order}
 use Rattle.meet_tickets.specs.Meeting.{keeps}
-use Rattle.meet_history.specs.declared.calls.Verb.{Verb}
+use Rattle.meet_history.specs.declared.one_thread.verbs.Verb.{Verb}
 use Rattle.meet_history.specs.Served.{serves_synchronous, serves}
 
 -- a verb of the synchronous places is one of each place

@@ -5,8 +5,8 @@ use Rattle.meet_tickets.specs.declared.places.End.{End}
 use Rattle.meet_tickets.specs.declared.places.End.TheVariants.{Front, Back}
 use Rattle.meet_tickets.specs.declared.places.Order.{Order}
 use Rattle.meet_tickets.specs.Meeting.{end_of}
-use Rattle.meet_history.specs.declared.calls.Call.{Call}
-use Rattle.meet_history.specs.declared.calls.Verb.TheVariants.{Put, Take, Follow, Cancel}
+use Rattle.meet_history.specs.declared.one_thread.verbs.Call.{Call}
+use Rattle.meet_history.specs.declared.one_thread.verbs.Verb.TheVariants.{Put, Take, Follow, Cancel}
 use Rattle.meet_bench.specs.declared.tasks.Shape.{Shape}
 use Rattle.meet_bench.specs.declared.tasks.Shape.TheVariants.{Meetings, Withdrawals}
 

@@ -1,7 +1,7 @@
 -- What is found of a task, and its line.
 use Rattle.std.specs.Prelude.{ℕ, List, ◌++◌, length, codes, decimal}
-use Rattle.meet_history.specs.declared.calls.Call.{Call}
-use Rattle.meet_history.specs.declared.setups.Setup.{Setup}
+use Rattle.meet_history.specs.declared.one_thread.verbs.Call.{Call}
+use Rattle.meet_history.specs.declared.one_thread.setup.Setup.{Setup}
 use Rattle.meet_history.specs.OneThread.{records}
 use Rattle.meet_history.specs.Standings.{standing_in}
 use Rattle.meet_run.specs.Wording.{last_line}

@@ -5,4 +5,5 @@
 mod dual;
 
 pub use dual::Dual;
+pub use meet_calls::{DualAnswer, DualCall};
 pub use meet_line::{Followed, Gave, Interrupted, Offered, Polled, TakenBack, Took};

@@ -1,5 +1,5 @@
 -- A call of the stepper's queue, in the words of one thread's replies.
-use Rattle.std.proofs.Common.{◌≡◌, ◌≢◌, ℕ, ◌+◌, ◌<◌, refl, sym, ap, ◌∙◌, Bool, true, false, Option, Some, None, arith}
+use Rattle.std.proofs.Common.{◌≡◌, ◌≢◌, ℕ, zero, suc, ◌+◌, ◌<◌, refl, sym, ap, ◌∙◌, Bool, true, false, Option, Some, None, arith}
 use Rattle.std.specs.Prelude.{nat_lt}
 use Rattle.std.specs.Option.{option_map_or}
 use Rattle.meet_tickets.specs.declared.refusals.Refusal.{Refusal}
@@ -8,11 +8,11 @@ use Rattle.meet_tickets.specs.BySeat.{owed_of}
 use Rattle.meet_tickets.specs.Refusals.{number_of, refusal_of, absent_refusal, IsWhy}
 use Rattle.meet_tickets.proofs.Refusing.{request-own, interrupt-own}
 use Rattle.meet_line.specs.Queue.{Queue, seats_of, count_of}
-use Rattle.meet_history.specs.declared.setups.Setup.{Setup}
-use Rattle.meet_history.specs.declared.told.DualCall.{DualCall}
-use Rattle.meet_history.specs.declared.told.DualCall.TheVariants.{Give, Offer, Take, Poll, FollowUp, Cancel, Expire, Interrupt}
-use Rattle.meet_history.specs.Booking.{call_refusal}
-use Rattle.meet_history.specs.DualSteps.{dual_refusal, dual_need, dual_owed}
+use Rattle.meet_history.specs.declared.one_thread.setup.Setup.{Setup}
+use Rattle.meet_calls.specs.declared.queue_calls.DualCall.{DualCall}
+use Rattle.meet_calls.specs.declared.queue_calls.DualCall.TheVariants.{Give, Offer, Take, Poll, FollowUp, Cancel, Expire, Interrupt}
+use Rattle.meet_book.specs.Booking.{call_refusal}
+use Rattle.meet_calls.specs.DualSteps.{dual_refusal, dual_need, dual_owed}
 use Rattle.meet_history.specs.Stepping.{refusal_at}
 
 -- the book's reason is that of the place
@@ -30,6 +30,27 @@ refusal-there setup q written seat (Interrupt j) count need = ap (λ n. call_ref
 pub refusal_at-is : (setup : Setup) (q : Queue ℕ) (cap written seat : ℕ) (call : DualCall ℕ) → cap ≡ setup.cap → count_of q ≡ setup.seats → 0 < dual_need call → call_refusal (dual_refusal q seat call) (nat_lt cap (written + dual_owed q + dual_need call)) ≡ refusal_at setup (record { next = q.next; seats = seats_of q; records = written }) seat call
 refusal_at-is setup q cap written seat call same count need =
     ap (λ n. call_refusal (dual_refusal q seat call) (nat_lt n (written + dual_owed q + dual_need call))) same ∙ refusal-there setup q written seat call count need
+
+-- an admitted call isn't refused by the place; an ending of an open ticket isn't anyway
+pub admitted-at : (setup : Setup) (q : Queue ℕ) (cap written seat : ℕ) (call : DualCall ℕ) → cap ≡ setup.cap → count_of q ≡ setup.seats → call_refusal (dual_refusal q seat call) (nat_lt cap (written + dual_owed q + dual_need call)) ≡ None → refusal_at setup (record { next = q.next; seats = seats_of q; records = written }) seat call ≡ None
+admitted-at setup q cap written seat (Give mark) same count none = sym (refusal_at-is setup q cap written seat (Give mark) same count (omega arith)) ∙ none
+admitted-at setup q cap written seat (Offer mark) same count none = sym (refusal_at-is setup q cap written seat (Offer mark) same count (omega arith)) ∙ none
+admitted-at setup q cap written seat Take same count none = sym (refusal_at-is setup q cap written seat Take same count (omega arith)) ∙ none
+admitted-at setup q cap written seat Poll same count none = sym (refusal_at-is setup q cap written seat Poll same count (omega arith)) ∙ none
+admitted-at setup q cap written seat (FollowUp t) same count none = refl
+admitted-at setup q cap written seat (Cancel t) same count none = refl
+admitted-at setup q cap written seat (Expire t) same count none = refl
+admitted-at setup q cap written seat (Interrupt j) same count none = sym (refusal_at-is setup q cap written seat (Interrupt j) same count (omega arith)) ∙ none
+
+-- nor has the place a reason of its own
+pub place-admits : (first : Option Refusal) (full : Bool) → call_refusal first full ≡ None → first ≡ None
+place-admits None full none = refl
+place-admits (Some why) full none = cc
+
+-- a call that was refused needs a record, since no ending of an open ticket is refused
+pub refused-needs : (need : ℕ) (first : Option Refusal) → (need ≡ 0 → first ≡ None) → (need ≡ 0 → first ≡ None → false ≡ true) → 0 < need
+refused-needs zero first own never = absurd (let no : false ≡ true = never refl (own refl) in cc)
+refused-needs (suc need) first own never = omega arith
 
 -- a call that was refused for another reason than Memory was refused for the place's
 pub refused-so : (first : Option Refusal) (why : Refusal) → IsWhy first why → why ≢ Memory → first ≡ Some why

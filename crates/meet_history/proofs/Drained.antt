@@ -1,40 +1,32 @@
 -- A drain of the book is a drain of one thread.
 use Rattle.std.proofs.Common.{◌≡◌, ℕ, zero, suc, ◌+◌, ◌-◌, ◌<◌, ◌≤◌, refl, sym, ap, ◌∙◌, subst, Bool, true, false, cond, Option, Some, None, List, [], ◌∷◌, ◌++◌, map, length, append-nil, arith}
-use Rattle.std.specs.Prelude.{unwrap_or, nat_lt}
+use Rattle.std.specs.Prelude.{nat_lt}
 use Rattle.std.specs.Option.{option_map_or}
 use Rattle.std.proofs.lemmas.Bool.{le-ltb, ltb-false}
-use Rattle.meet_tickets.specs.declared.lines.Entry.{Entry}
-use Rattle.meet_tickets.specs.declared.places.Side.TheVariants.{Taker}
-use Rattle.meet_tickets.specs.declared.places.End.{End}
-use Rattle.meet_tickets.specs.declared.places.Kind.{Kind}
 use Rattle.meet_tickets.specs.declared.records.Deed.{Deed}
-use Rattle.meet_tickets.specs.declared.records.Deed.TheVariants.{TakeMeets, TakeFails}
 use Rattle.meet_tickets.specs.declared.refusals.Refusal.{Refusal}
 use Rattle.meet_tickets.specs.declared.refusals.Refusal.TheVariants.{Memory, HistoryFull, TicketsSpent, SeatOpen, NoSuchSeat, NotOpen, Differs, SeatMissing, Contended, Worn, BadSizes, PolicyNeedsBuffer, NoThread, BadLine, BadTrace, ReadFault, WriteFault}
-use Rattle.meet_tickets.specs.Meeting.{end_of}
-use Rattle.meet_tickets.specs.BySeat.{paired, meets, owed_of}
+use Rattle.meet_tickets.specs.BySeat.{owed_of}
 use Rattle.meet_tickets.specs.Limits.{last_ticket}
 use Rattle.meet_tickets.specs.Refusals.{refusal_of}
 use Rattle.meet_line.specs.Queue.{Queue, seats_of, count_of}
-use Rattle.meet_line.specs.declared.answers.Polled.TheVariants.{Meets, Fails}
-use Rattle.meet_history.specs.declared.setups.Setup.{Setup}
-use Rattle.meet_history.specs.declared.told.DualCall.TheVariants.{Poll}
-use Rattle.meet_history.specs.declared.told.DualAnswer.{DualAnswer}
-use Rattle.meet_history.specs.declared.told.DualAnswer.TheVariants.{Gave as ToGive, Offered as ToOffer, Took as ToTake, Polled as ToPoll, Followed as ToFollowUp, TakenBack as ToWithdrawal, Interrupted as ToInterrupt}
-use Rattle.meet_history.specs.declared.told.QueueCall.TheVariants.{Dual}
-use Rattle.meet_history.specs.declared.told.QueueAnswer.{QueueAnswer}
-use Rattle.meet_history.specs.declared.told.QueueAnswer.TheVariants.{Put as ToPut, Dual as ToDual}
-use Rattle.meet_history.specs.declared.replies.Outcome.TheVariants.{Recorded, Drained}
-use Rattle.meet_history.specs.Booking.{call_refusal}
-use Rattle.meet_history.specs.Received.{Received}
-use Rattle.meet_history.specs.Queues.{QueueOfKind}
-use Rattle.meet_history.specs.Draining.{seat_refusal, drain_refusal_by, TakingStep, Polls, AreNumbered}
-use Rattle.meet_history.specs.DualRecords.{made, dual_record}
-use Rattle.meet_history.specs.DualSteps.{DualStep, dual_refusal, dual_owed, dual_available, dual_left}
-use Rattle.meet_history.specs.QueueSteps.{QueueStep, queue_record}
-use Rattle.meet_history.specs.OneThread.{Place, Turn, joined, immediate, refused, stepped, request_refusal, take, take_deed, take_alone, answer_of, polls, drain, drain_refusal, silent}
-use Rattle.meet_history.specs.Stepping.{poll_reply}
-use Rattle.meet_history.proofs.Polling.{not-spent}
+use Rattle.meet_history.specs.declared.one_thread.setup.Setup.{Setup}
+use Rattle.meet_calls.specs.declared.queue_calls.DualCall.TheVariants.{Poll}
+use Rattle.meet_calls.specs.declared.queue_calls.DualAnswer.TheVariants.{Polled as ToPoll}
+use Rattle.meet_calls.specs.declared.queue_calls.QueueCall.TheVariants.{Dual}
+use Rattle.meet_calls.specs.declared.queue_calls.QueueAnswer.{QueueAnswer}
+use Rattle.meet_calls.specs.declared.queue_calls.QueueAnswer.TheVariants.{Dual as ToDual}
+use Rattle.meet_history.specs.declared.one_thread.replies.Outcome.TheVariants.{Drained}
+use Rattle.meet_book.specs.Booking.{call_refusal}
+use Rattle.meet_book.specs.Received.{Received}
+use Rattle.meet_queues.specs.Queues.{QueueOfKind}
+use Rattle.meet_book.specs.Draining.{seat_refusal, drain_refusal_by, TakingStep, Polls, AreNumbered}
+use Rattle.meet_calls.specs.DualSteps.{dual_refusal, dual_owed, dual_available, dual_left}
+use Rattle.meet_calls.specs.QueueSteps.{QueueStep, queue_record}
+use Rattle.meet_history.specs.OneThread.{Place, Turn, joined, immediate, refused, request_refusal, take, told, polls, drain, drain_refusal, silent}
+use Rattle.meet_history.specs.Stepping.{reply_of}
+use Rattle.meet_calls.proofs.Polling.{not-spent}
+use Rattle.meet_history.proofs.Telling.{IsTold, poll-told, call-count}
 
 -- where a place with this queue is, after so many records
 abbrev place_at : Queue ℕ → ℕ → Place
@@ -43,69 +35,18 @@ place_at q written = record { next = q.next; seats = seats_of q; records = writt
 -- the turn of the poll that a receipt is for
 abbrev told_turn : (seat : ℕ) → Received Deed → Queue ℕ → ℕ → Turn
 told_turn seat receipt new written = record {
-  replies = poll_reply seat receipt ∷ [];
+  replies = reply_of seat receipt None ∷ [];
   records = receipt.entry ∷ [];
   place = place_at new written;
 }
 
 module _ (setup : Setup) (seat : ℕ) where
-  -- an admitted take is made
-  take-made : (p : Place) (deed : Deed) → request_refusal setup p seat ≡ None → take_deed setup.kind p.seats seat immediate ≡ deed → take setup p seat immediate ≡ stepped setup p seat p.next deed None
-  take-made p deed none is =
-      ap (λ o. option_map_or (refused p seat) o (stepped setup p seat p.next (take_deed setup.kind p.seats seat immediate) None)) none
-      ∙ ap (λ d. stepped setup p seat p.next d None) is
-
   -- one poll
-  one-poll : (old new : Queue ℕ) (written : ℕ) (answer : DualAnswer ℕ) (receipt : Received Deed) → request_refusal setup (place_at old written) seat ≡ None → DualStep (λ m. m) (end_of setup.kind.order) old seat Poll answer new → dual_record (λ m. m) seat Poll answer ≡ Some receipt.entry → receipt.place ≡ written + 1 → take setup (place_at old written) seat immediate ≡ told_turn seat receipt new (written + 1)
-  one-poll old new written (ToPoll (Meets t u item)) receipt none (e, found, ticket, own, uses) is place =
-      let p : Place = place_at old written in
-      let entry : made seat t (TakeMeets item u) ≡ receipt.entry = cc in
-      let deed : take_deed setup.kind p.seats seat immediate ≡ TakeMeets item u = ap (λ o. option_map_or (λ (f : Entry ℕ). TakeMeets (unwrap_or f.item 0) f.ticket) o (take_alone p.seats seat immediate)) found ∙ ap (λ o. TakeMeets (unwrap_or o 0) e.ticket) own ∙ ap (λ v. TakeMeets item v) (sym ticket) in
-      let record_is : made seat old.next (TakeMeets item u) ≡ receipt.entry = ap (λ v. made seat v (TakeMeets item u)) (sym uses.used) ∙ entry in
-      let seats_is : meets setup.kind (seats_of old) old.next None Taker ≡ seats_of new = ap (λ o. option_map_or (paired (λ m. m) (end_of setup.kind.order) (seats_of old) old.next None) o (seats_of old)) found ∙ ap (λ v. paired (λ m. m) (end_of setup.kind.order) (seats_of old) v None e) (sym uses.used) ∙ sym uses.left in
-      take-made p (TakeMeets item u) none deed
-      ∙ (λ i. record {
-        replies = record { seat = seat; outcome = Recorded (sym place i) (record_is i).ticket (answer_of (record_is i).deed None) } ∷ [];
-        records = record_is i ∷ [];
-        place = record { next = sym uses.next i; seats = seats_is i; records = written + 1 };
-      })
-  one-poll old new written (ToPoll (Fails t)) receipt none (alone, uses) is place =
-      let p : Place = place_at old written in
-      let entry : made seat t TakeFails ≡ receipt.entry = cc in
-      let deed : take_deed setup.kind p.seats seat immediate ≡ TakeFails = ap (λ o. option_map_or (λ (f : Entry ℕ). TakeMeets (unwrap_or f.item 0) f.ticket) o TakeFails) alone in
-      let record_is : made seat old.next TakeFails ≡ receipt.entry = ap (λ v. made seat v TakeFails) (sym uses.used) ∙ entry in
-      take-made p TakeFails none deed
-      ∙ (λ i. record {
-        replies = record { seat = seat; outcome = Recorded (sym place i) (record_is i).ticket (answer_of (record_is i).deed None) } ∷ [];
-        records = record_is i ∷ [];
-        place = record { next = sym uses.next i; seats = sym uses.left i; records = written + 1 };
-      })
-  one-poll old new written (ToGive answer) receipt none step is place = absurd step
-  one-poll old new written (ToOffer answer) receipt none step is place = absurd step
-  one-poll old new written (ToTake answer) receipt none step is place = absurd step
-  one-poll old new written (ToFollowUp answer) receipt none step is place = absurd step
-  one-poll old new written (ToWithdrawal answer) receipt none step is place = absurd step
-  one-poll old new written (ToInterrupt answer) receipt none step is place = absurd step
-
-  -- no poll changes how many seats there are
-  same-count : (end : End) (old new : Queue ℕ) (answer : DualAnswer ℕ) → DualStep (λ m. m) end old seat Poll answer new → count_of new ≡ count_of old
-  same-count end old new (ToPoll (Meets t u item)) (e, found, ticket, own, uses) = uses.count
-  same-count end old new (ToPoll (Fails t)) (alone, uses) = uses.count
-  same-count end old new (ToGive answer) step = absurd step
-  same-count end old new (ToOffer answer) step = absurd step
-  same-count end old new (ToTake answer) step = absurd step
-  same-count end old new (ToFollowUp answer) step = absurd step
-  same-count end old new (ToWithdrawal answer) step = absurd step
-  same-count end old new (ToInterrupt answer) step = absurd step
-
-  -- nor does one of any kind
   queue-poll : (old new : Queue ℕ) (written : ℕ) (answer : QueueAnswer ℕ) (receipt : Received Deed) → request_refusal setup (place_at old written) seat ≡ None → QueueStep (λ m. m) setup.kind old seat (Dual Poll) answer new → queue_record (λ m. m) seat (Dual Poll) answer ≡ Some receipt.entry → receipt.place ≡ written + 1 → take setup (place_at old written) seat immediate ≡ told_turn seat receipt new (written + 1)
-  queue-poll old new written (ToDual answer) receipt none step is place = one-poll old new written answer receipt none step is place
-  queue-poll old new written (ToPut answer) receipt none step is place = absurd step
-
-  queue-count : (k : Kind) (old new : Queue ℕ) (answer : QueueAnswer ℕ) → QueueStep (λ m. m) k old seat (Dual Poll) answer new → count_of new ≡ count_of old
-  queue-count k old new (ToDual answer) step = same-count (end_of k.order) old new answer step
-  queue-count k old new (ToPut answer) step = absurd step
+  queue-poll old new written (ToDual (ToPoll answer)) receipt none step is place =
+      subst (IsTold setup old written seat new (Dual Poll) (ToDual (ToPoll answer))) is (poll-told setup old written seat new answer none step)
+      ∙ ap (λ n. record { replies = record { seat = seat; outcome = told n receipt.entry.ticket receipt.entry.deed None } ∷ []; records = receipt.entry ∷ []; place = place_at new (written + 1) }) (sym place)
+  queue-poll old new written answer receipt none step is place = absurd step
 
   -- a place whose seats are there, with what is refused there
   admitted : (q : Queue ℕ) (written : ℕ) → count_of q ≡ setup.seats → dual_refusal q seat Poll ≡ None → written + dual_owed q + 2 ≤ setup.cap → request_refusal setup (place_at q written) seat ≡ None
@@ -120,7 +61,7 @@ module _ (setup : Setup) (seat : ℕ) where
 
   -- they are one thread's polls, and leave kind and seats
   pub record ArePolls (old : Queue ℕ) (written : ℕ) (got : List (QueueAnswer ℕ × Received Deed)) (new : QueueOfKind) : Type 0 where
-    pub turns : polls setup (place_at old written) seat (length got) ≡ record { replies = map (λ one. poll_reply seat one.1) got; records = map (λ one. one.1.entry) got; place = place_at new.queue (written + length got) }
+    pub turns : polls setup (place_at old written) seat (length got) ≡ record { replies = map (λ one. reply_of seat one.1 None) got; records = map (λ one. one.1.entry) got; place = place_at new.queue (written + length got) }
     pub kind : new.kind ≡ setup.kind
     pub count : count_of new.queue ≡ setup.seats
 
@@ -135,12 +76,12 @@ module _ (setup : Setup) (seat : ℕ) where
   are-polls old new written (one ∷ got) kind count none left fits numbered (mid, (step, takes), is, more) =
       let made_step : QueueStep (λ m. m) setup.kind old.queue seat (Dual Poll) one.0 mid.queue = subst (λ k. QueueStep (λ m. m) k old.queue seat (Dual Poll) one.0 mid.queue) kind step.1 in
       let first : take setup (place_at old.queue written) seat immediate ≡ told_turn seat one.1 mid.queue (written + 1) = queue-poll old.queue mid.queue written one.0 one.1 (admitted old.queue written count (none (omega arith)) (omega (arith, fits (omega arith)))) made_step is numbered.0 in
-      let rest : ArePolls mid.queue (written + 1) got new = are-polls mid new (written + 1) got (step.0 ∙ kind) (queue-count old.kind old.queue mid.queue one.0 step.1 ∙ count) (λ some. takes.free (omega (arith, left, takes.left, some))) (omega (arith, left, takes.left)) (λ some. omega (arith, fits (omega arith), takes.owed)) numbered.1 more in
+      let rest : ArePolls mid.queue (written + 1) got new = are-polls mid new (written + 1) got (step.0 ∙ kind) (call-count old.kind old.queue mid.queue seat (Dual Poll) one.0 step.1 ∙ count) (λ some. takes.free (omega (arith, left, takes.left, some))) (omega (arith, left, takes.left)) (λ some. omega (arith, fits (omega arith), takes.owed)) numbered.1 more in
       let further : written + 1 + length got ≡ written + length (one ∷ got) = omega arith in
       record {
         turns = ap (λ t. joined t (λ q. polls setup q seat (length got))) first
-            ∙ ap (λ (t : Turn). record { replies = poll_reply seat one.1 ∷ t.replies; records = one.1.entry ∷ t.records; place = t.place }) rest.turns
-            ∙ ap (λ n. record { replies = map (λ (g : QueueAnswer ℕ × Received Deed). poll_reply seat g.1) (one ∷ got); records = map (λ (g : QueueAnswer ℕ × Received Deed). g.1.entry) (one ∷ got); place = place_at new.queue n }) further;
+            ∙ ap (λ (t : Turn). record { replies = reply_of seat one.1 None ∷ t.replies; records = one.1.entry ∷ t.records; place = t.place }) rest.turns
+            ∙ ap (λ n. record { replies = map (λ (g : QueueAnswer ℕ × Received Deed). reply_of seat g.1 None) (one ∷ got); records = map (λ (g : QueueAnswer ℕ × Received Deed). g.1.entry) (one ∷ got); place = place_at new.queue n }) further;
         kind = rest.kind;
         count = rest.count;
       }
@@ -196,7 +137,7 @@ module _ (setup : Setup) (seat : ℕ) where
 
   -- a drain that was made: its replies and records, and what it leaves
   pub record IsDrained (old : Queue ℕ) (written k : ℕ) (got : List (QueueAnswer ℕ × Received Deed)) (new : QueueOfKind) : Type 0 where
-    pub turn : drain setup (place_at old written) seat k ≡ record { replies = map (λ one. poll_reply seat one.1) got ++ record { seat = seat; outcome = Drained k } ∷ []; records = map (λ one. one.1.entry) got; place = place_at new.queue (written + length got) }
+    pub turn : drain setup (place_at old written) seat k ≡ record { replies = map (λ one. reply_of seat one.1 None) got ++ record { seat = seat; outcome = Drained k } ∷ []; records = map (λ one. one.1.entry) got; place = place_at new.queue (written + length got) }
     pub kind : new.kind ≡ setup.kind
     pub count : count_of new.queue ≡ setup.seats
 
@@ -209,7 +150,7 @@ module _ (setup : Setup) (seat : ℕ) where
         turn = drain-made (place_at old.queue written) k (sym (drain_refusal-is old.queue cap written k same count) ∙ none)
             ∙ ap (λ n. joined (polls setup (place_at old.queue written) seat n) (λ q. silent q seat (Drained k))) (sym long)
             ∙ ap (λ t. joined t (λ q. silent q seat (Drained k))) are.turns
-            ∙ (λ i. record { replies = map (λ (one : QueueAnswer ℕ × Received Deed). poll_reply seat one.1) got ++ record { seat = seat; outcome = Drained k } ∷ []; records = append-nil (map (λ (one : QueueAnswer ℕ × Received Deed). one.1.entry) got) i; place = place_at new.queue (written + length got) });
+            ∙ (λ i. record { replies = map (λ (one : QueueAnswer ℕ × Received Deed). reply_of seat one.1 None) got ++ record { seat = seat; outcome = Drained k } ∷ []; records = append-nil (map (λ (one : QueueAnswer ℕ × Received Deed). one.1.entry) got) i; place = place_at new.queue (written + length got) });
         kind = are.kind;
         count = are.count;
       }

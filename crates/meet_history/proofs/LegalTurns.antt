@@ -23,14 +23,14 @@ use Rattle.meet_tickets.proofs.Continued.{legal-append, moment_of-append}
 use Rattle.meet_tickets.proofs.Partners.{none-from}
 use Rattle.meet_tickets.proofs.Sides.{HasOneSide, partner-other, HasOneSide-unmet, HasOneSide-without_first, HasOneSide-added}
 use Rattle.meet_tickets.proofs.Admitted.{IsAdmitted, IsAdmitted-from}
-use Rattle.meet_history.specs.declared.calls.Call.{Call}
-use Rattle.meet_history.specs.declared.calls.Verb.{Verb}
-use Rattle.meet_history.specs.declared.calls.Verb.TheVariants.{Put, Offer, Take, Poll, Transfer as TransferItem, Try, Follow, Cancel, Expire, Interrupt as InterruptSeat, Drain, Size, Room, Peek, Consumers}
-use Rattle.meet_history.specs.declared.setups.Setup.{Setup}
-use Rattle.meet_history.specs.declared.replies.Outcome.{Outcome}
-use Rattle.meet_history.specs.declared.replies.Outcome.TheVariants.{Refused, Recorded, Interrupted as InterruptedSeat, Late, Drained}
+use Rattle.meet_history.specs.declared.one_thread.verbs.Call.{Call}
+use Rattle.meet_history.specs.declared.one_thread.verbs.Verb.{Verb}
+use Rattle.meet_history.specs.declared.one_thread.verbs.Verb.TheVariants.{Put, Offer, Take, Poll, Transfer as TransferItem, Try, Follow, Cancel, Expire, Interrupt as InterruptSeat, Drain, Size, Room, Peek, Consumers}
+use Rattle.meet_history.specs.declared.one_thread.setup.Setup.{Setup}
+use Rattle.meet_history.specs.declared.one_thread.replies.Outcome.{Outcome}
+use Rattle.meet_history.specs.declared.one_thread.replies.Outcome.TheVariants.{Refused, Late, Drained}
 use Rattle.meet_history.proofs.Within.{by_cases, IsWithin, IsWithin-after}
-use Rattle.meet_history.specs.OneThread.{Place, Turn, start, silent, refused, written, joined, Form, waiting, immediate, keeping, may_keep, give_alone, give_deed, take_alone, take_deed, stepped, answer_of, request_refusal, request, give, take, follow, withdraw, interrupt, interrupt_refusal, cut_named, polls, drain, drain_refusal, put_form, offer_form, turn_of, turn, turns}
+use Rattle.meet_history.specs.OneThread.{Place, Turn, start, silent, refused, written, joined, Form, waiting, immediate, keeping, may_keep, give_alone, give_deed, take_alone, take_deed, stepped, request_refusal, request, give, take, follow, withdraw, interrupt, interrupt_refusal, polls, drain, drain_refusal, put_form, offer_form, turn_of, turn, turns}
 
 -- a meeting leaves a line of one side
 HasOneSide-meets : (k : Kind) (s : Seats ℕ) (t : ℕ) (item : Option ℕ) (o : Option (Entry ℕ)) → HasOneSide s.line → HasOneSide (option_map_or (paired (λ mark. mark) (end_of k.order) s t item) o s).line
@@ -81,8 +81,8 @@ IsLegalTurn-silent : (setup : Setup) (last : ℕ) (p : Place) (seat : ℕ) (outc
 IsLegalTurn-silent setup last p seat outcome ready = record { legal = tt; last_now = last; leads = refl; ready = ready }
 
 -- a turn that writes one record, which fits
-IsLegalTurn-written : (setup : Setup) (last : ℕ) (p : Place) (r : Record Deed) (outcome : ℕ → Outcome) → IsReady setup.seats last p → Fits setup.kind (moment_at last p) r → (is_request r.deed ≡ true → (r.ticket ≡ p.next) × (r.seat < setup.seats)) → IsLegalTurn setup last p (written setup p r outcome)
-IsLegalTurn-written setup last p r outcome ready fits used = record {
+IsLegalTurn-written : (setup : Setup) (last : ℕ) (p : Place) (r : Record Deed) (back : Option ℕ) → IsReady setup.seats last p → Fits setup.kind (moment_at last p) r → (is_request r.deed ≡ true → (r.ticket ≡ p.next) × (r.seat < setup.seats)) → IsLegalTurn setup last p (written setup p r back)
+IsLegalTurn-written setup last p r back ready fits used = record {
   legal = (fits, tt);
   last_now = if_request (is_request r.deed);
   leads = refl;
@@ -159,7 +159,7 @@ request_legal : (setup : Setup) (last : ℕ) (p : Place) (seat : ℕ) (deed : De
 request_legal setup last p seat deed item ready fits =
     by_cases (λ t. IsLegalTurn setup last p t) (request_refusal setup p seat) (refused p seat) (stepped setup p seat p.next deed item)
     (λ why is. IsLegalTurn-silent setup last p seat (Refused why) ready)
-    (λ none. IsLegalTurn-written setup last p (record { seat = seat; ticket = p.next; deed = deed }) (λ n. Recorded n p.next (answer_of deed item)) ready (record { above = λ _. ready.below; allowed = fits (admitted setup p seat none).free }) (λ _. (refl, (admitted setup p seat none).there)))
+    (λ none. IsLegalTurn-written setup last p (record { seat = seat; ticket = p.next; deed = deed }) item ready (record { above = λ _. ready.below; allowed = fits (admitted setup p seat none).free }) (λ _. (refl, (admitted setup p seat none).there)))
 
 -- so gives and takes are legal
 give_legal : (setup : Setup) (last : ℕ) (p : Place) (seat mark : ℕ) (form : Form) → (form ≡ keeping → keeps setup.kind.order ≡ true) → IsReady setup.seats last p → IsLegalTurn setup last p (give setup p seat form mark)
@@ -171,14 +171,14 @@ take_legal setup last p seat form ready =
     request_legal setup last p seat (take_deed setup.kind p.seats seat form) None ready (take_fits setup p seat form ready.one_side)
 
 -- a record that uses no ticket, and is allowed
-unused_legal : (setup : Setup) (last : ℕ) (p : Place) (seat t : ℕ) (deed : Deed) (outcome : ℕ → Outcome) → IsReady setup.seats last p → is_request deed ≡ false → Allows setup.kind p.seats seat t deed → IsLegalTurn setup last p (written setup p (record { seat = seat; ticket = t; deed = deed }) outcome)
-unused_legal setup last p seat t deed outcome ready ends allowed =
-    IsLegalTurn-written setup last p (record { seat = seat; ticket = t; deed = deed }) outcome ready (record { above = λ e. absurd (let x : false ≡ true = sym ends ∙ e in cc); allowed = allowed }) (λ e. absurd (let x : false ≡ true = sym ends ∙ e in cc))
+unused_legal : (setup : Setup) (last : ℕ) (p : Place) (seat t : ℕ) (deed : Deed) (back : Option ℕ) → IsReady setup.seats last p → is_request deed ≡ false → Allows setup.kind p.seats seat t deed → IsLegalTurn setup last p (written setup p (record { seat = seat; ticket = t; deed = deed }) back)
+unused_legal setup last p seat t deed back ready ends allowed =
+    IsLegalTurn-written setup last p (record { seat = seat; ticket = t; deed = deed }) back ready (record { above = λ e. absurd (let x : false ≡ true = sym ends ∙ e in cc); allowed = allowed }) (λ e. absurd (let x : false ≡ true = sym ends ∙ e in cc))
 
 -- an ending that is allowed
 ending_legal : (setup : Setup) (last : ℕ) (p : Place) (seat t : ℕ) (deed : Deed) (item : Option ℕ) → IsReady setup.seats last p → is_request deed ≡ false → Allows setup.kind p.seats seat t deed → IsLegalTurn setup last p (stepped setup p seat t deed item)
 ending_legal setup last p seat t deed item ready ends allowed =
-    unused_legal setup last p seat t deed (λ n. Recorded n t (answer_of deed item)) ready ends allowed
+    unused_legal setup last p seat t deed item ready ends allowed
 
 -- a follow-up ends what the seat holds
 follow_legal : (setup : Setup) (last : ℕ) (p : Place) (seat : ℕ) (hold : Hold ℕ) → IsReady setup.seats last p → p.seats.holds seat ≡ hold → IsLegalTurn setup last p (follow setup p seat hold)
@@ -204,7 +204,7 @@ interrupt_legal : (setup : Setup) (last : ℕ) (p : Place) (seat target : ℕ) �
 interrupt_legal setup last p seat target ready =
     by_cases (λ t. IsLegalTurn setup last p t) (interrupt_refusal setup p seat target) (refused p seat) _
     (λ why is. IsLegalTurn-silent setup last p seat (Refused why) ready)
-    (λ none. unused_legal setup last p seat (cut_ticket p.seats target) (Interrupt target) (λ n. InterruptedSeat n target (cut_named (cut_ticket p.seats target))) ready refl refl)
+    (λ none. unused_legal setup last p seat (cut_ticket p.seats target) (Interrupt target) None ready refl refl)
 
 -- a drain is takes, one after another
 polls_legal : (setup : Setup) (last : ℕ) (p : Place) (seat n : ℕ) → IsReady setup.seats last p → IsLegalTurn setup last p (polls setup p seat n)

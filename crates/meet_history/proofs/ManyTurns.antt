@@ -1,8 +1,8 @@
 -- The turns of a list of calls, one call at a time.
 use Rattle.std.proofs.Common.{◌≡◌, ℕ, ◌+◌, ◌<◌, sym, ap, ◌∙◌, append_assoc, List, ◌∷◌, ◌++◌, length, get_or, drop}
 use Rattle.std.proofs.lemmas.List.{drop_more}
-use Rattle.meet_history.specs.declared.calls.Call.{Call}
-use Rattle.meet_history.specs.declared.setups.Setup.{Setup}
+use Rattle.meet_history.specs.declared.one_thread.verbs.Call.{Call}
+use Rattle.meet_history.specs.declared.one_thread.setup.Setup.{Setup}
 use Rattle.meet_history.specs.OneThread.{Place, Turn, joined, turn, turns}
 
 -- a part of a turn that is a list, and of two turns is one's behind the other's

@@ -10,11 +10,11 @@ use Rattle.meet_tickets.specs.declared.records.Deed.{Deed}
 use Rattle.meet_tickets.specs.declared.places.Side.TheVariants.{Giver}
 use Rattle.meet_tickets.specs.Meeting.{count_on}
 use Rattle.meet_tickets.specs.BySeat.{entry_of}
-use Rattle.meet_history.specs.declared.calls.Call.{Call}
-use Rattle.meet_history.specs.declared.calls.Verb.{Verb}
-use Rattle.meet_history.specs.declared.calls.Verb.TheVariants.{Put, Offer, Take, Poll, Transfer as TransferItem, Try, Follow, Cancel, Expire, Interrupt as InterruptSeat, Drain, Size, Room, Peek, Consumers}
-use Rattle.meet_history.specs.declared.setups.Setup.{Setup}
-use Rattle.meet_history.specs.declared.replies.Outcome.TheVariants.{Drained}
+use Rattle.meet_history.specs.declared.one_thread.verbs.Call.{Call}
+use Rattle.meet_history.specs.declared.one_thread.verbs.Verb.{Verb}
+use Rattle.meet_history.specs.declared.one_thread.verbs.Verb.TheVariants.{Put, Offer, Take, Poll, Transfer as TransferItem, Try, Follow, Cancel, Expire, Interrupt as InterruptSeat, Drain, Size, Room, Peek, Consumers}
+use Rattle.meet_history.specs.declared.one_thread.setup.Setup.{Setup}
+use Rattle.meet_history.specs.declared.one_thread.replies.Outcome.TheVariants.{Drained}
 use Rattle.meet_history.specs.OneThread.{Place, Turn, Form, immediate, waiting, put_form, offer_form, silent, refused, joined, stepped, request_refusal, request, give, take, give_deed, take_deed, follow, withdraw, interrupt, interrupt_refusal, polls, drain, drain_refusal, turn_of, turn, turns}
 
 -- a turn counts its records

@@ -4,8 +4,8 @@ use Rattle.meet_tickets.specs.ByLists.{IsLegal}
 use Rattle.meet_tickets.specs.BySeat.{beginning, moment_of}
 use Rattle.meet_tickets.proofs.Histories.{tellings_are_one}
 use Rattle.meet_tickets.proofs.Standings.{StandsAs, stands_as}
-use Rattle.meet_history.specs.declared.calls.Call.{Call}
-use Rattle.meet_history.specs.declared.setups.Setup.{Setup}
+use Rattle.meet_history.specs.declared.one_thread.verbs.Call.{Call}
+use Rattle.meet_history.specs.declared.one_thread.setup.Setup.{Setup}
 use Rattle.meet_history.specs.OneThread.{start, turns, records, standing_at}
 use Rattle.meet_history.specs.Standings.{IsRecorded}
 use Rattle.meet_history.proofs.Kept.{standings-same}

@@ -1,14 +1,8 @@
 -- Which places there are.
-use Rattle.std.specs.Prelude.{◌≡◌, ℕ, ◌≤◌, true, Option, Some, None, ⊤}
-use Rattle.meet_tickets.specs.declared.places.Order.{Order}
-use Rattle.meet_tickets.specs.Limits.{most_seats, most_records, most_kept, last_ticket}
-use Rattle.meet_tickets.specs.Meeting.{keeps}
-use Rattle.meet_history.specs.declared.setups.Setup.{Setup}
-
--- only a place that keeps items has a bound, from 1 to 1,048,576
-abbrev pub FitsBound : Order → Option ℕ → Type 0
-FitsBound order None = ⊤
-FitsBound order (Some n) = (keeps order ≡ true) × (1 ≤ n) × (n ≤ most_kept)
+use Rattle.std.specs.Prelude.{◌≤◌}
+use Rattle.meet_tickets.specs.Limits.{most_seats, most_records, last_ticket}
+use Rattle.meet_tickets.specs.Meeting.{FitsBound}
+use Rattle.meet_history.specs.declared.one_thread.setup.Setup.{Setup}
 
 -- a place's numbers are in their limits
 pub record IsInLimits (setup : Setup) : Type 0 where

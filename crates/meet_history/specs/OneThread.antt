@@ -1,6 +1,6 @@
 -- The replies of a place that one thread uses, whatever seats it speaks for.
-use Rattle.std.specs.Prelude.{ℕ, zero, suc, ◌+◌, ◌-◌, nat_lt, min, Bool, true, Option, Some, None, unwrap_or, List, [], ◌∷◌, ◌++◌, slice_get, if◌then◌else◌}
-use Rattle.std.specs.Option.{option_map_or, option_and_then}
+use Rattle.std.specs.Prelude.{ℕ, zero, suc, ◌+◌, ◌-◌, nat_lt, min, Bool, true, Option, Some, None, unwrap_or, List, [], ◌∷◌, ◌++◌, if◌then◌else◌}
+use Rattle.std.specs.Option.{option_map_or}
 use Rattle.meet_tickets.specs.declared.lines.Entry.{Entry}
 use Rattle.meet_tickets.specs.declared.lines.Hold.{Hold}
 use Rattle.meet_tickets.specs.declared.lines.Hold.TheVariants.{Free, Waiting, Handed, Served, Cut}
@@ -16,20 +16,20 @@ use Rattle.meet_tickets.specs.declared.refusals.Refusal.{Refusal}
 use Rattle.meet_tickets.specs.declared.refusals.Refusal.TheVariants.{NotOpen}
 use Rattle.meet_tickets.specs.Meeting.{end_of, keeps, partner, kept_count, waiting_count, count_on}
 use Rattle.meet_tickets.specs.BySeat.{Seats, nobody, entry_of, cut_ticket, owed_of, settled_of, is_request, seats_after}
-use Rattle.meet_tickets.specs.Limits.{last_ticket, told_capacity}
+use Rattle.meet_tickets.specs.Limits.{last_ticket}
 use Rattle.meet_tickets.specs.Refusals.{refusal_of, absent_refusal}
-use Rattle.meet_history.specs.Booking.{call_refusal}
-use Rattle.meet_history.specs.Draining.{drain_refusal_by}
-use Rattle.meet_history.specs.declared.calls.Call.{Call}
+use Rattle.meet_book.specs.Booking.{call_refusal}
+use Rattle.meet_book.specs.Draining.{drain_refusal_by}
+use Rattle.meet_queues.specs.Probes.{size_of, remaining_of, peek_of}
+use Rattle.meet_history.specs.declared.one_thread.verbs.Call.{Call}
 use Rattle.meet_history.specs.declared.checker.Standing.{Standing}
-use Rattle.meet_history.specs.declared.calls.Verb.{Verb}
-use Rattle.meet_history.specs.declared.calls.Verb.TheVariants.{Put, Offer, Take, Poll, Transfer as TransferItem, Try, Follow, Cancel, Expire, Interrupt as InterruptSeat, Drain, Size, Room, Peek, Consumers}
-use Rattle.meet_history.specs.declared.setups.Setup.{Setup}
-use Rattle.meet_history.specs.declared.replies.Reply.{Reply}
-use Rattle.meet_history.specs.declared.replies.Outcome.{Outcome}
-use Rattle.meet_history.specs.declared.replies.Outcome.TheVariants.{Recorded, Interrupted as InterruptedSeat, NotYet, Late, Drained, Count, Peeked, Refused}
-use Rattle.meet_history.specs.declared.replies.Answer.{Answer}
-use Rattle.meet_history.specs.declared.replies.Answer.TheVariants.{Waits, Kept, Gave, Got as GotItem, Fails, Done as Finished, Withdrawn as TakenBack}
+use Rattle.meet_history.specs.declared.one_thread.verbs.Verb.{Verb}
+use Rattle.meet_history.specs.declared.one_thread.verbs.Verb.TheVariants.{Put, Offer, Take, Poll, Transfer as TransferItem, Try, Follow, Cancel, Expire, Interrupt as InterruptSeat, Drain, Size, Room, Peek, Consumers}
+use Rattle.meet_history.specs.declared.one_thread.setup.Setup.{Setup}
+use Rattle.meet_history.specs.declared.one_thread.replies.Reply.{Reply}
+use Rattle.meet_history.specs.declared.one_thread.replies.Outcome.{Outcome}
+use Rattle.meet_history.specs.declared.one_thread.replies.Outcome.TheVariants.{Recorded, Interrupted as InterruptedSeat, NotYet, Late, Drained, Count, Peeked, Refused}
+use Rattle.meet_history.specs.declared.one_thread.replies.Answer.TheVariants.{Waits, Kept, Gave, Got as GotItem, Fails, Done as Finished, Withdrawn as TakenBack}
 
 -- where the place is
 pub record Place : Type 0 where
@@ -55,10 +55,30 @@ silent p seat outcome = record { replies = record { seat = seat; outcome = outco
 abbrev pub refused : Place → (seat : ℕ) → Refusal → Turn
 refused p seat why = silent p seat (Refused why)
 
+-- the ticket of this number, where it names one: 0 names none
+abbrev pub named : ℕ → Option ℕ
+named zero = None
+named (suc t) = Some (suc t)
+
+-- what the seat is told of its record: which number and ticket it has, and what came of it; a giver's item where it comes back
+abbrev pub told : (number ticket : ℕ) → Deed → (back : Option ℕ) → Outcome
+told n t (GiveWaits m) back = Recorded n t Waits
+told n t (GiveMeets m u) back = Recorded n t (Gave m u)
+told n t (GiveFails m) back = Recorded n t (Fails back)
+told n t (GiveKept m) back = Recorded n t Kept
+told n t TakeWaits back = Recorded n t Waits
+told n t (TakeMeets m u) back = Recorded n t (GotItem m u)
+told n t TakeFails back = Recorded n t (Fails back)
+told n t (EntryInterrupted side) back = Recorded n t (TakenBack Interrupted back)
+told n t Done back = Recorded n t Finished
+told n t (Got m u) back = Recorded n t (GotItem m u)
+told n t (Withdrawn cause) back = Recorded n t (TakenBack cause back)
+told n t (Interrupt j) back = InterruptedSeat n j (named t)
+
 -- one record is written, whose step the place makes; a request uses its ticket
-abbrev pub written : Setup → Place → Record Deed → (ℕ → Outcome) → Turn
-written setup p r outcome = record {
-  replies = record { seat = r.seat; outcome = outcome (p.records + 1) } ∷ [];
+abbrev pub written : Setup → Place → Record Deed → (back : Option ℕ) → Turn
+written setup p r back = record {
+  replies = record { seat = r.seat; outcome = told (p.records + 1) r.ticket r.deed back } ∷ [];
   records = r ∷ [];
   place = record {
     next = if is_request r.deed then p.next + 1 else p.next;
@@ -66,6 +86,10 @@ written setup p r outcome = record {
     records = p.records + 1;
   };
 }
+
+-- the same in its parts
+abbrev pub stepped : Setup → Place → (seat ticket : ℕ) → Deed → (back : Option ℕ) → Turn
+stepped setup p seat ticket deed back = written setup p (record { seat = seat; ticket = ticket; deed = deed }) back
 
 -- one turn after another
 abbrev pub joined : Turn → (Place → Turn) → Turn
@@ -111,26 +135,6 @@ abbrev pub take_deed : Kind → Seats ℕ → (seat : ℕ) → Form → Deed
 take_deed k s seat form =
     option_map_or (λ e. TakeMeets (unwrap_or e.item 0) e.ticket) (partner (end_of k.order) s.line Taker) (take_alone s seat form)
 
--- the answer to a deed; `item` is the giver's item, where it comes back; an interrupt is told otherwise, and its row is never used
-abbrev pub answer_of : Deed → (item : Option ℕ) → Answer
-answer_of (GiveWaits m) item = Waits
-answer_of (GiveMeets m u) item = Gave m u
-answer_of (GiveFails m) item = Fails item
-answer_of (GiveKept m) item = Kept
-answer_of TakeWaits item = Waits
-answer_of (TakeMeets m u) item = GotItem m u
-answer_of TakeFails item = Fails item
-answer_of (EntryInterrupted side) item = TakenBack Interrupted item
-answer_of Done item = Finished
-answer_of (Got m u) item = GotItem m u
-answer_of (Withdrawn cause) item = TakenBack cause item
-answer_of (Interrupt j) item = Waits
-
--- a step of one ticket is written
-abbrev pub stepped : Setup → Place → (seat ticket : ℕ) → Deed → (item : Option ℕ) → Turn
-stepped setup p seat ticket deed item =
-    written setup p (record { seat = seat; ticket = ticket; deed = deed }) (λ n. Recorded n ticket (answer_of deed item))
-
 -- why a request is refused: the first that applies
 abbrev pub request_refusal : Setup → Place → (seat : ℕ) → Option Refusal
 request_refusal setup p seat = call_refusal (refusal_of setup.seats p.next p.seats seat) (is_full setup p 2)
@@ -170,18 +174,11 @@ abbrev pub interrupt_refusal : Setup → Place → (seat target : ℕ) → Optio
 interrupt_refusal setup p seat target =
     call_refusal (absent_refusal setup.seats seat target) (is_full setup p 1)
 
--- the ticket of this number, where it names one: 0 names none
-abbrev pub cut_named : ℕ → Option ℕ
-cut_named zero = None
-cut_named (suc t) = Some (suc t)
-
 -- an interrupt of the target (Thread.interrupt): one record, or a refusal
 abbrev pub interrupt : Setup → Place → (seat target : ℕ) → Turn
 interrupt setup p seat target =
     option_map_or (refused p seat) (interrupt_refusal setup p seat target)
-    (written setup p
-    (record { seat = seat; ticket = cut_ticket p.seats target; deed = Interrupt target })
-    (λ n. InterruptedSeat n target (cut_named (cut_ticket p.seats target))))
+    (stepped setup p seat (cut_ticket p.seats target) (Interrupt target) None)
 
 -- a drain is so many polls, and then their number
 abbrev pub polls : Setup → Place → (seat : ℕ) → ℕ → Turn
@@ -197,18 +194,6 @@ drain_refusal setup p seat k =
 abbrev pub drain : Setup → Place → (seat k : ℕ) → Turn
 drain setup p seat k =
     option_map_or (refused p seat) (drain_refusal setup p seat k) (joined (polls setup p seat k) (λ q. silent q seat (Drained k)))
-
--- SynchronousQueue.size is 0; LinkedTransferQueue.size counts the givers, kept or waiting
-abbrev pub size_of : Order → List (Entry ℕ) → ℕ
-size_of order line = if keeps order then count_on Giver line else 0
-
--- SynchronousQueue.remainingCapacity, and that of LinkedTransferQueue
-abbrev pub remaining_of : Order → ℕ
-remaining_of order = if keeps order then told_capacity else 0
-
--- SynchronousQueue.peek is always empty; LinkedTransferQueue.peek is the first giver's item
-abbrev pub peek_of : Order → List (Entry ℕ) → Option ℕ
-peek_of order line = if keeps order then option_and_then (λ e. e.item) (slice_get line 0) else None
 
 -- SynchronousQueue.put waits; LinkedTransferQueue.put keeps its item
 abbrev pub put_form : Order → Form

@@ -5,9 +5,9 @@ use Rattle.meet_tickets.specs.declared.records.Deed.{Deed}
 use Rattle.meet_tickets.specs.ByLists.{IsLegal}
 use Rattle.meet_tickets.specs.BySeat.{beginning, moment_of}
 use Rattle.meet_tickets.specs.Fates.{waiting_in, uncollected_in, kept_in}
-use Rattle.meet_history.specs.declared.calls.Call.{Call}
+use Rattle.meet_history.specs.declared.one_thread.verbs.Call.{Call}
 use Rattle.meet_history.specs.declared.checker.Standing.{Standing}
-use Rattle.meet_history.specs.declared.setups.Setup.{Setup}
+use Rattle.meet_history.specs.declared.one_thread.setup.Setup.{Setup}
 use Rattle.meet_history.specs.OneThread.{start, turns, records, standing_of}
 
 -- the numbers of tickets with these fates: that wait in the line; that waited, were met or cut, and weren't told so; and

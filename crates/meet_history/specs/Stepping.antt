@@ -1,25 +1,29 @@
 -- What a stepper shows of itself, and what a call does to it.
-use Rattle.std.specs.Prelude.{◌≡◌, ℕ, Option, None, option_to_list, List, [], ◌∷◌, ◌++◌, length}
+use Rattle.std.specs.Prelude.{◌≡◌, ℕ, Option, Some, None, List, [], ◌∷◌, ◌++◌, length}
 use Rattle.meet_tickets.specs.declared.records.Record.{Record}
 use Rattle.meet_tickets.specs.declared.records.Deed.{Deed}
+use Rattle.meet_tickets.specs.declared.records.Cause.TheVariants.{Cancelled, Expired}
 use Rattle.meet_tickets.specs.declared.refusals.Refusal.{Refusal}
 use Rattle.meet_tickets.specs.declared.refusals.Refusal.TheVariants.{Memory}
 use Rattle.meet_line.specs.Queue.{Queue, seats_of}
-use Rattle.meet_history.specs.declared.setups.Setup.{Setup}
-use Rattle.meet_history.specs.Received.{Received}
-use Rattle.meet_history.specs.declared.replies.Reply.{Reply}
-use Rattle.meet_history.specs.declared.replies.Outcome.{Outcome}
-use Rattle.meet_history.specs.declared.replies.Outcome.TheVariants.{Recorded}
-use Rattle.meet_history.specs.declared.steps.Step.{Step}
-use Rattle.meet_history.specs.declared.told.DualCall.{DualCall}
-use Rattle.meet_history.specs.declared.told.DualCall.TheVariants.{Give, Offer, Take, Poll, Interrupt}
-use Rattle.meet_history.specs.declared.told.DualAnswer.{DualAnswer}
-use Rattle.meet_history.specs.declared.told.QueueCall.{QueueCall}
-use Rattle.meet_history.specs.declared.told.QueueCall.TheVariants.{Dual}
-use Rattle.meet_history.specs.declared.told.QueueAnswer.{QueueAnswer}
-use Rattle.meet_history.specs.declared.told.QueueAnswer.TheVariants.{Dual as ToDual}
-use Rattle.meet_history.specs.QueueSteps.{QueueStep, queue_record}
-use Rattle.meet_history.specs.OneThread.{Place, Turn, answer_of, request_refusal, interrupt_refusal}
+use Rattle.meet_line.specs.declared.answers.Gave.TheVariants.{EntryInterrupted}
+use Rattle.meet_line.specs.declared.answers.Put.TheVariants.{Fails as PutFails}
+use Rattle.meet_line.specs.declared.answers.Offered.TheVariants.{Fails}
+use Rattle.meet_line.specs.declared.answers.Followed.TheVariants.{Interrupted}
+use Rattle.meet_line.specs.declared.answers.TakenBack.TheVariants.{Back}
+use Rattle.meet_book.specs.Received.{Received}
+use Rattle.meet_calls.specs.declared.queue_calls.DualCall.{DualCall}
+use Rattle.meet_calls.specs.declared.queue_calls.DualCall.TheVariants.{Give, Offer, Take, Poll, FollowUp, Cancel, Expire, Interrupt}
+use Rattle.meet_calls.specs.declared.queue_calls.DualAnswer.TheVariants.{Gave as ToGive, Offered as ToOffer, Followed as ToFollowUp, TakenBack as ToWithdrawal}
+use Rattle.meet_calls.specs.declared.queue_calls.QueueCall.{QueueCall}
+use Rattle.meet_calls.specs.declared.queue_calls.QueueCall.TheVariants.{Put, Dual}
+use Rattle.meet_calls.specs.declared.queue_calls.QueueAnswer.{QueueAnswer}
+use Rattle.meet_calls.specs.declared.queue_calls.QueueAnswer.TheVariants.{Put as ToPut, Dual as ToDual}
+use Rattle.meet_history.specs.declared.one_thread.setup.Setup.{Setup}
+use Rattle.meet_history.specs.declared.one_thread.replies.Reply.{Reply}
+use Rattle.meet_history.specs.declared.one_thread.replies.Outcome.{Outcome}
+use Rattle.meet_history.specs.declared.one_thread.replies.Outcome.TheVariants.{NotYet, Late}
+use Rattle.meet_history.specs.OneThread.{Place, Turn, told, put_form, waiting, immediate, give, take, follow, withdraw, interrupt, request_refusal, interrupt_refusal}
 
 -- what a run over a place shows of itself
 pub record Stepping : Type 0 where
@@ -42,7 +46,19 @@ pub record TakesTurn (turn : Turn) (old new : Stepping) (reply : Reply) : Type 0
   pub replies : turn.replies ≡ reply ∷ []
   pub takes : Takes turn old new
 
--- why a request or an interrupt is refused, Memory aside; an ending of an open ticket isn't
+-- the turn of a queue's call; an ending is of the seat's open ticket
+abbrev pub turn_of_call : Setup → Place → (seat : ℕ) → QueueCall ℕ → Turn
+turn_of_call setup p i (Put mark) = give setup p i (put_form setup.kind.order) mark
+turn_of_call setup p i (Dual (Give mark)) = give setup p i waiting mark
+turn_of_call setup p i (Dual (Offer mark)) = give setup p i immediate mark
+turn_of_call setup p i (Dual Take) = take setup p i waiting
+turn_of_call setup p i (Dual Poll) = take setup p i immediate
+turn_of_call setup p i (Dual (FollowUp t)) = follow setup p i (p.seats.holds i)
+turn_of_call setup p i (Dual (Cancel t)) = withdraw setup p i Cancelled (p.seats.holds i)
+turn_of_call setup p i (Dual (Expire t)) = withdraw setup p i Expired (p.seats.holds i)
+turn_of_call setup p i (Dual (Interrupt j)) = interrupt setup p i j
+
+-- why a call is refused, Memory aside; an ending of an open ticket isn't
 abbrev pub refusal_at : Setup → Place → (seat : ℕ) → DualCall ℕ → Option Refusal
 refusal_at setup p i (Give mark) = request_refusal setup p i
 refusal_at setup p i (Offer mark) = request_refusal setup p i
@@ -57,20 +73,20 @@ pub record LacksMemory (first : Option Refusal) (old new : Stepping) (why : Refu
   pub alone : first ≡ None
   pub unchanged : new ≡ old
 
--- the queue made a call's step, and its record was written
-pub record Answers (old : Stepping) (seat : ℕ) (call : QueueCall ℕ) (answer : QueueAnswer ℕ) (new : Stepping) : Type 0 where
-  pub setup : new.setup ≡ old.setup
-  pub step : QueueStep (λ mark. mark) old.setup.kind old.queue seat call answer new.queue
-  pub records : new.records ≡ old.records ++ option_to_list (queue_record (λ mark. mark) seat call answer)
+-- the giver's item that an answer brings back, where it brings one
+abbrev pub back_of : QueueAnswer ℕ → Option ℕ
+back_of (ToPut (PutFails t item)) = Some item
+back_of (ToDual (ToGive (EntryInterrupted t item))) = Some item
+back_of (ToDual (ToOffer (Fails t item))) = Some item
+back_of (ToDual (ToFollowUp (Interrupted item))) = item
+back_of (ToDual (ToWithdrawal (Back item))) = item
+back_of answer = None
 
--- a call that each queue has
-abbrev pub Makes : (old : Stepping) (seat : ℕ) (call : DualCall ℕ) (answer : DualAnswer ℕ) (new : Stepping) → Type 0
-Makes old seat call answer new = Answers old seat (Dual call) (ToDual answer) new
+-- what is told of a call that writes no record: a follow-up comes too early, a withdrawal too late; no other call is without one
+abbrev pub unrecorded : QueueCall ℕ → Outcome
+unrecorded (Dual (FollowUp t)) = NotYet
+unrecorded call = Late
 
--- the reply of the poll that a receipt is for
-abbrev pub poll_reply : (seat : ℕ) → Received Deed → Reply
-poll_reply i r = record { seat = i; outcome = Recorded r.place r.entry.ticket (answer_of r.entry.deed None) }
-
--- what a reply tells of a step whose record is the nth
-abbrev pub told_as : (n : ℕ) → Step → Outcome
-told_as n step = Recorded n step.ticket (answer_of step.deed step.item)
+-- the reply that tells a receipt
+abbrev pub reply_of : (seat : ℕ) → Received Deed → (back : Option ℕ) → Reply
+reply_of i r back = record { seat = i; outcome = told r.place r.entry.ticket r.entry.deed back }

@@ -1,8 +1,8 @@
 //! What an answer tells.
 
 use crate::parcels::{Parcel, Told};
-use meet_history::{DualAnswer, QueueAnswer};
 use meet_line::{Followed, Gave, Interrupted, Offered, Polled, Put, TakenBack, Took};
+use meet_queues::{DualAnswer, QueueAnswer};
 use meet_tickets::{Refusal, Refused};
 
 pub fn gave(gave: Gave<Parcel>) -> Told {

@@ -3,9 +3,10 @@
 
 use crate::parcels::{Ask, Parcel, Row, Told};
 use crate::places::plays;
+use meet_book::Book;
 use meet_core::Dual;
-use meet_history::Book;
 use meet_line::{FairLine, Line, StackLine};
+use meet_queues::{queue_book, transfer_book};
 use meet_tickets::{Base, Entry, OpenCut, OpenPair, Side};
 use meet_transfer::Transfer;
 use std::process::Abort;
@@ -117,7 +118,7 @@ fn goes_on<L: Line<Parcel>>(
 
 #[test]
 fn a_fair_book_is_cut(rt: HostRuntime) -> Result<(), Fail> {
-    let mut book: Book<Dual<Parcel, FairLine<Parcel>>> = Book::of_queue(rt.alloc(), 8, 5, 20)
+    let mut book: Book<Dual<Parcel, FairLine<Parcel>>> = queue_book(rt.alloc(), 8, 5, 20)
         .ok()
         .ok_or("memory")?;
     let rows = [
@@ -131,7 +132,7 @@ fn a_fair_book_is_cut(rt: HostRuntime) -> Result<(), Fail> {
 
 #[test]
 fn an_unfair_book_is_cut(rt: HostRuntime) -> Result<(), Fail> {
-    let mut book: Book<Dual<Parcel, StackLine<Parcel>>> = Book::of_queue(rt.alloc(), 8, 5, 20)
+    let mut book: Book<Dual<Parcel, StackLine<Parcel>>> = queue_book(rt.alloc(), 8, 5, 20)
         .ok()
         .ok_or("memory")?;
     let rows = [
@@ -145,7 +146,7 @@ fn an_unfair_book_is_cut(rt: HostRuntime) -> Result<(), Fail> {
 
 #[test]
 fn a_bounded_book_is_cut(rt: HostRuntime) -> Result<(), Fail> {
-    let mut book: Book<Transfer<Parcel>> = Book::of_transfer(rt.alloc(), 5, 5, Some(2), 20)
+    let mut book: Book<Transfer<Parcel>> = transfer_book(rt.alloc(), 5, 5, Some(2), 20)
         .ok()
         .ok_or("memory")?;
     let rows = [

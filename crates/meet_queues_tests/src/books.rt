@@ -3,9 +3,10 @@
 use crate::answers::{dual, queue};
 use crate::parcels::{Ask, Parcel, Told, numbered, seat, ticket};
 use crate::places::{Place, Shown};
+use meet_book::{Book, Receipt};
 use meet_core::Dual;
-use meet_history::{Book, DualCall, QueueCall, Receipt};
 use meet_line::Line;
+use meet_queues::{DualCall, QueueCall};
 use meet_tickets::{Deed, Record, SeatNo};
 use meet_transfer::Transfer;
 use std::process::Abort;

@@ -3,9 +3,10 @@
 use crate::answers::{dual, queue};
 use crate::parcels::{Ask, Parcel, Row, Told, seat, ticket};
 use crate::places::plays;
+use meet_book::{Book, Receipt};
 use meet_core::Dual;
-use meet_history::{Book, DualAnswer, Receipt};
 use meet_line::{FairLine, Line, StackLine};
+use meet_queues::{DualAnswer, queue_book, transfer_book};
 use meet_tickets::{Deed, Record};
 use meet_transfer::Transfer;
 use std::alloc::Global;
@@ -96,7 +97,7 @@ fn drains<L: Line<Parcel> + Drop>(
     rows: &[Taken],
     rest: &[Taken],
 ) -> Result<(), Fail> {
-    let mut book: Book<Dual<Parcel, L>> = Book::of_queue(alloc, 4, 1, 20).ok().ok_or("memory")?;
+    let mut book: Book<Dual<Parcel, L>> = queue_book(alloc, 4, 1, 20).ok().ok_or("memory")?;
     plays(rt, &mut book, &THREE)?;
     drains_dual(rt, alloc, &mut book, 2, rows)?;
     drains_dual(rt, alloc, &mut book, 9, rest)
@@ -116,7 +117,7 @@ fn of_an_unfair_queue(rt: HostRuntime) -> Result<(), Fail> {
 
 #[test]
 fn of_a_transfer_queue(rt: HostRuntime) -> Result<(), Fail> {
-    let mut book: Book<Transfer<Parcel>> = Book::of_transfer(rt.alloc(), 4, 1, None, 20)
+    let mut book: Book<Transfer<Parcel>> = transfer_book(rt.alloc(), 4, 1, None, 20)
         .ok()
         .ok_or("memory")?;
     plays(&rt, &mut book, &THREE_KEPT)?;

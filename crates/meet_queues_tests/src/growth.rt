@@ -4,9 +4,10 @@
 use crate::drains::are_taken;
 use crate::parcels::{Ask, Parcel, Row, Told, seat};
 use crate::places::{Fair, Place, Shown, Unfair};
+use meet_book::Book;
 use meet_core::Dual;
-use meet_history::Book;
 use meet_line::Line;
+use meet_queues::{queue_book, transfer_book};
 use meet_tickets::Refusal;
 use meet_transfer::Transfer;
 use std::alloc::Global;
@@ -38,22 +39,18 @@ fn bounded(alloc: Global) -> Result<Transfer<Parcel>, Fail> {
 }
 
 /// The same of a synchronous queue's book.
-fn queue_book(alloc: Global) -> Result<Book<Fair>, Fail> {
-    match Book::of_queue(alloc, 6, 1, 40) {
+fn book_of_queue(alloc: Global) -> Result<Book<Fair>, Fail> {
+    match queue_book(alloc, 6, 1, 40) {
         Ok(book) => Ok(book),
-        Err(_) => Ok(Book::of_queue(alloc, 6, 1, 40).ok().ok_or("memory")?),
+        Err(_) => Ok(queue_book(alloc, 6, 1, 40).ok().ok_or("memory")?),
     }
 }
 
 /// The same of a transfer queue's book.
-fn transfer_book(alloc: Global) -> Result<Book<Transfer<Parcel>>, Fail> {
-    match Book::of_transfer(alloc, 6, 1, None, 40) {
+fn book_of_transfer(alloc: Global) -> Result<Book<Transfer<Parcel>>, Fail> {
+    match transfer_book(alloc, 6, 1, None, 40) {
         Ok(book) => Ok(book),
-        Err(_) => Ok(
-            Book::of_transfer(alloc, 6, 1, None, 40)
-                .ok()
-                .ok_or("memory")?,
-        ),
+        Err(_) => Ok(transfer_book(alloc, 6, 1, None, 40).ok().ok_or("memory")?),
     }
 }
 
@@ -145,7 +142,7 @@ fn room_that_is_made_first(rt: HostRuntime) -> Result<(), Fail> {
 #[test]
 fn a_book_of_givers_that_wait(rt: HostRuntime) -> Result<(), Fail> {
     let alloc = rt.alloc();
-    let mut book = queue_book(alloc)?;
+    let mut book = book_of_queue(alloc)?;
     bears(&rt, &mut book, &GIVEN)?;
     let before = book.shown();
     let rows = [(6, 1, 10), (7, 2, 20), (8, 3, 30), (9, 4, 40), (10, 5, 50)];
@@ -162,6 +159,6 @@ fn a_book_of_givers_that_wait(rt: HostRuntime) -> Result<(), Fail> {
 
 #[test]
 fn a_book_of_items_that_are_kept(rt: HostRuntime) -> Result<(), Fail> {
-    let mut book = transfer_book(rt.alloc())?;
+    let mut book = book_of_transfer(rt.alloc())?;
     bears(&rt, &mut book, &KEPT)
 }

@@ -3,9 +3,10 @@
 use crate::admitted::Admitted;
 use crate::parcels::{Ask, Parcel, Row, Told};
 use crate::places::{Place, plays};
+use meet_book::Book;
 use meet_core::Dual;
-use meet_history::Book;
 use meet_line::{FairLine, Line, StackLine};
+use meet_queues::{queue_book, transfer_book};
 use meet_tickets::Refusal;
 use meet_transfer::Transfer;
 use std::alloc::Global;
@@ -162,7 +163,7 @@ fn meets_in_a_book<L: Line<Parcel> + Drop>(
     alloc: Global,
     rows: &[Row],
 ) -> Result<(), Fail> {
-    let mut book: Book<Dual<Parcel, L>> = Book::of_queue(alloc, 6, 1, 99).ok().ok_or("memory")?;
+    let mut book: Book<Dual<Parcel, L>> = queue_book(alloc, 6, 1, 99).ok().ok_or("memory")?;
     plays(rt, &mut book, &REFUSED)?;
     hands_on(rt, &mut book, rows)
 }
@@ -187,9 +188,9 @@ fn transfer(alloc: Global) -> Result<Transfer<Parcel>, Fail> {
 }
 
 /// The book of one.
-fn transfer_book(alloc: Global) -> Result<Book<Transfer<Parcel>>, Fail> {
+fn book_of_transfer(alloc: Global) -> Result<Book<Transfer<Parcel>>, Fail> {
     Ok(
-        Book::of_transfer(alloc, 6, 1, Some(3), 99)
+        transfer_book(alloc, 6, 1, Some(3), 99)
             .ok()
             .ok_or("memory")?,
     )
@@ -216,7 +217,7 @@ fn a_transfer_queue_whose_requests_are_admitted(rt: HostRuntime) -> Result<(), F
 
 #[test]
 fn a_book_of_a_transfer_queue(rt: HostRuntime) -> Result<(), Fail> {
-    let mut book = transfer_book(rt.alloc())?;
+    let mut book = book_of_transfer(rt.alloc())?;
     plays(&rt, &mut book, &REFUSED)?;
     keeps(&rt, &mut book)
 }

@@ -2,9 +2,10 @@
 
 use crate::parcels::{Ask, Parcel, Told};
 use crate::places::plays;
+use meet_book::Book;
 use meet_core::Dual;
-use meet_history::Book;
 use meet_line::{FairLine, Line, StackLine};
+use meet_queues::queue_book;
 use meet_tickets::Marked;
 use std::alloc::Global;
 use std::process::Abort;
@@ -36,7 +37,7 @@ fn let_go_through_a_bound<T: Marked + Drop, L: Line<T> + Drop>(lock: Locked<T, L
 
 /// The book of a new queue with two seats.
 fn book_of<L: Line<Parcel>>(alloc: Global) -> Result<Book<Dual<Parcel, L>>, Fail> {
-    Ok(Book::of_queue(alloc, 2, 1, 10).ok().ok_or("memory")?)
+    Ok(queue_book(alloc, 2, 1, 10).ok().ok_or("memory")?)
 }
 
 /// A lock over the book of a new queue, in which a taker waits.

@@ -3,9 +3,11 @@
 use crate::answers::queue;
 use crate::parcels::{Ask, Parcel, Told, seat};
 use crate::places::{Place, plays};
+use meet_book::Book;
 use meet_core::Dual;
-use meet_history::{Book, Standing, check};
+use meet_history::{Standing, check};
 use meet_line::{FairLine, Line, StackLine};
+use meet_queues::transfer_book;
 use meet_tickets::{Deed, Kind, Order, Record, Refusal};
 use meet_transfer::Transfer;
 use std::alloc::Global;
@@ -76,7 +78,7 @@ fn polls(rt: &impl Abort, book: &mut Book<Transfer<Parcel>>, count: u64) -> Resu
 /// A book that may have the most records.
 fn longest(alloc: Global) -> Result<Book<Transfer<Parcel>>, Fail> {
     Ok(
-        Book::of_transfer(alloc, 2, 1, None, 1_048_576)
+        transfer_book(alloc, 2, 1, None, 1_048_576)
             .ok()
             .ok_or("memory")?,
     )

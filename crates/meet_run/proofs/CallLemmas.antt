@@ -8,9 +8,9 @@ use Rattle.std.proofs.lemmas.Option.{cond_some}
 use Rattle.std.proofs.lemmas.Slice.Eq.{bytes_eq-Decides}
 use Rattle.meet_tickets.specs.declared.places.Order.{Order}
 use Rattle.meet_tickets.specs.Limits.{most_seats}
-use Rattle.meet_history.specs.declared.calls.Call.{Call}
-use Rattle.meet_history.specs.declared.calls.Verb.{Verb}
-use Rattle.meet_history.specs.declared.calls.Verb.TheVariants.{Put, Offer, Take, Poll, Transfer as TransferItem, Try, Follow, Cancel, Expire, Interrupt, Drain, Size, Room, Peek, Consumers}
+use Rattle.meet_history.specs.declared.one_thread.verbs.Call.{Call}
+use Rattle.meet_history.specs.declared.one_thread.verbs.Verb.{Verb}
+use Rattle.meet_history.specs.declared.one_thread.verbs.Verb.TheVariants.{Put, Offer, Take, Poll, Transfer as TransferItem, Try, Follow, Cancel, Expire, Interrupt, Drain, Size, Room, Peek, Consumers}
 use Rattle.meet_history.specs.Served.{serves}
 use Rattle.meet_run.specs.Words.{word_of, rest_of, number_spelled}
 use Rattle.meet_run.specs.Grammar.{◌>>=◌, seat_in, bare_verb_of, interrupt_of, numbered_verb_of, verb_of, verb_behind, seat_of, call_in, served_call, call_of}

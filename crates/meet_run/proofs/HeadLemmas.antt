@@ -6,7 +6,7 @@ use Rattle.std.proofs.lemmas.Option.{cond_some}
 use Rattle.meet_tickets.specs.declared.places.Order.{Order}
 use Rattle.meet_tickets.specs.declared.places.Kind.{Kind}
 use Rattle.meet_tickets.specs.Limits.{most_kept}
-use Rattle.meet_history.specs.Limits.{FitsBound}
+use Rattle.meet_tickets.specs.Meeting.{FitsBound}
 use Rattle.meet_run.specs.Words.{word_of, rest_of, behind}
 use Rattle.meet_run.specs.Grammar.{order_of, option_in, may_have}
 use Rattle.meet_run.specs.Spelling.{place_text, option_text}

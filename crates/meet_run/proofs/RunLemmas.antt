@@ -4,7 +4,7 @@ use Rattle.std.specs.Prelude.{IfSome}
 use Rattle.std.specs.List.{flat_map}
 use Rattle.std.specs.Io.KnownBytes.{Consumes, IsAtEnd}
 use Rattle.std.proofs.lemmas.List.{take_more, flat_map_more}
-use Rattle.meet_history.specs.declared.replies.Reply.{Reply}
+use Rattle.meet_history.specs.declared.one_thread.replies.Reply.{Reply}
 use Rattle.meet_run.specs.Reading.{lines_of, BeginsTooLong}
 use Rattle.meet_run.specs.Script.{replies_text}
 use Rattle.meet_run.specs.Wording.{text_of}

@@ -9,10 +9,11 @@ use Rattle.meet_tickets.specs.declared.places.Order.{Order}
 use Rattle.meet_tickets.specs.declared.places.Order.TheVariants.{Fair, Unfair, Transfer}
 use Rattle.meet_tickets.specs.Limits.{most_seats, most_records, most_kept, last_ticket}
 use Rattle.meet_run.specs.declared.first_line.Options.{Options}
-use Rattle.meet_history.specs.declared.setups.Setup.{Setup}
+use Rattle.meet_history.specs.declared.one_thread.setup.Setup.{Setup}
 use Rattle.meet_run.specs.Words.{word_of, rest_of, behind, number_spelled}
 use Rattle.meet_run.specs.Grammar.{◌>>=◌, provided, order_of, option_value, option_in, written_in, may_have, setup_with, setup_at_end, setup_in, setup_of}
-use Rattle.meet_history.specs.Limits.{FitsBound, IsInLimits}
+use Rattle.meet_tickets.specs.Meeting.{FitsBound}
+use Rattle.meet_history.specs.Limits.{IsInLimits}
 use Rattle.meet_run.specs.Spelling.{place_text, option_text, written_text, SpellsSetup, SetupsAreSpelled}
 use Rattle.meet_run.proofs.WordLemmas.{HasNoSpace, number_spelled-is, number_spelled-decimal, behind-is, word-rest, IsTail, tail-none, tail-space, no_space-decimal}
 use Rattle.meet_run.proofs.CallLemmas.{bind-some, chosen, chosen-second}

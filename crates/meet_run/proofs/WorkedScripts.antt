@@ -4,15 +4,15 @@ use Rattle.meet_tickets.specs.declared.places.Order.{Order}
 use Rattle.meet_tickets.specs.declared.places.Order.TheVariants.{Fair, Unfair, Transfer}
 use Rattle.meet_tickets.specs.declared.records.Cause.TheVariants.{Cancelled, Expired, Interrupted}
 use Rattle.meet_tickets.specs.declared.refusals.Refusal.TheVariants.{HistoryFull, TicketsSpent, SeatOpen, NoSuchSeat}
-use Rattle.meet_history.specs.declared.calls.Call.{Call}
-use Rattle.meet_history.specs.declared.calls.Verb.{Verb}
-use Rattle.meet_history.specs.declared.calls.Verb.TheVariants.{Put, Offer, Take, Poll, Transfer as TransferItem, Try, Follow, Cancel, Expire, Interrupt as InterruptSeat, Drain, Size, Room, Peek, Consumers}
-use Rattle.meet_history.specs.declared.setups.Setup.{Setup}
-use Rattle.meet_history.specs.declared.replies.Reply.{Reply}
-use Rattle.meet_history.specs.declared.replies.Outcome.{Outcome}
-use Rattle.meet_history.specs.declared.replies.Outcome.TheVariants.{Recorded, Interrupted as InterruptedSeat, NotYet, Late, Drained, Count, Peeked, Refused}
-use Rattle.meet_history.specs.declared.replies.Answer.{Answer}
-use Rattle.meet_history.specs.declared.replies.Answer.TheVariants.{Waits, Kept, Gave, Got as GotItem, Fails, Done as Finished, Withdrawn as TakenBack}
+use Rattle.meet_history.specs.declared.one_thread.verbs.Call.{Call}
+use Rattle.meet_history.specs.declared.one_thread.verbs.Verb.{Verb}
+use Rattle.meet_history.specs.declared.one_thread.verbs.Verb.TheVariants.{Put, Offer, Take, Poll, Transfer as TransferItem, Try, Follow, Cancel, Expire, Interrupt as InterruptSeat, Drain, Size, Room, Peek, Consumers}
+use Rattle.meet_history.specs.declared.one_thread.setup.Setup.{Setup}
+use Rattle.meet_history.specs.declared.one_thread.replies.Reply.{Reply}
+use Rattle.meet_history.specs.declared.one_thread.replies.Outcome.{Outcome}
+use Rattle.meet_history.specs.declared.one_thread.replies.Outcome.TheVariants.{Recorded, Interrupted as InterruptedSeat, NotYet, Late, Drained, Count, Peeked, Refused}
+use Rattle.meet_history.specs.declared.one_thread.replies.Answer.{Answer}
+use Rattle.meet_history.specs.declared.one_thread.replies.Answer.TheVariants.{Waits, Kept, Gave, Got as GotItem, Fails, Done as Finished, Withdrawn as TakenBack}
 use Rattle.meet_history.specs.OneThread.{start, turns, standing_of}
 
 abbrev place : Order → (bound : Option ℕ) → (seats cap first : ℕ) → Setup

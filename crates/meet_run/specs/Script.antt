@@ -3,9 +3,9 @@ use Rattle.std.specs.Prelude.{◌≡◌, ℕ, ◌+◌, Option, Some, None, ⊤, 
 use Rattle.std.specs.Option.{option_map_or}
 use Rattle.std.specs.List.{flat_map}
 use Rattle.meet_tickets.specs.declared.places.Order.{Order}
-use Rattle.meet_history.specs.declared.calls.Call.{Call}
-use Rattle.meet_history.specs.declared.setups.Setup.{Setup}
-use Rattle.meet_history.specs.declared.replies.Reply.{Reply}
+use Rattle.meet_history.specs.declared.one_thread.verbs.Call.{Call}
+use Rattle.meet_history.specs.declared.one_thread.setup.Setup.{Setup}
+use Rattle.meet_history.specs.declared.one_thread.replies.Reply.{Reply}
 use Rattle.meet_history.specs.OneThread.{Place, start, turns, records, standing_of}
 use Rattle.meet_history.specs.Standings.{standing_in}
 use Rattle.meet_run.specs.Grammar.{call_of, setup_of}

@@ -7,7 +7,7 @@ use Rattle.meet_tickets.specs.declared.records.Deed.{Deed}
 use Rattle.meet_tickets.specs.declared.records.Deed.TheVariants.{GiveWaits, GiveMeets, GiveFails, GiveKept, TakeWaits, TakeMeets, TakeFails, EntryInterrupted, Done, Got, Withdrawn, Interrupt}
 use Rattle.meet_tickets.specs.declared.records.Record.{Record}
 use Rattle.meet_tickets.specs.Limits.{most_seats, last_ticket}
-use Rattle.meet_history.specs.Limits.{FitsBound}
+use Rattle.meet_tickets.specs.Meeting.{FitsBound}
 use Rattle.meet_run.specs.Wording.{cause_text}
 use Rattle.meet_run.specs.Spelling.{place_text, option_text}
 use Rattle.meet_run.specs.TraceGrammar.{record_of, head_of}

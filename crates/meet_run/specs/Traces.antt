@@ -10,7 +10,7 @@ use Rattle.meet_tickets.specs.declared.refusals.Refusal.TheVariants.{Memory, Bad
 use Rattle.meet_tickets.specs.ByLists.{IsLegal}
 use Rattle.meet_tickets.specs.Limits.{most_records}
 use Rattle.meet_history.specs.declared.checker.Why.{Why}
-use Rattle.meet_history.specs.declared.setups.Setup.{Setup}
+use Rattle.meet_history.specs.declared.one_thread.setup.Setup.{Setup}
 use Rattle.meet_history.specs.Checking.{IsIllegalAt}
 use Rattle.meet_history.specs.OneThread.{records}
 use Rattle.meet_history.specs.Standings.{standing_in}

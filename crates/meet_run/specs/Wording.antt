@@ -3,11 +3,11 @@ use Rattle.std.specs.Prelude.{ℕ, Option, Some, None, List, ◌++◌, codes, de
 use Rattle.meet_tickets.specs.declared.records.Cause.{Cause}
 use Rattle.meet_tickets.specs.declared.records.Cause.TheVariants.{Cancelled, Expired, Interrupted}
 use Rattle.meet_tickets.specs.Refusals.{name_of}
-use Rattle.meet_history.specs.declared.replies.Reply.{Reply}
-use Rattle.meet_history.specs.declared.replies.Outcome.{Outcome}
-use Rattle.meet_history.specs.declared.replies.Outcome.TheVariants.{Recorded, Interrupted as InterruptedSeat, NotYet, Late, Drained, Count, Peeked, Refused}
-use Rattle.meet_history.specs.declared.replies.Answer.{Answer}
-use Rattle.meet_history.specs.declared.replies.Answer.TheVariants.{Waits, Kept, Gave, Got, Fails, Done, Withdrawn}
+use Rattle.meet_history.specs.declared.one_thread.replies.Reply.{Reply}
+use Rattle.meet_history.specs.declared.one_thread.replies.Outcome.{Outcome}
+use Rattle.meet_history.specs.declared.one_thread.replies.Outcome.TheVariants.{Recorded, Interrupted as InterruptedSeat, NotYet, Late, Drained, Count, Peeked, Refused}
+use Rattle.meet_history.specs.declared.one_thread.replies.Answer.{Answer}
+use Rattle.meet_history.specs.declared.one_thread.replies.Answer.TheVariants.{Waits, Kept, Gave, Got, Fails, Done, Withdrawn}
 use Rattle.meet_history.specs.declared.checker.Standing.{Standing}
 
 -- a word, and a mark behind it where there is one

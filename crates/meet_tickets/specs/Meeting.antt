@@ -1,5 +1,5 @@
 -- Whom a request meets. Both tellings of the rules speak of a place's line in these words.
-use Rattle.std.specs.Prelude.{◌≡◌, ℕ, ◌-◌, ◌<◌, Bool, true, false, not, ⊤, Option, Some, None, is_some, is_none, List, [], ◌∷◌, length, slice_get, count_by, MatchOption, if◌then◌else◌}
+use Rattle.std.specs.Prelude.{◌≡◌, ℕ, ◌-◌, ◌<◌, ◌≤◌, Bool, true, false, not, ⊤, Option, Some, None, is_some, is_none, List, [], ◌∷◌, length, slice_get, count_by, MatchOption, if◌then◌else◌}
 use Rattle.meet_tickets.specs.declared.lines.Entry.{Entry}
 use Rattle.meet_tickets.specs.declared.places.Side.{Side}
 use Rattle.meet_tickets.specs.declared.places.Side.TheVariants.{Giver, Taker}
@@ -8,6 +8,7 @@ use Rattle.meet_tickets.specs.declared.places.End.TheVariants.{Front, Back}
 use Rattle.meet_tickets.specs.declared.places.Order.{Order}
 use Rattle.meet_tickets.specs.declared.places.Order.TheVariants.{Fair, Unfair, Transfer}
 use Rattle.meet_tickets.specs.declared.places.Kind.{Kind}
+use Rattle.meet_tickets.specs.Limits.{most_kept}
 
 -- whether an entry stands on this side: a giver presents an item, a taker none
 abbrev pub is_on : {X : Type 0} → Side → Entry X → Bool
@@ -61,3 +62,8 @@ count_on side line = count_by (is_on side) line
 -- an item may be kept in a place that keeps items and isn't full (LinkedTransferQueue.put; the bound is our choice)
 abbrev pub MayKeep : {X : Type 0} → Kind → List (Entry X) → Type 0
 MayKeep k line = (keeps k.order ≡ true) × MatchOption k.bound ⊤ (λ most. kept_count line < most)
+
+-- only a place that keeps items has a bound, from 1 to 1,048,576
+abbrev pub FitsBound : Order → Option ℕ → Type 0
+FitsBound order None = ⊤
+FitsBound order (Some n) = (keeps order ≡ true) × (1 ≤ n) × (n ≤ most_kept)

@@ -15,6 +15,7 @@ use std::marker::Model;
 
 mod admitted;
 mod endings;
+mod place;
 mod probes;
 
 /// A transfer queue of one thread, with a bound on the items that it keeps, or none.

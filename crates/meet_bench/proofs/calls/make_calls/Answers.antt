@@ -1,6 +1,6 @@
 use Rattle.std.proofs.Common.{◌≡◌, ◌∙◌, ℕ, ◌++◌, ◌∷◌, [], ap, sym, arith, subst, All, IsTrue}
 use Rattle.std.proofs.lemmas.List.Elements.{All-push}
-use Rattle.meet_history.specs.declared.calls.Call.{Call}
+use Rattle.meet_history.specs.declared.one_thread.verbs.Call.{Call}
 use Rattle.std.proofs.lemmas.List.FromFn.{map-range_with_len_more}
 use Rattle.meet_history.specs.Served.{serves}
 use Rattle.meet_bench.specs.Calls.{call_of, calls_of}

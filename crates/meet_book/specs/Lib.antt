@@ -1,0 +1,4 @@
+pub mod Booked
+pub mod Booking
+pub mod Draining
+pub mod Received

@@ -1,0 +1,221 @@
+//! The book that a place keeps of its steps.
+
+ghost use Rattle.std.specs.Prelude.{◌≡◌, ◌+◌, ◌<◌, ◌≤◌, ◌^◌, Option, Some, None, [], ◌++◌, length, option_to_list, vec_len, ⊤, IfNone, IsOk, IfOk, IfErr, OnOk, OnErr, MatchOption};
+ghost use Rattle.std.specs.Vec.{vec_capacity};
+ghost use Rattle.meet_book.specs.Booked.{Booked};
+ghost use Rattle.meet_book.specs.Booking.{book_refusal, cut_refusal, record_of_receipt};
+ghost use Rattle.meet_tickets.specs.Refusals.{IsWhy};
+ghost use Rattle.meet_tickets.specs.declared.refusals.Refusal.TheVariants.{Memory, HistoryFull};
+ghost use Rattle.meet_tickets.specs.Limits.{most_records, most_gone};
+
+mod drain;
+
+use crate::object::{Bases, Object};
+use crate::receipt::Receipt;
+use meet_tickets::{MOST_GONE, Record, Refusal, Refused, SeatNo};
+use std::alloc::Global;
+use std::marker::Model;
+
+/// A place, the base that stands for records that were folded away, and the records of all steps since. On the base the records are
+/// legal, and they leave the place as it is; there is room for those that its open tickets may still need.
+#[derive(Drop)]
+pub struct Book<O: Object> {
+    alloc: Global,
+    object: O,
+    base: O::Base,
+    records: Vec<Record<O::Deed>>,
+    cap: u64,
+}
+
+impl<O: Object> Model for Book<O> {
+    ghost Value = { Booked O O.Base O.Deed };
+
+    ghost view = { λ book. record { object = book.object; base = book.base; records = book.records.items; cap = book.cap } };
+
+    ghost invariant = { λ book.
+        O.leads book.base book.records.items book.object
+        × (O.gone_of book.base ≤ most_gone)
+        × (book.cap ≤ most_records)
+        × (length book.records.items + O.owed_of book.object ≤ book.cap)
+        × (vec_len book.records + O.owed_of book.object ≤ vec_capacity book.records) };
+}
+
+impl<O: Object> Book<O> {
+    /// The book of a place that has no history yet, with at most this many records at a time, 1 to 1,048,576.
+    pub fn new(alloc: Global, object: O, cap: u64) -> Self
+        requires fresh { O.leads O.no_base [] object }
+        requires cap_from { 0 < cap }
+        requires cap_to { cap ≤ most_records }
+        ensures { result ≡ record { object = object; base = O.no_base; records = []; cap = cap } }
+    {
+        Book {
+            alloc,
+            object,
+            base: O::empty_base(alloc),
+            records: Vec::new(alloc),
+            cap,
+        }
+    }
+
+    /// The place itself, to be looked at.
+    pub fn probe(&self) -> &O
+        ensures { result.now ≡ self.now.object }
+    {
+        &self.object
+    }
+
+    /// What stands for the records that were folded away.
+    pub fn base(&self) -> &O::Base
+        ensures { result.now ≡ self.now.base }
+    {
+        &self.base
+    }
+
+    /// The records since the book was cut last, in order. On its base they are legal, and leave the place as it is.
+    pub fn records(&self) -> &[Record<O::Deed>]
+        ensures records { result.now ≡ self.now.records }
+        ensures leads { O.leads self.now.base self.now.records self.now.object }
+        ensures within { length self.now.records + O.owed_of self.now.object ≤ self.now.cap }
+    {
+        self.records.as_slice()
+    }
+
+    /// Why a call is refused, Memory aside: the first that applies.
+    fn refusal(&self, seat: SeatNo, call: &O::Call) -> Option<Refusal>
+        ensures first { result ≡ book_refusal (O.refusal_of self.now.object seat call.now) (O.owed_of self.now.object) (O.need_of call.now) self.now }
+        ensures few { IfNone result (O.owed_of self.now.object + O.need_of call.now < 2 ^ 64) }
+    {
+        if let Err(why) = self.object.admit(seat, call) {
+            return Some(why);
+        }
+        let left = self.cap - self.records.len() as u64 - self.object.owed();
+        if left < O::need(call) {
+            Some(Refusal::HistoryFull)
+        } else {
+            None
+        }
+    }
+
+    /// Makes a seat's call, and writes its record, if it has one, with the next number, which counts the records that were folded
+    /// away. It refuses what the place's `admit` does; else HistoryFull exactly where the records, those that are owed and those
+    /// that this call may need are more than the book may have; else Memory. Then nothing has changed, and the call comes back.
+    /// An admitted call that needs no record is never refused.
+    pub fn step(
+        &mut self,
+        seat: SeatNo,
+        call: O::Call,
+    ) -> Result<(O::Answer, Option<Receipt<O::Deed>>), Refused<O::Call>>
+        ensures step { IfOk result (λ made. O.steps self.old.object seat call made.0 self.new.object) }
+        ensures record { IfOk result (λ made. record_of_receipt made.1 ≡ O.record_of seat call made.0) }
+        ensures place { IfOk result (λ made. MatchOption made.1 ⊤ (λ receipt. receipt.place ≡ O.gone_of self.old.base + length self.old.records + 1)) }
+        ensures seat { IfOk result (λ made. MatchOption made.1 ⊤ (λ receipt. receipt.entry.seat ≡ seat)) }
+        ensures records { IfOk result (λ made. self.new.records ≡ self.old.records ++ option_to_list (record_of_receipt made.1)) }
+        ensures admitted { IfOk result (λ _. book_refusal (O.refusal_of self.old.object seat call) (O.owed_of self.old.object) (O.need_of call) self.old ≡ None) }
+        ensures why { IfErr result (λ refused. IsWhy (book_refusal (O.refusal_of self.old.object seat call) (O.owed_of self.old.object) (O.need_of call) self.old) refused.why) }
+        ensures back { IfErr result (λ refused. refused.back ≡ call) }
+        ensures unchanged { IfErr result (λ _. self.new ≡ self.old) }
+        ensures cap { self.new.cap ≡ self.old.cap }
+        ensures base { self.new.base ≡ self.old.base }
+        ensures ending { O.need_of call ≡ 0 → O.refusal_of self.old.object seat call ≡ None → IsOk result }
+    {
+        match self.refusal(seat, &call) {
+            Some(why) => return Err(Refused { why, back: call }),
+            None => {}
+        }
+        let need = O::need(&call);
+        if let Err(why) = make_room(&mut self.object, &mut self.records, need, 1) {
+            return Err(Refused { why, back: call });
+        }
+        let (answer, record) = self.object.step(seat, call);
+        let gone = O::gone(&self.base);
+        let receipt = write(gone, &mut self.records, record);
+        Ok((answer, receipt))
+    }
+
+    /// The place, its base and its records, taken apart. On the base the records are legal, and leave the place as it is.
+    pub fn into_parts(self) -> (O, O::Base, Vec<Record<O::Deed>>)
+        ensures object { result.0 ≡ self.object }
+        ensures base { result.1 ≡ self.base }
+        ensures records { result.2.items ≡ self.records }
+        ensures leads { O.leads self.base self.records self.object }
+    {
+        (self.object, self.base, self.records)
+    }
+}
+
+impl<O: Bases> Book<O>
+where
+    O::Base: Drop,
+{
+    /// Folds the records away: the base of the place as it is stands for them from now on. It writes no record, and answers how
+    /// many records were folded away since the first; their numbers go on rising. It refuses HistoryFull exactly where these would
+    /// be more than 2^63 - 1, then Memory; then nothing has changed.
+    pub fn cut(&mut self) -> Result<u64, Refusal>
+        ensures gone { IfOk result (λ gone. gone ≡ O.gone_of self.old.base + length self.old.records) }
+        ensures folded { IfOk result (λ gone. O.gone_of self.new.base ≡ gone) }
+        ensures base { IfOk result (λ gone. O.is_base self.old.object gone self.new.base) }
+        ensures records { IfOk result (λ _. self.new.records ≡ []) }
+        ensures object { self.new.object ≡ self.old.object }
+        ensures cap { self.new.cap ≡ self.old.cap }
+        ensures leads { O.leads self.new.base self.new.records self.new.object }
+        ensures admitted { IfOk result (λ _. cut_refusal (O.gone_of self.old.base) self.old ≡ None) }
+        ensures why { IfErr result (IsWhy (cut_refusal (O.gone_of self.old.base) self.old)) }
+        ensures unchanged { IfErr result (λ _. self.new ≡ self.old) }
+    {
+        let gone = O::gone(&self.base) + self.records.len() as u64;
+        if gone > MOST_GONE {
+            return Err(Refusal::HistoryFull);
+        }
+        let base = self.object.base(self.alloc, gone)?;
+        self.base = base;
+        self.records.clear();
+        Ok(gone)
+    }
+}
+
+/// Makes room for this many records beside those that are owed, and for so many calls; for no record none is asked.
+fn make_room<O: Object>(
+    object: &mut O,
+    records: &mut Vec<Record<O::Deed>>,
+    need: u64,
+    calls: u64,
+) -> Result<(), Refusal>
+    requires few { O.owed_of object.old + need < 2 ^ 64 }
+    requires owed { vec_len records.old + O.owed_of object.old ≤ vec_capacity records.old }
+    ensures same { object.new ≡ O.with_room object.old (O.spare object.new) }
+    ensures asks_none { need ≡ 0 → object.new ≡ object.old }
+    ensures calls { OnOk result (0 < need → calls ≤ O.spare object.new) }
+    ensures records { records.new.items ≡ records.old.items }
+    ensures free { OnOk result (vec_len records.new + O.owed_of object.old + need ≤ vec_capacity records.new) }
+    ensures owed { vec_len records.new + O.owed_of object.old ≤ vec_capacity records.new }
+    ensures unchanged { OnErr result (object.new ≡ object.old) }
+    ensures memory { IfErr result (λ why. why ≡ Memory) }
+    ensures ending { need ≡ 0 → IsOk result }
+{
+    if need == 0 {
+        return Ok(());
+    }
+    let wanted = object.owed() + need;
+    if records.reserve(wanted as usize).is_err() {
+        return Err(Refusal::Memory);
+    }
+    object.reserve(calls)
+}
+
+/// Puts a record behind the others, where there is one, and answers its receipt.
+fn write<D: Copy>(
+    gone: u64,
+    records: &mut Vec<Record<D>>,
+    made: Option<Record<D>>,
+) -> Option<Receipt<D>>
+    requires few { gone + length records.old.items + 1 < 2 ^ 64 }
+    requires room { vec_len records.old + length (option_to_list made) ≤ vec_capacity records.old }
+    ensures entry { record_of_receipt result ≡ made }
+    ensures place { MatchOption result ⊤ (λ receipt. receipt.place ≡ gone + length records.old.items + 1) }
+    ensures records { records.new.items ≡ records.old.items ++ option_to_list made }
+    ensures capacity { vec_capacity records.new ≡ vec_capacity records.old }
+{
+    let record = made?;
+    records.push_reserved(record);
+    Some(Receipt::new(gone + records.len() as u64, record))
+}

@@ -1,0 +1,147 @@
+//! A drain: one recorded poll after another, all under one hold.
+
+ghost use Rattle.std.specs.Prelude.{◌≡◌, ◌+◌, ◌<◌, ◌≤◌, ◌^◌, Some, None, [], ◌∷◌, ◌++◌, length, map, min, vec_len, IfNone, IfOk, IfErr};
+ghost use Rattle.std.specs.Vec.{vec_capacity};
+ghost use Rattle.meet_book.specs.Draining.{book_drain_refusal, TakesOne, TakingPolls, AreNumbered};
+ghost use Rattle.meet_tickets.specs.Refusals.{IsWhy};
+ghost use Rattle.meet_tickets.specs.declared.refusals.Refusal.TheVariants.{Memory};
+
+use super::{Book, make_room, write};
+use crate::object::Drains;
+use crate::receipt::Receipt;
+use meet_tickets::{Record, Refusal, SeatNo};
+use std::alloc::Global;
+
+impl<O: Drains> Book<O>
+where
+    O::Call: Drop,
+    O::Answer: Drop,
+{
+    /// Why a drain of k items is refused, Memory aside: the first that applies.
+    fn drain_refusal(&self, seat: SeatNo, k: u64) -> Option<Refusal>
+        ensures first { result ≡ book_drain_refusal (O.refusal_of self.now.object seat O.poll) (O.left_of self.now.object) (O.owed_of self.now.object) self.now k }
+        ensures fits { IfNone result (0 < k → length self.now.records + O.owed_of self.now.object + k < self.now.cap) }
+        ensures free { IfNone result (0 < k → O.refusal_of self.now.object seat O.poll ≡ None) }
+        ensures left { IfNone result (k ≤ O.left_of self.now.object) }
+    {
+        let poll = self.object.poll_call();
+        match self.object.admit(seat, &poll) {
+            Ok(()) | Err(Refusal::TicketsSpent) => {}
+            Err(why) => return Some(why),
+        }
+        if k == 0 {
+            return None;
+        }
+        if self.object.tickets_left() < k {
+            return Some(Refusal::TicketsSpent);
+        }
+        let left = self.cap - self.records.len() as u64 - self.object.owed();
+        if left <= k {
+            Some(Refusal::HistoryFull)
+        } else {
+            None
+        }
+    }
+
+    /// `BlockingQueue.drainTo`: takes up to `max` items, one recorded poll after another, and answers them in order. k is the
+    /// lesser of `max` and the items that are there. It refuses what the seat is refused, NoSuchSeat or SeatOpen, for k = 0
+    /// too; for k above 0 TicketsSpent where fewer than k tickets are left, HistoryFull where records, owed and k + 1 are
+    /// more than the book may have, then Memory. Then nothing has changed.
+    pub fn drain(
+        &mut self,
+        alloc: Global,
+        seat: SeatNo,
+        max: u64,
+    ) -> Result<Vec<(O::Answer, Receipt<O::Deed>)>, Refusal>
+        ensures count { IfOk result (λ got. length got.items ≡ min max (O.available_of self.old.object)) }
+        ensures polls { IfOk result (λ got. TakingPolls (λ old answer new. O.steps old seat O.poll answer new) (O.record_of seat O.poll) (λ o. O.refusal_of o seat O.poll)
+            O.available_of O.left_of O.owed_of self.old.object got.items self.new.object) }
+        ensures records { IfOk result (λ got. self.new.records ≡ self.old.records ++ map (λ one. one.1.entry) got.items) }
+        ensures places { IfOk result (λ got. AreNumbered (O.gone_of self.old.base + length self.old.records) got.items) }
+        ensures admitted { IfOk result (λ _. book_drain_refusal (O.refusal_of self.old.object seat O.poll) (O.left_of self.old.object) (O.owed_of self.old.object) self.old (min max (O.available_of self.old.object)) ≡ None) }
+        ensures why { IfErr result (IsWhy (book_drain_refusal (O.refusal_of self.old.object seat O.poll) (O.left_of self.old.object) (O.owed_of self.old.object) self.old (min max (O.available_of self.old.object)))) }
+        ensures unchanged { IfErr result (λ _. self.new ≡ self.old) }
+        ensures cap { self.new.cap ≡ self.old.cap }
+        ensures base { self.new.base ≡ self.old.base }
+    {
+        let k = max.min(self.object.available());
+        match self.drain_refusal(seat, k) {
+            Some(why) => return Err(why),
+            None => {}
+        }
+        if k == 0 {
+            return Ok(Vec::new(alloc));
+        }
+        let Ok(got) = Vec::with_capacity(alloc, k as usize) else {
+            return Err(Refusal::Memory);
+        };
+
+        // The place comes last: once it has more room it is not what it was.
+        make_room(&mut self.object, &mut self.records, k, k)?;
+        let gone = O::gone(&self.base);
+        Ok(poll_all(&mut self.object, &mut self.records, gone, seat, k, got))
+    }
+}
+
+/// Polls so many times, where so many items, tickets and places are there, and this empty list has room for what comes.
+fn poll_all<O: Drains>(
+    object: &mut O,
+    records: &mut Vec<Record<O::Deed>>,
+    gone: u64,
+    seat: SeatNo,
+    count: u64,
+    empty: Vec<(O::Answer, Receipt<O::Deed>)>,
+) -> Vec<(O::Answer, Receipt<O::Deed>)>
+    requires empty { empty.items ≡ [] }
+    requires room { count ≤ vec_capacity empty }
+    requires few { gone + length records.old.items + count < 2 ^ 64 }
+    requires there { count ≤ O.available_of object.old }
+    requires left { count ≤ O.left_of object.old }
+    requires calls { count ≤ O.spare object.old }
+    requires free { O.refusal_of object.old seat O.poll ≡ None }
+    requires places { vec_len records.old + count ≤ vec_capacity records.old }
+    ensures count { length result.items ≡ count }
+    ensures polls { TakingPolls (λ old answer new. O.steps old seat O.poll answer new) (O.record_of seat O.poll) (λ o. O.refusal_of o seat O.poll)
+        O.available_of O.left_of O.owed_of object.old result.items object.new }
+    ensures records { records.new.items ≡ records.old.items ++ map (λ one. one.1.entry) result.items }
+    ensures places { AreNumbered (gone + length records.old.items) result.items }
+    ensures len { vec_len records.new ≡ vec_len records.old + count }
+    ensures leads { (base : O.Base) → O.leads base records.old.items object.old → O.leads base records.new.items object.new }
+    ensures owed { O.owed_of object.new ≡ O.owed_of object.old }
+    ensures capacity { vec_capacity records.new ≡ vec_capacity records.old }
+{
+    let mut got = empty;
+    for _ in 0..count {
+        got.push_reserved(poll_one(object, records, gone, seat));
+    }
+    got
+}
+
+/// One poll, where an item, a ticket and a place are there.
+fn poll_one<O: Drains>(
+    object: &mut O,
+    records: &mut Vec<Record<O::Deed>>,
+    gone: u64,
+    seat: SeatNo,
+) -> (O::Answer, Receipt<O::Deed>)
+    requires few { gone + length records.old.items + 1 < 2 ^ 64 }
+    requires there { 0 < O.available_of object.old }
+    requires calls { 0 < O.spare object.old }
+    requires free { O.refusal_of object.old seat O.poll ≡ None }
+    requires places { vec_len records.old + 1 ≤ vec_capacity records.old }
+    ensures step { O.steps object.old seat O.poll result.0 object.new }
+    ensures record { O.record_of seat O.poll result.0 ≡ Some result.1.entry }
+    ensures records { records.new.items ≡ records.old.items ++ result.1.entry ∷ [] }
+    ensures place { result.1.place ≡ gone + length records.old.items + 1 }
+    ensures leads { (base : O.Base) → O.leads base records.old.items object.old → O.leads base records.new.items object.new }
+    ensures takes { TakesOne O.available_of O.left_of O.owed_of (λ o. O.refusal_of o seat O.poll) (O.record_of seat O.poll result.0) object.old object.new }
+    ensures calls { O.spare object.old ≤ O.spare object.new + 1 }
+    ensures capacity { vec_capacity records.new ≡ vec_capacity records.old }
+{
+    let call = object.poll_call();
+    let (answer, record) = object.step(seat, call);
+    match write(gone, records, record) {
+        Some(receipt) => (answer, receipt),
+        None => unreachable!(),
+    }
+}

@@ -1,0 +1,172 @@
+//! What a book asks of a place: each of its calls is one step, which writes one record or none.
+
+ghost use Rattle.std.specs.Prelude.{◌≡◌, ◌≢◌, ℕ, ◌+◌, ◌<◌, ◌≤◌, Option, Some, None, List, [], ◌++◌, length, option_to_list, MatchOption, ⊤, IsOk, IfOk, IfErr, OnOk, OnErr};
+ghost use Rattle.meet_tickets.specs.declared.records.Record.{Record};
+ghost use Rattle.meet_tickets.specs.declared.refusals.Refusal.{Refusal};
+ghost use Rattle.meet_tickets.specs.declared.refusals.Refusal.TheVariants.{Memory, HistoryFull, TicketsSpent};
+ghost use Rattle.meet_book.specs.Draining.{TakesOne};
+
+use meet_tickets::{Record, Refusal, SeatNo};
+use std::alloc::Global;
+
+/// A place whose calls are atomic steps. `reserve` alone takes memory.
+pub trait Object {
+    /// What a seat asks.
+    type Call;
+
+    /// What it is answered.
+    type Answer;
+
+    /// What a record says of a step.
+    type Deed: Copy;
+
+    /// What stands for the records that were folded away.
+    type Base;
+
+    /// No record was folded away.
+    ghost no_base: { Self.Base };
+
+    /// How many records were folded away.
+    ghost gone_of: { Self.Base → ℕ };
+
+    /// These records are legal after this base, and leave the place as it is.
+    ghost leads: { Self.Base → List (Record Self.Deed) → Self → Type 0 };
+
+    /// A seat's call makes this step: what it is answered, and what it leaves.
+    ghost steps: { Self → ℕ → Self.Call → Self.Answer → Self → Type 0 };
+
+    /// The record of a seat's call that was answered so, where one is written.
+    ghost record_of: { ℕ → Self.Call → Self.Answer → Option (Record Self.Deed) };
+
+    /// Why a seat's call is refused, HistoryFull and Memory aside: the first that applies.
+    ghost refusal_of: { Self → ℕ → Self.Call → Option Refusal };
+
+    /// How many records the open tickets may still need.
+    ghost owed_of: { Self → ℕ };
+
+    /// How many records a call may need: its own, and those that it will owe.
+    ghost need_of: { Self.Call → ℕ };
+
+    /// How many calls have room.
+    ghost spare: { Self → ℕ };
+
+    /// The same place with room for so many calls.
+    ghost with_room: { Self → ℕ → Self };
+
+    /// The base of no records. It takes no memory.
+    fn empty_base(alloc: Global) -> Self::Base
+        ensures { result ≡ no_base };
+
+    /// How many records were folded away. It takes no memory.
+    fn gone(base: &Self::Base) -> u64
+        ensures { result ≡ gone_of base.now };
+
+    /// Whether this seat's call is admitted, or why it is refused: the first reason that applies. It takes no memory.
+    fn admit(&self, seat: SeatNo, call: &Self::Call) -> Result<(), Refusal>
+        ensures admitted { IfOk result (λ _. refusal_of self.now seat call.now ≡ None) }
+        ensures why { IfErr result (λ why. refusal_of self.now seat call.now ≡ Some why) }
+        ensures own { IfErr result (λ why. (why ≢ Memory) × (why ≢ HistoryFull)) };
+
+    /// How many records this call may need. It takes no memory.
+    fn need(call: &Self::Call) -> u64
+        ensures { result ≡ need_of call.now };
+
+    /// How many records the open tickets may still need. It takes no memory.
+    fn owed(&self) -> u64
+        ensures { result ≡ owed_of self.now };
+
+    /// Makes room for this many calls. The only refusal is Memory.
+    fn reserve(&mut self, calls: u64) -> Result<(), Refusal>
+        ensures same { self.new ≡ with_room self.old (spare self.new) }
+        ensures room { OnOk result (calls ≤ spare self.new) }
+        ensures unchanged { OnErr result (self.new ≡ self.old) }
+        ensures memory { IfErr result (λ why. why ≡ Memory) }
+        ensures enough { calls ≤ spare self.old → IsOk result };
+
+    /// Makes an admitted call, for which there is room where it needs a record: what it is answered, and its record. It
+    /// takes no memory, and uses the room of one call at most.
+    fn step(&mut self, seat: SeatNo, call: Self::Call) -> (Self::Answer, Option<Record<Self::Deed>>)
+        requires admitted { refusal_of self.old seat call ≡ None }
+        requires room { 0 < need_of call → 0 < spare self.old }
+        ensures step { steps self.old seat call result.0 self.new }
+        ensures record { result.1 ≡ record_of seat call result.0 }
+        ensures leads { (base : Self.Base) (records : List (Record Self.Deed)) → leads base records self.old → leads base (records ++ option_to_list result.1) self.new }
+        ensures owed { length (option_to_list result.1) + owed_of self.new ≤ owed_of self.old + need_of call }
+        ensures room { spare self.old ≤ spare self.new + 1 };
+
+    /// A record is of the seat that called.
+    ghost own_record: { (seat : ℕ) (call : Self.Call) (answer : Self.Answer) → MatchOption (record_of seat call answer) ⊤ (λ entry. entry.seat ≡ seat) };
+
+    /// A place that has the room that it has is the same.
+    ghost same_place: { (o : Self) → with_room o (spare o) ≡ o };
+
+    /// Room changes no refusal.
+    ghost same_refusal: { (o : Self) (room seat : ℕ) (call : Self.Call) → refusal_of (with_room o room) seat call ≡ refusal_of o seat call };
+
+    /// Room changes nothing that is owed.
+    ghost same_owed: { (o : Self) (room : ℕ) → owed_of (with_room o room) ≡ owed_of o };
+
+    /// Room changes no history.
+    ghost same_leads: { (o : Self) (room : ℕ) (base : Self.Base) (records : List (Record Self.Deed)) → leads base records o → leads base records (with_room o room) };
+
+    /// Room changes no step of a call that asks for it.
+    ghost same_steps: { (o : Self) (room seat : ℕ) (call : Self.Call) (answer : Self.Answer) (new : Self)
+        → 0 < need_of call → steps (with_room o room) seat call answer new → steps o seat call answer new };
+
+    /// A place without a history owes nothing.
+    ghost fresh_owes: { (o : Self) → leads no_base [] o → owed_of o ≡ 0 };
+
+    /// The base of no records has none gone.
+    ghost none_gone: { gone_of no_base ≡ 0 };
+}
+
+/// A place whose records can be folded away.
+pub trait Bases: Object {
+    /// This base tells all that the place shows of itself, and that so many records were folded away.
+    ghost is_base: { Self → ℕ → Self.Base → Type 0 };
+
+    /// The base of the place as it is, where so many records were folded away. It stands for any base and records that lead to
+    /// the place. The only refusal is Memory.
+    fn base(&self, alloc: Global, gone: u64) -> Result<Self::Base, Refusal>
+        ensures base { IfOk result (is_base self.now gone) }
+        ensures gone { IfOk result (λ new. Self.gone_of new ≡ gone) }
+        ensures leads { IfOk result (λ new. (base : Self.Base) (records : List (Record Self.Deed)) → Self.leads base records self.now → Self.leads new [] self.now) }
+        ensures memory { IfErr result (λ why. why ≡ Memory) };
+}
+
+/// A place whose items can be drained: one poll after another, all under one hold.
+pub trait Drains: Object {
+    /// The call that takes one item, if one is there.
+    ghost poll: { Self.Call };
+
+    /// How many items are there to be taken.
+    ghost available_of: { Self → ℕ };
+
+    /// How many tickets are left.
+    ghost left_of: { Self → ℕ };
+
+    /// How many items are there to be taken. It takes no memory.
+    fn available(&self) -> u64
+        ensures { result ≡ available_of self.now };
+
+    /// How many tickets are left. It takes no memory.
+    fn tickets_left(&self) -> u64
+        ensures { result ≡ left_of self.now };
+
+    /// The call that takes one item, if one is there. It takes no memory.
+    fn poll_call(&self) -> Self::Call
+        ensures call { result ≡ poll }
+        ensures left { (seat : ℕ) → 0 < left_of self.now → Self.refusal_of self.now seat poll ≢ Some TicketsSpent }
+        ensures takes { (seat : ℕ) (answer : Self.Answer) (new : Self)
+            → Self.steps self.now seat poll answer new → Self.refusal_of self.now seat poll ≡ None → 0 < available_of self.now
+            → TakesOne available_of left_of Self.owed_of (λ o. Self.refusal_of o seat poll) (Self.record_of seat poll answer) self.now new };
+
+    /// A poll's record needs a place, and another for the ending that a request may owe.
+    ghost poll_needs: { Self.need_of poll ≡ 2 };
+
+    /// Room changes nothing of what is there.
+    ghost same_available: { (o : Self) (room : ℕ) → available_of (Self.with_room o room) ≡ available_of o };
+
+    /// Room changes no number of tickets.
+    ghost same_left: { (o : Self) (room : ℕ) → left_of (Self.with_room o room) ≡ left_of o };
+}

@@ -1,0 +1,267 @@
+//! A book of a cell: what each step writes, its receipts, what is refused, and drains.
+
+ghost use Rattle.std.specs.Prelude.{◌<◌, ◌≤◌};
+ghost use Rattle.meet_tickets.specs.Limits.{most_records};
+
+use crate::cell::{Call, Cell, Deed, Made};
+use meet_book::{Book, Receipt};
+use meet_tickets::{Record, Refusal, SeatNo};
+use std::alloc::Global;
+use std::process::Abort;
+use std::test::Fail;
+
+fn seat(number: u64) -> Result<SeatNo, Fail> {
+    Ok(SeatNo::new(number).ok_or("no such seat number")?)
+}
+
+/// A book of an empty cell with so many tickets, that makes room for so many calls at most.
+fn book_of(alloc: Global, tickets: u64, most: u64, cap: u64) -> Result<Book<Cell>, Fail>
+    requires cap_from { 0 < cap }
+    requires cap_to { cap ≤ most_records }
+{
+    Ok(Book::new(alloc, Cell::new(tickets, most)?, cap))
+}
+
+/// A record's seat, ticket and deed.
+fn row(record: Record<Deed>) -> (u64, u64, Deed) {
+    (record.seat.number(), record.ticket.number(), record.deed)
+}
+
+/// The book's records are these.
+fn has(rt: &impl Abort, book: &Book<Cell>, rows: &[(u64, u64, Deed)]) {
+    let records = book.records();
+    assert_eq!(rt; records.len(), rows.len());
+    for (record, wanted) in records.iter().zip(rows) {
+        assert_eq!(rt; row(*record), *wanted);
+    }
+}
+
+/// The place of a call's receipt, 0 where nothing is written; or why it is refused.
+fn place(
+    rt: &impl Abort,
+    book: &mut Book<Cell>,
+    number: u64,
+    call: Call,
+) -> Result<Result<u64, Refusal>, Fail> {
+    match book.step(seat(number)?, call) {
+        Ok((_, None)) => Ok(Ok(0)),
+        Ok((_, Some(receipt))) => {
+            assert!(rt; Some(receipt.entry()) == book.records().last().copied());
+            Ok(Ok(receipt.place()))
+        }
+        Err(refused) => {
+            assert!(rt; refused.back == call);
+            Ok(Err(refused.why))
+        }
+    }
+}
+
+/// Seats make these calls, and each is written at this place, or refused for this reason.
+fn plays(
+    rt: &impl Abort,
+    book: &mut Book<Cell>,
+    rows: &[(u64, Call, Result<u64, Refusal>)],
+) -> Result<(), Fail> {
+    for (number, call, wanted) in rows {
+        assert_eq!(rt; place(rt, book, *number, *call)?, *wanted);
+    }
+    Ok(())
+}
+
+/// A seat's drain took items at these places, under these tickets.
+fn are_taken(
+    rt: &impl Abort,
+    got: &[(Option<Made>, Receipt<Deed>)],
+    number: u64,
+    rows: &[(u64, u64)],
+) {
+    assert_eq!(rt; got.len(), rows.len());
+    for ((made, receipt), (place, ticket)) in got.iter().zip(rows) {
+        assert_eq!(rt; receipt.place(), *place);
+        assert_eq!(rt; row(receipt.entry()), (number, *ticket, Deed::Took));
+        let made = made.map(|made| (made.ticket.number(), made.deed));
+        assert_eq!(rt; made, Some((*ticket, Deed::Took)));
+    }
+}
+
+/// What a cell and its book show: the tokens, the tickets and the room that are left, and how many records there are.
+fn seen(book: &Book<Cell>) -> (u64, u64, u64, usize) {
+    let cell = book.probe();
+    (cell.tokens, cell.left, cell.room, book.records().len())
+}
+
+/// A drain of so many by a seat, and what it takes, by place and ticket, or why it is refused.
+type Drain = (u64, u64, Result<&'static [(u64, u64)], Refusal>);
+
+/// Seats drain the cell, one after another. A drain that is refused changes nothing.
+fn drains(
+    rt: &impl Abort,
+    alloc: Global,
+    book: &mut Book<Cell>,
+    rows: &[Drain],
+) -> Result<(), Fail> {
+    for (number, most, wanted) in rows {
+        let before = seen(book);
+        match book.drain(alloc, seat(*number)?, *most) {
+            Ok(got) => are_taken(rt, got.as_slice(), *number, wanted.unwrap_or(&[])),
+            Err(why) => {
+                assert_eq!(rt; Some(why), wanted.err());
+                assert_eq!(rt; seen(book), before);
+            }
+        }
+    }
+    Ok(())
+}
+
+#[test]
+fn each_step_is_written(rt: HostRuntime) -> Result<(), Fail> {
+    let mut book = book_of(rt.alloc(), 9, 5, 20)?;
+    let rows = [
+        (0, Call::Put(2), Ok(1)),
+        (1, Call::Take, Ok(2)),
+        (0, Call::Take, Ok(3)),
+        (1, Call::End, Ok(0)),
+        (0, Call::Take, Ok(4)),
+        (1, Call::Take, Ok(5)),
+        (1, Call::Put(2), Ok(6)),
+        (0, Call::End, Ok(7)),
+    ];
+    plays(&rt, &mut book, &rows)?;
+    let rows = [
+        (0, 1, Deed::Put(2)),
+        (1, 2, Deed::Took),
+        (0, 3, Deed::Took),
+        (0, 4, Deed::Waits),
+        (1, 5, Deed::Missed),
+        (1, 6, Deed::Put(2)),
+        (0, 4, Deed::Ended),
+    ];
+    has(&rt, &book, &rows);
+    let (cell, base, records) = book.into_parts();
+    assert_eq!(rt; cell.tokens, 1);
+    assert_eq!(rt; base.gone, 0);
+    assert_eq!(rt; records.len(), 7);
+    Ok(())
+}
+
+#[test]
+fn a_book_is_cut_where_a_seat_waits(rt: HostRuntime) -> Result<(), Fail> {
+    let mut book = book_of(rt.alloc(), 9, 5, 4)?;
+    assert_eq!(rt; book.cut(), Ok(0));
+    let rows = [
+        (0, Call::Take, Ok(1)),
+        (1, Call::Put(1), Ok(2)),
+        (1, Call::Put(1), Ok(3)),
+        (1, Call::Put(2), Err(Refusal::HistoryFull)),
+    ];
+    plays(&rt, &mut book, &rows)?;
+    assert_eq!(rt; book.cut(), Ok(3));
+    has(&rt, &book, &[]);
+    assert_eq!(rt; book.base().gone, 3);
+    assert!(rt; book.base().wait.is_some());
+    // One record is still owed, and numbers go on.
+    let rows = [
+        (1, Call::Put(2), Ok(4)),
+        (1, Call::Put(2), Ok(5)),
+        (1, Call::Put(2), Ok(6)),
+        (1, Call::Put(2), Err(Refusal::HistoryFull)),
+        (0, Call::End, Ok(7)),
+    ];
+    plays(&rt, &mut book, &rows)?;
+    has(
+        &rt,
+        &book,
+        &[
+            (1, 4, Deed::Put(2)),
+            (1, 5, Deed::Put(2)),
+            (1, 6, Deed::Put(2)),
+            (0, 1, Deed::Ended),
+        ],
+    );
+    assert_eq!(rt; book.cut(), Ok(7));
+    let (_, base, records) = book.into_parts();
+    assert_eq!(rt; base.gone, 7);
+    assert!(rt; base.wait.is_none());
+    assert!(rt; records.is_empty());
+    Ok(())
+}
+
+#[test]
+fn the_first_reason_counts(rt: HostRuntime) -> Result<(), Fail> {
+    // The seat, then the tickets, then the history.
+    let mut book = book_of(rt.alloc(), 1, 5, 2)?;
+    let rows = [
+        (0, Call::Take, Ok(1)),
+        (2, Call::Put(1), Err(Refusal::NoSuchSeat)),
+        (0, Call::Put(1), Err(Refusal::SeatOpen)),
+        (1, Call::Put(1), Err(Refusal::TicketsSpent)),
+    ];
+    plays(&rt, &mut book, &rows)?;
+    has(&rt, &book, &[(0, 1, Deed::Waits)]);
+
+    // Memory comes last, and who needs none gets on without.
+    let mut book = book_of(rt.alloc(), 9, 0, 1)?;
+    let rows = [
+        (0, Call::Take, Err(Refusal::HistoryFull)),
+        (0, Call::Put(1), Err(Refusal::Memory)),
+        (0, Call::End, Ok(0)),
+    ];
+    plays(&rt, &mut book, &rows)?;
+    has(&rt, &book, &[]);
+    Ok(())
+}
+
+#[test]
+fn an_ending_always_has_its_place(rt: HostRuntime) -> Result<(), Fail> {
+    let mut book = book_of(rt.alloc(), 9, 5, 4)?;
+    let rows = [
+        (0, Call::Take, Ok(1)),
+        (1, Call::Put(1), Ok(2)),
+        (1, Call::Put(1), Ok(3)),
+        (1, Call::Put(1), Err(Refusal::HistoryFull)),
+        (0, Call::End, Ok(4)),
+        (0, Call::Put(1), Err(Refusal::HistoryFull)),
+    ];
+    plays(&rt, &mut book, &rows)
+}
+
+#[test]
+fn a_drain_takes_up_to_what_is_there(rt: HostRuntime) -> Result<(), Fail> {
+    let mut book = book_of(rt.alloc(), 9, 5, 20)?;
+    plays(&rt, &mut book, &[(0, Call::Put(5), Ok(1))])?;
+    let rows: [Drain; 4] = [
+        (1, 0, Ok(&[])),
+        (1, 2, Ok(&[(2, 2), (3, 3)])),
+        (0, 9, Ok(&[(4, 4), (5, 5), (6, 6)])),
+        (0, 9, Ok(&[])),
+    ];
+    drains(&rt, rt.alloc(), &mut book, &rows)?;
+    assert_eq!(rt; seen(&book), (0, 3, 0, 6));
+    Ok(())
+}
+
+#[test]
+fn the_first_reason_against_a_drain_counts(rt: HostRuntime) -> Result<(), Fail> {
+    // The seat, then the tickets, then the history: one place stays for the ending that is owed.
+    let mut book = book_of(rt.alloc(), 5, 5, 6)?;
+    plays(
+        &rt,
+        &mut book,
+        &[(0, Call::Take, Ok(1)), (1, Call::Put(4), Ok(2))],
+    )?;
+    let rows: [Drain; 6] = [
+        (2, 9, Err(Refusal::NoSuchSeat)),
+        (0, 9, Err(Refusal::SeatOpen)),
+        (1, 9, Err(Refusal::TicketsSpent)),
+        (1, 3, Err(Refusal::HistoryFull)),
+        (1, 2, Ok(&[(3, 3), (4, 4)])),
+        (1, 1, Err(Refusal::HistoryFull)),
+    ];
+    drains(&rt, rt.alloc(), &mut book, &rows)?;
+
+    // Then memory.
+    let mut book = book_of(rt.alloc(), 9, 1, 20)?;
+    plays(&rt, &mut book, &[(0, Call::Put(5), Ok(1))])?;
+    let rows: [Drain; 2] = [(1, 2, Err(Refusal::Memory)), (1, 1, Ok(&[(2, 2)]))];
+    drains(&rt, rt.alloc(), &mut book, &rows)
+}

@@ -1,0 +1,345 @@
+//! A cell of tokens for two seats: a place with nothing of queues in it.
+
+ghost use Rattle.std.specs.Prelude.{◌≡◌, ◌+◌, ◌<◌, ◌≤◌, ◌⊎◌, false, Some, None, refl, length, nat_lt, nat_eq, option_map, option_to_list, IsSome, IfOk, if◌then◌else◌};
+ghost use Rattle.std.specs.Option.{option_map_or};
+ghost use Rattle.std.proofs.Common.{rules};
+ghost use Rattle.meet_book_tests.specs.declared.cell.Call.TheVariants.{Put, Take, End};
+ghost use Rattle.meet_tickets.specs.declared.refusals.Refusal.TheVariants.{NoSuchSeat, SeatOpen, TicketsSpent};
+
+use meet_book::{Bases, Drains, Object};
+use meet_tickets::{Record, Refusal, SeatNo, Ticket};
+use std::alloc::Global;
+use std::test::Fail;
+
+/// What a seat asks.
+#[derive(Clone, Copy, PartialEq)]
+pub enum Call {
+    /// Puts so many tokens in.
+    Put(u64),
+    /// Takes a token. Where none is there the seat waits for one, unless the other seat does.
+    Take,
+    /// Ends the seat's wait, with a token if one has come; without, nothing is written. Who doesn't wait does nothing.
+    End,
+}
+
+/// What a record says.
+#[derive(Clone, Copy, PartialEq, Debug)]
+pub enum Deed {
+    Put(u64),
+    Took,
+    Waits,
+    Missed,
+    Ended,
+}
+
+/// What a call did, by its ticket.
+#[derive(Clone, Copy)]
+pub struct Made {
+    pub ticket: Ticket,
+    pub deed: Deed,
+}
+
+/// The seat that waits, and its ticket.
+#[derive(Clone, Copy)]
+pub struct Wait {
+    pub seat: SeatNo,
+    pub ticket: Ticket,
+}
+
+/// What stands for the records that were folded away: how many these are, and who waited then.
+#[derive(Drop)]
+pub struct Past {
+    pub gone: u64,
+    pub wait: Option<Wait>,
+}
+
+/// The cell. It never has room for more than so many calls, as if memory ended there.
+#[derive(Drop)]
+pub struct Cell {
+    pub tokens: u64,
+    pub wait: Option<Wait>,
+    pub next: Ticket,
+    pub left: u64,
+    pub room: u64,
+    pub most: u64,
+}
+
+impl Cell {
+    /// An empty cell with so many tickets, that makes room for so many calls at most.
+    pub fn new(tickets: u64, most: u64) -> Result<Cell, Fail>
+        ensures { IfOk result (λ cell. cell.wait ≡ None) }
+    {
+        Ok(Cell {
+            tokens: 0,
+            wait: None,
+            next: Ticket::new(1).ok_or("no such ticket number")?,
+            left: tickets,
+            room: 0,
+            most,
+        })
+    }
+
+    /// Whether this seat waits.
+    fn waits(&self, seat: SeatNo) -> bool
+        ensures { result ≡ option_map_or (λ wait. nat_eq wait.seat seat) self.now.wait false }
+    {
+        match &self.wait {
+            Some(wait) => wait.seat == seat,
+            None => false,
+        }
+    }
+
+    /// The next ticket, which is used up with the room of a call.
+    fn draw(&mut self) -> Ticket
+        requires { 0 < self.old.left }
+        ensures left { self.new.left + 1 ≡ self.old.left }
+        ensures room { self.old.room ≤ self.new.room + 1 }
+        ensures tokens { self.new.tokens ≡ self.old.tokens }
+        ensures wait { self.new.wait ≡ self.old.wait }
+    {
+        let ticket = self.next;
+        self.next = Ticket::new(ticket.number() + 1).unwrap_or(ticket);
+        self.left -= 1;
+        self.room = self.room.saturating_sub(1);
+        ticket
+    }
+
+    /// Puts tokens in, up to the greatest number.
+    fn put(&mut self, tokens: u64) -> Made
+        requires { 0 < self.old.left }
+        ensures room { self.old.room ≤ self.new.room + 1 }
+        ensures wait { self.new.wait ≡ self.old.wait }
+    {
+        let ticket = self.draw();
+        self.tokens = self.tokens.saturating_add(tokens);
+        Made {
+            ticket,
+            deed: Deed::Put(tokens),
+        }
+    }
+
+    /// Takes a token, or waits for one, or misses it.
+    fn take(&mut self, seat: SeatNo) -> Made
+        requires { 0 < self.old.left }
+        ensures left { self.new.left + 1 ≡ self.old.left }
+        ensures room { self.old.room ≤ self.new.room + 1 }
+        ensures took { 0 < self.old.tokens → (self.new.tokens + 1 ≡ self.old.tokens) × (self.new.wait ≡ self.old.wait) }
+        ensures wait { (self.new.wait ≡ self.old.wait) ⊎ (self.old.wait ≡ None) }
+    {
+        let ticket = self.draw();
+        if self.tokens > 0 {
+            self.tokens -= 1;
+            return Made {
+                ticket,
+                deed: Deed::Took,
+            };
+        }
+        match self.wait {
+            Some(_) => Made {
+                ticket,
+                deed: Deed::Missed,
+            },
+            None => {
+                self.wait = Some(Wait { seat, ticket });
+                Made {
+                    ticket,
+                    deed: Deed::Waits,
+                }
+            }
+        }
+    }
+
+    /// Ends a wait, with a token if one is there.
+    fn end(&mut self, seat: SeatNo) -> Option<Made>
+        ensures room { self.new.room ≡ self.old.room }
+        ensures owed { length (option_to_list result) + length (option_to_list self.new.wait) ≤ length (option_to_list self.old.wait) }
+    {
+        if !self.waits(seat) {
+            return None;
+        }
+        let wait = self.wait.take()?;
+        if self.tokens == 0 {
+            return None;
+        }
+        self.tokens -= 1;
+        Some(Made {
+            ticket: wait.ticket,
+            deed: Deed::Ended,
+        })
+    }
+}
+
+/// What a seat did, and its record, if it did anything.
+fn written(seat: SeatNo, made: Option<Made>) -> (Option<Made>, Option<Record<Deed>>)
+    ensures made { result.0 ≡ made }
+    ensures record { result.1 ≡ option_map (λ m. record { seat = seat; ticket = m.ticket; deed = m.deed }) made }
+    ensures count { length (option_to_list result.1) ≡ length (option_to_list made) }
+{
+    match made {
+        None => (None, None),
+        Some(made) => {
+            let record = Record {
+                seat,
+                ticket: made.ticket,
+                deed: made.deed,
+            };
+            (Some(made), Some(record))
+        }
+    }
+}
+
+impl Object for Cell {
+    type Call = Call;
+
+    type Answer = Option<Made>;
+
+    type Deed = Deed;
+
+    type Base = Past;
+
+    ghost no_base = { record { gone = 0; wait = None } };
+
+    ghost gone_of = { λ base. base.gone };
+
+    /// Where a seat waits, the base or a record says so.
+    ghost leads = { λ base records cell. length (option_to_list cell.wait) ≤ length (option_to_list base.wait) + length records };
+
+    /// What a drain has to know of a step: what Take does where a token is there.
+    ghost steps = { λ old seat call made new. call ≡ Take → 0 < old.tokens → IsSome made × (new.tokens + 1 ≡ old.tokens) × (new.left + 1 ≡ old.left) × (new.wait ≡ old.wait) };
+
+    ghost record_of = { λ seat call made. option_map (λ m. record { seat = seat; ticket = m.ticket; deed = m.deed }) made };
+
+    ghost refusal_of = { λ cell seat call.
+        if nat_lt seat 2
+        then (elim call [
+          | End ↦ None
+          | _ ↦
+              (if option_map_or (λ wait. nat_eq wait.seat seat) cell.wait false then Some SeatOpen
+              else (if nat_lt 0 cell.left then None else Some TicketsSpent))
+        ])
+        else Some NoSuchSeat };
+
+    ghost owed_of = { λ cell. length (option_to_list cell.wait) };
+
+    ghost need_of = { elim [ Put tokens ↦ 1 | Take ↦ 2 | End ↦ 0 ] };
+
+    ghost spare = { λ cell. cell.room };
+
+    ghost with_room = { λ cell room. record cell { room = room } };
+
+    ghost own_record = { λ seat call. elim [ None ↦ tt | Some made ↦ refl ] };
+
+    ghost same_place = { λ cell. refl };
+
+    ghost same_refusal = { λ cell room seat call. refl };
+
+    ghost same_owed = { λ cell room. refl };
+
+    ghost same_leads = { λ cell room base records leads. leads };
+
+    ghost same_steps = { λ cell room seat call made new some steps. steps };
+
+    ghost fresh_owes = { Prim.search rules };
+
+    ghost none_gone = { refl };
+
+    fn empty_base(_alloc: Global) -> Past {
+        Past {
+            gone: 0,
+            wait: None,
+        }
+    }
+
+    fn gone(base: &Past) -> u64 {
+        base.gone
+    }
+
+    fn admit(&self, seat: SeatNo, call: &Call) -> Result<(), Refusal> {
+        if seat.number() >= 2 {
+            return Err(Refusal::NoSuchSeat);
+        }
+        match call {
+            Call::End => Ok(()),
+            Call::Put(_) | Call::Take => {
+                if self.waits(seat) {
+                    Err(Refusal::SeatOpen)
+                } else if self.left == 0 {
+                    Err(Refusal::TicketsSpent)
+                } else {
+                    Ok(())
+                }
+            }
+        }
+    }
+
+    fn need(call: &Call) -> u64 {
+        match call {
+            Call::Put(_) => 1,
+            Call::Take => 2,
+            Call::End => 0,
+        }
+    }
+
+    fn owed(&self) -> u64 {
+        match self.wait {
+            Some(_) => 1,
+            None => 0,
+        }
+    }
+
+    fn reserve(&mut self, calls: u64) -> Result<(), Refusal> {
+        if calls <= self.room {
+            return Ok(());
+        }
+        if calls > self.most {
+            return Err(Refusal::Memory);
+        }
+        self.room = calls;
+        Ok(())
+    }
+
+    fn step(&mut self, seat: SeatNo, call: Call) -> (Option<Made>, Option<Record<Deed>>) {
+        match call {
+            Call::Put(tokens) => written(seat, Some(self.put(tokens))),
+            Call::Take => written(seat, Some(self.take(seat))),
+            Call::End => written(seat, self.end(seat)),
+        }
+    }
+}
+
+impl Bases for Cell {
+    ghost is_base = { λ cell gone base. (base.gone ≡ gone) × (base.wait ≡ cell.wait) };
+
+    fn base(&self, _alloc: Global, gone: u64) -> Result<Past, Refusal> {
+        Ok(Past {
+            gone,
+            wait: self.wait,
+        })
+    }
+}
+
+impl Drains for Cell {
+    ghost poll = { Take };
+
+    ghost available_of = { λ cell. cell.tokens };
+
+    ghost left_of = { λ cell. cell.left };
+
+    ghost poll_needs = { refl };
+
+    ghost same_available = { λ cell room. refl };
+
+    ghost same_left = { λ cell room. refl };
+
+    fn available(&self) -> u64 {
+        self.tokens
+    }
+
+    fn tickets_left(&self) -> u64 {
+        self.left
+    }
+
+    fn poll_call(&self) -> Call {
+        Call::Take
+    }
+}

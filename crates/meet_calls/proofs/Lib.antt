@@ -1,0 +1,5 @@
+pub mod Effects
+pub mod Leading
+pub mod Marking
+pub mod Owed
+pub mod Polling

@@ -1,0 +1,81 @@
+-- The records of the calls that each queue has. Items are named by their marks.
+use Rattle.std.specs.Prelude.{ℕ, Option, Some, None}
+use Rattle.meet_tickets.specs.declared.places.Side.TheVariants.{Giver, Taker}
+use Rattle.meet_tickets.specs.declared.records.Record.{Record}
+use Rattle.meet_tickets.specs.declared.records.Cause.{Cause}
+use Rattle.meet_tickets.specs.declared.records.Cause.TheVariants.{Cancelled, Expired, Interrupted}
+use Rattle.meet_tickets.specs.declared.records.Deed.{Deed}
+use Rattle.meet_tickets.specs.declared.records.Deed.TheVariants.{GiveWaits, GiveMeets, GiveFails, TakeWaits, TakeMeets, TakeFails, EntryInterrupted, Done, Got, Withdrawn, Interrupt}
+use Rattle.meet_line.specs.declared.answers.Gave.{Gave}
+use Rattle.meet_line.specs.declared.answers.Gave.TheVariants.{Waits as GiverWaits, Meets as GiverMeets, EntryInterrupted as GiverInterrupted}
+use Rattle.meet_line.specs.declared.answers.Took.{Took}
+use Rattle.meet_line.specs.declared.answers.Took.TheVariants.{Waits as TakerWaits, Meets as TakerMeets, EntryInterrupted as TakerInterrupted}
+use Rattle.meet_line.specs.declared.answers.Offered.{Offered}
+use Rattle.meet_line.specs.declared.answers.Offered.TheVariants.{Meets as OfferMeets, Fails as OfferFails}
+use Rattle.meet_line.specs.declared.answers.Polled.{Polled}
+use Rattle.meet_line.specs.declared.answers.Polled.TheVariants.{Meets as PollMeets, Fails as PollFails}
+use Rattle.meet_line.specs.declared.answers.Followed.{Followed}
+use Rattle.meet_line.specs.declared.answers.Followed.TheVariants.{Done as WasMet, Got as HasGot, Interrupted as WasCut, NotYet}
+use Rattle.meet_line.specs.declared.answers.TakenBack.{TakenBack}
+use Rattle.meet_line.specs.declared.answers.TakenBack.TheVariants.{Back, Late}
+use Rattle.meet_line.specs.declared.answers.Interrupted.{Interrupted as Struck}
+use Rattle.meet_line.specs.declared.answers.Interrupted.TheVariants.{Cut as CutOff, Flagged}
+use Rattle.meet_calls.specs.declared.queue_calls.DualCall.{DualCall}
+use Rattle.meet_calls.specs.declared.queue_calls.DualCall.TheVariants.{Give, Offer, Take, Poll, FollowUp, Cancel, Expire, Interrupt as InterruptSeat}
+use Rattle.meet_calls.specs.declared.queue_calls.DualAnswer.{DualAnswer}
+use Rattle.meet_calls.specs.declared.queue_calls.DualAnswer.TheVariants.{Gave as ToGive, Offered as ToOffer, Took as ToTake, Polled as ToPoll, Followed as ToFollowUp, TakenBack as ToWithdrawal, Interrupted as ToInterrupt}
+
+-- a seat's record
+abbrev pub made : (seat ticket : ℕ) → Deed → Record Deed
+made i t deed = record { seat = i; ticket = t; deed = deed }
+
+-- a give that waits, meets or is refused at entry
+abbrev pub give_record : {T : Type 0} → (seat mark : ℕ) → Gave T → Record Deed
+give_record i m (GiverWaits t) = made i t (GiveWaits m)
+give_record i m (GiverMeets t u) = made i t (GiveMeets m u)
+give_record i m (GiverInterrupted t back) = made i t (EntryInterrupted Giver)
+
+-- an offer that meets or fails
+abbrev pub offer_record : {T : Type 0} → (seat mark : ℕ) → Offered T → Record Deed
+offer_record i m (OfferMeets t u) = made i t (GiveMeets m u)
+offer_record i m (OfferFails t back) = made i t (GiveFails m)
+
+-- a take that waits, meets or is refused at entry
+abbrev pub take_record : {T : Type 0} → (T → ℕ) → (seat : ℕ) → Took T → Record Deed
+take_record mark i (TakerWaits t) = made i t TakeWaits
+take_record mark i (TakerMeets t u item) = made i t (TakeMeets (mark item) u)
+take_record mark i (TakerInterrupted t) = made i t (EntryInterrupted Taker)
+
+-- a poll that meets or fails
+abbrev pub poll_record : {T : Type 0} → (T → ℕ) → (seat : ℕ) → Polled T → Record Deed
+poll_record mark i (PollMeets t u item) = made i t (TakeMeets (mark item) u)
+poll_record mark i (PollFails t) = made i t TakeFails
+
+-- the record of a follow-up; none where the ticket still stands in the line
+abbrev pub follow_record : {T : Type 0} → (T → ℕ) → (seat ticket : ℕ) → Followed T → Option (Record Deed)
+follow_record mark i t WasMet = Some (made i t Done)
+follow_record mark i t (HasGot u item) = Some (made i t (Got (mark item) u))
+follow_record mark i t (WasCut item) = Some (made i t (Withdrawn Interrupted))
+follow_record mark i t NotYet = None
+
+-- the record of a cancel or an expiry; none where it came too late
+abbrev pub back_record : {T : Type 0} → (seat ticket : ℕ) → Cause → TakenBack T → Option (Record Deed)
+back_record i t cause (Back item) = Some (made i t (Withdrawn cause))
+back_record i t cause Late = None
+
+-- an interrupt names the ticket that it cuts, and else 0
+abbrev pub interrupt_record : (seat target : ℕ) → Struck → Record Deed
+interrupt_record i j (CutOff t) = made i t (Interrupt j)
+interrupt_record i j Flagged = made i 0 (Interrupt j)
+
+-- the record of a call that was answered so; none where the answer is to another call
+abbrev pub dual_record : {T : Type 0} → (T → ℕ) → (seat : ℕ) → DualCall T → DualAnswer T → Option (Record Deed)
+dual_record mark i (Give item) (ToGive answer) = Some (give_record i (mark item) answer)
+dual_record mark i (Offer item) (ToOffer answer) = Some (offer_record i (mark item) answer)
+dual_record mark i Take (ToTake answer) = Some (take_record mark i answer)
+dual_record mark i Poll (ToPoll answer) = Some (poll_record mark i answer)
+dual_record mark i (FollowUp t) (ToFollowUp answer) = follow_record mark i t answer
+dual_record mark i (Cancel t) (ToWithdrawal answer) = back_record i t Cancelled answer
+dual_record mark i (Expire t) (ToWithdrawal answer) = back_record i t Expired answer
+dual_record mark i (InterruptSeat j) (ToInterrupt answer) = Some (interrupt_record i j answer)
+dual_record mark i call answer = None

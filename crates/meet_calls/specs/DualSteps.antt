@@ -1,0 +1,90 @@
+-- The calls that each queue has, as a book makes them: their steps, refusals and costs, and the histories that lead to a queue.
+use Rattle.std.specs.Prelude.{◌+◌, ◌≡◌, ℕ, ◌-◌, ◌<◌, Option, None, List}
+use Rattle.meet_tickets.specs.declared.places.Side.TheVariants.{Giver}
+use Rattle.meet_tickets.specs.declared.places.End.{End}
+use Rattle.meet_tickets.specs.declared.places.End.TheVariants.{Front, Back}
+use Rattle.meet_tickets.specs.declared.places.Order.{Order}
+use Rattle.meet_tickets.specs.declared.places.Order.TheVariants.{Fair, Unfair}
+use Rattle.meet_tickets.specs.declared.places.Kind.{Kind}
+use Rattle.meet_tickets.specs.declared.records.Record.{Record}
+use Rattle.meet_tickets.specs.declared.records.Deed.{Deed}
+use Rattle.meet_tickets.specs.declared.refusals.Refusal.{Refusal}
+use Rattle.meet_tickets.specs.Meeting.{count_on}
+use Rattle.meet_tickets.specs.Bases.{Based, moment_of_base, IsWellFormed, IsLegalOn}
+use Rattle.meet_tickets.specs.BySeat.{moment_of, open_ticket, owed_of}
+use Rattle.meet_tickets.specs.Limits.{last_ticket}
+use Rattle.meet_tickets.specs.Refusals.{refusal_unless, absent_refusal}
+use Rattle.meet_line.specs.Seen.{marked}
+use Rattle.meet_line.specs.Queue.{Queue, seats_of, count_of, admit_refusal}
+use Rattle.meet_line.specs.Steps.{GiveStep, OfferStep, TakeStep, PollStep, FollowStep, WithdrawStep, InterruptStep}
+use Rattle.meet_calls.specs.declared.queue_calls.DualCall.{DualCall}
+use Rattle.meet_calls.specs.declared.queue_calls.DualCall.TheVariants.{Give, Offer, Take, Poll, FollowUp, Cancel, Expire, Interrupt}
+use Rattle.meet_calls.specs.declared.queue_calls.DualAnswer.{DualAnswer}
+use Rattle.meet_calls.specs.declared.queue_calls.DualAnswer.TheVariants.{Gave as ToGive, Offered as ToOffer, Took as ToTake, Polled as ToPoll, Followed as ToFollowUp, TakenBack as ToWithdrawal, Interrupted as ToInterrupt}
+
+-- a seat's call makes the queue's step, with an answer of its own kind
+abbrev pub DualStep : {T : Type 0} → (T → ℕ) → End → Queue T → (seat : ℕ) → DualCall T → DualAnswer T → Queue T → Type 0
+DualStep mark end old i (Give item) (ToGive answer) new = GiveStep mark end old i item answer new
+DualStep mark end old i (Offer item) (ToOffer answer) new = OfferStep mark end old item answer new
+DualStep mark end old i Take (ToTake answer) new = TakeStep mark end old i answer new
+DualStep mark end old i Poll (ToPoll answer) new = PollStep mark end old answer new
+DualStep mark end old i (FollowUp t) (ToFollowUp answer) new = FollowStep old i t answer new
+DualStep mark end old i (Cancel t) (ToWithdrawal answer) new = WithdrawStep old i t answer new
+DualStep mark end old i (Expire t) (ToWithdrawal answer) new = WithdrawStep old i t answer new
+DualStep mark end old i (Interrupt j) (ToInterrupt answer) new = InterruptStep old j answer new
+DualStep mark end old i call answer new = ⊥
+
+-- why an ending is refused
+abbrev pub ending_refusal : {T : Type 0} → Queue T → (seat ticket : ℕ) → Option Refusal
+ending_refusal q i t = refusal_unless (open_ticket ((seats_of q).holds i)) t
+
+-- why a call is refused, HistoryFull and Memory aside
+abbrev pub dual_refusal : {T : Type 0} → Queue T → (seat : ℕ) → DualCall T → Option Refusal
+dual_refusal q i (Give item) = admit_refusal q i
+dual_refusal q i (Offer item) = admit_refusal q i
+dual_refusal q i Take = admit_refusal q i
+dual_refusal q i Poll = admit_refusal q i
+dual_refusal q i (FollowUp t) = ending_refusal q i t
+dual_refusal q i (Cancel t) = ending_refusal q i t
+dual_refusal q i (Expire t) = ending_refusal q i t
+dual_refusal q i (Interrupt j) = absent_refusal (count_of q) i j
+
+-- a request needs a record for itself and one for its ending, an interrupt one, an ending none
+abbrev pub dual_need : {T : Type 0} → DualCall T → ℕ
+dual_need (Give item) = 2
+dual_need (Offer item) = 2
+dual_need Take = 2
+dual_need Poll = 2
+dual_need (FollowUp t) = 0
+dual_need (Cancel t) = 0
+dual_need (Expire t) = 0
+dual_need (Interrupt j) = 1
+
+-- each open ticket owes its ending's record
+abbrev pub dual_owed : {T : Type 0} → Queue T → ℕ
+dual_owed q = owed_of (count_of q) (seats_of q).holds
+
+-- the givers in the line can be drained
+abbrev pub dual_available : {T : Type 0} → Queue T → ℕ
+dual_available q = count_on Giver q.line
+
+-- the tickets from the next one to 2^63 - 1 are left
+abbrev pub dual_left : {T : Type 0} → Queue T → ℕ
+dual_left q = last_ticket + 1 - q.next
+
+-- the order of a synchronous place whose entries are met at this end (SynchronousQueue in fair mode, or in its default mode)
+abbrev pub synchronous : End → Order
+synchronous Front = Fair
+synchronous Back = Unfair
+
+-- its kind
+abbrev pub kind_of : End → Kind
+kind_of end = record { order = synchronous end; bound = None }
+
+-- these records are legal after this base, their last ticket is the queue's, and they leave what the queue's seats hold
+pub record LeadsTo {T : Type 0} (mark : T → ℕ) (k : Kind) (b : Based) (records : List (Record Deed)) (q : Queue T) : Type 0 where
+  pub well_formed : IsWellFormed k b
+  pub legal : IsLegalOn k b records
+  pub last : (moment_of k (moment_of_base b) records).last ≡ q.last
+  pub next : q.last < q.next
+  pub leaves : (moment_of k (moment_of_base b) records).seats ≡ marked mark (seats_of q)

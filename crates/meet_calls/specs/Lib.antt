@@ -1,0 +1,5 @@
+pub mod DualRecords
+pub mod DualRoom
+pub mod DualSteps
+pub mod QueueRoom
+pub mod QueueSteps

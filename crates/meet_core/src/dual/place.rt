@@ -1,0 +1,140 @@
+//! The synchronous queue as a book's place, over either line.
+
+ghost use Rattle.std.specs.Prelude.{◌≡◌, ◌<◌, None, refl};
+ghost use Rattle.meet_line.specs.Queue.{places_of};
+ghost use Rattle.meet_calls.specs.DualRecords.{dual_record};
+ghost use Rattle.meet_tickets.specs.Bases.{no_base, IsBaseOf};
+ghost use Rattle.meet_line.specs.Seen.{moment_of_queue};
+ghost use Rattle.meet_calls.specs.DualSteps.{DualStep, LeadsTo, kind_of, dual_refusal, dual_need, dual_owed, dual_available, dual_left};
+ghost use Rattle.meet_calls.specs.DualRoom.{roomy, roomy-refusal, roomy-leads, roomy-steps, roomy-fresh, own-record};
+ghost use Rattle.meet_calls.specs.declared.queue_calls.DualCall.TheVariants.{Poll};
+
+use super::Dual;
+use meet_book::{Bases, Drains, Object};
+use meet_calls::{Answered, DualAnswer, DualCall, admit_call, make_call};
+use meet_line::Line;
+use meet_tickets::{Base, Deed, Marked, Record, Refusal, SeatNo};
+use std::alloc::Global;
+
+impl<T: Marked, L: Line<T>> Object for Dual<T, L> {
+    type Call = DualCall<T>;
+
+    type Answer = DualAnswer<T>;
+
+    type Deed = Deed;
+
+    type Base = Base;
+
+    ghost no_base = { no_base };
+
+    ghost gone_of = { λ base. base.gone };
+
+    ghost leads = { λ base records q. LeadsTo T.mark_of (kind_of L.end) base records q };
+
+    ghost steps = { λ old seat call answer new. DualStep T.mark_of L.end old seat call answer new };
+
+    ghost record_of = { λ seat call answer. dual_record T.mark_of seat call answer };
+
+    ghost refusal_of = { λ q seat call. dual_refusal q seat call };
+
+    ghost owed_of = { λ q. dual_owed q };
+
+    ghost need_of = { λ call. dual_need call };
+
+    ghost spare = { λ q. q.room };
+
+    ghost with_room = { λ q room. roomy q room };
+
+    ghost own_record = { λ seat call answer. own-record T.mark_of seat call answer };
+
+    ghost same_place = { λ q. refl };
+
+    ghost same_refusal = { λ q room seat call. roomy-refusal q room seat call };
+
+    ghost same_owed = { λ q room. refl };
+
+    ghost same_leads = { λ q room base records leads. roomy-leads T.mark_of (kind_of L.end) q room base records leads };
+
+    ghost same_steps = { λ q room seat call answer new need step. roomy-steps T.mark_of L.end q room seat call answer new need step };
+
+    ghost fresh_owes = { λ q leads. roomy-fresh T.mark_of (kind_of L.end) q leads };
+
+    ghost none_gone = { refl };
+
+    fn empty_base(alloc: Global) -> Base {
+        Base::empty(alloc)
+    }
+
+    fn gone(base: &Base) -> u64 {
+        base.gone
+    }
+
+    fn admit(&self, seat: SeatNo, call: &DualCall<T>) -> Result<(), Refusal> {
+        admit_call(&self.meetings, seat, call)
+    }
+
+    fn need(call: &DualCall<T>) -> u64 {
+        call.need()
+    }
+
+    fn owed(&self) -> u64 {
+        Dual::owed(self)
+    }
+
+    fn reserve(&mut self, calls: u64) -> Result<(), Refusal> {
+        Dual::reserve(self, calls)
+    }
+
+    fn step(&mut self, seat: SeatNo, call: DualCall<T>) -> (DualAnswer<T>, Option<Record<Deed>>) {
+        self.stays_sound();
+        self.make(seat, call)
+    }
+}
+
+impl<T: Marked, L: Line<T>> Bases for Dual<T, L> {
+    ghost is_base = { λ q gone base. IsBaseOf (moment_of_queue T.mark_of q) gone base };
+
+    fn base(&self, alloc: Global, gone: u64) -> Result<Base, Refusal> {
+        Dual::base(self, alloc, gone)
+    }
+}
+
+impl<T: Marked, L: Line<T>> Drains for Dual<T, L> {
+    ghost poll = { Poll };
+
+    ghost available_of = { λ q. dual_available q };
+
+    ghost left_of = { λ q. dual_left q };
+
+    ghost poll_needs = { refl };
+
+    ghost same_available = { λ q room. refl };
+
+    ghost same_left = { λ q room. refl };
+
+    fn available(&self) -> u64 {
+        self.givers()
+    }
+
+    fn tickets_left(&self) -> u64 {
+        Dual::tickets_left(self)
+    }
+
+    fn poll_call(&self) -> DualCall<T> {
+        self.stays_sound();
+        DualCall::Poll
+    }
+}
+
+impl<T: Marked, L: Line<T>> Dual<T, L> {
+    /// Makes an admitted call, for which there is room.
+    fn make(&mut self, seat: SeatNo, call: DualCall<T>) -> Answered<T>
+        requires admitted { dual_refusal self.old seat call ≡ None }
+        requires room { 0 < dual_need call → 0 < self.old.room }
+        ensures step { DualStep T.mark_of L.end self.old seat call result.0 self.new }
+        ensures entry { result.1 ≡ dual_record T.mark_of seat call result.0 }
+        ensures places { places_of self.new ≡ places_of self.old }
+    {
+        make_call(&mut self.meetings, seat, call)
+    }
+}

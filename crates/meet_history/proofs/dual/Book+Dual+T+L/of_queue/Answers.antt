@@ -1,7 +1,0 @@
-use Rattle.std.proofs.Common.{sym, subst, ◌<◌}
-use Rattle.meet_history.specs.DualSteps.{kind_of}
-use Rattle.meet_history.proofs.Leading.{fresh-leads}
-use Rattle.meet_history.proofs.dual.«Book+Dual+T+L».of_queue.Goals as goal
-
-pub new-requires-2-clause-fresh : goal.new-requires-2-clause-fresh
-new-requires-2-clause-fresh g c = fresh-leads g.T.Marked.mark_of (kind_of g.L.Line.end) c.in_ok-queue.queue c.in_ok-queue.ensures.fresh c.in_ok-queue.ensures.unused (subst (λ n. 0 < n) (sym c.in_ok-queue.ensures.first) c.requires.first_from)

@@ -1,8 +1,0 @@
-use Rattle.meet_history.proofs.Polling.{not-spent, poll-takes}
-use Rattle.meet_history.proofs.dual.DualDrains.poll_call.Goals as goal
-
-pub returns-clause-left : goal.returns-clause-left
-returns-clause-left g c = λ seat some. not-spent c.args.self.now seat some
-
-pub returns-clause-takes : goal.returns-clause-takes
-returns-clause-takes g c = poll-takes g.T.Marked.mark_of g.L.Line.end c.args.self.now c.stays_sound.ensures.sound

@@ -1,0 +1,6 @@
+use Rattle.std.proofs.Common.{◌<◌, ◌≤◌, arith}
+use Rattle.meet_history.proofs.Recorded.{is_recorded}
+use Rattle.meet_history.proofs.one_thread.laws.one_thread_is_recorded.Goals as goal
+
+pub returns : goal.returns
+returns c = λ setup calls limits. let positive : 0 < setup.first = (let from : 1 ≤ setup.first = limits.first.0 in omega arith) in is_recorded setup calls positive

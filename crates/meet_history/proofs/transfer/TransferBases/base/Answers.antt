@@ -1,7 +1,0 @@
-use Rattle.std.proofs.lemmas.Result.{IfOk-weaker}
-use Rattle.meet_history.specs.QueueSteps.{bounded_kind}
-use Rattle.meet_history.proofs.Leading.{base-leads}
-use Rattle.meet_history.proofs.transfer.TransferBases.base.Goals as goal
-
-pub returns-clause-leads : goal.returns-clause-leads
-returns-clause-leads g c = IfOk-weaker _ _ _ (λ new is. base-leads g.T.Marked.mark_of (bounded_kind c.args.self.now.bound) c.args.self.now.queue c.args.gone new is) c.base.ensures.base

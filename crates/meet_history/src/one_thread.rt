@@ -1,0 +1,15 @@
+//! One thread's calls of a place, whatever seats it speaks for, and the replies.
+
+mod all_calls;
+mod laws;
+mod replies;
+mod setup;
+mod stepper;
+mod verbs;
+
+pub use all_calls::run_all;
+pub use laws::one_thread_is_recorded;
+pub use replies::{Answer, Outcome, Reply};
+pub use setup::Setup;
+pub use stepper::Stepper;
+pub use verbs::{Call, Verb};

@@ -1,0 +1,107 @@
+//! The replies to a script's calls.
+
+ghost use Rattle.std.specs.Prelude.{◌≡◌, ◌<◌, [], ◌∷◌, ◌++◌, vec_len};
+ghost use Rattle.std.specs.Vec.{vec_capacity};
+ghost use Rattle.meet_history.specs.OneThread.{named, told};
+
+use meet_tickets::{Cause, Deed, Record, Refusal, SeatNo, Ticket};
+
+/// A reply, to the seat that made the call.
+#[derive(Clone, Copy, PartialEq, Eq, Debug)]
+pub struct Reply {
+    pub seat: SeatNo,
+    pub outcome: Outcome,
+}
+
+/// What came of a call.
+#[derive(Clone, Copy, PartialEq, Eq, Debug)]
+pub enum Outcome {
+    /// The record of this number, from 1, was written: of this ticket, with this answer.
+    Recorded(u64, Ticket, Answer),
+    /// The record of this number was written: this seat was interrupted. Its ticket was cut, or it was flagged.
+    Interrupted(u64, SeatNo, Option<Ticket>),
+    /// The ticket still stands in the line.
+    NotYet,
+    /// The ticket was paired or cut before.
+    Late,
+    /// A drain ended after this many items.
+    Drained(u64),
+    /// A probe's number.
+    Count(u64),
+    /// The mark of the first item, if there is one.
+    Peeked(Option<u64>),
+    /// The call was refused, and nothing changed.
+    Refused(Refusal),
+}
+
+/// The answer of a recorded request or ending. Items are told by their marks.
+#[derive(Clone, Copy, PartialEq, Eq, Debug)]
+pub enum Answer {
+    /// The request goes to the line and waits.
+    Waits,
+    /// The item is kept.
+    Kept,
+    /// The item went to the taker with this ticket.
+    Gave(u64, Ticket),
+    /// The item came from the giver with this ticket.
+    Got(u64, Ticket),
+    /// Nobody was there; a giver's item comes back.
+    Fails(Option<u64>),
+    /// The giver was met.
+    Done,
+    /// The ticket was withdrawn, or refused at entry; a giver's item comes back.
+    Withdrawn(Cause, Option<u64>),
+}
+
+impl Outcome {
+    /// What the seat is told of the record of this number; a giver's item where it comes back.
+    #[inline(always)]
+    pub(super) fn of(number: u64, entry: Record<Deed>, back: Option<u64>) -> Outcome
+        ensures { result ≡ told number entry.ticket entry.deed back }
+    {
+        let Record {
+            seat: _,
+            ticket,
+            deed,
+        } = entry;
+        let answer = match deed {
+            Deed::GiveWaits(_) => Answer::Waits,
+            Deed::GiveMeets(mark, with) => Answer::Gave(mark, with),
+            Deed::GiveFails(_) => Answer::Fails(back),
+            Deed::GiveKept(_) => Answer::Kept,
+            Deed::TakeWaits => Answer::Waits,
+            Deed::TakeMeets(mark, with) => Answer::Got(mark, with),
+            Deed::TakeFails => Answer::Fails(back),
+            Deed::EntryInterrupted(_) => Answer::Withdrawn(Cause::Interrupted, back),
+            Deed::Done => Answer::Done,
+            Deed::Got(mark, with) => Answer::Got(mark, with),
+            Deed::Withdrawn(cause) => Answer::Withdrawn(cause, back),
+            Deed::Interrupt(target) => {
+                return Outcome::Interrupted(number, target, named(ticket));
+            }
+        };
+        Outcome::Recorded(number, ticket, answer)
+    }
+}
+
+/// The ticket, where it names one: ticket 0 names none.
+fn named(ticket: Ticket) -> Option<Ticket>
+    ensures { result ≡ named ticket }
+{
+    if ticket.number() == 0 {
+        None
+    } else {
+        Some(ticket)
+    }
+}
+
+/// Puts a reply behind others, where there is room.
+pub(crate) fn push_reserved(replies: &mut Vec<Reply>, reply: Reply)
+    requires { vec_len replies.old < vec_capacity replies.old }
+    ensures items { replies.new.items ≡ replies.old.items ++ reply ∷ [] }
+    ensures capacity { vec_capacity replies.new ≡ vec_capacity replies.old }
+{
+    // Named in parts: as a whole, the checker doesn't find the types inside it.
+    let Reply { seat, outcome } = reply;
+    replies.push_reserved(Reply { seat, outcome });
+}

@@ -1,0 +1,286 @@
+//! A place that one thread uses, call by call.
+
+ghost use Rattle.std.specs.Prelude.{◌≡◌, ◌≢◌, None, [], ◌++◌, length, IsTrue, IfOk, IfErr, OnOk, OnErr};
+ghost use Rattle.meet_history.specs.Stepping.{reply_of, unrecorded, back_of};
+ghost use Rattle.meet_tickets.specs.declared.refusals.Refusal.TheVariants.{Memory};
+
+use super::replies::push_reserved;
+use super::{Call, Outcome, Reply, Setup, Verb};
+use crate::checker::Standing;
+use meet_book::{Book, Receipt};
+use meet_line::{Followed, Gave, Offered, Put, TakenBack};
+use meet_queues::{AnyQueue, DualAnswer, DualCall, QueueAnswer, QueueCall};
+use meet_tickets::{Deed, Record, Refusal, SeatNo};
+use std::alloc::Global;
+use std::marker::Model;
+
+mod drains;
+
+/// A place that one thread uses, whatever seats it speaks for: a queue under a book.
+#[derive(Drop)]
+pub struct Stepper {
+    alloc: Global,
+    setup: Setup,
+    book: Book<AnyQueue>,
+}
+
+impl Model for Stepper {
+    ghost use Rattle.std.specs.Prelude.{◌≡◌};
+    ghost use Rattle.meet_line.specs.Queue.{count_of};
+    ghost use Rattle.meet_history.specs.Stepping.{Stepping};
+    ghost use Rattle.meet_tickets.specs.Bases.{no_base};
+
+    ghost Value = { Stepping };
+
+    ghost view = { λ s. record { setup = s.setup; queue = s.book.object.queue; records = s.book.records } };
+
+    ghost invariant = { λ s. (s.book.object.kind ≡ s.setup.kind) × (count_of s.book.object.queue ≡ s.setup.seats) × (s.book.cap ≡ s.setup.cap) × (s.book.base ≡ no_base) };
+}
+
+/// The reply to a call that was refused; want of memory has none.
+fn refused_unless_memory(seat: SeatNo, why: Refusal) -> Result<Reply, Refusal>
+    ensures reply { IfOk result (λ reply. reply ≡ record { seat = seat; outcome = Outcome.Refused why }) }
+    ensures other { IfOk result (λ _. why ≢ Memory) }
+    ensures memory { IfErr result (λ given. (given ≡ Memory) × (why ≡ Memory)) }
+{
+    if why == Refusal::Memory {
+        return Err(Refusal::Memory);
+    }
+    Ok(refused(seat, why))
+}
+
+/// The reply to a call that was refused.
+fn refused(seat: SeatNo, why: Refusal) -> Reply
+    ensures { result ≡ record { seat = seat; outcome = Outcome.Refused why } }
+{
+    Reply {
+        seat,
+        outcome: Outcome::Refused(why),
+    }
+}
+
+/// The reply that tells a receipt; a giver's item where it comes back.
+#[inline(always)]
+fn reply_of(seat: SeatNo, receipt: &Receipt<Deed>, back: Option<u64>) -> Reply
+    ensures { result ≡ reply_of seat receipt.now back }
+{
+    Reply {
+        seat,
+        outcome: Outcome::of(receipt.place(), receipt.entry(), back),
+    }
+}
+
+/// What is told of a call that writes no record: a follow-up comes too early, a withdrawal too late.
+fn unrecorded(call: &QueueCall<u64>) -> Outcome
+    ensures { result ≡ unrecorded call.now }
+{
+    match call {
+        QueueCall::Put(_) => Outcome::Late,
+        QueueCall::Dual(call) => match call {
+            DualCall::FollowUp(_) => Outcome::NotYet,
+            _ => Outcome::Late,
+        },
+    }
+}
+
+/// The giver's item that an answer brings back, where it brings one.
+#[inline(always)]
+fn back_of(answer: QueueAnswer<u64>) -> Option<u64>
+    ensures { result ≡ back_of answer }
+{
+    match answer {
+        QueueAnswer::Put(put) => match put {
+            Put::Fails(_, item) => Some(item),
+            _ => None,
+        },
+        QueueAnswer::Dual(answer) => match answer {
+            DualAnswer::Gave(gave) => match gave {
+                Gave::EntryInterrupted(_, item) => Some(item),
+                _ => None,
+            },
+            DualAnswer::Offered(offered) => match offered {
+                Offered::Fails(_, item) => Some(item),
+                _ => None,
+            },
+            DualAnswer::Followed(followed) => match followed {
+                Followed::Interrupted(item) => item,
+                _ => None,
+            },
+            DualAnswer::TakenBack(back) => match back {
+                TakenBack::Back(item) => item,
+                TakenBack::Late => None,
+            },
+            _ => None,
+        },
+    }
+}
+
+/// The reply to a probe that counts.
+fn counted(seat: SeatNo, number: u64) -> Reply
+    ensures { result ≡ record { seat = seat; outcome = Outcome.Count number } }
+{
+    Reply {
+        seat,
+        outcome: Outcome::Count(number),
+    }
+}
+
+impl Stepper {
+    ghost use Rattle.meet_tickets.specs.ByLists.{IsLegal};
+    ghost use Rattle.meet_calls.specs.DualSteps.{dual_need, dual_refusal};
+    ghost use Rattle.meet_history.specs.OneThread.{start, turn, standing_of};
+    ghost use Rattle.meet_history.specs.Served.{serves, IsOne};
+    ghost use Rattle.meet_history.specs.Stepping.{place_of, Takes, TakesTurn, LacksMemory, turn_of_call, refusal_at};
+    ghost use Rattle.meet_calls.specs.QueueSteps.{dual_call, queue_need, queue_refusal};
+    ghost use Rattle.meet_history.specs.Limits.{IsInLimits};
+
+    /// The place of this setup, before any call. The only refusal is Memory.
+    pub fn new(alloc: Global, setup: Setup) -> Result<Self, Refusal>
+        requires { IsInLimits setup }
+        ensures place { IfOk result (λ stepper. place_of stepper ≡ start setup) }
+        ensures setup { IfOk result (λ stepper. stepper.setup ≡ setup) }
+        ensures records { IfOk result (λ stepper. stepper.records ≡ []) }
+        ensures memory { IfErr result (λ why. why ≡ Memory) }
+    {
+        let queue = AnyQueue::new(alloc, setup.kind, setup.seats, setup.first)?;
+        let book = Book::new(alloc, queue, setup.cap);
+        Ok(Stepper { alloc, setup, book })
+    }
+
+    /// Makes a call of the queue; an ending is of the seat's open ticket. The reply tells the record, where there is one. The only
+    /// refusal is Memory.
+    #[inline(always)]
+    fn make(&mut self, seat: SeatNo, call: QueueCall<u64>) -> Result<Reply, Refusal>
+        requires opened { queue_need call ≡ 0 → queue_refusal self.old.queue seat call ≡ None }
+        ensures turn { IfOk result (TakesTurn (turn_of_call self.old.setup (place_of self.old) seat call) self.old self.new) }
+        ensures memory { IfErr result (LacksMemory (refusal_at self.old.setup (place_of self.old) seat (dual_call call)) self.old self.new) }
+    {
+        let otherwise = unrecorded(&call);
+        let (answer, receipt) = match self.book.step(seat, call) {
+            Ok(made) => made,
+            Err(refused) => return refused_unless_memory(seat, refused.why),
+        };
+        match receipt {
+            Some(receipt) => Ok(reply_of(seat, &receipt, back_of(answer))),
+            None => Ok(Reply {
+                seat,
+                outcome: otherwise,
+            }),
+        }
+    }
+
+    /// Makes a call that each queue has.
+    #[inline(always)]
+    fn dual(&mut self, seat: SeatNo, call: DualCall<u64>) -> Result<Reply, Refusal>
+        requires opened { dual_need call ≡ 0 → dual_refusal self.old.queue seat call ≡ None }
+        ensures turn { IfOk result (TakesTurn (turn_of_call self.old.setup (place_of self.old) seat (QueueCall.Dual call)) self.old self.new) }
+        ensures memory { IfErr result (LacksMemory (refusal_at self.old.setup (place_of self.old) seat call) self.old self.new) }
+    {
+        self.make(seat, QueueCall::Dual(call))
+    }
+
+    /// The reply to a call that has one.
+    fn reply(&mut self, call: Call) -> Result<Reply, Refusal>
+        requires served { IsTrue (serves self.old.setup.kind.order call.verb) }
+        requires one { IsOne call.verb }
+        ensures turn { IfOk result (TakesTurn (turn self.old.setup (place_of self.old) call) self.old self.new) }
+        ensures unchanged { IfErr result (λ _. self.new ≡ self.old) }
+        ensures memory { IfErr result (λ why. why ≡ Memory) }
+    {
+        let Call { seat, verb } = call;
+        match verb {
+            Verb::Put(mark) => self.make(seat, QueueCall::Put(mark)),
+            Verb::Offer(mark) => {
+                if self.setup.kind.order.keeps() {
+                    self.make(seat, QueueCall::Put(mark))
+                } else {
+                    self.dual(seat, DualCall::Offer(mark))
+                }
+            }
+            Verb::Take => self.dual(seat, DualCall::Take),
+            Verb::Poll => self.dual(seat, DualCall::Poll),
+            Verb::Transfer(mark) => self.dual(seat, DualCall::Give(mark)),
+            Verb::Try(mark) => self.dual(seat, DualCall::Offer(mark)),
+            Verb::Follow => match self.book.probe().open_ticket(seat) {
+                Some(ticket) => self.dual(seat, DualCall::FollowUp(ticket)),
+                None => Ok(refused(seat, Refusal::NotOpen)),
+            },
+            Verb::Cancel => match self.book.probe().open_ticket(seat) {
+                Some(ticket) => self.dual(seat, DualCall::Cancel(ticket)),
+                None => Ok(refused(seat, Refusal::NotOpen)),
+            },
+            Verb::Expire => match self.book.probe().open_ticket(seat) {
+                Some(ticket) => self.dual(seat, DualCall::Expire(ticket)),
+                None => Ok(refused(seat, Refusal::NotOpen)),
+            },
+            Verb::Interrupt(target) => self.dual(seat, DualCall::Interrupt(target)),
+            Verb::Size => Ok(counted(seat, self.book.probe().size())),
+            Verb::Room => Ok(counted(seat, self.book.probe().remaining_capacity())),
+            Verb::Peek => Ok(Reply {
+                seat,
+                outcome: Outcome::Peeked(self.book.probe().peek_mark()),
+            }),
+            Verb::Consumers => Ok(counted(seat, self.book.probe().waiting_consumers())),
+            _ => unreachable!(),
+        }
+    }
+
+    /// Makes a call, and puts its replies behind `replies`. The only refusal is Memory; then nothing has changed, and the
+    /// replies so far stay.
+    pub fn answer(&mut self, call: Call, replies: &mut Vec<Reply>) -> Result<(), Refusal>
+        requires served { IsTrue (serves self.old.setup.kind.order call.verb) }
+        ensures replies { OnOk result (replies.new.items ≡ replies.old.items ++ (turn self.old.setup (place_of self.old) call).replies) }
+        ensures takes { OnOk result (Takes (turn self.old.setup (place_of self.old) call) self.old self.new) }
+        ensures stay { OnErr result (replies.new.items ≡ replies.old.items) }
+        ensures unchanged { OnErr result (self.new ≡ self.old) }
+        ensures memory { IfErr result (λ why. why ≡ Memory) }
+    {
+        let Call { seat, verb } = call;
+        if let Verb::Drain(most) = verb {
+            return self.drain(seat, most, replies);
+        }
+        if replies.reserve(1).is_err() {
+            return Err(Refusal::Memory);
+        }
+        match self.reply(Call { seat, verb }) {
+            Ok(reply) => {
+                push_reserved(replies, reply);
+                Ok(())
+            }
+            Err(why) => Err(why),
+        }
+    }
+
+    /// How many records were written.
+    pub fn count(&self) -> u64
+        ensures { result ≡ length self.now.records }
+    {
+        self.book.records().len() as u64
+    }
+
+    /// Where the place's tickets and items are.
+    pub fn standing(&self) -> Standing
+        ensures { result ≡ standing_of self.now.setup (place_of self.now) }
+    {
+        let queue = self.book.probe();
+        Standing {
+            waiting: queue.waiting(),
+            uncollected: queue.uncollected(),
+            kept: queue.kept(),
+        }
+    }
+
+    /// The records, in order. They are legal.
+    pub fn into_records(self) -> Vec<Record<Deed>>
+        ensures records { result.items ≡ self.records }
+        ensures legal { IsLegal self.setup.kind self.records }
+    {
+        let Stepper {
+            alloc: _,
+            setup: _,
+            book,
+        } = self;
+        let (_, _, records) = book.into_parts();
+        records
+    }
+}

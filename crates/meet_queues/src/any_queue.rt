@@ -1,0 +1,318 @@
+//! The queue of a place, whatever its kind.
+
+ghost use Rattle.std.specs.Prelude.{◌≡◌, ◌≤◌, ◌<◌, true, None, refl, IfOk, IfErr};
+ghost use Rattle.meet_tickets.specs.declared.places.Side.TheVariants.{Taker};
+ghost use Rattle.meet_tickets.specs.Meeting.{keeps, waiting_count, kept_count, count_on};
+ghost use Rattle.meet_tickets.specs.BySeat.{nobody, open_ticket, settled_of};
+ghost use Rattle.meet_line.specs.Queue.{seats_of, count_of};
+ghost use Rattle.meet_tickets.specs.Bases.{no_base, IsBaseOf};
+ghost use Rattle.meet_tickets.specs.Limits.{most_seats, last_ticket};
+ghost use Rattle.meet_line.specs.Seen.{moment_of_queue};
+ghost use Rattle.meet_calls.specs.DualSteps.{LeadsTo, dual_owed, dual_available, dual_left};
+ghost use Rattle.meet_calls.specs.DualRoom.{roomy, roomy-leads, roomy-fresh};
+ghost use Rattle.meet_calls.specs.QueueSteps.{QueueStep, queue_refusal, queue_need, queue_record};
+ghost use Rattle.meet_calls.specs.QueueRoom.{roomy-queue-refusal, roomy-queue-steps, own-queue-record};
+ghost use Rattle.meet_calls.specs.declared.queue_calls.DualCall.TheVariants.{Poll};
+ghost use Rattle.meet_calls.specs.declared.queue_calls.QueueCall.TheVariants.{Dual as EachHas};
+
+use meet_book::{Bases, Drains, Object};
+use meet_calls::{QueueAnswer, QueueCall};
+use meet_core::Dual;
+use meet_line::{FairLine, StackLine};
+use meet_tickets::{Base, Deed, Kind, Order, Record, Refusal, SeatNo, Ticket};
+use meet_transfer::Transfer;
+use std::alloc::Global;
+use std::marker::Model;
+
+mod put_waits;
+
+/// A queue of numbers that meets, waits and keeps as a place of its kind.
+#[derive(Drop)]
+pub struct AnyQueue {
+    queue: ByKind,
+}
+
+/// The queues of all kinds.
+#[derive(Drop)]
+enum ByKind {
+    Fair(Dual<u64, FairLine<u64>>),
+    Unfair(Dual<u64, StackLine<u64>>),
+    Transfer(Transfer<u64>),
+}
+
+impl Model for AnyQueue {
+    ghost use Rattle.meet_queues.specs.Queues.{QueueOfKind, of_kind};
+
+    ghost Value = { QueueOfKind };
+
+    ghost view = { λ any. of_kind any.queue };
+}
+
+impl AnyQueue {
+    ghost use Rattle.meet_tickets.specs.declared.refusals.Refusal.TheVariants.{Memory};
+    ghost use Rattle.meet_tickets.specs.Meeting.{FitsBound};
+    ghost use Rattle.meet_queues.specs.Probes.{size_of, remaining_of, peek_of};
+
+    /// A queue of this kind, with this many seats, at most 65,536, and this first ticket, 1 to 2^63 - 1. Only a transfer queue
+    /// may have a bound, 1 to 1,048,576. The only refusal is Memory.
+    pub fn new(alloc: Global, kind: Kind, seats: u64, first: u64) -> Result<Self, Refusal>
+        requires bound { FitsBound kind.order kind.bound }
+        requires seats { seats ≤ most_seats }
+        requires first_from { 0 < first }
+        requires first_to { first ≤ last_ticket }
+        ensures kind { IfOk result (λ any. any.kind ≡ kind) }
+        ensures fresh { IfOk result (λ any. seats_of any.queue ≡ nobody) }
+        ensures seats { IfOk result (λ any. count_of any.queue ≡ seats) }
+        ensures unused { IfOk result (λ any. any.queue.last ≡ 0) }
+        ensures first { IfOk result (λ any. any.queue.next ≡ first) }
+        ensures memory { IfErr result (λ why. why ≡ Memory) }
+    {
+        let queue = match kind.order {
+            Order::Fair => ByKind::Fair(Dual::new(alloc, seats, first)?),
+            Order::Unfair => ByKind::Unfair(Dual::new(alloc, seats, first)?),
+            Order::Transfer => ByKind::Transfer(match kind.bound {
+                None => Transfer::new(alloc, seats, first)?,
+                Some(most) => Transfer::with_bound(alloc, seats, first, most)?,
+            }),
+        };
+        Ok(AnyQueue { queue })
+    }
+
+    /// The seat's open ticket, if it has one.
+    pub fn open_ticket(&self, seat: SeatNo) -> Option<Ticket>
+        ensures { result ≡ open_ticket ((seats_of self.now.queue).holds seat) }
+    {
+        match &self.queue {
+            ByKind::Fair(queue) => queue.open_ticket(seat),
+            ByKind::Unfair(queue) => queue.open_ticket(seat),
+            ByKind::Transfer(queue) => queue.open_ticket(seat),
+        }
+    }
+
+    /// How many open tickets stand in the line.
+    pub fn waiting(&self) -> u64
+        ensures { result ≡ waiting_count self.now.queue.line }
+    {
+        match &self.queue {
+            ByKind::Fair(queue) => queue.waiting(),
+            ByKind::Unfair(queue) => queue.waiting(),
+            ByKind::Transfer(queue) => queue.waiting(),
+        }
+    }
+
+    /// How many open tickets were met or cut, and await their follow-up.
+    pub fn uncollected(&self) -> u64
+        ensures { result ≡ settled_of (count_of self.now.queue) (seats_of self.now.queue).holds }
+    {
+        match &self.queue {
+            ByKind::Fair(queue) => queue.uncollected(),
+            ByKind::Unfair(queue) => queue.uncollected(),
+            ByKind::Transfer(queue) => queue.uncollected(),
+        }
+    }
+
+    /// How many items are kept; a synchronous queue keeps none.
+    pub fn kept(&self) -> u64
+        ensures { result ≡ kept_count self.now.queue.line }
+    {
+        match &self.queue {
+            ByKind::Fair(queue) => {
+                queue.stays_sound();
+                0
+            }
+            ByKind::Unfair(queue) => {
+                queue.stays_sound();
+                0
+            }
+            ByKind::Transfer(queue) => queue.kept(),
+        }
+    }
+
+    /// `Collection.size`: the givers in the line, kept or waiting; a synchronous queue is always empty.
+    pub fn size(&self) -> u64
+        ensures { result ≡ size_of self.now.kind.order self.now.queue.line }
+    {
+        match &self.queue {
+            ByKind::Fair(_) => 0,
+            ByKind::Unfair(_) => 0,
+            ByKind::Transfer(queue) => queue.size(),
+        }
+    }
+
+    /// `BlockingQueue.remainingCapacity`: a synchronous queue has none, a transfer queue is said to be unbounded.
+    pub fn remaining_capacity(&self) -> u64
+        ensures { result ≡ remaining_of self.now.kind.order }
+    {
+        match &self.queue {
+            ByKind::Fair(_) => 0,
+            ByKind::Unfair(_) => 0,
+            ByKind::Transfer(queue) => queue.remaining_capacity(),
+        }
+    }
+
+    /// `Queue.peek`: the mark of the first giver's item; a synchronous queue shows none.
+    pub fn peek_mark(&self) -> Option<u64>
+        ensures { result ≡ peek_of self.now.kind.order self.now.queue.line }
+    {
+        match &self.queue {
+            ByKind::Fair(_) => None,
+            ByKind::Unfair(_) => None,
+            ByKind::Transfer(queue) => queue.peek_mark(),
+        }
+    }
+
+    /// `LinkedTransferQueue.getWaitingConsumerCount`: the takers in the line of a transfer queue.
+    pub fn waiting_consumers(&self) -> u64
+        requires { keeps self.now.kind.order ≡ true }
+        ensures { result ≡ count_on Taker self.now.queue.line }
+    {
+        match &self.queue {
+            ByKind::Transfer(queue) => queue.waiting_consumers(),
+            _ => unreachable!(),
+        }
+    }
+}
+
+impl Object for AnyQueue {
+    type Call = QueueCall<u64>;
+
+    type Answer = QueueAnswer<u64>;
+
+    type Deed = Deed;
+
+    type Base = Base;
+
+    ghost no_base = { no_base };
+
+    ghost gone_of = { λ base. base.gone };
+
+    ghost leads = { λ base records any. LeadsTo (λ mark. mark) any.kind base records any.queue };
+
+    ghost steps = { λ old seat call answer new. (new.kind ≡ old.kind) × QueueStep (λ mark. mark) old.kind old.queue seat call answer new.queue };
+
+    ghost record_of = { λ seat call answer. queue_record (λ mark. mark) seat call answer };
+
+    ghost refusal_of = { λ any seat call. queue_refusal any.queue seat call };
+
+    ghost owed_of = { λ any. dual_owed any.queue };
+
+    ghost need_of = { λ call. queue_need call };
+
+    ghost spare = { λ any. any.queue.room };
+
+    ghost with_room = { λ any room. record any { queue = roomy any.queue room } };
+
+    ghost own_record = { λ seat call answer. own-queue-record (λ mark. mark) seat call answer };
+
+    ghost same_place = { λ any. refl };
+
+    ghost same_refusal = { λ any room seat call. roomy-queue-refusal any.queue room seat call };
+
+    ghost same_owed = { λ any room. refl };
+
+    ghost same_leads = { λ any room base records leads. roomy-leads (λ mark. mark) any.kind any.queue room base records leads };
+
+    ghost same_steps = { λ any room seat call answer new need step. (step.0, roomy-queue-steps (λ mark. mark) any.kind any.queue room seat call answer new.queue need step.1) };
+
+    ghost fresh_owes = { λ any leads. roomy-fresh (λ mark. mark) any.kind any.queue leads };
+
+    ghost none_gone = { refl };
+
+    fn empty_base(alloc: Global) -> Base {
+        Base::empty(alloc)
+    }
+
+    fn gone(base: &Base) -> u64 {
+        base.gone
+    }
+
+    fn admit(&self, seat: SeatNo, call: &QueueCall<u64>) -> Result<(), Refusal> {
+        match &self.queue {
+            ByKind::Fair(queue) => put_waits::admit(queue, seat, call),
+            ByKind::Unfair(queue) => put_waits::admit(queue, seat, call),
+            ByKind::Transfer(queue) => Object::admit(queue, seat, call),
+        }
+    }
+
+    fn need(call: &QueueCall<u64>) -> u64 {
+        call.need()
+    }
+
+    fn owed(&self) -> u64 {
+        match &self.queue {
+            ByKind::Fair(queue) => queue.owed(),
+            ByKind::Unfair(queue) => queue.owed(),
+            ByKind::Transfer(queue) => queue.owed(),
+        }
+    }
+
+    fn reserve(&mut self, calls: u64) -> Result<(), Refusal> {
+        match &mut self.queue {
+            ByKind::Fair(queue) => queue.reserve(calls),
+            ByKind::Unfair(queue) => queue.reserve(calls),
+            ByKind::Transfer(queue) => queue.reserve(calls),
+        }
+    }
+
+    fn step(
+        &mut self,
+        seat: SeatNo,
+        call: QueueCall<u64>,
+    ) -> (QueueAnswer<u64>, Option<Record<Deed>>) {
+        match &mut self.queue {
+            ByKind::Fair(queue) => return put_waits::step(queue, seat, call),
+            ByKind::Unfair(queue) => return put_waits::step(queue, seat, call),
+            ByKind::Transfer(queue) => return queue.step(seat, call),
+        }
+    }
+}
+
+impl Bases for AnyQueue {
+    ghost is_base = { λ any gone base. IsBaseOf (moment_of_queue (λ mark. mark) any.queue) gone base };
+
+    fn base(&self, alloc: Global, gone: u64) -> Result<Base, Refusal> {
+        match &self.queue {
+            ByKind::Fair(queue) => queue.base(alloc, gone),
+            ByKind::Unfair(queue) => queue.base(alloc, gone),
+            ByKind::Transfer(queue) => queue.base(alloc, gone),
+        }
+    }
+}
+
+impl Drains for AnyQueue {
+    ghost poll = { EachHas Poll };
+
+    ghost available_of = { λ any. dual_available any.queue };
+
+    ghost left_of = { λ any. dual_left any.queue };
+
+    ghost poll_needs = { refl };
+
+    ghost same_available = { λ any room. refl };
+
+    ghost same_left = { λ any room. refl };
+
+    fn available(&self) -> u64 {
+        match &self.queue {
+            ByKind::Fair(queue) => queue.available(),
+            ByKind::Unfair(queue) => queue.available(),
+            ByKind::Transfer(queue) => queue.available(),
+        }
+    }
+
+    fn tickets_left(&self) -> u64 {
+        match &self.queue {
+            ByKind::Fair(queue) => queue.tickets_left(),
+            ByKind::Unfair(queue) => queue.tickets_left(),
+            ByKind::Transfer(queue) => queue.tickets_left(),
+        }
+    }
+
+    fn poll_call(&self) -> QueueCall<u64> {
+        match &self.queue {
+            ByKind::Fair(queue) => QueueCall::Dual(queue.poll_call()),
+            ByKind::Unfair(queue) => QueueCall::Dual(queue.poll_call()),
+            ByKind::Transfer(queue) => queue.poll_call(),
+        }
+    }
+}

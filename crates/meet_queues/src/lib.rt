@@ -1,0 +1,11 @@
+//! A queue of any kind as a place under a book, and the books of new queues.
+#![tactic(auto)]
+
+mod any_queue;
+mod books;
+
+pub use any_queue::AnyQueue;
+pub use books::{queue_book, transfer_book};
+pub use meet_calls::{DualAnswer, DualCall, QueueAnswer, QueueCall};
+pub use meet_core::Dual;
+pub use meet_transfer::Transfer;

@@ -1,0 +1,155 @@
+//! The transfer queue as a book's place.
+
+ghost use Rattle.std.specs.Prelude.{◌≡◌, ◌<◌, None, refl, Option};
+ghost use Rattle.meet_line.specs.Queue.{places_of};
+ghost use Rattle.meet_tickets.specs.Bases.{no_base, IsBaseOf};
+ghost use Rattle.meet_line.specs.Seen.{moment_of_queue};
+ghost use Rattle.meet_calls.specs.DualSteps.{LeadsTo, dual_owed, dual_available, dual_left};
+ghost use Rattle.meet_transfer.specs.Bounded.{BoundedStep};
+ghost use Rattle.meet_calls.specs.QueueSteps.{bounded_kind, queue_refusal, queue_need, queue_record};
+ghost use Rattle.meet_calls.specs.DualRoom.{roomy, roomy-leads, roomy-fresh};
+ghost use Rattle.meet_calls.specs.QueueRoom.{roomy-queue-refusal, roomy-queue-steps, own-queue-record};
+ghost use Rattle.meet_calls.specs.declared.queue_calls.DualCall.TheVariants.{Poll};
+ghost use Rattle.meet_calls.specs.declared.queue_calls.QueueCall.TheVariants.{Dual as EachHas};
+
+use super::Transfer;
+use meet_book::{Bases, Drains, Object};
+use meet_calls::{DualCall, QueueAnswer, QueueCall, admit_call, answered_put, make_call};
+use meet_tickets::{Base, Deed, Marked, Record, Refusal, SeatNo};
+use std::alloc::Global;
+
+impl<T: Marked> Object for Transfer<T> {
+    type Call = QueueCall<T>;
+
+    type Answer = QueueAnswer<T>;
+
+    type Deed = Deed;
+
+    type Base = Base;
+
+    ghost no_base = { no_base };
+
+    ghost gone_of = { λ base. base.gone };
+
+    ghost leads = { λ base records b. LeadsTo T.mark_of (bounded_kind b.bound) base records b.queue };
+
+    ghost steps = { λ old seat call answer new. BoundedStep T.mark_of old seat call answer new };
+
+    ghost record_of = { λ seat call answer. queue_record T.mark_of seat call answer };
+
+    ghost refusal_of = { λ b seat call. queue_refusal b.queue seat call };
+
+    ghost owed_of = { λ b. dual_owed b.queue };
+
+    ghost need_of = { λ call. queue_need call };
+
+    ghost spare = { λ b. b.queue.room };
+
+    ghost with_room = { λ b room. record b { queue = roomy b.queue room } };
+
+    ghost own_record = { λ seat call answer. own-queue-record T.mark_of seat call answer };
+
+    ghost same_place = { λ b. refl };
+
+    ghost same_refusal = { λ b room seat call. roomy-queue-refusal b.queue room seat call };
+
+    ghost same_owed = { λ b room. refl };
+
+    ghost same_leads = { λ b room base records leads. roomy-leads T.mark_of (bounded_kind b.bound) b.queue room base records leads };
+
+    ghost same_steps = { λ b room seat call answer new need step. (step.0, roomy-queue-steps T.mark_of (bounded_kind b.bound) b.queue room seat call answer new.queue need step.1) };
+
+    ghost fresh_owes = { λ b leads. roomy-fresh T.mark_of (bounded_kind b.bound) b.queue leads };
+
+    ghost none_gone = { refl };
+
+    fn empty_base(alloc: Global) -> Base {
+        Base::empty(alloc)
+    }
+
+    fn gone(base: &Base) -> u64 {
+        base.gone
+    }
+
+    fn admit(&self, seat: SeatNo, call: &QueueCall<T>) -> Result<(), Refusal> {
+        match call {
+            // What becomes of an item doesn't bear on what is refused.
+            QueueCall::Put(_) => admit_call(&self.meetings, seat, &DualCall::Take),
+            QueueCall::Dual(call) => admit_call(&self.meetings, seat, call),
+        }
+    }
+
+    fn need(call: &QueueCall<T>) -> u64 {
+        call.need()
+    }
+
+    fn owed(&self) -> u64 {
+        Transfer::owed(self)
+    }
+
+    fn reserve(&mut self, calls: u64) -> Result<(), Refusal> {
+        Transfer::reserve(self, calls)
+    }
+
+    fn step(&mut self, seat: SeatNo, call: QueueCall<T>) -> (QueueAnswer<T>, Option<Record<Deed>>) {
+        self.stays_sound();
+        self.make(seat, call)
+    }
+}
+
+impl<T: Marked> Bases for Transfer<T> {
+    ghost is_base = { λ q gone base. IsBaseOf (moment_of_queue T.mark_of q.queue) gone base };
+
+    fn base(&self, alloc: Global, gone: u64) -> Result<Base, Refusal> {
+        Transfer::base(self, alloc, gone)
+    }
+}
+
+impl<T: Marked> Drains for Transfer<T> {
+    ghost poll = { EachHas Poll };
+
+    ghost available_of = { λ b. dual_available b.queue };
+
+    ghost left_of = { λ b. dual_left b.queue };
+
+    ghost poll_needs = { refl };
+
+    ghost same_available = { λ b room. refl };
+
+    ghost same_left = { λ b room. refl };
+
+    fn available(&self) -> u64 {
+        self.size()
+    }
+
+    fn tickets_left(&self) -> u64 {
+        Transfer::tickets_left(self)
+    }
+
+    fn poll_call(&self) -> QueueCall<T> {
+        self.stays_sound();
+        QueueCall::Dual(DualCall::Poll)
+    }
+}
+
+impl<T: Marked> Transfer<T> {
+    /// Makes an admitted call, for which there is room.
+    fn make(&mut self, seat: SeatNo, call: QueueCall<T>) -> (QueueAnswer<T>, Option<Record<Deed>>)
+        requires admitted { queue_refusal self.old.queue seat call ≡ None }
+        requires room { 0 < queue_need call → 0 < self.old.queue.room }
+        ensures step { BoundedStep T.mark_of self.old seat call result.0 self.new }
+        ensures entry { result.1 ≡ queue_record T.mark_of seat call result.0 }
+        ensures places { places_of self.new.queue ≡ places_of self.old.queue }
+    {
+        match call {
+            QueueCall::Put(item) => {
+                let mark = item.mark();
+                answered_put(seat, mark, self.put_admitted(seat, item))
+            }
+            QueueCall::Dual(call) => {
+                let (answer, entry) = make_call(&mut self.meetings, seat, call);
+                (QueueAnswer::Dual(answer), entry)
+            }
+        }
+    }
+}
