@@ -24,7 +24,7 @@ use Rattle.meet_book.specs.Draining.{seat_refusal, drain_refusal_by, TakingStep,
 use Rattle.meet_calls.specs.DualSteps.{dual_refusal, dual_owed, dual_available, dual_left}
 use Rattle.meet_calls.specs.QueueSteps.{QueueStep, queue_record}
 use Rattle.meet_history.specs.OneThread.{Place, Turn, joined, immediate, refused, request_refusal, take, told, polls, drain, drain_refusal, silent}
-use Rattle.meet_history.specs.Stepping.{reply_of}
+use Rattle.meet_history.specs.Stepping.{reply_of, back_of}
 use Rattle.meet_calls.proofs.Polling.{not-spent}
 use Rattle.meet_history.proofs.Telling.{IsTold, poll-told, call-count}
 
@@ -33,16 +33,16 @@ abbrev place_at : Queue ℕ → ℕ → Place
 place_at q written = record { next = q.next; seats = seats_of q; records = written }
 
 -- the turn of the poll that a receipt is for
-abbrev told_turn : (seat : ℕ) → Received Deed → Queue ℕ → ℕ → Turn
-told_turn seat receipt new written = record {
-  replies = reply_of seat receipt None ∷ [];
+abbrev told_turn : (seat : ℕ) → QueueAnswer ℕ → Received Deed → Queue ℕ → ℕ → Turn
+told_turn seat answer receipt new written = record {
+  replies = reply_of seat receipt (back_of answer) ∷ [];
   records = receipt.entry ∷ [];
   place = place_at new written;
 }
 
 module _ (setup : Setup) (seat : ℕ) where
   -- one poll
-  queue-poll : (old new : Queue ℕ) (written : ℕ) (answer : QueueAnswer ℕ) (receipt : Received Deed) → request_refusal setup (place_at old written) seat ≡ None → QueueStep (λ m. m) setup.kind old seat (Dual Poll) answer new → queue_record (λ m. m) seat (Dual Poll) answer ≡ Some receipt.entry → receipt.place ≡ written + 1 → take setup (place_at old written) seat immediate ≡ told_turn seat receipt new (written + 1)
+  queue-poll : (old new : Queue ℕ) (written : ℕ) (answer : QueueAnswer ℕ) (receipt : Received Deed) → request_refusal setup (place_at old written) seat ≡ None → QueueStep (λ m. m) setup.kind old seat (Dual Poll) answer new → queue_record (λ m. m) seat (Dual Poll) answer ≡ Some receipt.entry → receipt.place ≡ written + 1 → take setup (place_at old written) seat immediate ≡ told_turn seat answer receipt new (written + 1)
   queue-poll old new written (ToDual (ToPoll answer)) receipt none step is place =
       subst (IsTold setup old written seat new (Dual Poll) (ToDual (ToPoll answer))) is (poll-told setup old written seat new answer none step)
       ∙ ap (λ n. record { replies = record { seat = seat; outcome = told n receipt.entry.ticket receipt.entry.deed None } ∷ []; records = receipt.entry ∷ []; place = place_at new (written + 1) }) (sym place)
@@ -61,7 +61,7 @@ module _ (setup : Setup) (seat : ℕ) where
 
   -- they are one thread's polls, and leave kind and seats
   pub record ArePolls (old : Queue ℕ) (written : ℕ) (got : List (QueueAnswer ℕ × Received Deed)) (new : QueueOfKind) : Type 0 where
-    pub turns : polls setup (place_at old written) seat (length got) ≡ record { replies = map (λ one. reply_of seat one.1 None) got; records = map (λ one. one.1.entry) got; place = place_at new.queue (written + length got) }
+    pub turns : polls setup (place_at old written) seat (length got) ≡ record { replies = map (λ one. reply_of seat one.1 (back_of one.0)) got; records = map (λ one. one.1.entry) got; place = place_at new.queue (written + length got) }
     pub kind : new.kind ≡ setup.kind
     pub count : count_of new.queue ≡ setup.seats
 
@@ -75,13 +75,13 @@ module _ (setup : Setup) (seat : ℕ) where
       }
   are-polls old new written (one ∷ got) kind count none left fits numbered (mid, (step, takes), is, more) =
       let made_step : QueueStep (λ m. m) setup.kind old.queue seat (Dual Poll) one.0 mid.queue = subst (λ k. QueueStep (λ m. m) k old.queue seat (Dual Poll) one.0 mid.queue) kind step.1 in
-      let first : take setup (place_at old.queue written) seat immediate ≡ told_turn seat one.1 mid.queue (written + 1) = queue-poll old.queue mid.queue written one.0 one.1 (admitted old.queue written count (none (omega arith)) (omega (arith, fits (omega arith)))) made_step is numbered.0 in
+      let first : take setup (place_at old.queue written) seat immediate ≡ told_turn seat one.0 one.1 mid.queue (written + 1) = queue-poll old.queue mid.queue written one.0 one.1 (admitted old.queue written count (none (omega arith)) (omega (arith, fits (omega arith)))) made_step is numbered.0 in
       let rest : ArePolls mid.queue (written + 1) got new = are-polls mid new (written + 1) got (step.0 ∙ kind) (call-count old.kind old.queue mid.queue seat (Dual Poll) one.0 step.1 ∙ count) (λ some. takes.free (omega (arith, left, takes.left, some))) (omega (arith, left, takes.left)) (λ some. omega (arith, fits (omega arith), takes.owed)) numbered.1 more in
       let further : written + 1 + length got ≡ written + length (one ∷ got) = omega arith in
       record {
         turns = ap (λ t. joined t (λ q. polls setup q seat (length got))) first
-            ∙ ap (λ (t : Turn). record { replies = reply_of seat one.1 None ∷ t.replies; records = one.1.entry ∷ t.records; place = t.place }) rest.turns
-            ∙ ap (λ n. record { replies = map (λ (g : QueueAnswer ℕ × Received Deed). reply_of seat g.1 None) (one ∷ got); records = map (λ (g : QueueAnswer ℕ × Received Deed). g.1.entry) (one ∷ got); place = place_at new.queue n }) further;
+            ∙ ap (λ (t : Turn). record { replies = reply_of seat one.1 (back_of one.0) ∷ t.replies; records = one.1.entry ∷ t.records; place = t.place }) rest.turns
+            ∙ ap (λ n. record { replies = map (λ (g : QueueAnswer ℕ × Received Deed). reply_of seat g.1 (back_of g.0)) (one ∷ got); records = map (λ (g : QueueAnswer ℕ × Received Deed). g.1.entry) (one ∷ got); place = place_at new.queue n }) further;
         kind = rest.kind;
         count = rest.count;
       }
@@ -137,7 +137,7 @@ module _ (setup : Setup) (seat : ℕ) where
 
   -- a drain that was made: its replies and records, and what it leaves
   pub record IsDrained (old : Queue ℕ) (written k : ℕ) (got : List (QueueAnswer ℕ × Received Deed)) (new : QueueOfKind) : Type 0 where
-    pub turn : drain setup (place_at old written) seat k ≡ record { replies = map (λ one. reply_of seat one.1 None) got ++ record { seat = seat; outcome = Drained k } ∷ []; records = map (λ one. one.1.entry) got; place = place_at new.queue (written + length got) }
+    pub turn : drain setup (place_at old written) seat k ≡ record { replies = map (λ one. reply_of seat one.1 (back_of one.0)) got ++ record { seat = seat; outcome = Drained k } ∷ []; records = map (λ one. one.1.entry) got; place = place_at new.queue (written + length got) }
     pub kind : new.kind ≡ setup.kind
     pub count : count_of new.queue ≡ setup.seats
 
@@ -150,7 +150,7 @@ module _ (setup : Setup) (seat : ℕ) where
         turn = drain-made (place_at old.queue written) k (sym (drain_refusal-is old.queue cap written k same count) ∙ none)
             ∙ ap (λ n. joined (polls setup (place_at old.queue written) seat n) (λ q. silent q seat (Drained k))) (sym long)
             ∙ ap (λ t. joined t (λ q. silent q seat (Drained k))) are.turns
-            ∙ (λ i. record { replies = map (λ (one : QueueAnswer ℕ × Received Deed). reply_of seat one.1 None) got ++ record { seat = seat; outcome = Drained k } ∷ []; records = append-nil (map (λ (one : QueueAnswer ℕ × Received Deed). one.1.entry) got) i; place = place_at new.queue (written + length got) });
+            ∙ (λ i. record { replies = map (λ (one : QueueAnswer ℕ × Received Deed). reply_of seat one.1 (back_of one.0)) got ++ record { seat = seat; outcome = Drained k } ∷ []; records = append-nil (map (λ (one : QueueAnswer ℕ × Received Deed). one.1.entry) got) i; place = place_at new.queue (written + length got) });
         kind = are.kind;
         count = are.count;
       }

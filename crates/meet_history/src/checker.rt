@@ -1,6 +1,6 @@
 //! The checker of histories: are these records legal?
 
-ghost use Rattle.std.specs.Prelude.{◌≡◌, ℕ, ◌<◌, ◌≤◌, ◌↔◌, length, None, IsTrue, IfOk, IfErr, OnOk};
+ghost use Rattle.std.specs.Prelude.{◌≡◌, ℕ, ◌<◌, ◌≤◌, ◌↔◌, length, None, IsTrue, IsOk, IfOk, IfErr, OnOk};
 ghost use Rattle.meet_tickets.specs.Meeting.{end_of, partner};
 ghost use Rattle.meet_tickets.specs.ByLists.{IsLegal};
 ghost use Rattle.meet_tickets.specs.BySeat.{beginning, IsFree, Fits, moment_after};
@@ -93,18 +93,39 @@ impl Checker {
         })
     }
 
-    /// Makes room for one entry more, and for this seat in the table. The only refusal is Memory.
-    fn reserve(&mut self, seat: SeatNo) -> Result<(), Refusal>
+    /// Sees that the table has this seat. The only refusal is Memory.
+    #[inline(always)]
+    fn seat(&mut self, seat: SeatNo) -> Result<(), Refusal>
+        ensures kind { self.new.kind ≡ self.old.kind }
+        ensures moment { moment_at self.new ≡ moment_at self.old }
+        ensures room { self.new.room ≡ self.old.room }
+        ensures seat { OnOk result (seat < length self.new.table.holds) }
+        ensures more { length self.old.table.holds ≤ length self.new.table.holds }
+        ensures memory { IfErr result (λ why. why ≡ Memory) }
+        ensures enough { seat < length self.old.table.holds → IsOk result }
+    {
+        if seat.number() < self.seats.count() {
+            return Ok(());
+        }
+        match self.seats.grow(seat.number() + 1) {
+            Ok(()) => Ok(()),
+            Err(_) => Err(Refusal::Memory),
+        }
+    }
+
+    /// Makes room for one entry more, and in the table for the seats that this record names. The only refusal is Memory.
+    fn reserve(&mut self, entry: &Record<Deed>) -> Result<(), Refusal>
         ensures kind { self.new.kind ≡ self.old.kind }
         ensures moment { moment_at self.new ≡ moment_at self.old }
         ensures room { OnOk result (0 < self.new.room) }
-        ensures seat { OnOk result (seat < length self.new.table.holds) }
+        ensures seat { OnOk result (subject_of entry.now.seat entry.now.deed < length self.new.table.holds) }
         ensures memory { IfErr result (λ why. why ≡ Memory) }
     {
-        match self.seats.grow(seat.number() + 1) {
-            Ok(()) => self.line.reserve(),
-            Err(_) => Err(Refusal::Memory),
+        self.seat(entry.seat)?;
+        if let Deed::Interrupt(target) = entry.deed {
+            self.seat(target)?;
         }
+        self.line.reserve()
     }
 
     /// What the seat has open.
@@ -200,16 +221,6 @@ impl Checker {
     }
 }
 
-/// The seat that a record is about: an interrupt's target, else its own.
-fn subject_of(entry: &Record<Deed>) -> SeatNo
-    ensures { result ≡ subject_of entry.now.seat entry.now.deed }
-{
-    match entry.deed {
-        Deed::Interrupt(target) => target,
-        _ => entry.seat,
-    }
-}
-
 /// Whether these records, from the first, are a legal history of a place of this kind, and then where its tickets and items
 /// are. Else it names the last record of the shortest front that isn't legal, with the first reason that applies; or Memory.
 pub fn check(alloc: Global, kind: Kind, records: &[Record<Deed>]) -> Result<Standing, CheckFault>
@@ -224,7 +235,7 @@ pub fn check(alloc: Global, kind: Kind, records: &[Record<Deed>]) -> Result<Stan
     let mut number = 0u64;
     for entry in records {
         number += 1;
-        match checker.reserve(subject_of(entry)) {
+        match checker.reserve(entry) {
             Ok(()) => {}
             Err(_) => return Err(CheckFault::Memory),
         }

@@ -15,9 +15,9 @@ use std::mem;
 /// The table of a place's seats.
 #[derive(Drop)]
 pub struct SeatTable<T> {
+    owed: u64,
     holds: Vec<Hold<T>>,
     flags: Vec<bool>,
-    owed: u64,
     settled: u64,
 }
 
@@ -55,9 +55,9 @@ impl<T> SeatTable<T> {
             holds.push_reserved(Hold::Free);
         }
         Ok(SeatTable {
+            owed: 0,
             holds,
             flags,
-            owed: 0,
             settled: 0,
         })
     }
@@ -136,11 +136,11 @@ impl<T> SeatTable<T> {
         ensures count { length self.new.holds ≡ length self.old.holds }
         ensures flags { self.new.flags ≡ self.old.flags }
     {
-        self.owed += u64::from(hold.is_open());
-        self.settled += u64::from(hold.is_settled());
+        let owed = self.owed + u64::from(hold.is_open());
+        let settled = self.settled + u64::from(hold.is_settled());
         let was = mem::replace(&mut self.holds[seat.number() as usize], hold);
-        self.owed -= u64::from(was.is_open());
-        self.settled -= u64::from(was.is_settled());
+        self.owed = owed - u64::from(was.is_open());
+        self.settled = settled - u64::from(was.is_settled());
         was
     }
 

@@ -1,6 +1,6 @@
 //! The line of a history's marks, met at the end of its place.
 
-ghost use Rattle.std.specs.Prelude.{◌≡◌, ◌≢◌, ◌+◌, ◌<◌, ◌==◌, [], ◌∷◌, ◌++◌, find, length, All, OnOk, IfErr, option_to_list, is_some, if◌then◌else◌};
+ghost use Rattle.std.specs.Prelude.{◌≡◌, ◌≢◌, ◌+◌, ◌<◌, ◌==◌, [], ◌∷◌, ◌++◌, find, length, All, OnOk, IsOk, IfErr, option_to_list, is_some, if◌then◌else◌};
 ghost use Rattle.std.specs.Slice.{IsItemAt};
 ghost use Rattle.meet_tickets.specs.Meeting.{met, partner, kept_count};
 ghost use Rattle.meet_tickets.specs.BySeat.{unmet, without_first};
@@ -64,6 +64,7 @@ impl MarkLine {
         ensures newest { self.new.newest ≡ self.old.newest }
         ensures room { OnOk result (0 < self.new.room) }
         ensures memory { IfErr result (λ why. why ≡ Memory) }
+        ensures enough { 0 < self.old.room → IsOk result }
     {
         match &mut self.line {
             ByEnd::Front(line) => line.reserve(1),

@@ -74,6 +74,7 @@ impl Checker {
     }
 
     /// A request of this side meets the entry with this ticket and this item, if that is its partner.
+    #[inline(always)]
     fn meets(
         &mut self,
         side: Side,

@@ -3,7 +3,10 @@
 ghost use Rattle.std.specs.Prelude.{◌≡◌, ◌<◌, [], ◌∷◌, ◌++◌, vec_len};
 ghost use Rattle.std.specs.Vec.{vec_capacity};
 ghost use Rattle.meet_history.specs.OneThread.{named, told};
+ghost use Rattle.meet_history.specs.Stepping.{back_of};
 
+use meet_line::{Followed, Gave, Offered, Put, TakenBack};
+use meet_queues::{DualAnswer, QueueAnswer};
 use meet_tickets::{Cause, Deed, Record, Refusal, SeatNo, Ticket};
 
 /// A reply, to the seat that made the call.
@@ -54,33 +57,64 @@ pub enum Answer {
 }
 
 impl Outcome {
-    /// What the seat is told of the record of this number; a giver's item where it comes back.
+    /// What the seat is told of the record of this number, and a giver's item where the answer brings it back.
     #[inline(always)]
-    pub(super) fn of(number: u64, entry: Record<Deed>, back: Option<u64>) -> Outcome
-        ensures { result ≡ told number entry.ticket entry.deed back }
+    pub(super) fn of(number: u64, entry: Record<Deed>, answer: &QueueAnswer<u64>) -> Outcome
+        ensures { result ≡ told number entry.ticket entry.deed (back_of answer.now) }
     {
         let Record {
             seat: _,
             ticket,
             deed,
         } = entry;
-        let answer = match deed {
+        let told = match deed {
             Deed::GiveWaits(_) => Answer::Waits,
             Deed::GiveMeets(mark, with) => Answer::Gave(mark, with),
-            Deed::GiveFails(_) => Answer::Fails(back),
+            Deed::GiveFails(_) => Answer::Fails(back_of(answer)),
             Deed::GiveKept(_) => Answer::Kept,
             Deed::TakeWaits => Answer::Waits,
             Deed::TakeMeets(mark, with) => Answer::Got(mark, with),
-            Deed::TakeFails => Answer::Fails(back),
-            Deed::EntryInterrupted(_) => Answer::Withdrawn(Cause::Interrupted, back),
+            Deed::TakeFails => Answer::Fails(back_of(answer)),
+            Deed::EntryInterrupted(_) => Answer::Withdrawn(Cause::Interrupted, back_of(answer)),
             Deed::Done => Answer::Done,
             Deed::Got(mark, with) => Answer::Got(mark, with),
-            Deed::Withdrawn(cause) => Answer::Withdrawn(cause, back),
+            Deed::Withdrawn(cause) => Answer::Withdrawn(cause, back_of(answer)),
             Deed::Interrupt(target) => {
                 return Outcome::Interrupted(number, target, named(ticket));
             }
         };
-        Outcome::Recorded(number, ticket, answer)
+        Outcome::Recorded(number, ticket, told)
+    }
+}
+
+/// The giver's item that an answer brings back, where it brings one.
+fn back_of(answer: &QueueAnswer<u64>) -> Option<u64>
+    ensures { result ≡ back_of answer.now }
+{
+    match answer {
+        QueueAnswer::Put(put) => match put {
+            Put::Fails(_, item) => Some(*item),
+            _ => None,
+        },
+        QueueAnswer::Dual(answer) => match answer {
+            DualAnswer::Gave(gave) => match gave {
+                Gave::EntryInterrupted(_, item) => Some(*item),
+                _ => None,
+            },
+            DualAnswer::Offered(offered) => match offered {
+                Offered::Fails(_, item) => Some(*item),
+                _ => None,
+            },
+            DualAnswer::Followed(followed) => match followed {
+                Followed::Interrupted(item) => *item,
+                _ => None,
+            },
+            DualAnswer::TakenBack(back) => match back {
+                TakenBack::Back(item) => *item,
+                TakenBack::Late => None,
+            },
+            _ => None,
+        },
     }
 }
 

@@ -8,7 +8,6 @@ use super::replies::push_reserved;
 use super::{Call, Outcome, Reply, Setup, Verb};
 use crate::checker::Standing;
 use meet_book::{Book, Receipt};
-use meet_line::{Followed, Gave, Offered, Put, TakenBack};
 use meet_queues::{AnyQueue, DualAnswer, DualCall, QueueAnswer, QueueCall};
 use meet_tickets::{Deed, Record, Refusal, SeatNo};
 use std::alloc::Global;
@@ -59,14 +58,14 @@ fn refused(seat: SeatNo, why: Refusal) -> Reply
     }
 }
 
-/// The reply that tells a receipt; a giver's item where it comes back.
+/// The reply that tells a receipt, and a giver's item where the answer brings it back.
 #[inline(always)]
-fn reply_of(seat: SeatNo, receipt: &Receipt<Deed>, back: Option<u64>) -> Reply
-    ensures { result ≡ reply_of seat receipt.now back }
+fn reply_of(seat: SeatNo, receipt: &Receipt<Deed>, answer: &QueueAnswer<u64>) -> Reply
+    ensures { result ≡ reply_of seat receipt.now (back_of answer.now) }
 {
     Reply {
         seat,
-        outcome: Outcome::of(receipt.place(), receipt.entry(), back),
+        outcome: Outcome::of(receipt.place(), receipt.entry(), answer),
     }
 }
 
@@ -79,38 +78,6 @@ fn unrecorded(call: &QueueCall<u64>) -> Outcome
         QueueCall::Dual(call) => match call {
             DualCall::FollowUp(_) => Outcome::NotYet,
             _ => Outcome::Late,
-        },
-    }
-}
-
-/// The giver's item that an answer brings back, where it brings one.
-#[inline(always)]
-fn back_of(answer: QueueAnswer<u64>) -> Option<u64>
-    ensures { result ≡ back_of answer }
-{
-    match answer {
-        QueueAnswer::Put(put) => match put {
-            Put::Fails(_, item) => Some(item),
-            _ => None,
-        },
-        QueueAnswer::Dual(answer) => match answer {
-            DualAnswer::Gave(gave) => match gave {
-                Gave::EntryInterrupted(_, item) => Some(item),
-                _ => None,
-            },
-            DualAnswer::Offered(offered) => match offered {
-                Offered::Fails(_, item) => Some(item),
-                _ => None,
-            },
-            DualAnswer::Followed(followed) => match followed {
-                Followed::Interrupted(item) => item,
-                _ => None,
-            },
-            DualAnswer::TakenBack(back) => match back {
-                TakenBack::Back(item) => item,
-                TakenBack::Late => None,
-            },
-            _ => None,
         },
     }
 }
@@ -161,7 +128,7 @@ impl Stepper {
             Err(refused) => return refused_unless_memory(seat, refused.why),
         };
         match receipt {
-            Some(receipt) => Ok(reply_of(seat, &receipt, back_of(answer))),
+            Some(receipt) => Ok(reply_of(seat, &receipt, &answer)),
             None => Ok(Reply {
                 seat,
                 outcome: otherwise,

@@ -1,8 +1,8 @@
 //! The drains of a stepper.
 
-ghost use Rattle.std.specs.Prelude.{◌≡◌, ◌+◌, ◌≤◌, ◌++◌, None, length, map, min, vec_len, OnOk, OnErr, IfErr};
+ghost use Rattle.std.specs.Prelude.{◌≡◌, ◌+◌, ◌≤◌, ◌++◌, length, map, min, vec_len, OnOk, OnErr, IfErr};
 ghost use Rattle.std.specs.Vec.{vec_capacity};
-ghost use Rattle.meet_history.specs.Stepping.{reply_of};
+ghost use Rattle.meet_history.specs.Stepping.{reply_of, back_of};
 ghost use Rattle.meet_tickets.specs.declared.refusals.Refusal.TheVariants.{Memory};
 
 use super::{Stepper, refused_unless_memory, reply_of};
@@ -59,10 +59,10 @@ impl Stepper {
 /// Puts the replies of a drain's polls behind others, where there is room.
 fn push_polls(replies: &mut Vec<Reply>, seat: SeatNo, got: &[(QueueAnswer<u64>, Receipt<Deed>)])
     requires { vec_len replies.old + length got.now ≤ vec_capacity replies.old }
-    ensures replies { replies.new.items ≡ replies.old.items ++ map (λ one. reply_of seat one.1 None) got.now }
+    ensures replies { replies.new.items ≡ replies.old.items ++ map (λ one. reply_of seat one.1 (back_of one.0)) got.now }
     ensures capacity { vec_capacity replies.new ≡ vec_capacity replies.old }
 {
     for one in got {
-        push_reserved(replies, reply_of(seat, &one.1, None));
+        push_reserved(replies, reply_of(seat, &one.1, &one.0));
     }
 }

@@ -1,6 +1,6 @@
 use Rattle.meet_tickets.specs.Bases.{Based}
 use Rattle.meet_book.specs.Draining.{AreNumbered}
-use Rattle.std.proofs.Common.{arith, subst, ◌≡◌, ◌+◌, ◌++◌, ◌∷◌, [], ◌∙◌, refl, sym, ap, min, map, length, append_assoc, append-nil, length-append, None, Some, rules, ℕ}
+use Rattle.std.proofs.Common.{arith, subst, ◌≡◌, ◌+◌, ◌++◌, ◌∷◌, [], ◌∙◌, refl, sym, ap, min, map, length, append_assoc, append-nil, length-append, Some, rules, ℕ}
 use Rattle.std.proofs.lemmas.List.{length-map}
 use Rattle.meet_tickets.specs.declared.records.Deed.{Deed}
 use Rattle.meet_calls.specs.declared.queue_calls.QueueAnswer.{QueueAnswer}
@@ -8,7 +8,7 @@ use Rattle.meet_history.specs.declared.one_thread.replies.Outcome.TheVariants.{D
 use Rattle.meet_book.specs.Received.{Received}
 use Rattle.meet_history.specs.OneThread.{Turn, drain, drain_refusal, refused}
 use Rattle.meet_calls.specs.DualSteps.{dual_available}
-use Rattle.meet_history.specs.Stepping.{Stepping, place_of, reply_of}
+use Rattle.meet_history.specs.Stepping.{Stepping, place_of, reply_of, back_of}
 use Rattle.meet_history.proofs.Calling.{refused-so}
 use Rattle.meet_history.proofs.Drained.{drained, drain_refusal-is, drain-refused}
 use Rattle.meet_history.proofs.one_thread.stepper.Stepper.drain.Goals as goal
@@ -53,8 +53,8 @@ returns-clause-replies c =
     let count : c.min-count.result ≡ k = search rules in
     rw (← c.self.view_is) (c.push_reserved-2.ensures.items
     ∙ (λ i. c.push_polls.ensures.replies i ++ record { seat = c.args.seat; outcome = Drained (count i) } ∷ [])
-    ∙ (λ i. (c.reserve.ensures.items i ++ map (λ (one : QueueAnswer ℕ × Received Deed). reply_of c.args.seat one.1 None) (c.as_slice.ensures.value i)) ++ record { seat = c.args.seat; outcome = Drained k } ∷ [])
-    ∙ append_assoc c.args.replies.now.items (map (λ (one : QueueAnswer ℕ × Received Deed). reply_of c.args.seat one.1 None) c.in-Ok.got.items) (record { seat = c.args.seat; outcome = Drained k } ∷ [])
+    ∙ (λ i. (c.reserve.ensures.items i ++ map (λ (one : QueueAnswer ℕ × Received Deed). reply_of c.args.seat one.1 (back_of one.0)) (c.as_slice.ensures.value i)) ++ record { seat = c.args.seat; outcome = Drained k } ∷ [])
+    ∙ append_assoc c.args.replies.now.items (map (λ (one : QueueAnswer ℕ × Received Deed). reply_of c.args.seat one.1 (back_of one.0)) c.in-Ok.got.items) (record { seat = c.args.seat; outcome = Drained k } ∷ [])
     ∙ ap (λ (t : Turn). c.args.replies.now.items ++ t.replies) (sym end.turn))
 
 pub returns-clause-takes : goal.returns-clause-takes

@@ -59,6 +59,6 @@ returns-clause-turn c =
     (numbered-on book.base.gone (length book.records) c.in-Ok.made.1 none c.in-Ok.ensures.place)
     c.in-Ok.ensures.records in
     elim c.match-receipt.branch [
-      | in-Some w ↦ rw (w.result-is, w.reply_of.ensures, w.back_of.ensures, ← c.self.view_is) (made (Some w.in-Some.receipt) w.in-Some.is)
+      | in-Some w ↦ rw (w.result-is, w.reply_of.ensures, ← c.self.view_is) (made (Some w.in-Some.receipt) w.in-Some.is)
       | in-None w ↦ rw (w.result-is, c.unrecorded-otherwise.ensures, ← c.self.view_is) (made None w.in-None.is)
     ]
