@@ -10,12 +10,6 @@ Polls-last Does record_of old mid new [] one polls step is = (new, subst (λ o. 
 Polls-last Does record_of old mid new (first ∷ got) one polls step is =
     (polls.0, polls.1, polls.2, Polls-last Does record_of polls.0 mid new got one polls.3 step is)
 
--- polls of what is there once more room was made, where room changes no step
-pub Polls-roomier : {O A D : Type 0} (Does : O → A → O → Type 0) (record_of : A → Option (Record D)) (old roomier new : O) (got : List (A × Received D)) → ((answer : A) (next : O) → Does roomier answer next → Does old answer next) → 0 < length got → Polls Does record_of roomier got new → Polls Does record_of old got new
-Polls-roomier Does record_of old roomier new [] same some polls = grind arith
-Polls-roomier Does record_of old roomier new (first ∷ got) same some polls =
-    (polls.0, same first.0 polls.0 polls.1, polls.2, polls.3)
-
 -- receipts in order, and the next one
 pub AreNumbered-last : {A D : Type 0} (last : ℕ) (got : List (A × Received D)) (one : A × Received D) → AreNumbered last got → one.1.place ≡ last + length got + 1 → AreNumbered last (got ++ one ∷ [])
 AreNumbered-last last [] one all place = (let at : one.1.place ≡ last + 1 = omega arith in at, tt)

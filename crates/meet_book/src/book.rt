@@ -1,6 +1,6 @@
 //! The book that a place keeps of its steps.
 
-ghost use Rattle.std.specs.Prelude.{◌≡◌, ◌+◌, ◌<◌, ◌≤◌, ◌^◌, Option, Some, None, [], ◌++◌, length, option_to_list, vec_len, ⊤, IfNone, IsOk, IfOk, IfErr, OnOk, OnErr, MatchOption};
+ghost use Rattle.std.specs.Prelude.{◌≡◌, ◌+◌, ◌-◌, ◌<◌, ◌≤◌, ◌^◌, Option, Some, None, [], ◌++◌, length, option_to_list, vec_len, ⊤, IfNone, IsOk, IfOk, IfErr, OnOk, OnErr, MatchOption};
 ghost use Rattle.std.specs.Vec.{vec_capacity};
 ghost use Rattle.meet_book.specs.Booked.{Booked};
 ghost use Rattle.meet_book.specs.Booking.{book_refusal, cut_refusal, record_of_receipt};
@@ -30,7 +30,7 @@ pub struct Book<O: Object> {
 impl<O: Object> Model for Book<O> {
     ghost Value = { Booked O O.Base O.Deed };
 
-    ghost view = { λ book. record { object = book.object; base = book.base; records = book.records.items; cap = book.cap } };
+    ghost view = { λ book. record { object = book.object; base = book.base; records = book.records.items; room = vec_capacity book.records - vec_len book.records; cap = book.cap } };
 
     ghost invariant = { λ book.
         O.leads book.base book.records.items book.object
@@ -46,7 +46,7 @@ impl<O: Object> Book<O> {
         requires fresh { O.leads O.no_base [] object }
         requires cap_from { 0 < cap }
         requires cap_to { cap ≤ most_records }
-        ensures { result ≡ record { object = object; base = O.no_base; records = []; cap = cap } }
+        ensures { result ≡ record { object = object; base = O.no_base; records = []; room = 0; cap = cap } }
     {
         Book {
             alloc,
@@ -76,6 +76,7 @@ impl<O: Object> Book<O> {
         ensures records { result.now ≡ self.now.records }
         ensures leads { O.leads self.now.base self.now.records self.now.object }
         ensures within { length self.now.records + O.owed_of self.now.object ≤ self.now.cap }
+        ensures room { O.owed_of self.now.object ≤ self.now.room }
     {
         self.records.as_slice()
     }
@@ -98,8 +99,9 @@ impl<O: Object> Book<O> {
 
     /// Makes a seat's call, and writes its record, if it has one, with the next number, which counts the records that were folded
     /// away. It refuses what the place's `admit` does; else HistoryFull exactly where the records, those that are owed and those
-    /// that this call may need are more than the book may have; else Memory. Then nothing has changed, and the call comes back.
-    /// An admitted call that needs no record is never refused.
+    /// that this call may need are more than the book may have; else Memory, but never where there is room for them and for the
+    /// call in its place. Then nothing but room has changed, and the call comes back. An admitted call that needs no record is never
+    /// refused.
     pub fn step(
         &mut self,
         seat: SeatNo,
@@ -113,17 +115,22 @@ impl<O: Object> Book<O> {
         ensures admitted { IfOk result (λ _. book_refusal (O.refusal_of self.old.object seat call) (O.owed_of self.old.object) (O.need_of call) self.old ≡ None) }
         ensures why { IfErr result (λ refused. IsWhy (book_refusal (O.refusal_of self.old.object seat call) (O.owed_of self.old.object) (O.need_of call) self.old) refused.why) }
         ensures back { IfErr result (λ refused. refused.back ≡ call) }
-        ensures unchanged { IfErr result (λ _. self.new ≡ self.old) }
+        ensures unchanged { IfErr result (λ _. self.new ≡ record self.old { room = self.new.room }) }
+        ensures room { length self.old.records + self.old.room ≤ length self.new.records + self.new.room }
+        ensures spare { O.spare self.old.object ≤ O.spare self.new.object + O.room_of call }
         ensures cap { self.new.cap ≡ self.old.cap }
         ensures base { self.new.base ≡ self.old.base }
         ensures ending { O.need_of call ≡ 0 → O.refusal_of self.old.object seat call ≡ None → IsOk result }
+        ensures enough { O.owed_of self.old.object + O.need_of call ≤ self.old.room → O.room_of call ≤ O.spare self.old.object
+            → book_refusal (O.refusal_of self.old.object seat call) (O.owed_of self.old.object) (O.need_of call) self.old ≡ None → IsOk result }
     {
         match self.refusal(seat, &call) {
             Some(why) => return Err(Refused { why, back: call }),
             None => {}
         }
         let need = O::need(&call);
-        if let Err(why) = make_room(&mut self.object, &mut self.records, need, 1) {
+        let room = O::room(&call);
+        if let Err(why) = make_room(&mut self.object, &mut self.records, need, room) {
             return Err(Refused { why, back: call });
         }
         let (answer, record) = self.object.step(seat, call);
@@ -156,6 +163,7 @@ where
         ensures base { IfOk result (λ gone. O.is_base self.old.object gone self.new.base) }
         ensures records { IfOk result (λ _. self.new.records ≡ []) }
         ensures object { self.new.object ≡ self.old.object }
+        ensures room { length self.new.records + self.new.room ≡ length self.old.records + self.old.room }
         ensures cap { self.new.cap ≡ self.old.cap }
         ensures leads { O.leads self.new.base self.new.records self.new.object }
         ensures admitted { IfOk result (λ _. cut_refusal (O.gone_of self.old.base) self.old ≡ None) }
@@ -173,24 +181,29 @@ where
     }
 }
 
-/// Makes room for this many records beside those that are owed, and for so many calls; for no record none is asked.
+/// Makes room for this many records beside those that are owed, and this much in the place; for no record none is asked.
 fn make_room<O: Object>(
     object: &mut O,
     records: &mut Vec<Record<O::Deed>>,
     need: u64,
-    calls: u64,
+    room: u64,
 ) -> Result<(), Refusal>
     requires few { O.owed_of object.old + need < 2 ^ 64 }
     requires owed { vec_len records.old + O.owed_of object.old ≤ vec_capacity records.old }
+    requires roomless { need ≡ 0 → room ≡ 0 }
     ensures same { object.new ≡ O.with_room object.old (O.spare object.new) }
-    ensures asks_none { need ≡ 0 → object.new ≡ object.old }
-    ensures calls { OnOk result (0 < need → calls ≤ O.spare object.new) }
+    ensures asks_none { room ≡ 0 → object.new ≡ object.old }
+    ensures room { OnOk result (room ≤ O.spare object.new) }
+    ensures more { O.spare object.old ≤ O.spare object.new }
     ensures records { records.new.items ≡ records.old.items }
+    ensures len { vec_len records.new ≡ vec_len records.old }
+    ensures capacity { vec_capacity records.old ≤ vec_capacity records.new }
     ensures free { OnOk result (vec_len records.new + O.owed_of object.old + need ≤ vec_capacity records.new) }
     ensures owed { vec_len records.new + O.owed_of object.old ≤ vec_capacity records.new }
     ensures unchanged { OnErr result (object.new ≡ object.old) }
     ensures memory { IfErr result (λ why. why ≡ Memory) }
     ensures ending { need ≡ 0 → IsOk result }
+    ensures enough { vec_len records.old + O.owed_of object.old + need ≤ vec_capacity records.old → room ≤ O.spare object.old → IsOk result }
 {
     if need == 0 {
         return Ok(());
@@ -199,7 +212,10 @@ fn make_room<O: Object>(
     if records.reserve(wanted as usize).is_err() {
         return Err(Refusal::Memory);
     }
-    object.reserve(calls)
+    if room == 0 {
+        return Ok(());
+    }
+    object.reserve(room)
 }
 
 /// Puts a record behind the others, where there is one, and answers its receipt.

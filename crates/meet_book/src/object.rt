@@ -47,10 +47,13 @@ pub trait Object {
     /// How many records a call may need: its own, and those that it will owe.
     ghost need_of: { Self.Call → ℕ };
 
-    /// How many calls have room.
+    /// How much of the place's room a call may use up.
+    ghost room_of: { Self.Call → ℕ };
+
+    /// How much room the place has.
     ghost spare: { Self → ℕ };
 
-    /// The same place with room for so many calls.
+    /// The same place with so much room.
     ghost with_room: { Self → ℕ → Self };
 
     /// The base of no records. It takes no memory.
@@ -71,28 +74,33 @@ pub trait Object {
     fn need(call: &Self::Call) -> u64
         ensures { result ≡ need_of call.now };
 
+    /// How much of the place's room this call may use up. It takes no memory.
+    fn room(call: &Self::Call) -> u64
+        ensures { result ≡ room_of call.now };
+
     /// How many records the open tickets may still need. It takes no memory.
     fn owed(&self) -> u64
         ensures { result ≡ owed_of self.now };
 
-    /// Makes room for this many calls. The only refusal is Memory.
-    fn reserve(&mut self, calls: u64) -> Result<(), Refusal>
+    /// Makes this much room. The only refusal is Memory, and never where there is so much.
+    fn reserve(&mut self, room: u64) -> Result<(), Refusal>
         ensures same { self.new ≡ with_room self.old (spare self.new) }
-        ensures room { OnOk result (calls ≤ spare self.new) }
+        ensures room { OnOk result (room ≤ spare self.new) }
+        ensures more { spare self.old ≤ spare self.new }
         ensures unchanged { OnErr result (self.new ≡ self.old) }
         ensures memory { IfErr result (λ why. why ≡ Memory) }
-        ensures enough { calls ≤ spare self.old → IsOk result };
+        ensures enough { room ≤ spare self.old → IsOk result };
 
-    /// Makes an admitted call, for which there is room where it needs a record: what it is answered, and its record. It
-    /// takes no memory, and uses the room of one call at most.
+    /// Makes an admitted call, for which there is room: what it is answered, and its record. It takes no memory, and uses up the
+    /// call's room at most.
     fn step(&mut self, seat: SeatNo, call: Self::Call) -> (Self::Answer, Option<Record<Self::Deed>>)
         requires admitted { refusal_of self.old seat call ≡ None }
-        requires room { 0 < need_of call → 0 < spare self.old }
+        requires room { room_of call ≤ spare self.old }
         ensures step { steps self.old seat call result.0 self.new }
         ensures record { result.1 ≡ record_of seat call result.0 }
         ensures leads { (base : Self.Base) (records : List (Record Self.Deed)) → leads base records self.old → leads base (records ++ option_to_list result.1) self.new }
         ensures owed { length (option_to_list result.1) + owed_of self.new ≤ owed_of self.old + need_of call }
-        ensures room { spare self.old ≤ spare self.new + 1 };
+        ensures room { spare self.old ≤ spare self.new + room_of call };
 
     /// A record is of the seat that called.
     ghost own_record: { (seat : ℕ) (call : Self.Call) (answer : Self.Answer) → MatchOption (record_of seat call answer) ⊤ (λ entry. entry.seat ≡ seat) };
@@ -111,7 +119,10 @@ pub trait Object {
 
     /// Room changes no step of a call that asks for it.
     ghost same_steps: { (o : Self) (room seat : ℕ) (call : Self.Call) (answer : Self.Answer) (new : Self)
-        → 0 < need_of call → steps (with_room o room) seat call answer new → steps o seat call answer new };
+        → 0 < room_of call → steps (with_room o room) seat call answer new → steps o seat call answer new };
+
+    /// A call that needs no record uses no room.
+    ghost roomless: { (call : Self.Call) → need_of call ≡ 0 → room_of call ≡ 0 };
 
     /// A place without a history owes nothing.
     ghost fresh_owes: { (o : Self) → leads no_base [] o → owed_of o ≡ 0 };
@@ -153,20 +164,20 @@ pub trait Drains: Object {
     fn tickets_left(&self) -> u64
         ensures { result ≡ left_of self.now };
 
+    /// Whether this seat's poll is admitted, or why it is refused: the first reason that applies. It takes no memory.
+    fn admit_poll(&self, seat: SeatNo) -> Result<(), Refusal>
+        ensures admitted { IfOk result (λ _. Self.refusal_of self.now seat poll ≡ None) }
+        ensures why { IfErr result (λ why. Self.refusal_of self.now seat poll ≡ Some why) }
+        ensures own { IfErr result (λ why. (why ≢ Memory) × (why ≢ HistoryFull)) }
+        ensures left { 0 < left_of self.now → Self.refusal_of self.now seat poll ≢ Some TicketsSpent };
+
     /// The call that takes one item, if one is there. It takes no memory.
     fn poll_call(&self) -> Self::Call
         ensures call { result ≡ poll }
-        ensures left { (seat : ℕ) → 0 < left_of self.now → Self.refusal_of self.now seat poll ≢ Some TicketsSpent }
         ensures takes { (seat : ℕ) (answer : Self.Answer) (new : Self)
             → Self.steps self.now seat poll answer new → Self.refusal_of self.now seat poll ≡ None → 0 < available_of self.now
             → TakesOne available_of left_of Self.owed_of (λ o. Self.refusal_of o seat poll) (Self.record_of seat poll answer) self.now new };
 
-    /// A poll's record needs a place, and another for the ending that a request may owe.
-    ghost poll_needs: { Self.need_of poll ≡ 2 };
-
-    /// Room changes nothing of what is there.
-    ghost same_available: { (o : Self) (room : ℕ) → available_of (Self.with_room o room) ≡ available_of o };
-
-    /// Room changes no number of tickets.
-    ghost same_left: { (o : Self) (room : ℕ) → left_of (Self.with_room o room) ≡ left_of o };
+    /// A poll uses no room.
+    ghost poll_fits: { Self.room_of poll ≡ 0 };
 }

@@ -14,7 +14,7 @@ fn seat(number: u64) -> Result<SeatNo, Fail> {
     Ok(SeatNo::new(number).ok_or("no such seat number")?)
 }
 
-/// A book of an empty cell with so many tickets, that makes room for so many calls at most.
+/// A book of an empty cell with so many tickets, that makes room for so many puts at most.
 fn book_of(alloc: Global, tickets: u64, most: u64, cap: u64) -> Result<Book<Cell>, Fail>
     requires cap_from { 0 < cap }
     requires cap_to { cap ≤ most_records }
@@ -259,9 +259,9 @@ fn the_first_reason_against_a_drain_counts(rt: HostRuntime) -> Result<(), Fail> 
     ];
     drains(&rt, rt.alloc(), &mut book, &rows)?;
 
-    // Then memory.
+    // It needs none of the place's room.
     let mut book = book_of(rt.alloc(), 9, 1, 20)?;
     plays(&rt, &mut book, &[(0, Call::Put(5), Ok(1))])?;
-    let rows: [Drain; 2] = [(1, 2, Err(Refusal::Memory)), (1, 1, Ok(&[(2, 2)]))];
+    let rows: [Drain; 1] = [(1, 2, Ok(&[(2, 2), (3, 3)]))];
     drains(&rt, rt.alloc(), &mut book, &rows)
 }

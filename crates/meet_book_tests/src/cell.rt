@@ -2,7 +2,7 @@
 
 ghost use Rattle.std.specs.Prelude.{◌≡◌, ◌+◌, ◌<◌, ◌≤◌, ◌⊎◌, false, Some, None, refl, length, nat_lt, nat_eq, option_map, option_to_list, IsSome, IfOk, if◌then◌else◌};
 ghost use Rattle.std.specs.Option.{option_map_or};
-ghost use Rattle.std.proofs.Common.{rules};
+ghost use Rattle.std.proofs.Common.{rules, arith};
 ghost use Rattle.meet_book_tests.specs.declared.cell.Call.TheVariants.{Put, Take, End};
 ghost use Rattle.meet_tickets.specs.declared.refusals.Refusal.TheVariants.{NoSuchSeat, SeatOpen, TicketsSpent};
 
@@ -53,7 +53,7 @@ pub struct Past {
     pub wait: Option<Wait>,
 }
 
-/// The cell. It never has room for more than so many calls, as if memory ended there.
+/// The cell. It never has room for more than so many puts, as if memory ended there.
 #[derive(Drop)]
 pub struct Cell {
     pub tokens: u64,
@@ -65,7 +65,7 @@ pub struct Cell {
 }
 
 impl Cell {
-    /// An empty cell with so many tickets, that makes room for so many calls at most.
+    /// An empty cell with so many tickets, that makes room for so many puts at most.
     pub fn new(tickets: u64, most: u64) -> Result<Cell, Fail>
         ensures { IfOk result (λ cell. cell.wait ≡ None) }
     {
@@ -89,28 +89,29 @@ impl Cell {
         }
     }
 
-    /// The next ticket, which is used up with the room of a call.
+    /// The next ticket, which is used up.
     fn draw(&mut self) -> Ticket
         requires { 0 < self.old.left }
         ensures left { self.new.left + 1 ≡ self.old.left }
-        ensures room { self.old.room ≤ self.new.room + 1 }
+        ensures room { self.new.room ≡ self.old.room }
         ensures tokens { self.new.tokens ≡ self.old.tokens }
         ensures wait { self.new.wait ≡ self.old.wait }
     {
         let ticket = self.next;
         self.next = Ticket::new(ticket.number() + 1).unwrap_or(ticket);
         self.left -= 1;
-        self.room = self.room.saturating_sub(1);
         ticket
     }
 
-    /// Puts tokens in, up to the greatest number.
+    /// Puts tokens in, up to the greatest number, which uses up the room of a put.
     fn put(&mut self, tokens: u64) -> Made
-        requires { 0 < self.old.left }
-        ensures room { self.old.room ≤ self.new.room + 1 }
+        requires ticket { 0 < self.old.left }
+        requires room { 0 < self.old.room }
+        ensures room { self.new.room + 1 ≡ self.old.room }
         ensures wait { self.new.wait ≡ self.old.wait }
     {
         let ticket = self.draw();
+        self.room -= 1;
         self.tokens = self.tokens.saturating_add(tokens);
         Made {
             ticket,
@@ -122,7 +123,7 @@ impl Cell {
     fn take(&mut self, seat: SeatNo) -> Made
         requires { 0 < self.old.left }
         ensures left { self.new.left + 1 ≡ self.old.left }
-        ensures room { self.old.room ≤ self.new.room + 1 }
+        ensures room { self.new.room ≡ self.old.room }
         ensures took { 0 < self.old.tokens → (self.new.tokens + 1 ≡ self.old.tokens) × (self.new.wait ≡ self.old.wait) }
         ensures wait { (self.new.wait ≡ self.old.wait) ⊎ (self.old.wait ≡ None) }
     {
@@ -223,6 +224,8 @@ impl Object for Cell {
 
     ghost need_of = { elim [ Put tokens ↦ 1 | Take ↦ 2 | End ↦ 0 ] };
 
+    ghost room_of = { elim [ Put tokens ↦ 1 | Take ↦ 0 | End ↦ 0 ] };
+
     ghost spare = { λ cell. cell.room };
 
     ghost with_room = { λ cell room. record cell { room = room } };
@@ -238,6 +241,8 @@ impl Object for Cell {
     ghost same_leads = { λ cell room base records leads. leads };
 
     ghost same_steps = { λ cell room seat call made new some steps. steps };
+
+    ghost roomless = { elim [ Put tokens ↦ λ none. absurd (Prim.omega (arith, none)) | Take ↦ λ none. refl | End ↦ λ none. refl ] };
 
     ghost fresh_owes = { Prim.search rules };
 
@@ -280,6 +285,13 @@ impl Object for Cell {
         }
     }
 
+    fn room(call: &Call) -> u64 {
+        match call {
+            Call::Put(_) => 1,
+            Call::Take | Call::End => 0,
+        }
+    }
+
     fn owed(&self) -> u64 {
         match self.wait {
             Some(_) => 1,
@@ -287,14 +299,14 @@ impl Object for Cell {
         }
     }
 
-    fn reserve(&mut self, calls: u64) -> Result<(), Refusal> {
-        if calls <= self.room {
+    fn reserve(&mut self, room: u64) -> Result<(), Refusal> {
+        if room <= self.room {
             return Ok(());
         }
-        if calls > self.most {
+        if room > self.most {
             return Err(Refusal::Memory);
         }
-        self.room = calls;
+        self.room = room;
         Ok(())
     }
 
@@ -325,11 +337,7 @@ impl Drains for Cell {
 
     ghost left_of = { λ cell. cell.left };
 
-    ghost poll_needs = { refl };
-
-    ghost same_available = { λ cell room. refl };
-
-    ghost same_left = { λ cell room. refl };
+    ghost poll_fits = { refl };
 
     fn available(&self) -> u64 {
         self.tokens
@@ -337,6 +345,10 @@ impl Drains for Cell {
 
     fn tickets_left(&self) -> u64 {
         self.left
+    }
+
+    fn admit_poll(&self, seat: SeatNo) -> Result<(), Refusal> {
+        Object::admit(self, seat, &Call::Take)
     }
 
     fn poll_call(&self) -> Call {

@@ -46,10 +46,10 @@ use Rattle.meet_calls.specs.declared.queue_calls.QueueCall.{QueueCall}
 use Rattle.meet_calls.specs.declared.queue_calls.QueueCall.TheVariants.{Put as PutItem, Dual}
 use Rattle.meet_calls.specs.declared.queue_calls.QueueAnswer.{QueueAnswer}
 use Rattle.meet_calls.specs.declared.queue_calls.QueueAnswer.TheVariants.{Put as ToPut, Dual as ToDual}
-use Rattle.meet_calls.specs.QueueSteps.{dual_call, QueueStep, queue_refusal, queue_need, put_record, queue_record}
+use Rattle.meet_calls.specs.QueueSteps.{dual_call, QueueStep, queue_refusal, queue_need, queue_room, put_record, queue_record}
 use Rattle.meet_calls.specs.DualRecords.{made, give_record, offer_record, take_record, poll_record, follow_record, back_record, interrupt_record, dual_record}
 use Rattle.meet_line.specs.Seen.{marked_entry, marked_hold, marked}
-use Rattle.meet_calls.specs.DualSteps.{DualStep, synchronous, kind_of, dual_refusal, dual_need, dual_owed}
+use Rattle.meet_calls.specs.DualSteps.{DualStep, synchronous, kind_of, dual_refusal, dual_need, dual_room, dual_owed}
 use Rattle.meet_calls.proofs.Marking.{partner-marked, entry_of-marked, kept-marked, queued-marked, paired-marked, released-marked, left-marked, cut_off-marked}
 use Rattle.meet_calls.proofs.Owed.{owed-same, owed-more, owed-fewer}
 
@@ -61,14 +61,14 @@ pub record Writes {T : Type 0} (mark : T → ℕ) (k : Kind) (old new : Queue T)
   pub allowed : Allows k (marked mark (seats_of old)) r.seat r.ticket r.deed
   pub after : marked mark (seats_of new) ≡ seats_after k (marked mark (seats_of old)) r.seat r.ticket r.deed
 
--- what a call costs: the records that it writes and leaves owed, and its place in the line
-pub record Costs {T : Type 0} (old new : Queue T) (need : ℕ) (written : ℕ) : Type 0 where
+-- what a call costs: the records that it writes and leaves owed, and its place in the line, where it has room for one
+pub record Costs {T : Type 0} (old new : Queue T) (need room : ℕ) (written : ℕ) : Type 0 where
   pub owed : written + dual_owed new ≤ dual_owed old + need
-  pub line : length new.line ≤ length old.line + 1
+  pub line : length new.line ≤ length old.line + room
 
 -- a step that writes this record, or none and then changes nothing
-abbrev pub HasEffect : {T : Type 0} → (T → ℕ) → Kind → Queue T → Queue T → (need : ℕ) → Option (Record Deed) → Type 0
-HasEffect mark k old new need r = MatchOption r (new ≡ old) (λ r. Writes mark k old new r × Costs old new need 1)
+abbrev pub HasEffect : {T : Type 0} → (T → ℕ) → Kind → Queue T → Queue T → (need room : ℕ) → Option (Record Deed) → Type 0
+HasEffect mark k old new need room r = MatchOption r (new ≡ old) (λ r. Writes mark k old new r × Costs old new need room 1)
 
 -- what leaves a line doesn't lengthen it
 unmet-short : {X : Type 0} (end : End) (line : List (Entry X)) → length (unmet end line) ≤ length line
@@ -125,8 +125,8 @@ module _ {T : Type 0} (mark : T → ℕ) (k : Kind) (old new : Queue T) where
     after = ap (marked mark) leaves.left ∙ after;
   }
 
-  costs-from : (need written : ℕ) (seats : Seats T) → count_of new ≡ count_of old → seats_of new ≡ seats → written + owed_of (count_of old) seats.holds ≤ dual_owed old + need → length seats.line ≤ length old.line + 1 → Costs old new need written
-  costs-from need written seats count is owed line =
+  costs-from : (need room written : ℕ) (seats : Seats T) → count_of new ≡ count_of old → seats_of new ≡ seats → written + owed_of (count_of old) seats.holds ≤ dual_owed old + need → length seats.line ≤ length old.line + room → Costs old new need room written
+  costs-from need room written seats count is owed line =
       let same : dual_owed new ≡ owed_of (count_of old) seats.holds = ap (λ n. owed_of n (seats_of new).holds) count ∙ ap (λ s. owed_of (count_of old) s.holds) is in
       let long : length new.line ≡ length seats.line = ap (λ (s : Seats T). length s.line) is in
       record { owed = omega (arith, same, owed); line = omega (arith, long, line) }
@@ -159,82 +159,82 @@ module _ {T : Type 0} (mark : T → ℕ) (k : Kind) (old new : Queue T) where
   free-marked i free = ap (marked_hold mark) free
 
   -- a giver that meets
-  hands-effect : (i t u : ℕ) (item : T) → IsSound old.line (seats_of old).holds old.next → (seats_of old).holds i ≡ Free → HandsTo mark (end_of k.order) old item t u new → Writes mark k old new (made i t (GiveMeets (mark item) u)) × Costs old new 2 1
-  hands-effect i t u item sound free (e, found, ticket, none, uses) = (
+  hands-effect : (room i t u : ℕ) (item : T) → IsSound old.line (seats_of old).holds old.next → (seats_of old).holds i ≡ Free → HandsTo mark (end_of k.order) old item t u new → Writes mark k old new (made i t (GiveMeets (mark item) u)) × Costs old new 2 room 1
+  hands-effect room i t u item sound free (e, found, ticket, none, uses) = (
     writes-request i t (GiveMeets (mark item) u) _ refl uses
         (free-marked i free, (marked_entry mark e, found-marked Giver e found, sym ticket, ap (option_map mark) none))
         (meets-marked t (Some item) Giver e found),
-    costs-from 2 1 _ uses.count uses.left
+    costs-from 2 room 1 _ uses.count uses.left
         (omega (arith, met-open mark (end_of k.order) old Giver t (Some item) e sound found (ap (λ o. is_open (paired_hold mark e.ticket o t (Some item))) none)))
         (omega (arith, unmet-short (end_of k.order) old.line)),
   )
 
   -- a taker that meets
-  gets-effect : (i t u : ℕ) (item : T) → IsSound old.line (seats_of old).holds old.next → (seats_of old).holds i ≡ Free → GetsFrom mark (end_of k.order) old t u item new → Writes mark k old new (made i t (TakeMeets (mark item) u)) × Costs old new 2 1
-  gets-effect i t u item sound free (e, found, ticket, own, uses) = (
+  gets-effect : (room i t u : ℕ) (item : T) → IsSound old.line (seats_of old).holds old.next → (seats_of old).holds i ≡ Free → GetsFrom mark (end_of k.order) old t u item new → Writes mark k old new (made i t (TakeMeets (mark item) u)) × Costs old new 2 room 1
+  gets-effect room i t u item sound free (e, found, ticket, own, uses) = (
     writes-request i t (TakeMeets (mark item) u) _ refl uses
         (free-marked i free, (marked_entry mark e, found-marked Taker e found, sym ticket, ap (option_map mark) own))
         (meets-marked t None Taker e found),
-    costs-from 2 1 _ uses.count uses.left
+    costs-from 2 room 1 _ uses.count uses.left
         (omega (arith, met-open mark (end_of k.order) old Taker t None e sound found (ap (λ o. is_open (paired_hold mark e.ticket o t None)) own)))
         (omega (arith, unmet-short (end_of k.order) old.line)),
   )
 
   -- a request that goes to the line
-  waits-costs : (i t : ℕ) (item : Option T) → Uses old new t (queued (seats_of old) i t item true) → Costs old new 2 1
+  waits-costs : (i t : ℕ) (item : Option T) → Uses old new t (queued (seats_of old) i t item true) → Costs old new 2 1 1
   waits-costs i t item uses =
       let e : Entry T = record { ticket = t; seat = i; item = item; waits = true } in
-      costs-from 2 1 _ uses.count uses.left
+      costs-from 2 1 1 _ uses.count uses.left
       (omega (arith, owed-more (seats_of old).holds (count_of old) i (Waiting t)))
       (omega (arith, length-append old.line (e ∷ [])))
 
   -- one that leaves line and seats as they are
-  same-costs : (t : ℕ) (flags : ℕ → Bool) → Uses old new t (record (seats_of old) { flags = flags }) → Costs old new 2 1
-  same-costs t flags uses = costs-from 2 1 _ uses.count uses.left (omega arith) (omega arith)
+  same-costs : (room t : ℕ) (flags : ℕ → Bool) → Uses old new t (record (seats_of old) { flags = flags }) → Costs old new 2 room 1
+  same-costs room t flags uses = costs-from 2 room 1 _ uses.count uses.left (omega arith) (omega arith)
 
-  give-effect : (i : ℕ) (item : T) (answer : Gave T) → IsSound old.line (seats_of old).holds old.next → (seats_of old).holds i ≡ Free → GiveStep mark (end_of k.order) old i item answer new → Writes mark k old new (give_record i (mark item) answer) × Costs old new 2 1
+  give-effect : (i : ℕ) (item : T) (answer : Gave T) → IsSound old.line (seats_of old).holds old.next → (seats_of old).holds i ≡ Free → GiveStep mark (end_of k.order) old i item answer new → Writes mark k old new (give_record i (mark item) answer) × Costs old new 2 1 1
   give-effect i item (GiverWaits t) sound free (alone, flag, uses) =
       (writes-request i t (GiveWaits (mark item)) _ refl uses (free-marked i free, alone-marked Giver alone, flag) (queued-marked mark (seats_of old) i t (Some item) true), waits-costs i t (Some item) uses)
-  give-effect i item (GiverMeets t u) sound free step = hands-effect i t u item sound free step
+  give-effect i item (GiverMeets t u) sound free step = hands-effect 1 i t u item sound free step
   give-effect i item (GiverInterrupted t back) sound free (alone, flag, same, uses) =
-      (writes-request i t (EntryInterrupted Giver) _ refl uses (free-marked i free, alone-marked Giver alone, flag) refl, same-costs t _ uses)
+      (writes-request i t (EntryInterrupted Giver) _ refl uses (free-marked i free, alone-marked Giver alone, flag) refl, same-costs 1 t _ uses)
 
-  offer-effect : (i : ℕ) (item : T) (answer : Offered T) → IsSound old.line (seats_of old).holds old.next → (seats_of old).holds i ≡ Free → OfferStep mark (end_of k.order) old item answer new → Writes mark k old new (offer_record i (mark item) answer) × Costs old new 2 1
-  offer-effect i item (OfferMeets t u) sound free step = hands-effect i t u item sound free step
+  offer-effect : (i : ℕ) (item : T) (answer : Offered T) → IsSound old.line (seats_of old).holds old.next → (seats_of old).holds i ≡ Free → OfferStep mark (end_of k.order) old item answer new → Writes mark k old new (offer_record i (mark item) answer) × Costs old new 2 0 1
+  offer-effect i item (OfferMeets t u) sound free step = hands-effect 0 i t u item sound free step
   offer-effect i item (OfferFails t back) sound free (alone, same, uses) =
-      (writes-request i t (GiveFails (mark item)) _ refl uses (free-marked i free, alone-marked Giver alone) refl, same-costs t _ uses)
+      (writes-request i t (GiveFails (mark item)) _ refl uses (free-marked i free, alone-marked Giver alone) refl, same-costs 0 t _ uses)
 
-  take-effect : (i : ℕ) (answer : Took T) → IsSound old.line (seats_of old).holds old.next → (seats_of old).holds i ≡ Free → TakeStep mark (end_of k.order) old i answer new → Writes mark k old new (take_record mark i answer) × Costs old new 2 1
+  take-effect : (i : ℕ) (answer : Took T) → IsSound old.line (seats_of old).holds old.next → (seats_of old).holds i ≡ Free → TakeStep mark (end_of k.order) old i answer new → Writes mark k old new (take_record mark i answer) × Costs old new 2 1 1
   take-effect i (TakerWaits t) sound free (alone, flag, uses) =
       (writes-request i t TakeWaits _ refl uses (free-marked i free, alone-marked Taker alone, flag) (queued-marked mark (seats_of old) i t None true), waits-costs i t None uses)
-  take-effect i (TakerMeets t u item) sound free step = gets-effect i t u item sound free step
+  take-effect i (TakerMeets t u item) sound free step = gets-effect 1 i t u item sound free step
   take-effect i (TakerInterrupted t) sound free (alone, flag, uses) =
-      (writes-request i t (EntryInterrupted Taker) _ refl uses (free-marked i free, alone-marked Taker alone, flag) refl, same-costs t _ uses)
+      (writes-request i t (EntryInterrupted Taker) _ refl uses (free-marked i free, alone-marked Taker alone, flag) refl, same-costs 1 t _ uses)
 
-  poll-effect : (i : ℕ) (answer : Polled T) → IsSound old.line (seats_of old).holds old.next → (seats_of old).holds i ≡ Free → PollStep mark (end_of k.order) old answer new → Writes mark k old new (poll_record mark i answer) × Costs old new 2 1
-  poll-effect i (PollMeets t u item) sound free step = gets-effect i t u item sound free step
+  poll-effect : (i : ℕ) (answer : Polled T) → IsSound old.line (seats_of old).holds old.next → (seats_of old).holds i ≡ Free → PollStep mark (end_of k.order) old answer new → Writes mark k old new (poll_record mark i answer) × Costs old new 2 0 1
+  poll-effect i (PollMeets t u item) sound free step = gets-effect 0 i t u item sound free step
   poll-effect i (PollFails t) sound free (alone, uses) =
-      (writes-request i t TakeFails _ refl uses (free-marked i free, alone-marked Taker alone) refl, same-costs t _ uses)
+      (writes-request i t TakeFails _ refl uses (free-marked i free, alone-marked Taker alone) refl, same-costs 0 t _ uses)
 
   -- a giver's item that is kept opens no ticket
-  put-effect : (i : ℕ) (item : T) (answer : Put T) → IsSound old.line (seats_of old).holds old.next → (seats_of old).holds i ≡ Free → keeps k.order ≡ true → PutStep mark (end_of k.order) k.bound old i item answer new → Writes mark k old new (put_record i (mark item) answer) × Costs old new 2 1
+  put-effect : (i : ℕ) (item : T) (answer : Put T) → IsSound old.line (seats_of old).holds old.next → (seats_of old).holds i ≡ Free → keeps k.order ≡ true → PutStep mark (end_of k.order) k.bound old i item answer new → Writes mark k old new (put_record i (mark item) answer) × Costs old new 2 1 1
   put-effect i item (PutKept t) sound free keeps (alone, room, uses) =
       let e : Entry T = record { ticket = t; seat = i; item = Some item; waits = false } in (
         writes-request i t (GiveKept (mark item)) _ refl uses (free-marked i free, alone-marked Giver alone, (keeps, may-marked room)) (queued-marked mark (seats_of old) i t (Some item) false),
-        costs-from 2 1 _ uses.count uses.left (omega arith) (omega (arith, length-append old.line (e ∷ []))),
+        costs-from 2 1 1 _ uses.count uses.left (omega arith) (omega (arith, length-append old.line (e ∷ []))),
       )
-  put-effect i item (PutMeets t u) sound free keeps step = hands-effect i t u item sound free step
+  put-effect i item (PutMeets t u) sound free keeps step = hands-effect 1 i t u item sound free step
   put-effect i item (PutFails t back) sound free keeps (alone, full, same, uses) =
-      (writes-request i t (GiveFails (mark item)) _ refl uses (free-marked i free, alone-marked Giver alone) refl, same-costs t _ uses)
+      (writes-request i t (GiveFails (mark item)) _ refl uses (free-marked i free, alone-marked Giver alone) refl, same-costs 1 t _ uses)
 
   -- an open ticket that ends where it was settled
-  ends-costs : (i t : ℕ) → open_ticket ((seats_of old).holds i) ≡ Some t → Leaves old new (released (seats_of old) i) → Costs old new 0 1
+  ends-costs : (i t : ℕ) → open_ticket ((seats_of old).holds i) ≡ Some t → Leaves old new (released (seats_of old) i) → Costs old new 0 0 1
   ends-costs i t opened leaves =
-      costs-from 0 1 _ leaves.count leaves.left
+      costs-from 0 0 1 _ leaves.count leaves.left
       (omega (arith, owed-fewer (seats_of old).holds (count_of old) i (there-open old.table.holds i t opened) (ap is_some opened)))
       (omega arith)
 
-  follow-effect : (i t : ℕ) (answer : Followed T) → FollowStep old i t answer new → HasEffect mark k old new 0 (follow_record mark i t answer)
+  follow-effect : (i t : ℕ) (answer : Followed T) → FollowStep old i t answer new → HasEffect mark k old new 0 0 (follow_record mark i t answer)
   follow-effect i t WasMet (u, m, held, leaves) =
       (writes-other i t Done _ refl leaves (u, m, ap (marked_hold mark) held) (released-marked mark (seats_of old) i), ends-costs i t (ap open_ticket held) leaves)
   follow-effect i t (HasGot u item) (held, leaves) =
@@ -248,28 +248,28 @@ module _ {T : Type 0} (mark : T → ℕ) (k : Kind) (old new : Queue T) where
   in-line-marked i t e held found =
       ap is_some (entry_of-marked mark old.line ((seats_of old).holds i) ∙ ap (λ h. option_map (marked_entry mark) (entry_of old.line h)) held ∙ ap (option_map (marked_entry mark)) found)
 
-  back-costs : (i t : ℕ) → (seats_of old).holds i ≡ Waiting t → Leaves old new (left (seats_of old) i t) → Costs old new 0 1
+  back-costs : (i t : ℕ) → (seats_of old).holds i ≡ Waiting t → Leaves old new (left (seats_of old) i t) → Costs old new 0 0 1
   back-costs i t held leaves =
-      costs-from 0 1 _ leaves.count leaves.left
+      costs-from 0 0 1 _ leaves.count leaves.left
       (omega (arith, owed-fewer (seats_of old).holds (count_of old) i (there-waiting old.table.holds i t held) (ap is_open held)))
       (omega (arith, without-short t old.line))
 
-  cancel-effect : (i t : ℕ) (answer : TakenBack T) → WithdrawStep old i t answer new → HasEffect mark k old new 0 (back_record i t Cancelled answer)
+  cancel-effect : (i t : ℕ) (answer : TakenBack T) → WithdrawStep old i t answer new → HasEffect mark k old new 0 0 (back_record i t Cancelled answer)
   cancel-effect i t (Back item) (e, held, found, is, leaves) =
       (writes-other i t (Withdrawn Cancelled) _ refl leaves (ap (marked_hold mark) held, in-line-marked i t e held found) (left-marked mark (seats_of old) i t), back-costs i t held leaves)
   cancel-effect i t Late (none, same) = same
 
-  expire-effect : (i t : ℕ) (answer : TakenBack T) → WithdrawStep old i t answer new → HasEffect mark k old new 0 (back_record i t Expired answer)
+  expire-effect : (i t : ℕ) (answer : TakenBack T) → WithdrawStep old i t answer new → HasEffect mark k old new 0 0 (back_record i t Expired answer)
   expire-effect i t (Back item) (e, held, found, is, leaves) =
       (writes-other i t (Withdrawn Expired) _ refl leaves (ap (marked_hold mark) held, in-line-marked i t e held found) (left-marked mark (seats_of old) i t), back-costs i t held leaves)
   expire-effect i t Late (none, same) = same
 
-  interrupt-effect : (i j : ℕ) (answer : Struck) → InterruptStep old j answer new → Writes mark k old new (interrupt_record i j answer) × Costs old new 1 1
+  interrupt-effect : (i j : ℕ) (answer : Struck) → InterruptStep old j answer new → Writes mark k old new (interrupt_record i j answer) × Costs old new 1 0 1
   interrupt-effect i j (CutOff t) (e, found, ticket, leaves) =
       let there : entry_of now.line (now.holds j) ≡ Some (marked_entry mark e) = entry_of-marked mark old.line ((seats_of old).holds j) ∙ ap (option_map (marked_entry mark)) found in (
         writes-other i t (Interrupt j) _ refl leaves (ticket ∙ sym (ap (λ o. option_map_or (λ (f : Entry ℕ). f.ticket) o 0) there))
             (cut_off-marked mark (seats_of old) j e ∙ sym (ap (λ o. option_map_or (cut_off now j) o (flagged now j true)) there)),
-        costs-from 1 1 _ leaves.count leaves.left
+        costs-from 1 0 1 _ leaves.count leaves.left
             (omega (arith, owed-same (seats_of old).holds (count_of old) j (Cut e.ticket e.item) (sym (entry-open old.line ((seats_of old).holds j) e found))))
             (omega (arith, without-short e.ticket old.line)),
       )
@@ -277,11 +277,11 @@ module _ {T : Type 0} (mark : T → ℕ) (k : Kind) (old new : Queue T) where
       let there : entry_of now.line (now.holds j) ≡ None = entry_of-marked mark old.line ((seats_of old).holds j) ∙ ap (option_map (marked_entry mark)) none in (
         writes-other i 0 (Interrupt j) _ refl leaves (sym (ap (λ o. option_map_or (λ (f : Entry ℕ). f.ticket) o 0) there))
             (sym (ap (λ o. option_map_or (cut_off now j) o (flagged now j true)) there)),
-        costs-from 1 1 _ leaves.count leaves.left (omega arith) (omega arith),
+        costs-from 1 0 1 _ leaves.count leaves.left (omega arith) (omega arith),
       )
 
   -- an admitted call, whatever it is
-  call-effect : (i : ℕ) (call : DualCall T) (answer : DualAnswer T) → IsSound old.line (seats_of old).holds old.next → dual_refusal old i call ≡ None → DualStep mark (end_of k.order) old i call answer new → HasEffect mark k old new (dual_need call) (dual_record mark i call answer)
+  call-effect : (i : ℕ) (call : DualCall T) (answer : DualAnswer T) → IsSound old.line (seats_of old).holds old.next → dual_refusal old i call ≡ None → DualStep mark (end_of k.order) old i call answer new → HasEffect mark k old new (dual_need call) (dual_room call) (dual_record mark i call answer)
   call-effect i (Give item) (ToGive answer) sound none step = give-effect i item answer sound (free-seat i none) step
   call-effect i (Offer item) (ToOffer answer) sound none step = offer-effect i item answer sound (free-seat i none) step
   call-effect i Take (ToTake answer) sound none step = take-effect i answer sound (free-seat i none) step
@@ -293,28 +293,28 @@ module _ {T : Type 0} (mark : T → ℕ) (k : Kind) (old new : Queue T) where
   call-effect i call answer sound none step = absurd step
 
   -- and a put, of a queue that keeps items or waits
-  queue-effect : (i : ℕ) (call : QueueCall T) (answer : QueueAnswer T) → IsSound old.line (seats_of old).holds old.next → queue_refusal old i call ≡ None → QueueStep mark k old i call answer new → HasEffect mark k old new (queue_need call) (queue_record mark i call answer)
+  queue-effect : (i : ℕ) (call : QueueCall T) (answer : QueueAnswer T) → IsSound old.line (seats_of old).holds old.next → queue_refusal old i call ≡ None → QueueStep mark k old i call answer new → HasEffect mark k old new (queue_need call) (queue_room call) (queue_record mark i call answer)
   queue-effect i (PutItem item) (ToPut answer) sound none (keeps, step) = put-effect i item answer sound (free-seat i none) keeps step
   queue-effect i (PutItem item) (ToDual answer) sound none (waits, step) = call-effect i (Give item) answer sound none step
   queue-effect i (Dual call) (ToDual answer) sound none step = call-effect i call answer sound none step
   queue-effect i (Dual call) (ToPut answer) sound none step = absurd step
 
   -- by the record that was told
-  pub dual-made : (i : ℕ) (call : DualCall T) (answer : DualAnswer T) (r : Option (Record Deed)) → r ≡ dual_record mark i call answer → IsSound old.line (seats_of old).holds old.next → dual_refusal old i call ≡ None → DualStep mark (end_of k.order) old i call answer new → HasEffect mark k old new (dual_need call) r
-  dual-made i call answer r is sound none step = subst (λ r. HasEffect mark k old new (dual_need call) r) (sym is) (call-effect i call answer sound none step)
+  pub dual-made : (i : ℕ) (call : DualCall T) (answer : DualAnswer T) (r : Option (Record Deed)) → r ≡ dual_record mark i call answer → IsSound old.line (seats_of old).holds old.next → dual_refusal old i call ≡ None → DualStep mark (end_of k.order) old i call answer new → HasEffect mark k old new (dual_need call) (dual_room call) r
+  dual-made i call answer r is sound none step = subst (λ r. HasEffect mark k old new (dual_need call) (dual_room call) r) (sym is) (call-effect i call answer sound none step)
 
-  pub queue-made : (i : ℕ) (call : QueueCall T) (answer : QueueAnswer T) (r : Option (Record Deed)) → r ≡ queue_record mark i call answer → IsSound old.line (seats_of old).holds old.next → queue_refusal old i call ≡ None → QueueStep mark k old i call answer new → HasEffect mark k old new (queue_need call) r
-  queue-made i call answer r is sound none step = subst (λ r. HasEffect mark k old new (queue_need call) r) (sym is) (queue-effect i call answer sound none step)
+  pub queue-made : (i : ℕ) (call : QueueCall T) (answer : QueueAnswer T) (r : Option (Record Deed)) → r ≡ queue_record mark i call answer → IsSound old.line (seats_of old).holds old.next → queue_refusal old i call ≡ None → QueueStep mark k old i call answer new → HasEffect mark k old new (queue_need call) (queue_room call) r
+  queue-made i call answer r is sound none step = subst (λ r. HasEffect mark k old new (queue_need call) (queue_room call) r) (sym is) (queue-effect i call answer sound none step)
 
   -- what is written and owed then
-  pub effect-owed : (need : ℕ) (r : Option (Record Deed)) → HasEffect mark k old new need r → length (option_to_list r) + dual_owed new ≤ dual_owed old + need
-  effect-owed need None same = let owed : dual_owed new ≡ dual_owed old = ap dual_owed same in omega (arith, owed)
-  effect-owed need (Some r) (writes, costs) = costs.owed
+  pub effect-owed : (need room : ℕ) (r : Option (Record Deed)) → HasEffect mark k old new need room r → length (option_to_list r) + dual_owed new ≤ dual_owed old + need
+  effect-owed need room None same = let owed : dual_owed new ≡ dual_owed old = ap dual_owed same in omega (arith, owed)
+  effect-owed need room (Some r) (writes, costs) = costs.owed
 
-  -- and the room of one call at most is used
-  pub effect-room : (need : ℕ) (r : Option (Record Deed)) → HasEffect mark k old new need r → places_of new ≡ places_of old → old.room ≤ new.room + 1
-  effect-room need None same places = let room : new.room ≡ old.room = ap (λ (q : Queue T). q.room) same in omega (arith, room)
-  effect-room need (Some r) (writes, costs) places =
+  -- and no more room than the call's is used
+  pub effect-room : (need room : ℕ) (r : Option (Record Deed)) → HasEffect mark k old new need room r → places_of new ≡ places_of old → old.room ≤ new.room + room
+  effect-room need room None same places = let room_same : new.room ≡ old.room = ap (λ (q : Queue T). q.room) same in omega (arith, room_same)
+  effect-room need room (Some r) (writes, costs) places =
       let whole : length new.line + new.room ≡ length old.line + old.room = places in
       omega (arith, whole, costs.line)
 
@@ -324,7 +324,7 @@ synchronous-end Front = refl
 synchronous-end Back = refl
 
 -- a synchronous queue's step, by the record that was told
-pub synchronous-made : {T : Type 0} (mark : T → ℕ) (end : End) (old new : Queue T) (i : ℕ) (call : DualCall T) (answer : DualAnswer T) (r : Option (Record Deed)) → r ≡ dual_record mark i call answer → IsSound old.line (seats_of old).holds old.next → dual_refusal old i call ≡ None → DualStep mark end old i call answer new → HasEffect mark (kind_of end) old new (dual_need call) r
+pub synchronous-made : {T : Type 0} (mark : T → ℕ) (end : End) (old new : Queue T) (i : ℕ) (call : DualCall T) (answer : DualAnswer T) (r : Option (Record Deed)) → r ≡ dual_record mark i call answer → IsSound old.line (seats_of old).holds old.next → dual_refusal old i call ≡ None → DualStep mark end old i call answer new → HasEffect mark (kind_of end) old new (dual_need call) (dual_room call) r
 synchronous-made mark end old new i call answer r is sound none step =
     dual-made mark (kind_of end) old new i call answer r is sound none (subst (λ e. DualStep mark e old i call answer new) (sym (synchronous-end end)) step)
 

@@ -54,9 +54,9 @@ module _ {T : Type 0} (mark : T → ℕ) (k : Kind) (old new : Queue T) (b : Bas
         leaves = ap (λ n. n.seats) (after r) ∙ ap (λ s. seats_after k s r.seat r.ticket r.deed) before.leaves ∙ sym w.after;
       }
 
-  pub leads-on : (need : ℕ) (r : Option (Record Deed)) → HasEffect mark k old new need r → LeadsTo mark k b (records ++ option_to_list r) new
-  leads-on need (Some r) effect = leads-record r effect.0
-  leads-on need None same = subst (λ rs. LeadsTo mark k b rs new) (sym (append-nil records)) (subst (λ q. LeadsTo mark k b records q) (sym same) before)
+  pub leads-on : (need room : ℕ) (r : Option (Record Deed)) → HasEffect mark k old new need room r → LeadsTo mark k b (records ++ option_to_list r) new
+  leads-on need room (Some r) effect = leads-record r effect.0
+  leads-on need room None same = subst (λ rs. LeadsTo mark k b rs new) (sym (append-nil records)) (subst (λ q. LeadsTo mark k b records q) (sym same) before)
 
 -- the base of a queue leads to it, whatever base and records led there
 pub base-leads : {T : Type 0} (mark : T → ℕ) (k : Kind) (q : Queue T) (gone : ℕ) (new : Based) → IsBaseOf (moment_of_queue mark q) gone new → (b : Based) (records : List (Record Deed)) → LeadsTo mark k b records q → LeadsTo mark k new [] q

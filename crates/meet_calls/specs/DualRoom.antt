@@ -11,7 +11,7 @@ use Rattle.meet_tickets.specs.declared.places.Kind.{Kind}
 use Rattle.meet_tickets.specs.declared.records.Record.{Record}
 use Rattle.meet_tickets.specs.declared.records.Deed.{Deed}
 use Rattle.meet_line.specs.Queue.{Queue, seats_of, count_of}
-use Rattle.meet_line.specs.Steps.{Uses, Leaves, HandsTo, GetsFrom}
+use Rattle.meet_line.specs.Steps.{Uses, HandsTo, GetsFrom}
 use Rattle.meet_tickets.specs.BySeat.{Seats, is_open}
 use Rattle.meet_line.specs.declared.answers.Gave.TheVariants.{Waits as GiverWaits, Meets as GiverMeets, EntryInterrupted as GiverInterrupted}
 use Rattle.meet_line.specs.declared.answers.Took.TheVariants.{Waits as TakerWaits, Meets as TakerMeets, EntryInterrupted as TakerInterrupted}
@@ -27,7 +27,7 @@ use Rattle.meet_calls.specs.declared.queue_calls.DualAnswer.TheVariants.{Gave as
 use Rattle.meet_calls.specs.DualRecords.{dual_record}
 use Rattle.meet_tickets.specs.Bases.{Based, no_base}
 use Rattle.meet_line.specs.Seen.{marked_hold}
-use Rattle.meet_calls.specs.DualSteps.{DualStep, dual_refusal, dual_need, dual_owed, LeadsTo}
+use Rattle.meet_calls.specs.DualSteps.{DualStep, dual_refusal, dual_need, dual_room, dual_owed, LeadsTo}
 
 -- the same queue with this room
 abbrev pub roomy : {T : Type 0} → Queue T → ℕ → Queue T
@@ -50,33 +50,37 @@ roomy-leads mark k q room b records l = record { well_formed = l.well_formed; le
 pub roomy-uses : {T : Type 0} (q : Queue T) (room : ℕ) (new : Queue T) (t : ℕ) (seats : Seats T) → Uses (roomy q room) new t seats → Uses q new t seats
 roomy-uses q room new t seats uses = record { used = uses.used; last = uses.last; next = uses.next; count = uses.count; left = uses.left }
 
--- an interrupt's
-roomy-leaves : {T : Type 0} (q : Queue T) (room : ℕ) (new : Queue T) (seats : Seats T) → Leaves (roomy q room) new seats → Leaves q new seats
-roomy-leaves q room new seats leaves = record { last = leaves.last; next = leaves.next; count = leaves.count; left = leaves.left }
-
 pub roomy-hands : {T : Type 0} (mark : T → ℕ) (end : End) (q : Queue T) (room : ℕ) (item : T) (t u : ℕ) (new : Queue T) → HandsTo mark end (roomy q room) item t u new → HandsTo mark end q item t u new
 roomy-hands mark end q room item t u new (e, found, ticket, none, uses) = (e, found, ticket, none, roomy-uses q room new t _ uses)
 
 roomy-gets : {T : Type 0} (mark : T → ℕ) (end : End) (q : Queue T) (room : ℕ) (t u : ℕ) (item : T) (new : Queue T) → GetsFrom mark end (roomy q room) t u item new → GetsFrom mark end q t u item new
 roomy-gets mark end q room t u item new (e, found, ticket, own, uses) = (e, found, ticket, own, roomy-uses q room new t _ uses)
 
-pub roomy-steps : {T : Type 0} (mark : T → ℕ) (end : End) (q : Queue T) (room seat : ℕ) (call : DualCall T) (answer : DualAnswer T) (new : Queue T) → 0 < dual_need call → DualStep mark end (roomy q room) seat call answer new → DualStep mark end q seat call answer new
+pub roomy-steps : {T : Type 0} (mark : T → ℕ) (end : End) (q : Queue T) (room seat : ℕ) (call : DualCall T) (answer : DualAnswer T) (new : Queue T) → 0 < dual_room call → DualStep mark end (roomy q room) seat call answer new → DualStep mark end q seat call answer new
 roomy-steps mark end q room seat (Give item) (ToGive (GiverWaits t)) new need (alone, flag, uses) = (alone, flag, roomy-uses q room new t _ uses)
 roomy-steps mark end q room seat (Give item) (ToGive (GiverMeets t u)) new need step = roomy-hands mark end q room item t u new step
 roomy-steps mark end q room seat (Give item) (ToGive (GiverInterrupted t back)) new need (alone, flag, same, uses) = (alone, flag, same, roomy-uses q room new t _ uses)
-roomy-steps mark end q room seat (Offer item) (ToOffer (OfferMeets t u)) new need step = roomy-hands mark end q room item t u new step
-roomy-steps mark end q room seat (Offer item) (ToOffer (OfferFails t back)) new need (alone, same, uses) = (alone, same, roomy-uses q room new t _ uses)
 roomy-steps mark end q room seat Take (ToTake (TakerWaits t)) new need (alone, flag, uses) = (alone, flag, roomy-uses q room new t _ uses)
 roomy-steps mark end q room seat Take (ToTake (TakerMeets t u item)) new need step = roomy-gets mark end q room t u item new step
 roomy-steps mark end q room seat Take (ToTake (TakerInterrupted t)) new need (alone, flag, uses) = (alone, flag, roomy-uses q room new t _ uses)
-roomy-steps mark end q room seat Poll (ToPoll (PollMeets t u item)) new need step = roomy-gets mark end q room t u item new step
-roomy-steps mark end q room seat Poll (ToPoll (PollFails t)) new need (alone, uses) = (alone, roomy-uses q room new t _ uses)
-roomy-steps mark end q room seat (Interrupt j) (ToInterrupt (CutOff t)) new need (e, found, ticket, leaves) = (e, found, ticket, roomy-leaves q room new _ leaves)
-roomy-steps mark end q room seat (Interrupt j) (ToInterrupt Flagged) new need (none, leaves) = (none, roomy-leaves q room new _ leaves)
+roomy-steps mark end q room seat (Offer item) answer new need step = absurd (omega arith)
+roomy-steps mark end q room seat Poll answer new need step = absurd (omega arith)
 roomy-steps mark end q room seat (FollowUp t) answer new need step = absurd (omega arith)
 roomy-steps mark end q room seat (Cancel t) answer new need step = absurd (omega arith)
 roomy-steps mark end q room seat (Expire t) answer new need step = absurd (omega arith)
+roomy-steps mark end q room seat (Interrupt j) answer new need step = absurd (omega arith)
 roomy-steps mark end q room seat call answer new need step = absurd step
+
+-- a call that needs no record needs no place in the line
+pub roomless : {T : Type 0} (call : DualCall T) → dual_need call ≡ 0 → dual_room call ≡ 0
+roomless (Give item) none = absurd (omega (arith, none))
+roomless (Offer item) none = refl
+roomless Take none = absurd (omega (arith, none))
+roomless Poll none = refl
+roomless (FollowUp t) none = refl
+roomless (Cancel t) none = refl
+roomless (Expire t) none = refl
+roomless (Interrupt j) none = refl
 
 -- what holds nothing for histories holds nothing
 free-from : {T : Type 0} (mark : T → ℕ) (hold : Hold T) → marked_hold mark hold ≡ Free → hold ≡ Free

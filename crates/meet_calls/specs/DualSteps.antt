@@ -1,5 +1,5 @@
 -- The calls that each queue has, as a book makes them: their steps, refusals and costs, and the histories that lead to a queue.
-use Rattle.std.specs.Prelude.{◌+◌, ◌≡◌, ℕ, ◌-◌, ◌<◌, Option, None, List}
+use Rattle.std.specs.Prelude.{◌+◌, ◌≡◌, ◌⊎◌, ℕ, ◌-◌, ◌<◌, Option, None, List}
 use Rattle.meet_tickets.specs.declared.places.Side.TheVariants.{Giver}
 use Rattle.meet_tickets.specs.declared.places.End.{End}
 use Rattle.meet_tickets.specs.declared.places.End.TheVariants.{Front, Back}
@@ -9,6 +9,7 @@ use Rattle.meet_tickets.specs.declared.places.Kind.{Kind}
 use Rattle.meet_tickets.specs.declared.records.Record.{Record}
 use Rattle.meet_tickets.specs.declared.records.Deed.{Deed}
 use Rattle.meet_tickets.specs.declared.refusals.Refusal.{Refusal}
+use Rattle.meet_tickets.specs.declared.refusals.Refusal.TheVariants.{NoSuchSeat, SeatOpen, TicketsSpent, NotOpen}
 use Rattle.meet_tickets.specs.Meeting.{count_on}
 use Rattle.meet_tickets.specs.Bases.{Based, moment_of_base, IsWellFormed, IsLegalOn}
 use Rattle.meet_tickets.specs.BySeat.{moment_of, open_ticket, owed_of}
@@ -49,6 +50,10 @@ dual_refusal q i (Cancel t) = ending_refusal q i t
 dual_refusal q i (Expire t) = ending_refusal q i t
 dual_refusal q i (Interrupt j) = absent_refusal (count_of q) i j
 
+-- the refusals of a queue's own
+abbrev pub IsOwn : Refusal → Type 0
+IsOwn why = (why ≡ NoSuchSeat) ⊎ (why ≡ SeatOpen) ⊎ (why ≡ TicketsSpent) ⊎ (why ≡ NotOpen)
+
 -- a request needs a record for itself and one for its ending, an interrupt one, an ending none
 abbrev pub dual_need : {T : Type 0} → DualCall T → ℕ
 dual_need (Give item) = 2
@@ -59,6 +64,17 @@ dual_need (FollowUp t) = 0
 dual_need (Cancel t) = 0
 dual_need (Expire t) = 0
 dual_need (Interrupt j) = 1
+
+-- a request that may wait needs a place in the line
+abbrev pub dual_room : {T : Type 0} → DualCall T → ℕ
+dual_room (Give item) = 1
+dual_room (Offer item) = 0
+dual_room Take = 1
+dual_room Poll = 0
+dual_room (FollowUp t) = 0
+dual_room (Cancel t) = 0
+dual_room (Expire t) = 0
+dual_room (Interrupt j) = 0
 
 -- each open ticket owes its ending's record
 abbrev pub dual_owed : {T : Type 0} → Queue T → ℕ

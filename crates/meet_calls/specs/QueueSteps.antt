@@ -18,7 +18,7 @@ use Rattle.meet_calls.specs.declared.queue_calls.QueueCall.TheVariants.{Put, Dua
 use Rattle.meet_calls.specs.declared.queue_calls.QueueAnswer.{QueueAnswer}
 use Rattle.meet_calls.specs.declared.queue_calls.QueueAnswer.TheVariants.{Put as ToPut, Dual as ToDual}
 use Rattle.meet_calls.specs.DualRecords.{made, dual_record}
-use Rattle.meet_calls.specs.DualSteps.{DualStep, dual_refusal, dual_need}
+use Rattle.meet_calls.specs.DualSteps.{DualStep, dual_refusal, dual_need, dual_room}
 
 -- what a queue that keeps nothing makes of a call: with an item that is to be put, it waits (SynchronousQueue.put)
 abbrev pub dual_call : {T : Type 0} → QueueCall T → DualCall T
@@ -40,6 +40,10 @@ queue_refusal q i call = dual_refusal q i (dual_call call)
 -- the records that a call needs
 abbrev pub queue_need : {T : Type 0} → QueueCall T → ℕ
 queue_need call = dual_need (dual_call call)
+
+-- the places in the line that it needs: a put needs one as a give does
+abbrev pub queue_room : {T : Type 0} → QueueCall T → ℕ
+queue_room call = dual_room (dual_call call)
 
 -- a put that is kept, meets or fails
 abbrev pub put_record : {T : Type 0} → (seat mark : ℕ) → PutAnswer T → Record Deed

@@ -5,14 +5,15 @@ ghost use Rattle.meet_tickets.specs.Meeting.{kept_count};
 ghost use Rattle.meet_tickets.specs.declared.refusals.Refusal.TheVariants.{Memory, HistoryFull};
 ghost use Rattle.meet_line.specs.Queue.{places_of};
 ghost use Rattle.meet_calls.specs.DualRecords.{dual_record};
-ghost use Rattle.meet_calls.specs.DualSteps.{DualStep, dual_refusal, dual_need};
+ghost use Rattle.meet_calls.specs.DualSteps.{DualStep, dual_refusal, dual_room, IsOwn};
 
 use crate::queue_calls::DualCall;
 use crate::{records, refusals};
 use meet_line::{Line, Meetings};
 use meet_tickets::{Cause, Marked, Refusal, SeatNo};
 
-/// Whether this seat's call is admitted, or why it is refused: the first reason that applies. It takes no memory.
+/// Whether this seat's call is admitted, or why it is refused: the first reason that applies, of NoSuchSeat, SeatOpen, TicketsSpent and
+/// NotOpen. It takes no memory.
 pub fn admit_call<T: Marked, L: Line<T>>(
     queue: &Meetings<T, L>,
     seat: SeatNo,
@@ -20,7 +21,8 @@ pub fn admit_call<T: Marked, L: Line<T>>(
 ) -> Result<(), Refusal>
     ensures admitted { IfOk result (λ _. dual_refusal queue.now seat call.now ≡ None) }
     ensures why { IfErr result (λ why. dual_refusal queue.now seat call.now ≡ Some why) }
-    ensures own { IfErr result (λ why. (why ≢ Memory) × (why ≢ HistoryFull)) }
+    ensures own { IfErr result IsOwn }
+    ensures others { IfErr result (λ why. (why ≢ Memory) × (why ≢ HistoryFull)) }
 {
     match call {
         DualCall::Give(_) | DualCall::Offer(_) | DualCall::Take | DualCall::Poll => {
@@ -36,7 +38,7 @@ pub fn admit_call<T: Marked, L: Line<T>>(
     }
 }
 
-/// Makes an admitted call, for which there is room where it needs a record: what it is answered, and its record. It takes no memory.
+/// Makes an admitted call, for which there is room: what it is answered, and its record. It takes no memory.
 #[inline(always)]
 pub fn make_call<T: Marked, L: Line<T>>(
     queue: &mut Meetings<T, L>,
@@ -44,7 +46,7 @@ pub fn make_call<T: Marked, L: Line<T>>(
     call: DualCall<T>,
 ) -> records::Answered<T>
     requires admitted { dual_refusal queue.old seat call ≡ None }
-    requires room { 0 < dual_need call → 0 < queue.old.room }
+    requires room { dual_room call ≤ queue.old.room }
     ensures step { DualStep T.mark_of L.end queue.old seat call result.0 queue.new }
     ensures entry { result.1 ≡ dual_record T.mark_of seat call result.0 }
     ensures places { places_of queue.new ≡ places_of queue.old }

@@ -27,7 +27,7 @@ pub enum DualCall<T> {
 }
 
 impl<T> DualCall<T> {
-    ghost use Rattle.meet_calls.specs.DualSteps.{dual_need};
+    ghost use Rattle.meet_calls.specs.DualSteps.{dual_need, dual_room};
 
     /// How many records this call may need.
     pub fn need(&self) -> u64
@@ -36,6 +36,17 @@ impl<T> DualCall<T> {
         match self {
             DualCall::Give(_) | DualCall::Offer(_) | DualCall::Take | DualCall::Poll => 2,
             DualCall::Interrupt(_) => 1,
+            DualCall::FollowUp(_) | DualCall::Cancel(_) | DualCall::Expire(_) => 0,
+        }
+    }
+
+    /// How many places in the line this call may need.
+    pub fn room(&self) -> u64
+        ensures { result ≡ dual_room self.now }
+    {
+        match self {
+            DualCall::Give(_) | DualCall::Take => 1,
+            DualCall::Offer(_) | DualCall::Poll | DualCall::Interrupt(_) => 0,
             DualCall::FollowUp(_) | DualCall::Cancel(_) | DualCall::Expire(_) => 0,
         }
     }
@@ -70,7 +81,7 @@ pub enum QueueCall<T> {
 }
 
 impl<T> QueueCall<T> {
-    ghost use Rattle.meet_calls.specs.QueueSteps.{queue_need};
+    ghost use Rattle.meet_calls.specs.QueueSteps.{queue_need, queue_room};
 
     /// How many records this call may need.
     pub fn need(&self) -> u64
@@ -79,6 +90,16 @@ impl<T> QueueCall<T> {
         match self {
             QueueCall::Put(_) => 2,
             QueueCall::Dual(call) => call.need(),
+        }
+    }
+
+    /// How many places in the line this call may need.
+    pub fn room(&self) -> u64
+        ensures { result ≡ queue_room self.now }
+    {
+        match self {
+            QueueCall::Put(_) => 1,
+            QueueCall::Dual(call) => call.room(),
         }
     }
 }

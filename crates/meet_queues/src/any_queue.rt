@@ -9,8 +9,8 @@ ghost use Rattle.meet_tickets.specs.Bases.{no_base, IsBaseOf};
 ghost use Rattle.meet_tickets.specs.Limits.{most_seats, last_ticket};
 ghost use Rattle.meet_line.specs.Seen.{moment_of_queue};
 ghost use Rattle.meet_calls.specs.DualSteps.{LeadsTo, dual_owed, dual_available, dual_left};
-ghost use Rattle.meet_calls.specs.DualRoom.{roomy, roomy-leads, roomy-fresh};
-ghost use Rattle.meet_calls.specs.QueueSteps.{QueueStep, queue_refusal, queue_need, queue_record};
+ghost use Rattle.meet_calls.specs.DualRoom.{roomy, roomy-leads, roomless, roomy-fresh};
+ghost use Rattle.meet_calls.specs.QueueSteps.{QueueStep, dual_call, queue_refusal, queue_need, queue_room, queue_record};
 ghost use Rattle.meet_calls.specs.QueueRoom.{roomy-queue-refusal, roomy-queue-steps, own-queue-record};
 ghost use Rattle.meet_calls.specs.declared.queue_calls.DualCall.TheVariants.{Poll};
 ghost use Rattle.meet_calls.specs.declared.queue_calls.QueueCall.TheVariants.{Dual as EachHas};
@@ -198,6 +198,8 @@ impl Object for AnyQueue {
 
     ghost need_of = { λ call. queue_need call };
 
+    ghost room_of = { λ call. queue_room call };
+
     ghost spare = { λ any. any.queue.room };
 
     ghost with_room = { λ any room. record any { queue = roomy any.queue room } };
@@ -213,6 +215,8 @@ impl Object for AnyQueue {
     ghost same_leads = { λ any room base records leads. roomy-leads (λ mark. mark) any.kind any.queue room base records leads };
 
     ghost same_steps = { λ any room seat call answer new need step. (step.0, roomy-queue-steps (λ mark. mark) any.kind any.queue room seat call answer new.queue need step.1) };
+
+    ghost roomless = { λ call none. roomless (dual_call call) none };
 
     ghost fresh_owes = { λ any leads. roomy-fresh (λ mark. mark) any.kind any.queue leads };
 
@@ -238,6 +242,10 @@ impl Object for AnyQueue {
         call.need()
     }
 
+    fn room(call: &QueueCall<u64>) -> u64 {
+        call.room()
+    }
+
     fn owed(&self) -> u64 {
         match &self.queue {
             ByKind::Fair(queue) => queue.owed(),
@@ -246,11 +254,11 @@ impl Object for AnyQueue {
         }
     }
 
-    fn reserve(&mut self, calls: u64) -> Result<(), Refusal> {
+    fn reserve(&mut self, room: u64) -> Result<(), Refusal> {
         match &mut self.queue {
-            ByKind::Fair(queue) => queue.reserve(calls),
-            ByKind::Unfair(queue) => queue.reserve(calls),
-            ByKind::Transfer(queue) => queue.reserve(calls),
+            ByKind::Fair(queue) => queue.reserve(room),
+            ByKind::Unfair(queue) => queue.reserve(room),
+            ByKind::Transfer(queue) => queue.reserve(room),
         }
     }
 
@@ -286,11 +294,7 @@ impl Drains for AnyQueue {
 
     ghost left_of = { λ any. dual_left any.queue };
 
-    ghost poll_needs = { refl };
-
-    ghost same_available = { λ any room. refl };
-
-    ghost same_left = { λ any room. refl };
+    ghost poll_fits = { refl };
 
     fn available(&self) -> u64 {
         match &self.queue {
@@ -305,6 +309,14 @@ impl Drains for AnyQueue {
             ByKind::Fair(queue) => queue.tickets_left(),
             ByKind::Unfair(queue) => queue.tickets_left(),
             ByKind::Transfer(queue) => queue.tickets_left(),
+        }
+    }
+
+    fn admit_poll(&self, seat: SeatNo) -> Result<(), Refusal> {
+        match &self.queue {
+            ByKind::Fair(queue) => queue.admit_poll(seat),
+            ByKind::Unfair(queue) => queue.admit_poll(seat),
+            ByKind::Transfer(queue) => queue.admit_poll(seat),
         }
     }
 

@@ -1,22 +1,18 @@
 //! A drain: one recorded poll after another, all under one hold.
 
-ghost use Rattle.std.specs.Prelude.{◌≡◌, ◌+◌, ◌<◌, ◌≤◌, ◌^◌, Some, None, [], ◌∷◌, ◌++◌, length, map, min, vec_len, IfNone, IfOk, IfErr};
+ghost use Rattle.std.specs.Prelude.{◌≡◌, ◌+◌, ◌<◌, ◌≤◌, ◌^◌, Some, None, [], ◌∷◌, ◌++◌, length, map, min, vec_len, IfNone, IsOk, IfOk, IfErr};
 ghost use Rattle.std.specs.Vec.{vec_capacity};
 ghost use Rattle.meet_book.specs.Draining.{book_drain_refusal, TakesOne, TakingPolls, AreNumbered};
 ghost use Rattle.meet_tickets.specs.Refusals.{IsWhy};
 ghost use Rattle.meet_tickets.specs.declared.refusals.Refusal.TheVariants.{Memory};
 
-use super::{Book, make_room, write};
+use super::{Book, write};
 use crate::object::Drains;
 use crate::receipt::Receipt;
 use meet_tickets::{Record, Refusal, SeatNo};
 use std::alloc::Global;
 
-impl<O: Drains> Book<O>
-where
-    O::Call: Drop,
-    O::Answer: Drop,
-{
+impl<O: Drains> Book<O> {
     /// Why a drain of k items is refused, Memory aside: the first that applies.
     fn drain_refusal(&self, seat: SeatNo, k: u64) -> Option<Refusal>
         ensures first { result ≡ book_drain_refusal (O.refusal_of self.now.object seat O.poll) (O.left_of self.now.object) (O.owed_of self.now.object) self.now k }
@@ -24,8 +20,7 @@ where
         ensures free { IfNone result (0 < k → O.refusal_of self.now.object seat O.poll ≡ None) }
         ensures left { IfNone result (k ≤ O.left_of self.now.object) }
     {
-        let poll = self.object.poll_call();
-        match self.object.admit(seat, &poll) {
+        match self.object.admit_poll(seat) {
             Ok(()) | Err(Refusal::TicketsSpent) => {}
             Err(why) => return Some(why),
         }
@@ -46,7 +41,7 @@ where
     /// `BlockingQueue.drainTo`: takes up to `max` items, one recorded poll after another, and answers them in order. k is the
     /// lesser of `max` and the items that are there. It refuses what the seat is refused, NoSuchSeat or SeatOpen, for k = 0
     /// too; for k above 0 TicketsSpent where fewer than k tickets are left, HistoryFull where records, owed and k + 1 are
-    /// more than the book may have, then Memory. Then nothing has changed.
+    /// more than the book may have, then Memory. Then nothing but room has changed.
     pub fn drain(
         &mut self,
         alloc: Global,
@@ -60,9 +55,13 @@ where
         ensures places { IfOk result (λ got. AreNumbered (O.gone_of self.old.base + length self.old.records) got.items) }
         ensures admitted { IfOk result (λ _. book_drain_refusal (O.refusal_of self.old.object seat O.poll) (O.left_of self.old.object) (O.owed_of self.old.object) self.old (min max (O.available_of self.old.object)) ≡ None) }
         ensures why { IfErr result (IsWhy (book_drain_refusal (O.refusal_of self.old.object seat O.poll) (O.left_of self.old.object) (O.owed_of self.old.object) self.old (min max (O.available_of self.old.object)))) }
-        ensures unchanged { IfErr result (λ _. self.new ≡ self.old) }
+        ensures unchanged { IfErr result (λ _. self.new ≡ record self.old { room = self.new.room }) }
+        ensures room { length self.old.records + self.old.room ≤ length self.new.records + self.new.room }
+        ensures spare { O.spare self.old.object ≤ O.spare self.new.object }
         ensures cap { self.new.cap ≡ self.old.cap }
         ensures base { self.new.base ≡ self.old.base }
+        ensures none { min max (O.available_of self.old.object) ≡ 0
+            → book_drain_refusal (O.refusal_of self.old.object seat O.poll) (O.left_of self.old.object) (O.owed_of self.old.object) self.old 0 ≡ None → IsOk result }
     {
         let k = max.min(self.object.available());
         match self.drain_refusal(seat, k) {
@@ -76,8 +75,11 @@ where
             return Err(Refusal::Memory);
         };
 
-        // The place comes last: once it has more room it is not what it was.
-        make_room(&mut self.object, &mut self.records, k, k)?;
+        let wanted = self.object.owed() + k;
+        if self.records.reserve(wanted as usize).is_err() {
+            got.destroy_empty();
+            return Err(Refusal::Memory);
+        }
         let gone = O::gone(&self.base);
         Ok(poll_all(&mut self.object, &mut self.records, gone, seat, k, got))
     }
@@ -97,7 +99,6 @@ fn poll_all<O: Drains>(
     requires few { gone + length records.old.items + count < 2 ^ 64 }
     requires there { count ≤ O.available_of object.old }
     requires left { count ≤ O.left_of object.old }
-    requires calls { count ≤ O.spare object.old }
     requires free { O.refusal_of object.old seat O.poll ≡ None }
     requires places { vec_len records.old + count ≤ vec_capacity records.old }
     ensures count { length result.items ≡ count }
@@ -109,6 +110,7 @@ fn poll_all<O: Drains>(
     ensures leads { (base : O.Base) → O.leads base records.old.items object.old → O.leads base records.new.items object.new }
     ensures owed { O.owed_of object.new ≡ O.owed_of object.old }
     ensures capacity { vec_capacity records.new ≡ vec_capacity records.old }
+    ensures spare { O.spare object.old ≤ O.spare object.new }
 {
     let mut got = empty;
     for _ in 0..count {
@@ -126,7 +128,6 @@ fn poll_one<O: Drains>(
 ) -> (O::Answer, Receipt<O::Deed>)
     requires few { gone + length records.old.items + 1 < 2 ^ 64 }
     requires there { 0 < O.available_of object.old }
-    requires calls { 0 < O.spare object.old }
     requires free { O.refusal_of object.old seat O.poll ≡ None }
     requires places { vec_len records.old + 1 ≤ vec_capacity records.old }
     ensures step { O.steps object.old seat O.poll result.0 object.new }
@@ -135,7 +136,7 @@ fn poll_one<O: Drains>(
     ensures place { result.1.place ≡ gone + length records.old.items + 1 }
     ensures leads { (base : O.Base) → O.leads base records.old.items object.old → O.leads base records.new.items object.new }
     ensures takes { TakesOne O.available_of O.left_of O.owed_of (λ o. O.refusal_of o seat O.poll) (O.record_of seat O.poll result.0) object.old object.new }
-    ensures calls { O.spare object.old ≤ O.spare object.new + 1 }
+    ensures spare { O.spare object.old ≤ O.spare object.new }
     ensures capacity { vec_capacity records.new ≡ vec_capacity records.old }
 {
     let call = object.poll_call();

@@ -1,12 +1,12 @@
 //! The synchronous queue as a book's place, over either line.
 
-ghost use Rattle.std.specs.Prelude.{◌≡◌, ◌<◌, None, refl};
+ghost use Rattle.std.specs.Prelude.{◌≡◌, ◌≤◌, None, refl};
 ghost use Rattle.meet_line.specs.Queue.{places_of};
 ghost use Rattle.meet_calls.specs.DualRecords.{dual_record};
 ghost use Rattle.meet_tickets.specs.Bases.{no_base, IsBaseOf};
 ghost use Rattle.meet_line.specs.Seen.{moment_of_queue};
-ghost use Rattle.meet_calls.specs.DualSteps.{DualStep, LeadsTo, kind_of, dual_refusal, dual_need, dual_owed, dual_available, dual_left};
-ghost use Rattle.meet_calls.specs.DualRoom.{roomy, roomy-refusal, roomy-leads, roomy-steps, roomy-fresh, own-record};
+ghost use Rattle.meet_calls.specs.DualSteps.{DualStep, LeadsTo, kind_of, dual_refusal, dual_need, dual_room, dual_owed, dual_available, dual_left};
+ghost use Rattle.meet_calls.specs.DualRoom.{roomy, roomy-refusal, roomy-leads, roomy-steps, roomless, roomy-fresh, own-record};
 ghost use Rattle.meet_calls.specs.declared.queue_calls.DualCall.TheVariants.{Poll};
 
 use super::Dual;
@@ -41,6 +41,8 @@ impl<T: Marked, L: Line<T>> Object for Dual<T, L> {
 
     ghost need_of = { λ call. dual_need call };
 
+    ghost room_of = { λ call. dual_room call };
+
     ghost spare = { λ q. q.room };
 
     ghost with_room = { λ q room. roomy q room };
@@ -56,6 +58,8 @@ impl<T: Marked, L: Line<T>> Object for Dual<T, L> {
     ghost same_leads = { λ q room base records leads. roomy-leads T.mark_of (kind_of L.end) q room base records leads };
 
     ghost same_steps = { λ q room seat call answer new need step. roomy-steps T.mark_of L.end q room seat call answer new need step };
+
+    ghost roomless = { λ call none. roomless call none };
 
     ghost fresh_owes = { λ q leads. roomy-fresh T.mark_of (kind_of L.end) q leads };
 
@@ -77,12 +81,16 @@ impl<T: Marked, L: Line<T>> Object for Dual<T, L> {
         call.need()
     }
 
+    fn room(call: &DualCall<T>) -> u64 {
+        call.room()
+    }
+
     fn owed(&self) -> u64 {
         Dual::owed(self)
     }
 
-    fn reserve(&mut self, calls: u64) -> Result<(), Refusal> {
-        Dual::reserve(self, calls)
+    fn reserve(&mut self, room: u64) -> Result<(), Refusal> {
+        Dual::reserve(self, room)
     }
 
     fn step(&mut self, seat: SeatNo, call: DualCall<T>) -> (DualAnswer<T>, Option<Record<Deed>>) {
@@ -106,11 +114,7 @@ impl<T: Marked, L: Line<T>> Drains for Dual<T, L> {
 
     ghost left_of = { λ q. dual_left q };
 
-    ghost poll_needs = { refl };
-
-    ghost same_available = { λ q room. refl };
-
-    ghost same_left = { λ q room. refl };
+    ghost poll_fits = { refl };
 
     fn available(&self) -> u64 {
         self.givers()
@@ -118,6 +122,10 @@ impl<T: Marked, L: Line<T>> Drains for Dual<T, L> {
 
     fn tickets_left(&self) -> u64 {
         Dual::tickets_left(self)
+    }
+
+    fn admit_poll(&self, seat: SeatNo) -> Result<(), Refusal> {
+        admit_call(&self.meetings, seat, &DualCall::Poll)
     }
 
     fn poll_call(&self) -> DualCall<T> {
@@ -130,7 +138,7 @@ impl<T: Marked, L: Line<T>> Dual<T, L> {
     /// Makes an admitted call, for which there is room.
     fn make(&mut self, seat: SeatNo, call: DualCall<T>) -> Answered<T>
         requires admitted { dual_refusal self.old seat call ≡ None }
-        requires room { 0 < dual_need call → 0 < self.old.room }
+        requires room { dual_room call ≤ self.old.room }
         ensures step { DualStep T.mark_of L.end self.old seat call result.0 self.new }
         ensures entry { result.1 ≡ dual_record T.mark_of seat call result.0 }
         ensures places { places_of self.new ≡ places_of self.old }

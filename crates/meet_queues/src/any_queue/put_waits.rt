@@ -1,12 +1,12 @@
 //! A synchronous queue as a queue of any kind: it keeps nothing, so a put waits.
 
-ghost use Rattle.std.specs.Prelude.{◌≡◌, ◌≢◌, ◌+◌, ◌<◌, ◌≤◌, List, ◌++◌, option_to_list, length, Some, None, IfOk, IfErr};
+ghost use Rattle.std.specs.Prelude.{◌≡◌, ◌≢◌, ◌+◌, ◌≤◌, List, ◌++◌, option_to_list, length, Some, None, IfOk, IfErr};
 ghost use Rattle.meet_tickets.specs.declared.records.Record.{Record};
 ghost use Rattle.meet_tickets.specs.declared.records.Deed.{Deed};
 ghost use Rattle.meet_tickets.specs.declared.refusals.Refusal.TheVariants.{Memory, HistoryFull};
 ghost use Rattle.meet_tickets.specs.Bases.{Based};
 ghost use Rattle.meet_calls.specs.DualSteps.{kind_of, LeadsTo, dual_owed};
-ghost use Rattle.meet_calls.specs.QueueSteps.{QueueStep, queue_refusal, queue_need, queue_record};
+ghost use Rattle.meet_calls.specs.QueueSteps.{QueueStep, queue_refusal, queue_need, queue_room, queue_record};
 
 use meet_book::Object;
 use meet_calls::{DualCall, QueueAnswer, QueueCall};
@@ -38,13 +38,13 @@ pub(crate) fn step<T: Marked, L: Line<T>>(
     call: QueueCall<T>,
 ) -> (QueueAnswer<T>, Option<Record<Deed>>)
     requires admitted { queue_refusal queue.old seat call ≡ None }
-    requires room { 0 < queue_need call → 0 < queue.old.room }
+    requires room { queue_room call ≤ queue.old.room }
     ensures step { QueueStep T.mark_of (kind_of L.end) queue.old seat call result.0 queue.new }
     ensures entry { result.1 ≡ queue_record T.mark_of seat call result.0 }
     ensures leads { (base : Based) (records : List (Record Deed)) → LeadsTo T.mark_of (kind_of L.end) base records queue.old
         → LeadsTo T.mark_of (kind_of L.end) base (records ++ option_to_list result.1) queue.new }
     ensures owed { length (option_to_list result.1) + dual_owed queue.new ≤ dual_owed queue.old + queue_need call }
-    ensures room { queue.old.room ≤ queue.new.room + 1 }
+    ensures room { queue.old.room ≤ queue.new.room + queue_room call }
 {
     match call {
         QueueCall::Put(item) => {

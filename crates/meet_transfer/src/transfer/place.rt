@@ -1,13 +1,13 @@
 //! The transfer queue as a book's place.
 
-ghost use Rattle.std.specs.Prelude.{◌≡◌, ◌<◌, None, refl, Option};
+ghost use Rattle.std.specs.Prelude.{◌≡◌, ◌≤◌, None, refl, Option};
 ghost use Rattle.meet_line.specs.Queue.{places_of};
 ghost use Rattle.meet_tickets.specs.Bases.{no_base, IsBaseOf};
 ghost use Rattle.meet_line.specs.Seen.{moment_of_queue};
 ghost use Rattle.meet_calls.specs.DualSteps.{LeadsTo, dual_owed, dual_available, dual_left};
 ghost use Rattle.meet_transfer.specs.Bounded.{BoundedStep};
-ghost use Rattle.meet_calls.specs.QueueSteps.{bounded_kind, queue_refusal, queue_need, queue_record};
-ghost use Rattle.meet_calls.specs.DualRoom.{roomy, roomy-leads, roomy-fresh};
+ghost use Rattle.meet_calls.specs.QueueSteps.{bounded_kind, dual_call, queue_refusal, queue_need, queue_room, queue_record};
+ghost use Rattle.meet_calls.specs.DualRoom.{roomy, roomy-leads, roomless, roomy-fresh};
 ghost use Rattle.meet_calls.specs.QueueRoom.{roomy-queue-refusal, roomy-queue-steps, own-queue-record};
 ghost use Rattle.meet_calls.specs.declared.queue_calls.DualCall.TheVariants.{Poll};
 ghost use Rattle.meet_calls.specs.declared.queue_calls.QueueCall.TheVariants.{Dual as EachHas};
@@ -43,6 +43,8 @@ impl<T: Marked> Object for Transfer<T> {
 
     ghost need_of = { λ call. queue_need call };
 
+    ghost room_of = { λ call. queue_room call };
+
     ghost spare = { λ b. b.queue.room };
 
     ghost with_room = { λ b room. record b { queue = roomy b.queue room } };
@@ -58,6 +60,8 @@ impl<T: Marked> Object for Transfer<T> {
     ghost same_leads = { λ b room base records leads. roomy-leads T.mark_of (bounded_kind b.bound) b.queue room base records leads };
 
     ghost same_steps = { λ b room seat call answer new need step. (step.0, roomy-queue-steps T.mark_of (bounded_kind b.bound) b.queue room seat call answer new.queue need step.1) };
+
+    ghost roomless = { λ call none. roomless (dual_call call) none };
 
     ghost fresh_owes = { λ b leads. roomy-fresh T.mark_of (bounded_kind b.bound) b.queue leads };
 
@@ -83,12 +87,16 @@ impl<T: Marked> Object for Transfer<T> {
         call.need()
     }
 
+    fn room(call: &QueueCall<T>) -> u64 {
+        call.room()
+    }
+
     fn owed(&self) -> u64 {
         Transfer::owed(self)
     }
 
-    fn reserve(&mut self, calls: u64) -> Result<(), Refusal> {
-        Transfer::reserve(self, calls)
+    fn reserve(&mut self, room: u64) -> Result<(), Refusal> {
+        Transfer::reserve(self, room)
     }
 
     fn step(&mut self, seat: SeatNo, call: QueueCall<T>) -> (QueueAnswer<T>, Option<Record<Deed>>) {
@@ -112,11 +120,7 @@ impl<T: Marked> Drains for Transfer<T> {
 
     ghost left_of = { λ b. dual_left b.queue };
 
-    ghost poll_needs = { refl };
-
-    ghost same_available = { λ b room. refl };
-
-    ghost same_left = { λ b room. refl };
+    ghost poll_fits = { refl };
 
     fn available(&self) -> u64 {
         self.size()
@@ -124,6 +128,10 @@ impl<T: Marked> Drains for Transfer<T> {
 
     fn tickets_left(&self) -> u64 {
         Transfer::tickets_left(self)
+    }
+
+    fn admit_poll(&self, seat: SeatNo) -> Result<(), Refusal> {
+        admit_call(&self.meetings, seat, &DualCall::Poll)
     }
 
     fn poll_call(&self) -> QueueCall<T> {
@@ -136,7 +144,7 @@ impl<T: Marked> Transfer<T> {
     /// Makes an admitted call, for which there is room.
     fn make(&mut self, seat: SeatNo, call: QueueCall<T>) -> (QueueAnswer<T>, Option<Record<Deed>>)
         requires admitted { queue_refusal self.old.queue seat call ≡ None }
-        requires room { 0 < queue_need call → 0 < self.old.queue.room }
+        requires room { queue_room call ≤ self.old.queue.room }
         ensures step { BoundedStep T.mark_of self.old seat call result.0 self.new }
         ensures entry { result.1 ≡ queue_record T.mark_of seat call result.0 }
         ensures places { places_of self.new.queue ≡ places_of self.old.queue }

@@ -16,7 +16,7 @@ invariant-loop g l =
       leads : (base : _) → o.leads base l.fn.records.items l.fn.object → o.leads base l.records.items l.object;
       there : d.available_of l.object + l.counter ≡ d.available_of l.fn.object;
       left : d.left_of l.object + l.counter ≡ d.left_of l.fn.object;
-      calls : o.spare l.fn.object ≤ o.spare l.object + l.counter;
+      spare : o.spare l.fn.object ≤ o.spare l.object;
       free : 0 < d.left_of l.object → o.refusal_of l.object l.seat d.poll ≡ None;
       owed : o.owed_of l.object ≡ o.owed_of l.fn.object;
       places : vec_len l.records ≡ vec_len l.fn.records + l.counter;

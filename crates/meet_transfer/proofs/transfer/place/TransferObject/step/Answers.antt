@@ -7,16 +7,16 @@ pub returns-clause-leads : goal.returns-clause-leads
 returns-clause-leads g c =
     let k = bounded_kind c.args.self.now.bound in
     let effect = queue-made g.T.Marked.mark_of k c.args.self.now.queue c.make.new.self.queue c.args.seat c.args.call c.make.result.0 c.make.result.1 c.make.ensures.entry c.stays_sound.ensures c.requires.admitted c.make.ensures.step.1 in
-    λ base records before. bounded-on c.make.ensures.step.0 (leads-on g.T.Marked.mark_of k c.args.self.now.queue c.make.new.self.queue base records before _ c.make.result.1 effect)
+    λ base records before. bounded-on c.make.ensures.step.0 (leads-on g.T.Marked.mark_of k c.args.self.now.queue c.make.new.self.queue base records before _ _ c.make.result.1 effect)
 
 pub returns-clause-owed : goal.returns-clause-owed
 returns-clause-owed g c =
     let k = bounded_kind c.args.self.now.bound in
     let effect = queue-made g.T.Marked.mark_of k c.args.self.now.queue c.make.new.self.queue c.args.seat c.args.call c.make.result.0 c.make.result.1 c.make.ensures.entry c.stays_sound.ensures c.requires.admitted c.make.ensures.step.1 in
-    effect-owed g.T.Marked.mark_of k c.args.self.now.queue c.make.new.self.queue _ c.make.result.1 effect
+    effect-owed g.T.Marked.mark_of k c.args.self.now.queue c.make.new.self.queue _ _ c.make.result.1 effect
 
 pub returns-clause-room : goal.returns-clause-room
 returns-clause-room g c =
     let k = bounded_kind c.args.self.now.bound in
     let effect = queue-made g.T.Marked.mark_of k c.args.self.now.queue c.make.new.self.queue c.args.seat c.args.call c.make.result.0 c.make.result.1 c.make.ensures.entry c.stays_sound.ensures c.requires.admitted c.make.ensures.step.1 in
-    effect-room g.T.Marked.mark_of k c.args.self.now.queue c.make.new.self.queue _ c.make.result.1 effect c.make.ensures.places
+    effect-room g.T.Marked.mark_of k c.args.self.now.queue c.make.new.self.queue _ _ c.make.result.1 effect c.make.ensures.places
