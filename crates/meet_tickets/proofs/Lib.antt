@@ -14,10 +14,12 @@ pub mod Keeping
 pub mod Laying
 pub mod Lookups
 pub mod Members
+pub mod Opening
 pub mod Orderly
 pub mod Partners
 pub mod Recorded
 pub mod Refusing
+pub mod Remembered
 pub mod Said
 pub mod Sides
 pub mod Standings

@@ -1,6 +1,7 @@
--- Fates in a few histories, worked out record by record.
+-- Fates and requests in a few histories, worked out record by record.
 use Rattle.std.proofs.Common.{◌≡◌, ℕ, refl, arith, true, false, Some, None, List, [], ◌∷◌, take}
 use Rattle.std.proofs.lemmas.Bool.{false≢true}
+use Rattle.meet_tickets.specs.declared.lines.Hold.TheVariants.{Handed, Cut as CutOff}
 use Rattle.meet_tickets.specs.declared.places.Order.TheVariants.{Fair, Transfer}
 use Rattle.meet_tickets.specs.declared.places.Kind.{Kind}
 use Rattle.meet_tickets.specs.declared.records.Record.{Record}
@@ -9,7 +10,9 @@ use Rattle.meet_tickets.specs.declared.records.Deed.{Deed}
 use Rattle.meet_tickets.specs.declared.records.Deed.TheVariants.{GiveWaits, GiveFails, GiveKept, TakeWaits, TakeMeets, Done, Withdrawn as TakenBack, Interrupt}
 use Rattle.meet_tickets.specs.declared.fates.Fate.TheVariants.{Never, Failed, Paired, Collected, Withdrawn, Cut, Kept, Waiting}
 use Rattle.meet_tickets.specs.BySeat.{Fits, IsLegalBySeat, beginning, moment_of}
+use Rattle.meet_tickets.specs.Bases.{Based, no_base, moment_of_base}
 use Rattle.meet_tickets.specs.Fates.{fate, waiting_in, uncollected_in, kept_in}
+use Rattle.meet_tickets.specs.Asked.{request_on}
 
 -- a place that meets the one that waited longest
 abbrev fair : Kind
@@ -115,6 +118,14 @@ one_met = refl
 none_kept : kept_in (take 3 met) ≡ 0
 none_kept = refl
 
+-- its seat knows the mark that went
+mark_went : (moment_of fair beginning (take 3 met)).seats.holds 0 ≡ Handed 1 3 1
+mark_went = refl
+
+-- the taker's request took it
+taker_asked : request_on no_base (take 3 met) 3 ≡ Some (TakeMeets 1 1)
+taker_asked = refl
+
 -- the giver learned so
 giver_collected : fate met 1 ≡ Collected 3
 giver_collected = refl
@@ -156,3 +167,37 @@ nothing_uncollected = refl
 -- no item is kept any more
 nothing_kept : kept_in stored ≡ 0
 nothing_kept = refl
+
+-- a giver waits with an item, and is cut
+abbrev struck : List (Record Deed)
+struck = of 0 1 (GiveWaits 5) ∷ of 1 1 (Interrupt 0) ∷ []
+
+-- its records are legal
+struck_is_legal : IsLegalBySeat fair struck
+struck_is_legal = (waits, (cuts, tt))
+  where
+    waits : Next fair struck 0 (of 0 1 (GiveWaits 5))
+    waits = record { above = λ e. omega arith; allowed = (refl, refl, refl) }
+
+    cuts : Next fair struck 1 (of 1 1 (Interrupt 0))
+    cuts = record { above = λ e. absurd (false≢true e); allowed = refl }
+
+-- its seat holds the item
+item_held : (moment_of fair beginning struck).seats.holds 0 ≡ CutOff 1 (Some 5)
+item_held = refl
+
+-- which its request brought
+item_asked : request_on no_base struck 1 ≡ Some (GiveWaits 5)
+item_asked = refl
+
+-- both records are folded away
+abbrev folded : Based
+folded = record no_base { gone = 2; last = 1; cut = record { ticket = 1; seat = 0; item = Some 5 } ∷ [] }
+
+-- its seat holds the item still
+still_held : (moment_of_base folded).seats.holds 0 ≡ CutOff 1 (Some 5)
+still_held = refl
+
+-- which its request brought, as the base shows
+still_asked : request_on folded [] 1 ≡ Some (GiveWaits 5)
+still_asked = refl

@@ -1,4 +1,5 @@
 pub mod Agreement
+pub mod Asked
 pub mod Bases
 pub mod ByLists
 pub mod BySeat

@@ -1,6 +1,8 @@
-//! Laws: that the two tellings of the rules are one, and what bases stand for. Each is the contract of a function that does nothing.
+//! Laws: that the two tellings of the rules are one, what bases stand for, and that what a place holds was asked. Each is
+//! the contract of a function that does nothing.
 ghost use Rattle.std.specs.Prelude.{◌≡◌, ◌≤◌, ℕ, List};
 ghost use Rattle.meet_tickets.specs.Agreement.{TellingsAgree, TellingsAgreeOn};
+ghost use Rattle.meet_tickets.specs.Asked.{request_on, Remembers};
 ghost use Rattle.meet_tickets.specs.Bases.{Based, no_base, moment_of_base, IsWellFormed, IsLegalOn, IsBaseOf, Folds};
 ghost use Rattle.meet_tickets.specs.BySeat.{beginning, moment_of};
 ghost use Rattle.meet_tickets.specs.Fates.{ShowsFates, StandsOn};
@@ -44,4 +46,11 @@ pub fn bases_show_fates()
 pub fn bases_stand()
     ensures { (k : Kind) (base : Based) (records : List (Record Deed)) (seats : ℕ) → IsWellFormed k base → IsLegalOn k base records
         → ((i : ℕ) → seats ≤ i → (moment_of k (moment_of_base base) records).seats.holds i ≡ Free) → StandsOn k base records seats }
+{}
+
+/// After a well-formed base and legal records a place holds what was asked: the item of an entry, or of a ticket that was
+/// cut, is the one that its own request brought, and that of two that met the one that the giver's did. It does nothing.
+pub fn requests_are_remembered()
+    ensures { (k : Kind) (base : Based) (records : List (Record Deed)) → IsWellFormed k base → IsLegalOn k base records
+        → Remembers (request_on base records) (moment_of k (moment_of_base base) records).seats }
 {}
