@@ -1,5 +1,5 @@
 -- A poll more.
-use Rattle.std.proofs.Common.{◌≡◌, ℕ, ◌+◌, ◌<◌, refl, subst, List, [], ◌∷◌, ◌++◌, length, arith, Option, Some}
+use Rattle.std.proofs.Common.{◌≡◌, ℕ, ◌+◌, refl, subst, List, [], ◌∷◌, ◌++◌, length, arith, Option, Some}
 use Rattle.meet_tickets.specs.declared.records.Record.{Record}
 use Rattle.meet_book.specs.Received.{Received}
 use Rattle.meet_book.specs.Draining.{Polls, AreNumbered}

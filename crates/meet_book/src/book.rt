@@ -129,9 +129,11 @@ impl<O: Object> Book<O> {
             None => {}
         }
         let need = O::need(&call);
-        let room = O::room(&call);
-        if let Err(why) = make_room(&mut self.object, &mut self.records, need, room) {
-            return Err(Refused { why, back: call });
+        if need > 0 {
+            let room = O::room(&call);
+            if let Err(why) = make_room(&mut self.object, &mut self.records, need, room) {
+                return Err(Refused { why, back: call });
+            }
         }
         let (answer, record) = self.object.step(seat, call);
         let gone = O::gone(&self.base);
@@ -181,7 +183,7 @@ where
     }
 }
 
-/// Makes room for this many records beside those that are owed, and this much in the place; for no record none is asked.
+/// Makes room for this many records beside those that are owed, and this much in the place.
 fn make_room<O: Object>(
     object: &mut O,
     records: &mut Vec<Record<O::Deed>>,
@@ -190,7 +192,6 @@ fn make_room<O: Object>(
 ) -> Result<(), Refusal>
     requires few { O.owed_of object.old + need < 2 ^ 64 }
     requires owed { vec_len records.old + O.owed_of object.old ≤ vec_capacity records.old }
-    requires roomless { need ≡ 0 → room ≡ 0 }
     ensures same { object.new ≡ O.with_room object.old (O.spare object.new) }
     ensures asks_none { room ≡ 0 → object.new ≡ object.old }
     ensures room { OnOk result (room ≤ O.spare object.new) }
@@ -202,12 +203,8 @@ fn make_room<O: Object>(
     ensures owed { vec_len records.new + O.owed_of object.old ≤ vec_capacity records.new }
     ensures unchanged { OnErr result (object.new ≡ object.old) }
     ensures memory { IfErr result (λ why. why ≡ Memory) }
-    ensures ending { need ≡ 0 → IsOk result }
     ensures enough { vec_len records.old + O.owed_of object.old + need ≤ vec_capacity records.old → room ≤ O.spare object.old → IsOk result }
 {
-    if need == 0 {
-        return Ok(());
-    }
     let wanted = object.owed() + need;
     if records.reserve(wanted as usize).is_err() {
         return Err(Refusal::Memory);

@@ -1,4 +1,5 @@
 pub mod Effects
+pub mod Handed
 pub mod Leading
 pub mod Marking
 pub mod Owed

@@ -1,5 +1,6 @@
 pub mod DualRecords
 pub mod DualRoom
 pub mod DualSteps
+pub mod Handed
 pub mod QueueRoom
 pub mod QueueSteps

@@ -1,11 +1,13 @@
 //! What a seat asks of a queue, what it is answered, and the record of it.
 #![tactic(auto)]
 
+mod laws;
 mod make;
 mod queue_calls;
 mod records;
 mod refusals;
 
+pub use laws::handed_items_were_brought;
 pub use make::{admit_call, make_call};
 pub use queue_calls::{DualAnswer, DualCall, QueueAnswer, QueueCall};
 pub use records::{Answered, answered_put};

@@ -1,10 +1,10 @@
 -- What a place holds is what was asked: each item in its line and at its seats is the one that a request brought.
-use Rattle.std.specs.Prelude.{◌≡◌, ℕ, true, Option, Some, List, ◌++◌, Contains}
+use Rattle.std.specs.Prelude.{◌≡◌, ℕ, true, Option, Some, None, option_and_then, List, ◌++◌, Contains}
 use Rattle.meet_tickets.specs.declared.lines.Entry.{Entry}
 use Rattle.meet_tickets.specs.declared.lines.Hold.TheVariants.{Waiting, Handed, Served, Cut}
 use Rattle.meet_tickets.specs.declared.records.Record.{Record}
 use Rattle.meet_tickets.specs.declared.records.Deed.{Deed}
-use Rattle.meet_tickets.specs.declared.records.Deed.TheVariants.{GiveWaits, GiveMeets, TakeWaits, TakeMeets}
+use Rattle.meet_tickets.specs.declared.records.Deed.TheVariants.{GiveWaits, GiveMeets, GiveFails, GiveKept, TakeWaits, TakeMeets}
 use Rattle.meet_tickets.specs.BySeat.{Seats}
 use Rattle.meet_tickets.specs.Bases.{Based}
 use Rattle.meet_tickets.specs.Fates.{request_of, asked_for, opening}
@@ -12,6 +12,18 @@ use Rattle.meet_tickets.specs.Fates.{request_of, asked_for, opening}
 -- the request of a ticket after a base
 abbrev pub request_on : Based → List (Record Deed) → (ticket : ℕ) → Option Deed
 request_on b records t = request_of (opening b ++ records) t
+
+-- the mark of the item that a request brings
+abbrev pub brought_by : Deed → Option ℕ
+brought_by (GiveWaits m) = Some m
+brought_by (GiveMeets m u) = Some m
+brought_by (GiveFails m) = Some m
+brought_by (GiveKept m) = Some m
+brought_by deed = None
+
+-- the mark of the item that a ticket's request brought, after a base
+abbrev pub brought_on : Based → List (Record Deed) → (ticket : ℕ) → Option ℕ
+brought_on b records t = option_and_then brought_by (request_on b records t)
 
 -- what stands in the line and what the seats hold is what these requests asked
 pub record Remembers (asked : ℕ → Option Deed) (s : Seats ℕ) : Type 0 where
