@@ -1,6 +1,6 @@
 -- A call of the stepper's queue, in the words of one thread's replies.
-use Rattle.std.proofs.Common.{◌≡◌, ◌≢◌, ℕ, zero, suc, ◌+◌, ◌<◌, refl, sym, ap, ◌∙◌, Bool, true, false, Option, Some, None, arith}
-use Rattle.std.specs.Prelude.{nat_lt}
+use Rattle.std.proofs.Common.{◌≡◌, ◌≢◌, ℕ, zero, suc, ◌+◌, ◌<◌, ◌≤◌, refl, sym, ap, ◌∙◌, Bool, true, false, Option, Some, None, arith}
+use Rattle.std.specs.Prelude.{nat_lt, Result, Ok, Err, IfErr, IsOk}
 use Rattle.std.specs.Option.{option_map_or}
 use Rattle.meet_tickets.specs.declared.refusals.Refusal.{Refusal}
 use Rattle.meet_tickets.specs.declared.refusals.Refusal.TheVariants.{Memory}
@@ -12,7 +12,8 @@ use Rattle.meet_history.specs.declared.one_thread.setup.Setup.{Setup}
 use Rattle.meet_calls.specs.declared.queue_calls.DualCall.{DualCall}
 use Rattle.meet_calls.specs.declared.queue_calls.DualCall.TheVariants.{Give, Offer, Take, Poll, FollowUp, Cancel, Expire, Interrupt}
 use Rattle.meet_book.specs.Booking.{call_refusal}
-use Rattle.meet_calls.specs.DualSteps.{dual_refusal, dual_need, dual_owed}
+use Rattle.meet_calls.specs.DualSteps.{dual_refusal, dual_need, dual_room, dual_owed}
+use Rattle.meet_history.specs.declared.one_thread.replies.Reply.{Reply}
 use Rattle.meet_history.specs.Stepping.{refusal_at}
 
 -- the book's reason is that of the place
@@ -80,3 +81,19 @@ refused-alone (Some first) why same own is = absurd (own (ap Some (sym same ∙ 
 -- a call that was refused for want of memory wasn't refused by the place
 pub memory-alone : (q : Queue ℕ) (seat : ℕ) (call : DualCall ℕ) (full : Bool) (why : Refusal) → 0 < dual_need call → IsWhy (call_refusal (dual_refusal q seat call) full) why → why ≡ Memory → call_refusal (dual_refusal q seat call) full ≡ None
 memory-alone q seat call full why need told is = refused-alone _ why told (place-own q seat call full need) is
+
+-- a call needs two records at most, and one place in the line
+pub most-needed : (call : DualCall ℕ) → (dual_need call ≤ 2) × (dual_room call ≤ 1)
+most-needed (Give mark) = (omega arith, omega arith)
+most-needed (Offer mark) = (omega arith, omega arith)
+most-needed Take = (omega arith, omega arith)
+most-needed Poll = (omega arith, omega arith)
+most-needed (FollowUp t) = (omega arith, omega arith)
+most-needed (Cancel t) = (omega arith, omega arith)
+most-needed (Expire t) = (omega arith, omega arith)
+most-needed (Interrupt j) = (omega arith, omega arith)
+
+-- a refusal for another reason than Memory has a reply
+pub has-reply : (said : Result Reply Refusal) (why : Refusal) → IfErr said (λ given. (given ≡ Memory) × (why ≡ Memory)) → why ≢ Memory → IsOk said
+has-reply (Ok reply) why memory other = refl
+has-reply (Err given) why memory other = absurd (other memory.1)

@@ -271,12 +271,12 @@ abbrev pub reply_by : (seat : ℕ) → QueueCall ℕ → QueueAnswer ℕ → Opt
 reply_by seat call answer None = record { seat = seat; outcome = unrecorded call }
 reply_by seat call answer (Some receipt) = reply_of seat receipt (back_of answer)
 
-module _ (setup : Setup) (old new : Queue ℕ) (records after : List (Record Deed)) (seat : ℕ) (call : QueueCall ℕ) where
+module _ (setup : Setup) (old new : Queue ℕ) (records after : List (Record Deed)) (room left : ℕ) (seat : ℕ) (call : QueueCall ℕ) where
   abbrev before : Stepping
-  before = record { setup = setup; queue = old; records = records }
+  before = record { setup = setup; queue = old; records = records; room = room }
 
   abbrev behind : Stepping
-  behind = record { setup = setup; queue = new; records = after }
+  behind = record { setup = setup; queue = new; records = after; room = left }
 
   abbrev turn : Turn
   turn = turn_of_call setup (place_of before) seat call

@@ -1,17 +1,18 @@
 -- What a stepper shows of itself, and what a call does to it.
-use Rattle.std.specs.Prelude.{◌≡◌, ℕ, Option, Some, None, List, [], ◌∷◌, ◌++◌, length}
+use Rattle.std.specs.Prelude.{◌≡◌, ℕ, ◌+◌, ◌≤◌, Option, Some, None, List, [], ◌∷◌, ◌++◌, length}
 use Rattle.meet_tickets.specs.declared.records.Record.{Record}
 use Rattle.meet_tickets.specs.declared.records.Deed.{Deed}
 use Rattle.meet_tickets.specs.declared.records.Cause.TheVariants.{Cancelled, Expired}
 use Rattle.meet_tickets.specs.declared.refusals.Refusal.{Refusal}
 use Rattle.meet_tickets.specs.declared.refusals.Refusal.TheVariants.{Memory}
-use Rattle.meet_line.specs.Queue.{Queue, seats_of}
+use Rattle.meet_line.specs.Queue.{Queue, seats_of, count_of}
 use Rattle.meet_line.specs.declared.answers.Gave.TheVariants.{EntryInterrupted}
 use Rattle.meet_line.specs.declared.answers.Put.TheVariants.{Fails as PutFails}
 use Rattle.meet_line.specs.declared.answers.Offered.TheVariants.{Fails}
 use Rattle.meet_line.specs.declared.answers.Followed.TheVariants.{Interrupted}
 use Rattle.meet_line.specs.declared.answers.TakenBack.TheVariants.{Back}
 use Rattle.meet_book.specs.Received.{Received}
+use Rattle.meet_tickets.specs.BySeat.{owed_of}
 use Rattle.meet_calls.specs.declared.queue_calls.DualCall.{DualCall}
 use Rattle.meet_calls.specs.declared.queue_calls.DualCall.TheVariants.{Give, Offer, Take, Poll, FollowUp, Cancel, Expire, Interrupt}
 use Rattle.meet_calls.specs.declared.queue_calls.DualAnswer.TheVariants.{Gave as ToGive, Offered as ToOffer, Followed as ToFollowUp, TakenBack as ToWithdrawal}
@@ -30,6 +31,7 @@ pub record Stepping : Type 0 where
   pub setup : Setup
   pub queue : Queue ℕ
   pub records : List (Record Deed)
+  pub room : ℕ  -- how many records more may come without growth
 
 -- where the place is
 abbrev pub place_of : Stepping → Place
@@ -67,11 +69,20 @@ refusal_at setup p i Poll = request_refusal setup p i
 refusal_at setup p i (Interrupt j) = interrupt_refusal setup p i j
 refusal_at setup p i call = None
 
+-- there is room for a call: for two records beside those that are owed, and for a place in the line
+pub record HasRoom (s : Stepping) : Type 0 where
+  pub records : owed_of (count_of s.queue) (seats_of s.queue).holds + 2 ≤ s.room
+  pub line : 1 ≤ s.queue.room
+
+-- nothing but room changed
+abbrev pub StaysButForRoom : (old new : Stepping) → Type 0
+StaysButForRoom old new = new ≡ record old { room = new.room }
+
 -- a call was refused for want of memory alone: `first`, the place's own reason against it, is none, and nothing changed
 pub record LacksMemory (first : Option Refusal) (old new : Stepping) (why : Refusal) : Type 0 where
   pub memory : why ≡ Memory
   pub alone : first ≡ None
-  pub unchanged : new ≡ old
+  pub unchanged : StaysButForRoom old new
 
 -- the giver's item that an answer brings back, where it brings one
 abbrev pub back_of : QueueAnswer ℕ → Option ℕ

@@ -1,6 +1,7 @@
 //! A place that one thread uses, call by call.
 
-ghost use Rattle.std.specs.Prelude.{◌≡◌, ◌≢◌, None, [], ◌++◌, length, IsTrue, IfOk, IfErr, OnOk, OnErr};
+ghost use Rattle.std.specs.Prelude.{◌≡◌, ◌≢◌, None, [], ◌++◌, ◌<◌, length, vec_len, IsTrue, IsOk, IfOk, IfErr, OnOk, OnErr};
+ghost use Rattle.std.specs.Vec.{vec_capacity};
 ghost use Rattle.meet_history.specs.Stepping.{reply_of, unrecorded, back_of};
 ghost use Rattle.meet_tickets.specs.declared.refusals.Refusal.TheVariants.{Memory};
 
@@ -31,7 +32,7 @@ impl Model for Stepper {
 
     ghost Value = { Stepping };
 
-    ghost view = { λ s. record { setup = s.setup; queue = s.book.object.queue; records = s.book.records } };
+    ghost view = { λ s. record { setup = s.setup; queue = s.book.object.queue; records = s.book.records; room = s.book.room } };
 
     ghost invariant = { λ s. (s.book.object.kind ≡ s.setup.kind) × (count_of s.book.object.queue ≡ s.setup.seats) × (s.book.cap ≡ s.setup.cap) × (s.book.base ≡ no_base) };
 }
@@ -97,7 +98,7 @@ impl Stepper {
     ghost use Rattle.meet_calls.specs.DualSteps.{dual_need, dual_refusal};
     ghost use Rattle.meet_history.specs.OneThread.{start, turn, standing_of};
     ghost use Rattle.meet_history.specs.Served.{serves, IsOne};
-    ghost use Rattle.meet_history.specs.Stepping.{place_of, Takes, TakesTurn, LacksMemory, turn_of_call, refusal_at};
+    ghost use Rattle.meet_history.specs.Stepping.{place_of, Takes, TakesTurn, LacksMemory, HasRoom, StaysButForRoom, turn_of_call, refusal_at};
     ghost use Rattle.meet_calls.specs.QueueSteps.{dual_call, queue_need, queue_refusal};
     ghost use Rattle.meet_history.specs.Limits.{IsInLimits};
 
@@ -121,6 +122,7 @@ impl Stepper {
         requires opened { queue_need call ≡ 0 → queue_refusal self.old.queue seat call ≡ None }
         ensures turn { IfOk result (TakesTurn (turn_of_call self.old.setup (place_of self.old) seat call) self.old self.new) }
         ensures memory { IfErr result (LacksMemory (refusal_at self.old.setup (place_of self.old) seat (dual_call call)) self.old self.new) }
+        ensures enough { HasRoom self.old → IsOk result }
     {
         let otherwise = unrecorded(&call);
         let (answer, receipt) = match self.book.step(seat, call) {
@@ -142,6 +144,7 @@ impl Stepper {
         requires opened { dual_need call ≡ 0 → dual_refusal self.old.queue seat call ≡ None }
         ensures turn { IfOk result (TakesTurn (turn_of_call self.old.setup (place_of self.old) seat (QueueCall.Dual call)) self.old self.new) }
         ensures memory { IfErr result (LacksMemory (refusal_at self.old.setup (place_of self.old) seat call) self.old self.new) }
+        ensures enough { HasRoom self.old → IsOk result }
     {
         self.make(seat, QueueCall::Dual(call))
     }
@@ -151,8 +154,9 @@ impl Stepper {
         requires served { IsTrue (serves self.old.setup.kind.order call.verb) }
         requires one { IsOne call.verb }
         ensures turn { IfOk result (TakesTurn (turn self.old.setup (place_of self.old) call) self.old self.new) }
-        ensures unchanged { IfErr result (λ _. self.new ≡ self.old) }
+        ensures unchanged { IfErr result (λ _. StaysButForRoom self.old self.new) }
         ensures memory { IfErr result (λ why. why ≡ Memory) }
+        ensures enough { HasRoom self.old → IsOk result }
     {
         let Call { seat, verb } = call;
         match verb {
@@ -192,15 +196,16 @@ impl Stepper {
         }
     }
 
-    /// Makes a call, and puts its replies behind `replies`. The only refusal is Memory; then nothing has changed, and the
-    /// replies so far stay.
+    /// Makes a call, and puts its replies behind `replies`. The only refusal is Memory, and for a call with one reply never where there
+    /// is room for it, for two records and for a place in the line; then nothing has changed, and the replies so far stay.
     pub fn answer(&mut self, call: Call, replies: &mut Vec<Reply>) -> Result<(), Refusal>
         requires served { IsTrue (serves self.old.setup.kind.order call.verb) }
         ensures replies { OnOk result (replies.new.items ≡ replies.old.items ++ (turn self.old.setup (place_of self.old) call).replies) }
         ensures takes { OnOk result (Takes (turn self.old.setup (place_of self.old) call) self.old self.new) }
         ensures stay { OnErr result (replies.new.items ≡ replies.old.items) }
-        ensures unchanged { OnErr result (self.new ≡ self.old) }
+        ensures unchanged { OnErr result (StaysButForRoom self.old self.new) }
         ensures memory { IfErr result (λ why. why ≡ Memory) }
+        ensures enough { IsOne call.verb → vec_len replies.old < vec_capacity replies.old → HasRoom self.old → IsOk result }
     {
         let Call { seat, verb } = call;
         if let Verb::Drain(most) = verb {

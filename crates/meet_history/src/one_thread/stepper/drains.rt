@@ -15,7 +15,7 @@ use meet_tickets::{Deed, Refusal, SeatNo};
 impl Stepper {
     ghost use Rattle.meet_history.specs.declared.one_thread.verbs.Verb.TheVariants.{Drain};
     ghost use Rattle.meet_history.specs.OneThread.{turn_of};
-    ghost use Rattle.meet_history.specs.Stepping.{place_of, Takes};
+    ghost use Rattle.meet_history.specs.Stepping.{place_of, Takes, StaysButForRoom};
 
     /// Takes up to so many items, one poll after another: a reply for each, and then their number.
     pub(super) fn drain(
@@ -27,7 +27,7 @@ impl Stepper {
         ensures replies { OnOk result (replies.new.items ≡ replies.old.items ++ (turn_of self.old.setup (place_of self.old) seat (Drain most)).replies) }
         ensures takes { OnOk result (Takes (turn_of self.old.setup (place_of self.old) seat (Drain most)) self.old self.new) }
         ensures stay { OnErr result (replies.new.items ≡ replies.old.items) }
-        ensures unchanged { OnErr result (self.new ≡ self.old) }
+        ensures unchanged { OnErr result (StaysButForRoom self.old self.new) }
         ensures memory { IfErr result (λ why. why ≡ Memory) }
     {
         let count = most.min(self.book.probe().available());

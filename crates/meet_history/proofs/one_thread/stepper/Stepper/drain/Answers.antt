@@ -17,7 +17,7 @@ pub returns-in-Ok-refused_unless_memory-clause-replies : goal.returns-in-Ok-refu
 returns-in-Ok-refused_unless_memory-clause-replies c =
     let book = c.self.inside.book in
     let setup = c.self.inside.setup in
-    let old : Stepping = record { setup = setup; queue = book.object.queue; records = book.records } in
+    let old : Stepping = record { setup = setup; queue = book.object.queue; records = book.records; room = book.room } in
     let k = min c.args.most (dual_available book.object.queue) in
     let is : drain_refusal setup (place_of old) c.args.seat k ≡ Some c.in-Err.why = sym (drain_refusal-is setup c.args.seat book.object.queue book.cap (length book.records) k c.self.invariant.2 c.self.invariant.1) ∙ refused-so _ c.in-Err.why c.in-Err.ensures.why c.in-Ok-refused_unless_memory.ensures.other in
     let turn : drain setup (place_of old) c.args.seat k ≡ refused (place_of old) c.args.seat c.in-Err.why = drain-refused setup c.args.seat (place_of old) k c.in-Err.why is in
@@ -27,7 +27,7 @@ pub returns-in-Ok-refused_unless_memory-clause-takes : goal.returns-in-Ok-refuse
 returns-in-Ok-refused_unless_memory-clause-takes c =
     let book = c.self.inside.book in
     let setup = c.self.inside.setup in
-    let old : Stepping = record { setup = setup; queue = book.object.queue; records = book.records } in
+    let old : Stepping = record { setup = setup; queue = book.object.queue; records = book.records; room = book.room } in
     let k = min c.args.most (dual_available book.object.queue) in
     let is : drain_refusal setup (place_of old) c.args.seat k ≡ Some c.in-Err.why = sym (drain_refusal-is setup c.args.seat book.object.queue book.cap (length book.records) k c.self.invariant.2 c.self.invariant.1) ∙ refused-so _ c.in-Err.why c.in-Err.ensures.why c.in-Ok-refused_unless_memory.ensures.other in
     let turn : drain setup (place_of old) c.args.seat k ≡ refused (place_of old) c.args.seat c.in-Err.why = drain-refused setup c.args.seat (place_of old) k c.in-Err.why is in
@@ -66,5 +66,5 @@ returns-clause-takes c =
     rw (← c.self.view_is) (record {
       setup = refl;
       records = c.in-Ok.ensures.records ∙ ap (λ (t : Turn). book.records ++ t.records) (sym end.turn);
-      place = (λ i. record { next = c.drain.new.self.object.queue.next; seats = (place_of (record { setup = c.self.inside.setup; queue = c.drain.new.self.object.queue; records = c.drain.new.self.records })).seats; records = long i }) ∙ ap (λ (t : Turn). t.place) (sym end.turn);
+      place = (λ i. record { next = c.drain.new.self.object.queue.next; seats = (place_of (record { setup = c.self.inside.setup; queue = c.drain.new.self.object.queue; records = c.drain.new.self.records; room = c.drain.new.self.room })).seats; records = long i }) ∙ ap (λ (t : Turn). t.place) (sym end.turn);
     })
