@@ -16,6 +16,7 @@ use std::marker::Model;
 
 mod admitted;
 mod endings;
+mod leaving;
 mod place;
 
 /// A synchronous queue of one thread: over a `FairLine` in fair mode, over a `StackLine` in the default mode.

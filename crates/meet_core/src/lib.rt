@@ -6,4 +6,6 @@ mod dual;
 
 pub use dual::Dual;
 pub use meet_calls::{DualAnswer, DualCall};
-pub use meet_line::{Followed, Gave, Interrupted, Offered, Polled, TakenBack, Took};
+pub use meet_line::{
+    Followed, Gave, Interrupted, Left, LeftStanding, Offered, Polled, TakenBack, Took,
+};

@@ -2,6 +2,7 @@ pub mod BaseOfQueue
 pub mod Counts
 pub mod Following
 pub mod Gathered
+pub mod Leaving
 pub mod Moves
 pub mod Removals
 pub mod Removed

@@ -1,4 +1,5 @@
 pub mod Answers
+pub mod Left
 pub mod Lined
 pub mod Opened
 pub mod Queue

@@ -97,4 +97,9 @@ impl<T> Line<T> for FairLine<T> {
     fn room(&self) -> u64 {
         self.room as u64
     }
+
+    fn destroy_empty(self) {
+        let FairLine { entries, room: _ } = self;
+        entries.destroy_empty();
+    }
 }

@@ -4,6 +4,7 @@
 
 mod answers;
 mod fair;
+mod left;
 mod line;
 mod meeting;
 mod meetings;
@@ -13,6 +14,7 @@ mod table;
 
 pub use answers::{Followed, Gave, Interrupted, Offered, Polled, Put, TakenBack, Took};
 pub use fair::FairLine;
+pub use left::{Left, LeftStanding};
 pub use line::Line;
 pub use meetings::Meetings;
 pub use stack::StackLine;

@@ -72,4 +72,8 @@ pub trait Line<T> {
     /// How many entries more may come without growth.
     fn room(&self) -> u64
         ensures { result ≡ spare self.now };
+
+    /// Lets an empty line go, also where its items can't be dropped.
+    fn destroy_empty(self)
+        requires { entries self ≡ [] };
 }

@@ -16,6 +16,7 @@ use std::marker::Model;
 mod admitted;
 mod bases;
 mod endings;
+mod leaving;
 mod moves;
 mod probes;
 

@@ -96,4 +96,9 @@ impl<T> Line<T> for StackLine<T> {
     fn room(&self) -> u64 {
         self.room as u64
     }
+
+    fn destroy_empty(self) {
+        let StackLine { entries, room: _ } = self;
+        entries.destroy_empty();
+    }
 }

@@ -1,12 +1,14 @@
 //! The table of a place's seats: what each holds, which are flagged, and how many tickets are open.
 
-ghost use Rattle.std.specs.Prelude.{◌≡◌, ◌+◌, ◌++◌, ◌≤◌, ◌<◌, false, length, replicate, vec_len, IsOk, IfOk, OnOk, OnErr};
+ghost use Rattle.std.specs.Prelude.{◌≡◌, ◌+◌, ◌++◌, ◌≤◌, ◌<◌, false, is_some, length, replicate, count_by, vec_len, IsOk, IfOk, OnOk, OnErr};
 ghost use Rattle.std.specs.Vec.{vec_capacity};
 ghost use Rattle.meet_tickets.specs.BySeat.{put_at, owed_of, settled_of};
 ghost use Rattle.meet_tickets.specs.Limits.{most_seats};
 ghost use Rattle.meet_tickets.specs.declared.lines.Hold.TheVariants.{Free};
 ghost use Rattle.meet_line.specs.Table.{grown};
+ghost use Rattle.meet_line.specs.Left.{left_of_hold, left_at_seats};
 
+use crate::left::{Left, push_left};
 use meet_tickets::{Hold, MOST_SEATS, SeatNo};
 use std::alloc::{AllocError, Global};
 use std::marker::Model;
@@ -165,6 +167,42 @@ impl<T> SeatTable<T> {
     {
         self.settled
     }
+
+    /// How many items the seats hold. It looks at every seat.
+    pub fn left(&self) -> u64
+        ensures value { result ≡ length (left_at_seats self.now.holds) }
+        ensures few { result ≤ most_seats }
+    {
+        items_in(&self.holds) as u64
+    }
+
+    /// Takes the table apart, and puts the items that its seats hold behind the others, by rising seat. The list must have
+    /// room for them: it takes no memory.
+    pub fn into_left(self, left: &mut Vec<Left<T>>)
+        requires { vec_len left.old + length (left_at_seats self.holds) ≤ vec_capacity left.old }
+        ensures items { left.new.items ≡ left.old.items ++ left_at_seats self.holds }
+        ensures capacity { vec_capacity left.new ≡ vec_capacity left.old }
+    {
+        let SeatTable {
+            holds,
+            flags,
+            owed: _,
+            settled: _,
+        } = self;
+        drop(flags);
+        let mut holds = holds.into_iter();
+        while let Some(hold) = holds.next() {
+            push_left(left, Left::of_hold(hold));
+        }
+        holds.destroy_empty();
+    }
+}
+
+/// How many items there are in what seats hold.
+fn items_in<T>(holds: &[Hold<T>]) -> usize
+    ensures { result ≡ count_by (λ hold. is_some (left_of_hold hold)) holds.now }
+{
+    holds.iter().filter(|hold| Left::is_in(*hold)).count()
 }
 
 /// How many seats a table of so many has, once it has grown to more.

@@ -1,8 +1,11 @@
-//! Lines and tables of seats, called from outside: items that a test knows again, room at size, and memory that is refused.
+//! Lines, tables of seats and their meetings, called from outside: items that a test knows again, room at size, memory that is
+//! refused, and what is left.
 #![tactic(auto)]
 
 #[cfg(test)]
 mod growth;
+#[cfg(test)]
+mod leavings;
 #[cfg(test)]
 mod lines;
 #[cfg(test)]

@@ -17,6 +17,8 @@ mod growth;
 #[cfg(test)]
 mod handoffs;
 #[cfg(test)]
+mod leavings;
+#[cfg(test)]
 mod locks;
 #[cfg(test)]
 mod parcels;

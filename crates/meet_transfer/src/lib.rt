@@ -5,5 +5,7 @@
 mod transfer;
 
 pub use meet_calls::{DualAnswer, DualCall, QueueAnswer, QueueCall};
-pub use meet_line::{Followed, Gave, Interrupted, Offered, Polled, Put, TakenBack, Took};
+pub use meet_line::{
+    Followed, Gave, Interrupted, Left, LeftStanding, Offered, Polled, Put, TakenBack, Took,
+};
 pub use transfer::Transfer;

@@ -15,6 +15,7 @@ use std::marker::Model;
 
 mod admitted;
 mod endings;
+mod leaving;
 mod place;
 mod probes;
 

@@ -1,0 +1,30 @@
+//! What is left in a queue, counted and taken out. Neither call takes memory.
+
+ghost use Rattle.std.specs.Prelude.{◌≡◌, ◌≤◌, [], length};
+ghost use Rattle.std.specs.Vec.{vec_capacity};
+ghost use Rattle.meet_line.specs.Left.{left_in};
+
+use crate::dual::Dual;
+use meet_line::{Left, Line};
+use meet_tickets::Marked;
+
+impl<T: Marked, L: Line<T>> Dual<T, L> {
+    /// How many items are left in the queue: those that are offered in the line, and those that were cut or taken and that
+    /// nobody has collected. It looks at every seat.
+    pub fn left(&self) -> u64
+        ensures { result ≡ length (left_in L.end self.now) }
+    {
+        self.meetings.left()
+    }
+
+    /// Takes the queue apart, and takes out the items that are left in it: the line's, in the order in which they would be
+    /// met, and then the seats', rising. These are all the items, each once, with its giver's ticket. The list must have
+    /// room for them (`left` says how many they are): so the call takes no memory, and no item is let go.
+    pub fn into_left(self, empty: Vec<Left<T>>) -> Vec<Left<T>>
+        requires empty { empty.items ≡ [] }
+        requires room { length (left_in L.end self) ≤ vec_capacity empty }
+        ensures { result.items ≡ left_in L.end self }
+    {
+        self.meetings.into_left(empty)
+    }
+}
