@@ -3,6 +3,10 @@
 ghost use Rattle.std.specs.Prelude.{◌≡◌};
 ghost use Rattle.meet_tickets.specs.Refusals.{number_of, name_of};
 
+use std::error::Error;
+use std::fmt;
+use std::fmt::{Debug, Display, Formatter, Write};
+
 /// Each reason for which a call of this workspace is refused. `Differs` to `NoThread` are named for places that aren't here
 /// yet; no call answers them.
 #[derive(Clone, Copy, PartialEq, Eq, Hash, Debug)]
@@ -95,9 +99,55 @@ impl Refusal {
     }
 }
 
-/// A refusal, with what was handed in.
-#[derive(Drop, Debug)]
+/// Its name.
+impl Display for Refusal {
+    ghost use Rattle.std.specs.Prelude.{Some};
+    ghost use Rattle.meet_tickets.specs.Refusals.{name_of};
+
+    ghost output = { λ why. Some (name_of why) };
+
+    fn fmt<W: Write>(&self, f: &mut Formatter<W>) -> fmt::Result {
+        f.write_str(self.name())
+    }
+}
+
+impl Error for Refusal {}
+
+/// A refusal, with what was handed in. A `?` makes it a `Refusal` where the item may be let go: match it to keep the item.
+#[derive(Drop)]
 pub struct Refused<I> {
+    /// Why the call is refused.
     pub why: Refusal,
+    /// What was handed in.
     pub back: I,
+}
+
+/// The name of the reason.
+impl<I> Display for Refused<I> {
+    ghost use Rattle.std.specs.Prelude.{Some};
+    ghost use Rattle.meet_tickets.specs.Refusals.{name_of};
+
+    ghost output = { λ refused. Some (name_of refused.why) };
+
+    fn fmt<W: Write>(&self, f: &mut Formatter<W>) -> fmt::Result {
+        f.write_str(self.why.name())
+    }
+}
+
+/// The reason alone: what comes back need not be one that can be shown.
+impl<I> Debug for Refused<I> {
+    fn fmt<W: Write>(&self, f: &mut Formatter<W>) -> fmt::Result {
+        write!(f, "Refused({})", self.why)
+    }
+}
+
+impl<I: Drop> Error for Refused<I> {}
+
+impl<I: Drop> From<Refused<I>> for Refusal {
+    ghost from_gives = { λ refused why. why ≡ refused.why };
+
+    /// The reason. The item is let go; match the refusal to keep it.
+    fn from(refused: Refused<I>) -> Refusal {
+        refused.why
+    }
 }
