@@ -18,6 +18,7 @@ mod admitted;
 mod endings;
 mod leaving;
 mod place;
+mod probes;
 
 /// A synchronous queue of one thread: over a `FairLine` in fair mode, over a `StackLine` in the default mode.
 #[derive(Drop)]

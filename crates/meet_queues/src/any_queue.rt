@@ -133,8 +133,8 @@ impl AnyQueue {
         ensures { result ≡ size_of self.now.kind.order self.now.queue.line }
     {
         match &self.queue {
-            ByKind::Fair(_) => 0,
-            ByKind::Unfair(_) => 0,
+            ByKind::Fair(queue) => queue.size(),
+            ByKind::Unfair(queue) => queue.size(),
             ByKind::Transfer(queue) => queue.size(),
         }
     }
@@ -144,8 +144,8 @@ impl AnyQueue {
         ensures { result ≡ remaining_of self.now.kind.order }
     {
         match &self.queue {
-            ByKind::Fair(_) => 0,
-            ByKind::Unfair(_) => 0,
+            ByKind::Fair(queue) => queue.remaining_capacity(),
+            ByKind::Unfair(queue) => queue.remaining_capacity(),
             ByKind::Transfer(queue) => queue.remaining_capacity(),
         }
     }
@@ -155,8 +155,8 @@ impl AnyQueue {
         ensures { result ≡ peek_of self.now.kind.order self.now.queue.line }
     {
         match &self.queue {
-            ByKind::Fair(_) => None,
-            ByKind::Unfair(_) => None,
+            ByKind::Fair(queue) => queue.peek_mark(),
+            ByKind::Unfair(queue) => queue.peek_mark(),
             ByKind::Transfer(queue) => queue.peek_mark(),
         }
     }

@@ -10,7 +10,9 @@ impl<T: Marked, L: Line<T>> Dual<T, L> {
     ghost use Rattle.meet_line.specs.Queue.{places_of, admit_refusal};
     ghost use Rattle.meet_line.specs.Steps.{GiveStep, TakeStep, OfferStep, PollStep};
 
-    /// A give that is admitted and has room.
+    /// `SynchronousQueue.put` up to its wait, which can't be refused: the item goes to the taker that is met, or its
+    /// giver goes to the line, or is refused at entry where it is flagged. It asks that `admit` refuses nothing, and
+    /// that there is room.
     pub fn give_admitted(&mut self, seat: SeatNo, item: T) -> Gave<T>
         requires admitted { admit_refusal self.old seat ≡ None }
         requires room { 0 < self.old.room }
@@ -20,7 +22,9 @@ impl<T: Marked, L: Line<T>> Dual<T, L> {
         self.meetings.give_admitted(seat, item)
     }
 
-    /// A take that is admitted and has room.
+    /// `SynchronousQueue.take` up to its wait, which can't be refused: the item comes from the giver that is met, or
+    /// the taker goes to the line, or is refused at entry where it is flagged. It asks that `admit` refuses nothing,
+    /// and that there is room.
     pub fn take_admitted(&mut self, seat: SeatNo) -> Took<T>
         requires admitted { admit_refusal self.old seat ≡ None }
         requires room { 0 < self.old.room }
@@ -30,7 +34,8 @@ impl<T: Marked, L: Line<T>> Dual<T, L> {
         self.meetings.take_admitted(seat)
     }
 
-    /// An offer that is admitted.
+    /// `SynchronousQueue.offer`, which can't be refused: the item goes to the taker that is met, or comes back. It
+    /// asks that `admit` refuses nothing.
     pub fn offer_admitted(&mut self, seat: SeatNo, item: T) -> Offered<T>
         requires { admit_refusal self.old seat ≡ None }
         ensures step { OfferStep T.mark_of L.end self.old item result self.new }
@@ -39,7 +44,8 @@ impl<T: Marked, L: Line<T>> Dual<T, L> {
         self.meetings.offer_admitted(seat, item)
     }
 
-    /// A poll that is admitted.
+    /// `SynchronousQueue.poll`, which can't be refused: the item comes from the giver that is met, if one is there.
+    /// It asks that `admit` refuses nothing.
     pub fn poll_admitted(&mut self, seat: SeatNo) -> Polled<T>
         requires { admit_refusal self.old seat ≡ None }
         ensures step { PollStep T.mark_of L.end self.old result self.new }

@@ -12,7 +12,9 @@ impl<T: Marked, L: Line<T>> Meetings<T, L> {
     ghost use Rattle.meet_line.specs.Queue.{places_of, admit_refusal};
     ghost use Rattle.meet_line.specs.Steps.{GiveStep, PutStep, TakeStep, OfferStep, PollStep};
 
-    /// A give that is admitted and has room.
+    /// `SynchronousQueue.put` or `LinkedTransferQueue.transfer` up to its wait, which can't be refused: the item goes
+    /// to the taker that is met, or its giver goes to the line, or is refused at entry where it is flagged. It asks
+    /// that `admit` refuses nothing, and that there is room.
     pub fn give_admitted(&mut self, seat: SeatNo, item: T) -> Gave<T>
         requires admitted { admit_refusal self.old seat ≡ None }
         requires room { 0 < self.old.room }
@@ -34,7 +36,9 @@ impl<T: Marked, L: Line<T>> Meetings<T, L> {
         }
     }
 
-    /// A put that is admitted and has room.
+    /// `LinkedTransferQueue.put`, which can't be refused: the item goes to the taker that is met, or is kept at the
+    /// line's end, or comes back where as many as the bound are kept. It asks that `admit` refuses nothing, and that
+    /// there is room.
     pub fn put_admitted(&mut self, seat: SeatNo, item: T, bound: Option<u64>) -> Put<T>
         requires admitted { admit_refusal self.old seat ≡ None }
         requires room { 0 < self.old.room }
@@ -52,7 +56,9 @@ impl<T: Marked, L: Line<T>> Meetings<T, L> {
         }
     }
 
-    /// A take that is admitted and has room.
+    /// `BlockingQueue.take` up to its wait, which can't be refused: the item comes from the giver that is met, or the
+    /// taker goes to the line, or is refused at entry where it is flagged. It asks that `admit` refuses nothing, and
+    /// that there is room.
     pub fn take_admitted(&mut self, seat: SeatNo) -> Took<T>
         requires admitted { admit_refusal self.old seat ≡ None }
         requires room { 0 < self.old.room }
@@ -74,7 +80,8 @@ impl<T: Marked, L: Line<T>> Meetings<T, L> {
         }
     }
 
-    /// An offer that is admitted.
+    /// `SynchronousQueue.offer` or `LinkedTransferQueue.tryTransfer`, which can't be refused: the item goes to the
+    /// taker that is met, or comes back. It asks that `admit` refuses nothing.
     pub fn offer_admitted(&mut self, seat: SeatNo, item: T) -> Offered<T>
         requires { admit_refusal self.old seat ≡ None }
         ensures step { OfferStep T.mark_of L.end self.old item result self.new }
@@ -88,7 +95,8 @@ impl<T: Marked, L: Line<T>> Meetings<T, L> {
         }
     }
 
-    /// A poll that is admitted.
+    /// `BlockingQueue.poll`, which can't be refused: the item comes from the giver that is met, if one is there. It
+    /// asks that `admit` refuses nothing.
     pub fn poll_admitted(&mut self, seat: SeatNo) -> Polled<T>
         requires { admit_refusal self.old seat ≡ None }
         ensures step { PollStep T.mark_of L.end self.old result self.new }

@@ -11,7 +11,9 @@ impl<T: Marked> Transfer<T> {
     ghost use Rattle.meet_line.specs.Queue.{places_of, admit_refusal};
     ghost use Rattle.meet_line.specs.Steps.{GiveStep, PutStep, TakeStep, OfferStep, PollStep};
 
-    /// A put that is admitted and has room.
+    /// `LinkedTransferQueue.put`, which can't be refused: the item goes to the taker that is met, or is kept at the
+    /// line's end, or comes back where as many as the bound are kept. It asks that `admit` refuses nothing, and that
+    /// there is room.
     pub fn put_admitted(&mut self, seat: SeatNo, item: T) -> Put<T>
         requires admitted { admit_refusal self.old.queue seat ≡ None }
         requires room { 0 < self.old.queue.room }
@@ -22,7 +24,9 @@ impl<T: Marked> Transfer<T> {
         self.meetings.put_admitted(seat, item, self.bound)
     }
 
-    /// A transfer that is admitted and has room.
+    /// `LinkedTransferQueue.transfer` up to its wait, which can't be refused: the item goes to the taker that is met,
+    /// or its giver goes to the line, or is refused at entry where it is flagged. It asks that `admit` refuses
+    /// nothing, and that there is room.
     pub fn transfer_admitted(&mut self, seat: SeatNo, item: T) -> Gave<T>
         requires admitted { admit_refusal self.old.queue seat ≡ None }
         requires room { 0 < self.old.queue.room }
@@ -33,7 +37,8 @@ impl<T: Marked> Transfer<T> {
         self.meetings.give_admitted(seat, item)
     }
 
-    /// An immediate transfer that is admitted.
+    /// `LinkedTransferQueue.tryTransfer`, which can't be refused: the item goes to the taker that is met, or comes
+    /// back. It asks that `admit` refuses nothing.
     pub fn try_transfer_admitted(&mut self, seat: SeatNo, item: T) -> Offered<T>
         requires { admit_refusal self.old.queue seat ≡ None }
         ensures step { OfferStep T.mark_of Front self.old.queue item result self.new.queue }
@@ -43,7 +48,9 @@ impl<T: Marked> Transfer<T> {
         self.meetings.offer_admitted(seat, item)
     }
 
-    /// A take that is admitted and has room.
+    /// `LinkedTransferQueue.take` up to its wait, which can't be refused: the item comes from the giver that is met,
+    /// or the taker goes to the line, or is refused at entry where it is flagged. It asks that `admit` refuses
+    /// nothing, and that there is room.
     pub fn take_admitted(&mut self, seat: SeatNo) -> Took<T>
         requires admitted { admit_refusal self.old.queue seat ≡ None }
         requires room { 0 < self.old.queue.room }
@@ -54,7 +61,8 @@ impl<T: Marked> Transfer<T> {
         self.meetings.take_admitted(seat)
     }
 
-    /// A poll that is admitted.
+    /// `LinkedTransferQueue.poll`, which can't be refused: the item comes from the giver that is met, if one is
+    /// there. It asks that `admit` refuses nothing.
     pub fn poll_admitted(&mut self, seat: SeatNo) -> Polled<T>
         requires { admit_refusal self.old.queue seat ≡ None }
         ensures step { PollStep T.mark_of Front self.old.queue result self.new.queue }

@@ -1,6 +1,6 @@
 //! What a queue shows of itself, each at constant cost. None of these calls takes memory.
 
-ghost use Rattle.std.specs.Prelude.{◌+◌, ◌≡◌, ◌≤◌, ◌-◌, nat_lt, option_map, slice_get};
+ghost use Rattle.std.specs.Prelude.{◌+◌, ◌≡◌, ◌≤◌, ◌-◌, ◌↔◌, IsTrue, nat_lt, option_map, slice_get};
 ghost use Rattle.std.specs.Option.{option_and_then};
 ghost use Rattle.meet_tickets.specs.Meeting.{waiting_count, kept_count, count_on};
 ghost use Rattle.meet_tickets.specs.BySeat.{open_ticket, owed_of, settled_of};
@@ -18,6 +18,13 @@ impl<T: Marked> Transfer<T> {
         ensures { result ≡ count_on Giver self.now.queue.line }
     {
         self.meetings.givers()
+    }
+
+    /// `LinkedTransferQueue.isEmpty`: whether no giver stands in the line, kept or waiting.
+    pub fn is_empty(&self) -> bool
+        ensures { IsTrue result ↔ (count_on Giver self.now.queue.line ≡ 0) }
+    {
+        self.size() == 0
     }
 
     /// `LinkedTransferQueue.peek`, by its mark: that of the item which stands in the line longest, kept or waiting.
