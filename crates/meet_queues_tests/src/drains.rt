@@ -7,7 +7,7 @@ use meet_book::{Book, Receipt};
 use meet_core::Dual;
 use meet_line::{FairLine, Line, StackLine};
 use meet_queues::{DualAnswer, queue_book, transfer_book};
-use meet_tickets::{Deed, Record};
+use meet_tickets::{Deed, Marked, Record, Refusal, SeatNo};
 use meet_transfer::Transfer;
 use std::alloc::Global;
 use std::process::Abort;
@@ -62,6 +62,16 @@ pub fn are_taken(
     Ok(())
 }
 
+/// A drain lets nothing go: it asks neither of the items nor of the line that they may be.
+fn drained<T: Marked, L: Line<T>>(
+    alloc: Global,
+    book: &mut Book<Dual<T, L>>,
+    seat: SeatNo,
+    most: u64,
+) -> Result<Vec<(DualAnswer<T>, Receipt<Deed>)>, Refusal> {
+    book.drain(alloc, seat, most)
+}
+
 /// A drain of seat 3 from a synchronous queue hands out these parcels.
 fn drains_dual<L: Line<Parcel>>(
     rt: &impl Abort,
@@ -70,7 +80,9 @@ fn drains_dual<L: Line<Parcel>>(
     most: u64,
     rows: &[Taken],
 ) -> Result<(), Fail> {
-    let got = book.drain(alloc, seat(3)?, most).ok().ok_or("refused")?;
+    let got = drained(alloc, book, seat(3)?, most)
+        .ok()
+        .ok_or("refused")?;
     are_taken(rt, got, rows)
 }
 

@@ -1,9 +1,9 @@
 -- A text that is written part by part.
-use Rattle.std.proofs.Common.{◌≡◌, ℕ, ◌+◌, ◌-◌, List, ◌++◌, length, take, drop, Option, Some, None, sym, ap, subst, ◌∙◌, append_assoc, arith, length-drop}
+use Rattle.std.proofs.Common.{◌≡◌, ℕ, ◌+◌, ◌-◌, ◌<◌, List, ◌++◌, length, take, drop, Option, Some, None, sym, ap, subst, ◌∙◌, append_assoc, arith, length-drop, length-take}
 use Rattle.std.specs.Io.KnownBytes.{Appends, Keeps}
 use Rattle.std.proofs.lemmas.List.{take-append-drop, take_all}
 use Rattle.std.proofs.Math.Seq.{take-add}
-use Rattle.meet_run.specs.Writing.{IsFront, AppendsFront}
+use Rattle.meet_run.specs.Writing.{IsFront, AppendsFront, AppendsLess}
 
 -- one part after another is appended
 pub appends-more : (old mid new : Option (List ℕ)) (xs ys : List ℕ) → Appends old mid xs → Appends mid new ys → Appends old new (xs ++ ys)
@@ -21,6 +21,10 @@ appends-kept (Some a) (Some b) (Some c) xs h k = k ∙ h
 
 pub front-at : (old new : Option (List ℕ)) (n : ℕ) (bytes : List ℕ) → Appends old new (take n bytes) → AppendsFront old new bytes
 front-at old new n bytes h = (take n bytes, h, (drop n bytes, sym (take-append-drop n bytes)))
+
+pub less-at : (old new : Option (List ℕ)) (n : ℕ) (bytes : List ℕ) → n < length bytes → Appends old new (take n bytes) → AppendsLess old new bytes
+less-at old new n bytes below h =
+    (take n bytes, h, (drop n bytes, sym (take-append-drop n bytes)), omega (arith, length-take n bytes, below))
 
 -- a write took m bytes of what was left after n
 pub written-more : (old mid new : Option (List ℕ)) (n m : ℕ) (bytes : List ℕ) → Appends old mid (take n bytes) → Appends mid new (take m (take (length bytes - n) (drop n bytes))) → Appends old new (take (n + m) bytes)

@@ -51,6 +51,11 @@ FaultIs ReadFault None = ⊤
 FaultIs WriteFault None = ⊤
 FaultIs _ _ = ⊥
 
+-- a run that no turn was left for: it read nothing more, or had no memory to begin with
+abbrev pub CannotRead : {A : Type 0} → Result A RunFault → Type 0
+CannotRead (Ok a) = ⊥
+CannotRead (Err f) = (f.line ≡ None) × ((f.why ≡ ReadFault) ⊎ (f.why ≡ Memory))
+
 -- what a fault leaves of a text: at a faulty line the whole of what comes before it; of a run that broke off, a front,
 -- and no last line but where a write failed
 abbrev pub FaultEnds : (fault : Option ℕ) → (text output : List ℕ) → Refusal → Option ℕ → (old new : Option (List ℕ)) → Type 0

@@ -4,6 +4,7 @@ ghost use Rattle.std.specs.Prelude.{◌≡◌, ◌+◌, ◌^◌, ◌<◌, ◌≤
 ghost use Rattle.std.specs.Vec.{vec_capacity};
 ghost use Rattle.meet_tickets.specs.declared.refusals.Refusal.TheVariants.{Memory};
 ghost use Rattle.meet_run.specs.Reading.{UsesTurns, EndsInTurns, lines_of};
+ghost use Rattle.meet_run.specs.Running.{CannotRead};
 ghost use Rattle.meet_run.specs.Traces.{records_behind, trace_fault_in, IsTrace, NamesLine, IsVerdict, CheckEnds, IsUnreadTrace, IsTraceFault};
 
 use crate::faults::{RunFault, at_line, cut_short};
@@ -30,6 +31,7 @@ fn read_records<R: Read>(
     ensures records { IfOk result (λ records. IfSome (R.remaining reader.old) (λ rest. records_behind (lines_of rest) ≡ record { items = records.items; fault = None })) }
     ensures bad { IfErr result (λ fault. IfSome (R.remaining reader.old) (λ rest. NamesLine fault (records_behind (lines_of rest)).fault)) }
     ensures uses { UsesTurns (R.remaining reader.old) (R.remaining reader.new) turns.old turns.new }
+    ensures spent { turns.old ≡ 0 → CannotRead result }
     ensures ends { OnOk result (EndsInTurns (R.remaining reader.old) turns.old) }
     ensures faults { IfErr result IsUnreadTrace }
 {
@@ -58,6 +60,7 @@ fn read_trace<R: Read>(
     ensures trace { IfOk result (λ trace. IfSome (R.remaining reader.old) (λ input. IsTrace (lines_of input) trace.0 trace.1.items)) }
     ensures bad { IfErr result (λ fault. IfSome (R.remaining reader.old) (λ input. NamesLine fault (trace_fault_in (lines_of input)))) }
     ensures uses { UsesTurns (R.remaining reader.old) (R.remaining reader.new) turns 0 }
+    ensures spent { turns ≡ 0 → CannotRead result }
     ensures ends { OnOk result (EndsInTurns (R.remaining reader.old) turns) }
     ensures faults { IfErr result IsUnreadTrace }
 {
@@ -114,6 +117,7 @@ pub fn check_trace_within<R: Read, W: Write>(
 ) -> Result<bool, RunFault>
     ensures check { IfSome (R.remaining reader.old) (λ input. CheckEnds (lines_of input) result (W.contents writer.old) (W.contents writer.new)) }
     ensures uses { UsesTurns (R.remaining reader.old) (R.remaining reader.new) turns 0 }
+    ensures spent { turns ≡ 0 → CannotRead result }
     ensures ends { OnOk result (EndsInTurns (R.remaining reader.old) turns) }
     ensures faults { IfErr result IsTraceFault }
 {

@@ -11,7 +11,7 @@ ghost use Rattle.meet_history.specs.Stepping.{Takes, place_of};
 ghost use Rattle.meet_history.specs.Limits.{IsInLimits};
 ghost use Rattle.meet_history.specs.Served.{serves};
 ghost use Rattle.meet_run.specs.Wording.{last_line};
-ghost use Rattle.meet_run.specs.Running.{IsCutShort, IsRunFault, RunsOn, RunEnds};
+ghost use Rattle.meet_run.specs.Running.{CannotRead, IsCutShort, IsRunFault, RunsOn, RunEnds};
 ghost use Rattle.meet_run.specs.Writing.{AppendsFront};
 
 use crate::faults::{RunFault, at_line, cut_short};
@@ -87,6 +87,7 @@ fn run_calls<R: Read, W: Write>(
     requires turns { turns.old + 1 < 2 ^ 64 }
     ensures script { IfSome (R.remaining reader.old) (λ rest. RunsOn setup rest result (W.contents writer.old) (W.contents writer.new)) }
     ensures uses { UsesTurns (R.remaining reader.old) (R.remaining reader.new) turns.old turns.new }
+    ensures spent { turns.old ≡ 0 → CannotRead result }
     ensures ends { OnOk result (EndsInTurns (R.remaining reader.old) turns.old) }
     ensures faults { IfErr result IsRunFault }
 {
@@ -131,6 +132,7 @@ pub fn run_script_within<R: Read, W: Write>(
     ensures script { IfSome (R.remaining reader.old) (λ input.
         RunEnds (fault_of input) (text_before input) (output_of input) result (W.contents writer.old) (W.contents writer.new)) }
     ensures uses { UsesTurns (R.remaining reader.old) (R.remaining reader.new) turns 0 }
+    ensures spent { turns ≡ 0 → CannotRead result }
     ensures ends { OnOk result (EndsInTurns (R.remaining reader.old) turns) }
     ensures faults { IfErr result IsRunFault }
 {

@@ -6,7 +6,7 @@ ghost use Rattle.std.specs.List.{flat_map};
 ghost use Rattle.std.specs.Vec.{vec_capacity};
 ghost use Rattle.meet_history.specs.Limits.{IsInLimits};
 ghost use Rattle.meet_run.specs.Reading.{UsesTurns, EndsInTurns, lines_of};
-ghost use Rattle.meet_run.specs.Running.{IsCutShort, IsRunFault, RunEnds};
+ghost use Rattle.meet_run.specs.Running.{CannotRead, IsCutShort, IsRunFault, RunEnds};
 ghost use Rattle.meet_run.specs.Script.{fault_of};
 ghost use Rattle.meet_run.specs.TraceWording.{record_line, trace_text};
 ghost use Rattle.meet_run.specs.Traces.{trace_of, LeavesRecords, TracesOn, IsUnread};
@@ -149,6 +149,7 @@ pub fn run_trace_within<R: Read, W: Write>(
     ensures trace { IfSome (R.remaining reader.old) (λ input.
         RunEnds (fault_of input) (trace_of input) (trace_of input) result (W.contents writer.old) (W.contents writer.new)) }
     ensures uses { UsesTurns (R.remaining reader.old) (R.remaining reader.new) turns 0 }
+    ensures spent { turns ≡ 0 → CannotRead result }
     ensures ends { OnOk result (EndsInTurns (R.remaining reader.old) turns) }
     ensures faults { IfErr result IsRunFault }
 {

@@ -1,5 +1,5 @@
 use Rattle.std.proofs.Common.{◌+◌, arith}
-use Rattle.meet_run.proofs.WritingLemmas.{appends-kept, front-at, written-more}
+use Rattle.meet_run.proofs.WritingLemmas.{appends-kept, front-at, less-at, written-more}
 use Rattle.meet_run.proofs.output.write_whole.Goals as goal
 
 pub loop-written-preserved : goal.loop-written-preserved
@@ -20,3 +20,16 @@ returns-in-Err-clause-front g c =
     let old = g.W.Write.contents c.args.writer.now in
     let new = g.W.Write.contents c.write.new.self in
     front-at old new c.loop-written.written c.args.bytes.now (appends-kept old (g.W.Write.contents c.loop-written.writer) new _ c.loop-written.invariant.text c.in-Err.ensures.bytes)
+
+pub returns-in-Ok-eq0-clause-less : goal.returns-in-Ok-eq0-clause-less
+returns-in-Ok-eq0-clause-less g c =
+    let old = g.W.Write.contents c.args.writer.now in
+    let new = g.W.Write.contents c.write.new.self in
+    let text = written-more old (g.W.Write.contents c.loop-written.writer) new c.loop-written.written c.in-Ok-eq0.field-0 c.args.bytes.now c.loop-written.invariant.text c.in-Ok-eq0.ensures.bytes in
+    less-at old new (c.loop-written.written + c.in-Ok-eq0.field-0) c.args.bytes.now (omega (arith, c.loop-written-test.true, c.in-Ok-eq0.eq0)) text
+
+pub returns-in-Err-clause-less : goal.returns-in-Err-clause-less
+returns-in-Err-clause-less g c =
+    let old = g.W.Write.contents c.args.writer.now in
+    let new = g.W.Write.contents c.write.new.self in
+    less-at old new c.loop-written.written c.args.bytes.now c.loop-written-test.true (appends-kept old (g.W.Write.contents c.loop-written.writer) new _ c.loop-written.invariant.text c.in-Err.ensures.bytes)
