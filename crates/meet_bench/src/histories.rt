@@ -45,7 +45,7 @@ fn check_once(alloc: Global, kind: Kind, records: &[Record<Deed>]) -> Result<Sta
 {
     match check(alloc, kind, records) {
         Ok(standing) => Ok(standing),
-        Err(CheckFault::Illegal(_, _)) => unreachable!(),
+        Err(CheckFault::Illegal { place: _, why: _ }) => unreachable!(),
         Err(CheckFault::Memory) => Err(Refusal::Memory),
     }
 }

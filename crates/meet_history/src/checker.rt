@@ -37,7 +37,7 @@ pub enum Why {
 #[derive(Clone, Copy, PartialEq, Eq, Debug)]
 pub enum CheckFault {
     /// The record of this number, from 1, is the first that can't stand, for this reason.
-    Illegal(u64, Why),
+    Illegal { place: u64, why: Why },
     /// Memory was wanted and not there.
     Memory,
 }
@@ -232,16 +232,16 @@ pub fn check(alloc: Global, kind: Kind, records: &[Record<Deed>]) -> Result<Stan
         Ok(checker) => checker,
         Err(_) => return Err(CheckFault::Memory),
     };
-    let mut number = 0u64;
+    let mut place = 0u64;
     for entry in records {
-        number += 1;
+        place += 1;
         match checker.reserve(entry) {
             Ok(()) => {}
             Err(_) => return Err(CheckFault::Memory),
         }
         match checker.next(*entry) {
             Ok(()) => {}
-            Err(why) => return Err(CheckFault::Illegal(number, why)),
+            Err(why) => return Err(CheckFault::Illegal { place, why }),
         }
     }
     Ok(checker.standing())

@@ -9,6 +9,7 @@ pub use meet_book::{Bases, Book, Drains, Object, Receipt};
 pub use meet_queues::{
     AnyQueue, DualAnswer, DualCall, QueueAnswer, QueueCall, queue_book, transfer_book,
 };
+pub use meet_tickets::{Kind, Order};
 pub use one_thread::{
-    Answer, Call, Outcome, Reply, Setup, Stepper, Verb, one_thread_is_recorded, run_all,
+    Answer, Call, Outcome, Reply, Setup, Stepper, Verb, is_served, one_thread_is_recorded, run_all,
 };

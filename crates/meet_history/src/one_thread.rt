@@ -12,4 +12,4 @@ pub use laws::one_thread_is_recorded;
 pub use replies::{Answer, Outcome, Reply};
 pub use setup::Setup;
 pub use stepper::Stepper;
-pub use verbs::{Call, Verb};
+pub use verbs::{Call, Verb, is_served};

@@ -91,7 +91,7 @@ fn verdict(alloc: Global, kind: Kind, records: &[Record<Deed>]) -> Result<(bool,
             Ok(()) => Ok((true, text)),
             Err(_) => Err(Refusal::Memory),
         },
-        Err(CheckFault::Illegal(number, why)) => match push_illegal(&mut text, number, why) {
+        Err(CheckFault::Illegal { place, why }) => match push_illegal(&mut text, place, why) {
             Ok(()) => Ok((false, text)),
             Err(_) => Err(Refusal::Memory),
         },

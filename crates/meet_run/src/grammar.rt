@@ -1,23 +1,15 @@
 //! What the lines of a script say.
 
 ghost use Rattle.std.specs.Prelude.{◌≡◌, IfSome};
-ghost use Rattle.meet_history.specs.Served.{serves};
 ghost use Rattle.meet_run.specs.Spelling.{FitsCall};
 ghost use Rattle.meet_run.specs.Grammar.{seat_of, bare_verb_of, interrupt_of, numbered_verb_of, verb_of, verb_behind, call_in, served_call, call_of};
 
 use crate::words::{read_number, split_word};
-use meet_history::{Call, Verb};
+use meet_history::{Call, Verb, is_served};
 use meet_tickets::{Order, SeatNo};
 
 /// The most bytes of a line.
 pub const LONGEST_LINE: usize = 128;
-
-/// Whether a place of this order serves the verb.
-pub fn is_served(order: Order, verb: Verb) -> bool
-    ensures { result ≡ serves order verb }
-{
-    order.keeps() || !matches!(verb, Verb::Transfer(_) | Verb::Try(_) | Verb::Consumers)
-}
 
 /// The verb of a word that stands alone.
 #[tactic(auto, unfolding(crate::specs::Grammar::bare_verb_of))]

@@ -1,6 +1,9 @@
 //! The calls of a script.
 
-use meet_tickets::SeatNo;
+ghost use Rattle.std.specs.Prelude.{◌≡◌};
+ghost use Rattle.meet_history.specs.Served.{serves};
+
+use meet_tickets::{Order, SeatNo};
 
 /// A call: which seat makes it, and what it asks.
 #[derive(Clone, Copy, PartialEq, Eq, Debug)]
@@ -42,4 +45,12 @@ pub enum Verb {
     Peek,
     /// `LinkedTransferQueue.getWaitingConsumerCount`.
     Consumers,
+}
+
+/// Whether a place of this order serves the verb: a transfer queue serves all, a synchronous queue all but those that
+/// `LinkedTransferQueue` alone has.
+pub fn is_served(order: Order, verb: Verb) -> bool
+    ensures { result ≡ serves order verb }
+{
+    order.keeps() || !matches!(verb, Verb::Transfer(_) | Verb::Try(_) | Verb::Consumers)
 }

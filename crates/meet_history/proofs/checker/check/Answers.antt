@@ -17,7 +17,7 @@ returns-in-Err-next-clause-fault c =
     let kind = c.reserve.ensures.kind ∙ before.kind in
     let moment = c.reserve.ensures.moment ∙ before.moment in
     let faulty = subst (λ k. IsFaulty k (moment_of c.args.kind beginning (take c.loop-entry.entry-index c.args.records.now)) c.entry-item.result c.in-Err-next.why) kind (subst (λ m. IsFaulty c.reserve.new.self.kind m c.entry-item.result c.in-Err-next.why) moment c.in-Err-next.ensures.faulty) in
-    rw before.number (illegal-at c.args.kind c.args.records.now c.loop-entry.entry-index c.entry-item.result c.in-Err-next.why c.loop-entry-test.true c.entry-item.is before.legal faulty)
+    rw before.place (illegal-at c.args.kind c.args.records.now c.loop-entry.entry-index c.entry-item.result c.in-Err-next.why c.loop-entry-test.true c.entry-item.is before.legal faulty)
 
 pub loop-entry-preserved : goal.loop-entry-preserved
 loop-entry-preserved c =
@@ -29,7 +29,7 @@ loop-entry-preserved c =
       kind = c.next.ensures.kind ∙ kind;
       moment = next.moment;
       legal = next.legal;
-      number = ap (λ n. n + 1) before.number;
+      place = ap (λ n. n + 1) before.place;
     }
 
 pub returns-clause-legal : goal.returns-clause-legal

@@ -9,5 +9,5 @@ invariant-loop-entry l = record {
   kind : l.checker.kind ≡ l.fn.kind;
   moment : moment_at l.checker ≡ moment_of l.fn.kind beginning (take l.entry-index l.records);
   legal : IsLegalBySeat l.fn.kind (take l.entry-index l.records);
-  number : l.number ≡ l.entry-index;
+  place : l.place ≡ l.entry-index;
 }
