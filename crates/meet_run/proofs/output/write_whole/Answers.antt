@@ -26,7 +26,7 @@ returns-in-Ok-eq0-clause-less g c =
     let old = g.W.Write.contents c.args.writer.now in
     let new = g.W.Write.contents c.write.new.self in
     let text = written-more old (g.W.Write.contents c.loop-written.writer) new c.loop-written.written c.in-Ok-eq0.field-0 c.args.bytes.now c.loop-written.invariant.text c.in-Ok-eq0.ensures.bytes in
-    less-at old new (c.loop-written.written + c.in-Ok-eq0.field-0) c.args.bytes.now (omega (arith, c.loop-written-test.true, c.in-Ok-eq0.eq0)) text
+    less-at old new (c.loop-written.written + c.in-Ok-eq0.field-0) c.args.bytes.now (omega (arith, c.loop-written-test.true, c.in-Ok-eq0.field-0-is)) text
 
 pub returns-in-Err-clause-less : goal.returns-in-Err-clause-less
 returns-in-Err-clause-less g c =
