@@ -1,0 +1,75 @@
+//! The synchronous queue: a parcel goes from one seat to another.
+
+ghost use Rattle.std.specs.Prelude.{◌≡◌, ◌↔◌, None, IsNone, IfOk};
+ghost use Rattle.std.specs.Option.{option_and_then};
+ghost use Rattle.meet_tickets.specs.Meeting.{partner};
+ghost use Rattle.meet_tickets.specs.declared.places.Side.TheVariants.{Taker};
+
+use crate::parcels::Parcel;
+use crate::telling::{
+    tell_back, tell_followed, tell_gave, tell_interrupted, tell_taken, tell_took,
+};
+use anyhow::Result;
+use meet_core::Dual;
+use meet_line::{FairLine, Line, Polled};
+use meet_tickets::{Refusal, SeatNo};
+
+/// `SynchronousQueue.poll` of this seat: the parcel of the giver that is met, or none where nobody is met. It refuses
+/// what `Dual::poll` does.
+pub fn take_now<L: Line<Parcel>>(
+    queue: &mut Dual<Parcel, L>,
+    seat: SeatNo,
+) -> Result<Option<Parcel>, Refusal>
+    ensures came { IfOk result (λ taken. taken ≡ option_and_then (λ e. e.item) (partner L.end queue.old.line Taker)) }
+    ensures nobody { IfOk result (λ taken. IsNone taken ↔ (partner L.end queue.old.line Taker ≡ None)) }
+{
+    match queue.poll(seat)? {
+        Polled::Meets(_, _, parcel) => Ok(Some(parcel)),
+        Polled::Fails(_) => Ok(None),
+    }
+}
+
+/// One seat gives a parcel, another takes it, and the first is told so. Then it gives another, and takes that one back.
+pub fn hand_over(rt: &HostRuntime, seat_0: SeatNo, seat_1: SeatNo) -> Result<()> {
+    let alloc = rt.alloc();
+    let item = Parcel {
+        mark: 5,
+        grams: 250,
+    };
+    let mut queue: Dual<Parcel, FairLine<Parcel>> = Dual::new(alloc, 3, 1)?; // seats 0 to 2, first ticket 1
+    let gave = queue.give(seat_0, item)?; // Gave::Waits(ticket), Gave::Meets(ticket, with), ..
+    let ticket = tell_gave(rt, gave)?;
+    let took = queue.take(seat_1)?; // Took::Meets(ticket, with, item), Took::Waits(ticket), ..
+    tell_took(rt, took)?;
+    let followed = queue.follow_up(seat_0, ticket)?; // Followed::Done, Followed::Got(with, item), ..
+    tell_followed(rt, followed)?;
+    let gave = queue.give(
+        seat_0,
+        Parcel {
+            mark: 6,
+            grams: 250,
+        },
+    )?;
+    let ticket = tell_gave(rt, gave)?;
+    let back = queue.cancel(seat_0, ticket)?; // TakenBack::Back(Some(item)), TakenBack::Late, ..
+    tell_back(rt, back)?;
+    let struck = queue.interrupt(seat_0)?; // Interrupted::Cut(ticket), Interrupted::Flagged
+    tell_interrupted(rt, struck)
+}
+
+/// A seat polls twice: where nobody gives, and where another seat does.
+pub fn poll_twice(rt: &HostRuntime, seat_0: SeatNo, seat_1: SeatNo) -> Result<()> {
+    let mut queue: Dual<Parcel, FairLine<Parcel>> = Dual::new(rt.alloc(), 3, 1)?;
+    let taken = take_now(&mut queue, seat_1)?;
+    tell_taken(rt, taken)?;
+    let gave = queue.give(
+        seat_0,
+        Parcel {
+            mark: 7,
+            grams: 250,
+        },
+    )?;
+    tell_gave(rt, gave)?;
+    let taken = take_now(&mut queue, seat_1)?;
+    tell_taken(rt, taken)
+}

@@ -1,0 +1,74 @@
+//! A book of a synchronous queue of parcels: each step has its record.
+
+ghost use Rattle.std.specs.Prelude.{◌≡◌, ◌↔◌, None, IsNone, IfOk, IfSome, option_map};
+ghost use Rattle.std.specs.Option.{option_and_then};
+ghost use Rattle.meet_tickets.specs.Meeting.{partner};
+ghost use Rattle.meet_tickets.specs.declared.places.Side.TheVariants.{Taker};
+ghost use Rattle.meet_uses.specs.Named.{Names};
+
+use crate::parcels::Parcel;
+use anyhow::Result;
+use meet_book::{Book, Receipt};
+use meet_calls::{DualAnswer, DualCall};
+use meet_core::Dual;
+use meet_line::{FairLine, Line, Polled};
+use meet_queues::queue_book;
+use meet_tickets::{Deed, Refusal, SeatNo};
+
+/// `SynchronousQueue.poll` of this seat, on record: the parcel of the giver that is met, and the receipt for the record
+/// that names it, or none where nobody is met. It refuses what `Book::step` does.
+pub fn take_on_record<L: Line<Parcel>>(
+    book: &mut Book<Dual<Parcel, L>>,
+    seat: SeatNo,
+) -> Result<Option<(Parcel, Receipt<Deed>)>, Refusal>
+    ensures came { IfOk result (λ made. option_map (λ taken. taken.0) made
+        ≡ option_and_then (λ e. e.item) (partner L.end book.old.object.line Taker)) }
+    ensures nobody { IfOk result (λ made. IsNone made ↔ (partner L.end book.old.object.line Taker ≡ None)) }
+    ensures named { IfOk result (λ made. IfSome made (λ taken. Names seat taken.0 taken.1.entry)) }
+{
+    let (answer, receipt) = book.step(seat, DualCall::Poll)?;
+    let Some(receipt) = receipt else {
+        unreachable!()
+    };
+    match answer {
+        DualAnswer::Polled(polled) => match polled {
+            Polled::Meets(_, _, parcel) => Ok(Some((parcel, receipt))),
+            Polled::Fails(_) => Ok(None),
+        },
+        _ => unreachable!(),
+    }
+}
+
+/// One seat gives a parcel, and another polls it; a third gives one, which is drained. Each step has its record.
+pub fn keep_book(rt: &HostRuntime, seat_0: SeatNo, seat_1: SeatNo, seat_2: SeatNo) -> Result<()> {
+    let alloc = rt.alloc();
+    let item = Parcel {
+        mark: 11,
+        grams: 250,
+    };
+    let mut book: Book<Dual<Parcel, FairLine<Parcel>>> = queue_book(alloc, 3, 1, 1_000)?; // at most 1,000 records
+    let (_, receipt) = book.step(seat_0, DualCall::Give(item))?; // DualAnswer::Gave(..), Some(receipt)
+    let receipt = receipt.ok_or(Refusal::HistoryFull)?; // receipt.place(), its number, and receipt.entry()
+    println!(rt;
+        "record {} of t{}",
+        receipt.place(),
+        receipt.entry().ticket.number()
+    )?;
+    if let Some((parcel, receipt)) = take_on_record(&mut book, seat_1)? {
+        println!(rt; "record {} brought {}", receipt.place(), parcel.mark)?;
+    }
+    let _ = book.step(
+        seat_2,
+        DualCall::Give(Parcel {
+            mark: 12,
+            grams: 250,
+        }),
+    )?;
+    let taken = book.drain(alloc, seat_1, 10)?; // up to ten items, an answer and a receipt for each
+    println!(rt; "drained {}", taken.len())?;
+    let records = book.records(); // the records since the book was cut last
+    println!(rt; "{} records", records.len())?;
+    let gone = book.cut()?; // folds them into book.base(): a book never fills for good
+    println!(rt; "{gone} folded away, {} left", book.records().len())?;
+    Ok(())
+}
