@@ -1,9 +1,10 @@
 //! The calls of one thread, all at once, and checks of what they write.
 
 use meet_history::{
-    Answer, Call, CheckFault, Outcome, Reply, Setup, Standing, Verb, Why, check, run_all,
+    Answer, Call, CheckFault, Kind, Order, Outcome, Reply, Setup, Standing, Verb, Why, check,
+    is_served, run_all,
 };
-use meet_tickets::{Deed, Kind, Order, Record, SeatNo, Ticket};
+use meet_tickets::{Deed, Record, SeatNo, Ticket};
 use std::test::Fail;
 
 pub fn seat(number: u64) -> Result<SeatNo, Fail> {
@@ -95,9 +96,26 @@ fn whom_a_taker_meets(rt: HostRuntime) -> Result<(), Fail> {
         uncollected: 1,
         kept: 0,
     };
-    let illegal = CheckFault::Illegal(3, Why::WrongReply);
+    let illegal = CheckFault::Illegal {
+        place: 3,
+        why: Why::WrongReply,
+    };
     assert_eq!(rt; check(rt.alloc(), fair, &records), Err(illegal));
     assert_eq!(rt; check(rt.alloc(), unfair, &records), Ok(standing));
+    Ok(())
+}
+
+#[test]
+fn what_a_place_serves(rt: HostRuntime) -> Result<(), Fail> {
+    let fair = Kind {
+        order: Order::Fair,
+        bound: None,
+    };
+    let setup = Setup::new(fair, 64, 1, 1_000).ok_or("out of its limits")?;
+    assert!(rt; setup.kind == fair && setup.seats == 64 && setup.first == 1 && setup.cap == 1_000);
+    assert!(rt; Setup::new(fair, 65_537, 1, 1_000).is_none());
+    assert!(rt; is_served(setup.kind.order, Verb::Drain(3)));
+    assert!(rt; !is_served(setup.kind.order, Verb::Consumers));
     Ok(())
 }
 
