@@ -30,6 +30,14 @@ fn counts(rt: &impl Abort, queue: &Fair, wanted: [u64; 6]) {
     assert_eq!(rt; numbers, wanted);
 }
 
+/// A synchronous queue shows no item, whoever waits.
+fn shows_none(rt: &impl Abort, queue: &Fair) {
+    assert!(rt; queue.is_empty());
+    assert_eq!(rt; queue.size(), 0);
+    assert_eq!(rt; queue.remaining_capacity(), 0);
+    assert_eq!(rt; queue.peek_mark(), None);
+}
+
 /// The queue's seats 0 and 2 have these open tickets.
 fn opens(rt: &impl Abort, queue: &Fair, wanted: [Option<u64>; 2]) -> Result<(), Fail> {
     let tickets = [
@@ -51,6 +59,7 @@ fn of_a_synchronous_queue(rt: HostRuntime) -> Result<(), Fail> {
     ];
     plays(&rt, &mut queue, &rows)?;
     counts(&rt, &queue, [65_536, 2, 1, 1, 1, 5]);
+    shows_none(&rt, &queue);
     opens(&rt, &queue, [Some(FIRST), None])
 }
 
@@ -80,6 +89,7 @@ fn looks(
     bound: Option<u64>,
 ) {
     assert_eq!(rt; queue.peek_mark(), mark);
+    assert_eq!(rt; queue.is_empty(), mark.is_none());
     assert_eq!(rt; queue.has_waiting_consumer(), taker);
     assert_eq!(rt; queue.remaining_capacity(), 2147483647);
     assert_eq!(rt; queue.bound(), bound);
