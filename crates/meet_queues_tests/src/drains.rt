@@ -80,9 +80,7 @@ fn drains_dual<L: Line<Parcel>>(
     most: u64,
     rows: &[Taken],
 ) -> Result<(), Fail> {
-    let got = drained(alloc, book, seat(3)?, most)
-        .ok()
-        .ok_or("refused")?;
+    let got = drained(alloc, book, seat(3)?, most).ok().ok_or("refused")?;
     are_taken(rt, got, rows)
 }
 

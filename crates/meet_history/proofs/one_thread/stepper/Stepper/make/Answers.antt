@@ -50,7 +50,7 @@ returns-in-Err-clause-enough c =
     let most = most-needed (dual_call call) in
     rw (← c.self.view_is) (λ room. has-reply c.refused_unless_memory.result why c.refused_unless_memory.ensures.memory
     (λ is. (let no : false ≡ true = c.in-Err.ensures.enough (omega (arith, room.records, most.0)) (omega (arith, room.line, most.1))
-        (memory-alone book.object.queue c.args.seat (dual_call call) (nat_lt book.cap (length book.records + dual_owed book.object.queue + dual_need (dual_call call))) why needs c.in-Err.ensures.why is) in cc)))
+    (memory-alone book.object.queue c.args.seat (dual_call call) (nat_lt book.cap (length book.records + dual_owed book.object.queue + dual_need (dual_call call))) why needs c.in-Err.ensures.why is) in cc)))
 
 pub invariant_of-self-2 : goal.invariant_of-self-2
 invariant_of-self-2 c =
