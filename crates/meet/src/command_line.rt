@@ -34,8 +34,8 @@ pub enum Task {
     Check,
 }
 
-/// Reads the words of a command line, the program's name first: none, `run`, `run --trace` or `check`. The error has the
-/// text to show; a request for help or for the version is one.
+/// Reads the words of a command line, the program's name first: none, `run`, `run --trace` or `check`. The error has
+/// the text to show; a request for help or for the version is one.
 pub fn task_of(alloc: Global, words: &[String]) -> Result<Task, Error> {
     let trace = Arg::new(alloc, "trace")
         .long("trace")

@@ -1,5 +1,5 @@
-//! The program `meet`: a script of calls on standard input, their replies or their trace on standard output; or a trace on
-//! standard input, what is found of it on standard output.
+//! The program `meet`: a script of calls on standard input, their replies or their trace on standard output; or a
+//! trace on standard input, what is found of it on standard output.
 #![tactic(auto)]
 
 ghost use Rattle.std.specs.Prelude.{◌≡◌, IfSome};
@@ -37,7 +37,8 @@ fn perform<R: Read, W: Write>(
     writer: &mut W,
     task: Task,
 ) -> Result<bool, RunFault>
-    ensures { IfSome (R.remaining reader.old) (λ input. Performs task input result (W.contents writer.old) (W.contents writer.new)) }
+    ensures { IfSome (R.remaining reader.old) (λ input.
+        Performs task input result (W.contents writer.old) (W.contents writer.new)) }
 {
     match task {
         Task::Run => run_script(alloc, reader, writer),

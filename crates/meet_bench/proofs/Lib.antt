@@ -1,4 +1,4 @@
 pub mod AskedLemmas
-pub mod Fronts
+pub mod Prefixes
 pub mod Served
 pub mod TaskLemmas

@@ -1,5 +1,6 @@
 -- What a text asks for, and what comes of it.
-use Rattle.std.specs.Prelude.{◌≡◌, ◌⊎◌, ℕ, Bool, Option, Some, None, IfSome, MatchOption, Result, Ok, Err, List, [], ◌∷◌}
+use Rattle.std.specs.Prelude.{◌≡◌, ◌⊎◌, ℕ, Bool, Option, Some, None, IfSome, MatchOption, Result, Ok, Err, List, []}
+use Rattle.std.specs.Prelude.{◌∷◌}
 use Rattle.std.specs.Option.{option_map_or}
 use Rattle.meet_tickets.specs.declared.refusals.Refusal.TheVariants.{Memory, BadLine, ReadFault}
 use Rattle.meet_history.specs.declared.one_thread.setup.Setup.{Setup}
@@ -11,9 +12,10 @@ use Rattle.meet_bench.specs.declared.tasks.Task.{Task}
 use Rattle.meet_bench.specs.Findings.{finding_of, finding_text}
 use Rattle.meet_bench.specs.Tasks.{task_of}
 
--- what lines say by the first of them, which has this number, and then by the others; or that number, where there is none or
--- it reads as nothing
-unfoldable pub first_then : {A B : Type 0} → (reading : List ℕ → Option A) → (n : ℕ) → (others : A → List (List ℕ) → Result B ℕ) → List (List ℕ) → Result B ℕ
+-- what lines say by the first of them, which has this number, and then by the others; or that number, where there is
+-- none or it reads as nothing
+unfoldable pub first_then : {A B : Type 0} → (reading : List ℕ → Option A) → (n : ℕ)
+    → (others : A → List (List ℕ) → Result B ℕ) → List (List ℕ) → Result B ℕ
 first_then reading n others [] = Err n
 first_then reading n others (line ∷ lines) = option_map_or (λ a. others a lines) (reading line) (Err n)
 
@@ -30,8 +32,10 @@ task_asked setup = first_then task_of 2 (λ task. at_end 3 (setup, task))
 abbrev pub asked_in : List (List ℕ) → Result (Setup × Task) ℕ
 asked_in = first_then setup_of 1 task_asked
 
--- what was read of an input: what its lines say; the line at fault; or nothing, where a read failed or there was no memory
-abbrev pub IsAsked : {B : Type 0} → (List (List ℕ) → Result B ℕ) → Result B RunFault → (input : Option (List ℕ)) → Type 0
+-- what was read of an input: what its lines say; the line at fault; or nothing, where a read failed or there was no
+-- memory
+abbrev pub IsAsked : {B : Type 0} → (List (List ℕ) → Result B ℕ) → Result B RunFault → (input : Option (List ℕ))
+    → Type 0
 IsAsked asked (Ok b) input = IfSome input (λ text. asked (lines_of text) ≡ Ok b)
 IsAsked asked (Err fault) input =
     MatchOption fault.line ((fault.why ≡ ReadFault) ⊎ (fault.why ≡ Memory))

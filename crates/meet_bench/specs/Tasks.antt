@@ -1,6 +1,7 @@
--- What a task's line says (our choice): its shape, and how many wait, calls, runs and checks there are, each 1 where it isn't
--- spelled out.
-use Rattle.std.specs.Prelude.{ℕ, ◌≤◌, nat_lt, Option, Some, None, unwrap_or, List, [], ◌∷◌, length, codes, if◌then◌else◌}
+-- What a task's line says (our choice): its shape, and how many wait, calls, runs and checks there are, each 1 where
+-- it isn't spelled out.
+use Rattle.std.specs.Prelude.{ℕ, ◌≤◌, nat_lt, Option, Some, None, unwrap_or, List, [], ◌∷◌, length, codes}
+use Rattle.std.specs.Prelude.{if◌then◌else◌}
 use Rattle.std.specs.Option.{option_map}
 use Rattle.std.specs.Str.{bytes_eq}
 use Rattle.meet_tickets.specs.Limits.{most_records}
@@ -39,7 +40,8 @@ task_with shape rest = do
   calls ← number_in (codes " calls ") most_records waiting.1
   runs ← number_in (codes " runs ") 1000 calls.1
   checks ← number_in (codes " checks ") 1000 runs.1
-  task_at_end (record { shape = shape; waiting = waiting.0; calls = calls.0; runs = runs.0; checks = checks.0 }) checks.1
+  task_at_end (record { shape = shape; waiting = waiting.0; calls = calls.0; runs = runs.0; checks = checks.0 })
+      checks.1
 
 -- the task of a line, however long
 unfoldable pub task_in : (line : List ℕ) → Option Task

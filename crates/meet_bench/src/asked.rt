@@ -69,8 +69,8 @@ fn task_behind<R: Read>(
     }
 }
 
-/// Reads what a text asks for within so many turns, or says why it can't: the number of the first line at fault, ReadFault
-/// where a read failed, Memory where there was none for a line.
+/// Reads what a text asks for within so many turns, or says why it can't: the number of the first line at fault,
+/// ReadFault where a read failed, Memory where there was none for a line.
 pub fn read_asked<R: Read>(
     alloc: Global,
     reader: &mut R,

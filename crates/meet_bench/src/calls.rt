@@ -2,7 +2,8 @@
 
 ghost use Rattle.std.specs.Prelude.{◌≡◌, ◌≤◌, ◌<◌, All, IsTrue, IfOk};
 ghost use Rattle.meet_history.specs.Served.{serves_synchronous, serves};
-ghost use Rattle.meet_bench.specs.Calls.{seat_at, chance, giver_met, round_call, meeting_call, again_call, withdrawal_call, call_of, calls_of};
+ghost use Rattle.meet_bench.specs.Calls.{seat_at, chance, giver_met, round_call, meeting_call, again_call};
+ghost use Rattle.meet_bench.specs.Calls.{withdrawal_call, call_of, calls_of};
 
 use crate::tasks::Shape;
 use meet_history::{Call, Verb};

@@ -67,8 +67,8 @@ fn check_records(
     check_once(alloc, kind, records)
 }
 
-/// Makes these calls on a place of this setup, `runs` times, and checks what they write, `checks` times, each at least once.
-/// The only refusal is Memory.
+/// Makes these calls on a place of this setup, `runs` times, and checks what they write, `checks` times, each at
+/// least once. The only refusal is Memory.
 fn find_history(
     alloc: Global,
     setup: Setup,

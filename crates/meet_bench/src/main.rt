@@ -1,5 +1,5 @@
-//! The program `meet_bench`: a place and a task on standard input, what is found of it on standard output. It has no clock:
-//! whoever runs it measures the time.
+//! The program `meet_bench`: a place and a task on standard input, what is found of it on standard output. It has no
+//! clock: whoever runs it measures the time.
 #![tactic(auto)]
 
 ghost use Rattle.std.specs.Prelude.{◌≡◌, [], IfSome};
@@ -40,7 +40,8 @@ fn find_and_tell<W: Write>(
 ) -> Result<bool, RunFault>
     requires limits { IsInLimits setup }
     requires task { FitsTask task }
-    ensures { RunEnds None [] (finding_text (finding_of setup task)) result (W.contents writer.old) (W.contents writer.new) }
+    ensures { RunEnds None [] (finding_text (finding_of setup task)) result (W.contents writer.old)
+        (W.contents writer.new) }
 {
     let finding = match perform(alloc, setup, task) {
         Ok(finding) => finding,
@@ -58,7 +59,8 @@ fn find_and_tell<W: Write>(
 
 /// Does what a text asks for, and writes the line of what is found. The answer is true.
 fn run<R: Read, W: Write>(alloc: Global, reader: &mut R, writer: &mut W) -> Result<bool, RunFault>
-    ensures { IfSome (R.remaining reader.old) (λ text. RunsTask text result (W.contents writer.old) (W.contents writer.new)) }
+    ensures { IfSome (R.remaining reader.old) (λ text.
+        RunsTask text result (W.contents writer.old) (W.contents writer.new)) }
 {
     match read_asked(alloc, reader, MOST_READS) {
         Ok((setup, task)) => find_and_tell(alloc, setup, task, writer),

@@ -16,7 +16,8 @@ call_refusal first full = option_map_or Some first (if full then Some HistoryFul
 abbrev pub is_book_full : {O B D : Type 0} → Booked O B D → (owed need : ℕ) → Bool
 is_book_full book owed need = nat_lt book.cap (length book.records + owed + need)
 
--- why a book refuses a call, Memory aside, where this is its place's own reason, and what the place owes and the call needs
+-- why a book refuses a call, Memory aside, where this is its place's own reason, and what the place owes and the call
+-- needs
 abbrev pub book_refusal : {O B D : Type 0} → (first : Option Refusal) → (owed need : ℕ) → Booked O B D → Option Refusal
 book_refusal first owed need book = call_refusal first (is_book_full book owed need)
 

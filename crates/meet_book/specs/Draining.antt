@@ -1,5 +1,6 @@
 -- A drain: why it is refused, and what it does.
-use Rattle.std.specs.Prelude.{◌≡◌, ℕ, zero, suc, ◌+◌, Bool, Option, Some, None, List, [], ◌∷◌, nat_lt, IsSome, ◌<◌, if◌then◌else◌}
+use Rattle.std.specs.Prelude.{◌≡◌, ℕ, zero, suc, ◌+◌, Bool, Option, Some, None, List, [], ◌∷◌, nat_lt, IsSome, ◌<◌}
+use Rattle.std.specs.Prelude.{if◌then◌else◌}
 use Rattle.std.specs.Option.{option_map_or}
 use Rattle.meet_tickets.specs.declared.records.Record.{Record}
 use Rattle.meet_tickets.specs.declared.refusals.Refusal.{Refusal}
@@ -19,15 +20,18 @@ seat_refusal (Some why) = Some why
 abbrev pub drain_refusal_by : (first : Option Refusal) → (left k : ℕ) → (full : Bool) → Option Refusal
 drain_refusal_by first left zero full = seat_refusal first
 drain_refusal_by first left (suc k) full =
-    option_map_or Some (seat_refusal first) (if nat_lt left (suc k) then Some TicketsSpent else (if full then Some HistoryFull else None))
+    option_map_or Some (seat_refusal first) (if nat_lt left (suc k) then Some TicketsSpent
+    else (if full then Some HistoryFull else None))
 
--- why a book refuses a drain of k items, Memory aside, where this is its place's own reason against a poll, and what the place
--- has left of tickets and owes
-abbrev pub book_drain_refusal : {O B D : Type 0} → (first : Option Refusal) → (left owed : ℕ) → Booked O B D → (k : ℕ) → Option Refusal
+-- why a book refuses a drain of k items, Memory aside, where this is its place's own reason against a poll, and what
+-- the place has left of tickets and owes
+abbrev pub book_drain_refusal : {O B D : Type 0} → (first : Option Refusal) → (left owed : ℕ) → Booked O B D
+    → (k : ℕ) → Option Refusal
 book_drain_refusal first left owed book k = drain_refusal_by first left k (is_book_full book owed (k + 1))
 
 -- a poll of what is there: it is recorded, takes one item and one ticket, and leaves its seat free and what is owed
-pub record TakesOne {O D : Type 0} (available_of left_of owed_of : O → ℕ) (refusal_of : O → Option Refusal) (made : Option (Record D)) (old new : O) : Type 0 where
+pub record TakesOne {O D : Type 0} (available_of left_of owed_of : O → ℕ) (refusal_of : O → Option Refusal)
+    (made : Option (Record D)) (old new : O) : Type 0 where
   pub recorded : IsSome made
   pub available : available_of new + 1 ≡ available_of old
   pub left : left_of new + 1 ≡ left_of old
@@ -35,12 +39,14 @@ pub record TakesOne {O D : Type 0} (available_of left_of owed_of : O → ℕ) (r
   pub free : 0 < left_of new → refusal_of new ≡ None
 
 -- the step of such a poll
-abbrev pub TakingStep : {O A D : Type 0} → (O → A → O → Type 0) → (available_of left_of owed_of : O → ℕ) → (O → Option Refusal) → (A → Option (Record D)) → O → A → O → Type 0
+abbrev pub TakingStep : {O A D : Type 0} → (O → A → O → Type 0) → (available_of left_of owed_of : O → ℕ)
+    → (O → Option Refusal) → (A → Option (Record D)) → O → A → O → Type 0
 TakingStep steps available_of left_of owed_of refusal_of record_of old answer new =
     steps old answer new × TakesOne available_of left_of owed_of refusal_of (record_of answer) old new
 
 -- one poll after another, each of which does this, and is recorded so
-abbrev pub Polls : {O A D : Type 0} → (Does : O → A → O → Type 0) → (A → Option (Record D)) → O → List (A × Received D) → O → Type 0
+abbrev pub Polls : {O A D : Type 0} → (Does : O → A → O → Type 0) → (A → Option (Record D)) → O
+    → List (A × Received D) → O → Type 0
 Polls Does record_of old [] new = new ≡ old
 Polls {O} Does record_of old (got ∷ rest) new =
     (mid : O) × Does old got.0 mid × (record_of got.0 ≡ Some got.1.entry) × Polls Does record_of mid rest new

@@ -1,6 +1,7 @@
 //! The book that a place keeps of its steps.
 
-ghost use Rattle.std.specs.Prelude.{◌≡◌, ◌+◌, ◌-◌, ◌<◌, ◌≤◌, ◌^◌, Option, Some, None, [], ◌++◌, length, option_to_list, vec_len, ⊤, IfNone, IsOk, IfOk, IfErr, OnOk, OnErr, MatchOption};
+ghost use Rattle.std.specs.Prelude.{◌≡◌, ◌+◌, ◌-◌, ◌<◌, ◌≤◌, ◌^◌, Option, Some, None, [], ◌++◌, length};
+ghost use Rattle.std.specs.Prelude.{option_to_list, vec_len, ⊤, IfNone, IsOk, IfOk, IfErr, OnOk, OnErr, MatchOption};
 ghost use Rattle.std.specs.Vec.{vec_capacity};
 ghost use Rattle.meet_book.specs.Booked.{Booked};
 ghost use Rattle.meet_book.specs.Booking.{book_refusal, cut_refusal, record_of_receipt};
@@ -16,8 +17,9 @@ use meet_tickets::{MOST_GONE, Record, Refusal, Refused, SeatNo};
 use std::alloc::Global;
 use std::marker::Model;
 
-/// A place, the base that stands for records that were folded away, and the records of all steps since. On the base the records are
-/// legal, and they leave the place as it is; there is room for those that its open tickets may still need.
+/// A place, the base that stands for records that were folded away, and the records of all steps since. On the base
+/// the records are legal, and they leave the place as it is; there is room for those that its open tickets may still
+/// need.
 #[derive(Drop)]
 pub struct Book<O: Object> {
     alloc: Global,
@@ -30,7 +32,13 @@ pub struct Book<O: Object> {
 impl<O: Object> Model for Book<O> {
     ghost Value = { Booked O O.Base O.Deed };
 
-    ghost view = { λ book. record { object = book.object; base = book.base; records = book.records.items; room = vec_capacity book.records - vec_len book.records; cap = book.cap } };
+    ghost view = { λ book. record {
+      object = book.object;
+      base = book.base;
+      records = book.records.items;
+      room = vec_capacity book.records - vec_len book.records;
+      cap = book.cap;
+    } };
 
     ghost invariant = { λ book.
         O.leads book.base book.records.items book.object
@@ -83,7 +91,8 @@ impl<O: Object> Book<O> {
 
     /// Why a call is refused, Memory aside: the first that applies.
     fn refusal(&self, seat: SeatNo, call: &O::Call) -> Option<Refusal>
-        ensures first { result ≡ book_refusal (O.refusal_of self.now.object seat call.now) (O.owed_of self.now.object) (O.need_of call.now) self.now }
+        ensures first { result ≡ book_refusal (O.refusal_of self.now.object seat call.now)
+            (O.owed_of self.now.object) (O.need_of call.now) self.now }
         ensures few { IfNone result (O.owed_of self.now.object + O.need_of call.now < 2 ^ 64) }
     {
         if let Err(why) = self.object.admit(seat, call) {
@@ -97,11 +106,11 @@ impl<O: Object> Book<O> {
         }
     }
 
-    /// Makes a seat's call, and writes its record, if it has one, with the next number, which counts the records that were folded
-    /// away. It refuses what the place's `admit` does; else HistoryFull exactly where the records, those that are owed and those
-    /// that this call may need are more than the book may have; else Memory, but never where there is room for them and for the
-    /// call in its place. Then nothing but room has changed, and the call comes back. An admitted call that needs no record is never
-    /// refused.
+    /// Makes a seat's call, and writes its record, if it has one, with the next number, which counts the records that
+    /// were folded away. It refuses what the place's `admit` does; else HistoryFull exactly where the records, those
+    /// that are owed and those that this call may need are more than the book may have; else Memory, but never where
+    /// there is room for them and for the call in its place. Then nothing but room has changed, and the call comes
+    /// back. An admitted call that needs no record is never refused.
     pub fn step(
         &mut self,
         seat: SeatNo,
@@ -109,11 +118,16 @@ impl<O: Object> Book<O> {
     ) -> Result<(O::Answer, Option<Receipt<O::Deed>>), Refused<O::Call>>
         ensures step { IfOk result (λ made. O.steps self.old.object seat call made.0 self.new.object) }
         ensures record { IfOk result (λ made. record_of_receipt made.1 ≡ O.record_of seat call made.0) }
-        ensures place { IfOk result (λ made. MatchOption made.1 ⊤ (λ receipt. receipt.place ≡ O.gone_of self.old.base + length self.old.records + 1)) }
+        ensures place { IfOk result (λ made. MatchOption made.1 ⊤ (λ receipt. receipt.place
+            ≡ O.gone_of self.old.base + length self.old.records + 1)) }
         ensures seat { IfOk result (λ made. MatchOption made.1 ⊤ (λ receipt. receipt.entry.seat ≡ seat)) }
-        ensures records { IfOk result (λ made. self.new.records ≡ self.old.records ++ option_to_list (record_of_receipt made.1)) }
-        ensures admitted { IfOk result (λ _. book_refusal (O.refusal_of self.old.object seat call) (O.owed_of self.old.object) (O.need_of call) self.old ≡ None) }
-        ensures why { IfErr result (λ refused. IsWhy (book_refusal (O.refusal_of self.old.object seat call) (O.owed_of self.old.object) (O.need_of call) self.old) refused.why) }
+        ensures records { IfOk result (λ made. self.new.records ≡ self.old.records
+            ++ option_to_list (record_of_receipt made.1)) }
+        ensures admitted { IfOk result (λ _. book_refusal (O.refusal_of self.old.object seat call)
+            (O.owed_of self.old.object) (O.need_of call) self.old ≡ None) }
+        ensures why { IfErr result (λ refused. IsWhy
+            (book_refusal (O.refusal_of self.old.object seat call) (O.owed_of self.old.object) (O.need_of call)
+            self.old) refused.why) }
         ensures back { IfErr result (λ refused. refused.back ≡ call) }
         ensures unchanged { IfErr result (λ _. self.new ≡ record self.old { room = self.new.room }) }
         ensures room { length self.old.records + self.old.room ≤ length self.new.records + self.new.room }
@@ -121,8 +135,10 @@ impl<O: Object> Book<O> {
         ensures cap { self.new.cap ≡ self.old.cap }
         ensures base { self.new.base ≡ self.old.base }
         ensures ending { O.need_of call ≡ 0 → O.refusal_of self.old.object seat call ≡ None → IsOk result }
-        ensures enough { O.owed_of self.old.object + O.need_of call ≤ self.old.room → O.room_of call ≤ O.spare self.old.object
-            → book_refusal (O.refusal_of self.old.object seat call) (O.owed_of self.old.object) (O.need_of call) self.old ≡ None → IsOk result }
+        ensures enough { O.owed_of self.old.object + O.need_of call ≤ self.old.room
+            → O.room_of call ≤ O.spare self.old.object
+            → book_refusal (O.refusal_of self.old.object seat call) (O.owed_of self.old.object) (O.need_of call)
+            self.old ≡ None → IsOk result }
     {
         match self.refusal(seat, &call) {
             Some(why) => return Err(Refused { why, back: call }),
@@ -141,7 +157,8 @@ impl<O: Object> Book<O> {
         Ok((answer, receipt))
     }
 
-    /// The place, its base and its records, taken apart. On the base the records are legal, and leave the place as it is.
+    /// The place, its base and its records, taken apart. On the base the records are legal, and leave the place as it
+    /// is.
     pub fn into_parts(self) -> (O, O::Base, Vec<Record<O::Deed>>)
         ensures object { result.0 ≡ self.object }
         ensures base { result.1 ≡ self.base }
@@ -156,9 +173,9 @@ impl<O: Bases> Book<O>
 where
     O::Base: Drop,
 {
-    /// Folds the records away: the base of the place as it is stands for them from now on. It writes no record, and answers how
-    /// many records were folded away since the first; their numbers go on rising. It refuses HistoryFull exactly where these would
-    /// be more than 2^63 - 1, then Memory; then nothing has changed.
+    /// Folds the records away: the base of the place as it is stands for them from now on. It writes no record, and
+    /// answers how many records were folded away since the first; their numbers go on rising. It refuses HistoryFull
+    /// exactly where these would be more than 2^63 - 1, then Memory; then nothing has changed.
     pub fn cut(&mut self) -> Result<u64, Refusal>
         ensures gone { IfOk result (λ gone. gone ≡ O.gone_of self.old.base + length self.old.records) }
         ensures folded { IfOk result (λ gone. O.gone_of self.new.base ≡ gone) }
@@ -203,7 +220,8 @@ fn make_room<O: Object>(
     ensures owed { vec_len records.new + O.owed_of object.old ≤ vec_capacity records.new }
     ensures unchanged { OnErr result (object.new ≡ object.old) }
     ensures memory { IfErr result (λ why. why ≡ Memory) }
-    ensures enough { vec_len records.old + O.owed_of object.old + need ≤ vec_capacity records.old → room ≤ O.spare object.old → IsOk result }
+    ensures enough { vec_len records.old + O.owed_of object.old + need ≤ vec_capacity records.old
+        → room ≤ O.spare object.old → IsOk result }
 {
     let wanted = object.owed() + need;
     if records.reserve(wanted as usize).is_err() {

@@ -1,6 +1,7 @@
 //! What a book asks of a place: each of its calls is one step, which writes one record or none.
 
-ghost use Rattle.std.specs.Prelude.{◌≡◌, ◌≢◌, ℕ, ◌+◌, ◌<◌, ◌≤◌, Option, Some, None, List, [], ◌++◌, length, option_to_list, MatchOption, ⊤, IsOk, IfOk, IfErr, OnOk, OnErr};
+ghost use Rattle.std.specs.Prelude.{◌≡◌, ◌≢◌, ℕ, ◌+◌, ◌<◌, ◌≤◌, Option, Some, None, List, [], ◌++◌, length};
+ghost use Rattle.std.specs.Prelude.{option_to_list, MatchOption, ⊤, IsOk, IfOk, IfErr, OnOk, OnErr};
 ghost use Rattle.meet_tickets.specs.declared.records.Record.{Record};
 ghost use Rattle.meet_tickets.specs.declared.refusals.Refusal.{Refusal};
 ghost use Rattle.meet_tickets.specs.declared.refusals.Refusal.TheVariants.{Memory, HistoryFull, TicketsSpent};
@@ -91,31 +92,35 @@ pub trait Object {
         ensures memory { IfErr result (λ why. why ≡ Memory) }
         ensures enough { room ≤ spare self.old → IsOk result };
 
-    /// Makes an admitted call, for which there is room: what it is answered, and its record. It takes no memory, and uses up the
-    /// call's room at most.
+    /// Makes an admitted call, for which there is room: what it is answered, and its record. It takes no memory, and
+    /// uses up the call's room at most.
     fn step(&mut self, seat: SeatNo, call: Self::Call) -> (Self::Answer, Option<Record<Self::Deed>>)
         requires admitted { refusal_of self.old seat call ≡ None }
         requires room { room_of call ≤ spare self.old }
         ensures step { steps self.old seat call result.0 self.new }
         ensures record { result.1 ≡ record_of seat call result.0 }
-        ensures leads { (base : Self.Base) (records : List (Record Self.Deed)) → leads base records self.old → leads base (records ++ option_to_list result.1) self.new }
+        ensures leads { (base : Self.Base) (records : List (Record Self.Deed)) → leads base records self.old
+            → leads base (records ++ option_to_list result.1) self.new }
         ensures owed { length (option_to_list result.1) + owed_of self.new ≤ owed_of self.old + need_of call }
         ensures room { spare self.old ≤ spare self.new + room_of call };
 
     /// A record is of the seat that called.
-    ghost own_record: { (seat : ℕ) (call : Self.Call) (answer : Self.Answer) → MatchOption (record_of seat call answer) ⊤ (λ entry. entry.seat ≡ seat) };
+    ghost own_record: { (seat : ℕ) (call : Self.Call) (answer : Self.Answer)
+        → MatchOption (record_of seat call answer) ⊤ (λ entry. entry.seat ≡ seat) };
 
     /// A place that has the room that it has is the same.
     ghost same_place: { (o : Self) → with_room o (spare o) ≡ o };
 
     /// Room changes no refusal.
-    ghost same_refusal: { (o : Self) (room seat : ℕ) (call : Self.Call) → refusal_of (with_room o room) seat call ≡ refusal_of o seat call };
+    ghost same_refusal: { (o : Self) (room seat : ℕ) (call : Self.Call)
+        → refusal_of (with_room o room) seat call ≡ refusal_of o seat call };
 
     /// Room changes nothing that is owed.
     ghost same_owed: { (o : Self) (room : ℕ) → owed_of (with_room o room) ≡ owed_of o };
 
     /// Room changes no history.
-    ghost same_leads: { (o : Self) (room : ℕ) (base : Self.Base) (records : List (Record Self.Deed)) → leads base records o → leads base records (with_room o room) };
+    ghost same_leads: { (o : Self) (room : ℕ) (base : Self.Base) (records : List (Record Self.Deed))
+        → leads base records o → leads base records (with_room o room) };
 
     /// Room changes no step of a call that asks for it.
     ghost same_steps: { (o : Self) (room seat : ℕ) (call : Self.Call) (answer : Self.Answer) (new : Self)
@@ -136,12 +141,13 @@ pub trait Bases: Object {
     /// This base tells all that the place shows of itself, and that so many records were folded away.
     ghost is_base: { Self → ℕ → Self.Base → Type 0 };
 
-    /// The base of the place as it is, where so many records were folded away. It stands for any base and records that lead to
-    /// the place. The only refusal is Memory.
+    /// The base of the place as it is, where so many records were folded away. It stands for any base and records
+    /// that lead to the place. The only refusal is Memory.
     fn base(&self, alloc: Global, gone: u64) -> Result<Self::Base, Refusal>
         ensures base { IfOk result (is_base self.now gone) }
         ensures gone { IfOk result (λ new. Self.gone_of new ≡ gone) }
-        ensures leads { IfOk result (λ new. (base : Self.Base) (records : List (Record Self.Deed)) → Self.leads base records self.now → Self.leads new [] self.now) }
+        ensures leads { IfOk result (λ new. (base : Self.Base) (records : List (Record Self.Deed))
+            → Self.leads base records self.now → Self.leads new [] self.now) }
         ensures memory { IfErr result (λ why. why ≡ Memory) };
 }
 
@@ -175,8 +181,10 @@ pub trait Drains: Object {
     fn poll_call(&self) -> Self::Call
         ensures call { result ≡ poll }
         ensures takes { (seat : ℕ) (answer : Self.Answer) (new : Self)
-            → Self.steps self.now seat poll answer new → Self.refusal_of self.now seat poll ≡ None → 0 < available_of self.now
-            → TakesOne available_of left_of Self.owed_of (λ o. Self.refusal_of o seat poll) (Self.record_of seat poll answer) self.now new };
+            → Self.steps self.now seat poll answer new → Self.refusal_of self.now seat poll ≡ None
+            → 0 < available_of self.now
+            → TakesOne available_of left_of Self.owed_of (λ o. Self.refusal_of o seat poll)
+            (Self.record_of seat poll answer) self.now new };
 
     /// A poll uses no room.
     ghost poll_fits: { Self.room_of poll ≡ 0 };

@@ -1,6 +1,7 @@
 //! A cell of tokens for two seats: a place with nothing of queues in it.
 
-ghost use Rattle.std.specs.Prelude.{◌≡◌, ◌+◌, ◌<◌, ◌≤◌, ◌⊎◌, false, Some, None, refl, length, nat_lt, nat_eq, option_map, option_to_list, IsSome, IfOk, if◌then◌else◌};
+ghost use Rattle.std.specs.Prelude.{◌≡◌, ◌+◌, ◌<◌, ◌≤◌, ◌⊎◌, false, Some, None, refl, length, nat_lt, nat_eq};
+ghost use Rattle.std.specs.Prelude.{option_map, option_to_list, IsSome, IfOk, if◌then◌else◌};
 ghost use Rattle.std.specs.Option.{option_map_or};
 ghost use Rattle.std.proofs.Common.{rules, arith};
 ghost use Rattle.meet_book_tests.specs.declared.cell.Call.TheVariants.{Put, Take, End};
@@ -153,7 +154,8 @@ impl Cell {
     /// Ends a wait, with a token if one is there.
     fn end(&mut self, seat: SeatNo) -> Option<Made>
         ensures room { self.new.room ≡ self.old.room }
-        ensures owed { length (option_to_list result) + length (option_to_list self.new.wait) ≤ length (option_to_list self.old.wait) }
+        ensures owed { length (option_to_list result) + length (option_to_list self.new.wait) ≤ length
+            (option_to_list self.old.wait) }
     {
         if !self.waits(seat) {
             return None;
@@ -203,12 +205,15 @@ impl Object for Cell {
     ghost gone_of = { λ base. base.gone };
 
     /// Where a seat waits, the base or a record says so.
-    ghost leads = { λ base records cell. length (option_to_list cell.wait) ≤ length (option_to_list base.wait) + length records };
+    ghost leads = { λ base records cell. length (option_to_list cell.wait) ≤ length (option_to_list base.wait) +
+        length records };
 
     /// What a drain has to know of a step: what Take does where a token is there.
-    ghost steps = { λ old seat call made new. call ≡ Take → 0 < old.tokens → IsSome made × (new.tokens + 1 ≡ old.tokens) × (new.left + 1 ≡ old.left) × (new.wait ≡ old.wait) };
+    ghost steps = { λ old seat call made new. call ≡ Take → 0 < old.tokens
+        → IsSome made × (new.tokens + 1 ≡ old.tokens) × (new.left + 1 ≡ old.left) × (new.wait ≡ old.wait) };
 
-    ghost record_of = { λ seat call made. option_map (λ m. record { seat = seat; ticket = m.ticket; deed = m.deed }) made };
+    ghost record_of = { λ seat call made. option_map
+        (λ m. record { seat = seat; ticket = m.ticket; deed = m.deed }) made };
 
     ghost refusal_of = { λ cell seat call.
         if nat_lt seat 2
@@ -242,7 +247,12 @@ impl Object for Cell {
 
     ghost same_steps = { λ cell room seat call made new some steps. steps };
 
-    ghost roomless = { elim [ Put tokens ↦ λ none. absurd (Prim.omega (arith, none)) | Take ↦ λ none. refl | End ↦ λ none. refl ] };
+    ghost roomless = { elim [
+      | Put tokens ↦ λ none. absurd (Prim.omega (arith, none))
+      | Take ↦ λ none.
+          refl
+      | End ↦ λ none. refl
+    ] };
 
     ghost fresh_owes = { Prim.search rules };
 

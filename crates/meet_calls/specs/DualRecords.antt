@@ -5,25 +5,35 @@ use Rattle.meet_tickets.specs.declared.records.Record.{Record}
 use Rattle.meet_tickets.specs.declared.records.Cause.{Cause}
 use Rattle.meet_tickets.specs.declared.records.Cause.TheVariants.{Cancelled, Expired, Interrupted}
 use Rattle.meet_tickets.specs.declared.records.Deed.{Deed}
-use Rattle.meet_tickets.specs.declared.records.Deed.TheVariants.{GiveWaits, GiveMeets, GiveFails, TakeWaits, TakeMeets, TakeFails, EntryInterrupted, Done, Got, Withdrawn, Interrupt}
+use Rattle.meet_tickets.specs.declared.records.Deed.TheVariants.{GiveWaits, GiveMeets, GiveFails, TakeWaits}
+use Rattle.meet_tickets.specs.declared.records.Deed.TheVariants.{TakeMeets, TakeFails, EntryInterrupted, Done, Got}
+use Rattle.meet_tickets.specs.declared.records.Deed.TheVariants.{Withdrawn, Interrupt}
 use Rattle.meet_line.specs.declared.answers.Gave.{Gave}
-use Rattle.meet_line.specs.declared.answers.Gave.TheVariants.{Waits as GiverWaits, Meets as GiverMeets, EntryInterrupted as GiverInterrupted}
+use Rattle.meet_line.specs.declared.answers.Gave.TheVariants.{Waits as GiverWaits, Meets as GiverMeets}
+use Rattle.meet_line.specs.declared.answers.Gave.TheVariants.{EntryInterrupted as GiverInterrupted}
 use Rattle.meet_line.specs.declared.answers.Took.{Took}
-use Rattle.meet_line.specs.declared.answers.Took.TheVariants.{Waits as TakerWaits, Meets as TakerMeets, EntryInterrupted as TakerInterrupted}
+use Rattle.meet_line.specs.declared.answers.Took.TheVariants.{Waits as TakerWaits, Meets as TakerMeets}
+use Rattle.meet_line.specs.declared.answers.Took.TheVariants.{EntryInterrupted as TakerInterrupted}
 use Rattle.meet_line.specs.declared.answers.Offered.{Offered}
 use Rattle.meet_line.specs.declared.answers.Offered.TheVariants.{Meets as OfferMeets, Fails as OfferFails}
 use Rattle.meet_line.specs.declared.answers.Polled.{Polled}
 use Rattle.meet_line.specs.declared.answers.Polled.TheVariants.{Meets as PollMeets, Fails as PollFails}
 use Rattle.meet_line.specs.declared.answers.Followed.{Followed}
-use Rattle.meet_line.specs.declared.answers.Followed.TheVariants.{Done as WasMet, Got as HasGot, Interrupted as WasCut, NotYet}
+use Rattle.meet_line.specs.declared.answers.Followed.TheVariants.{Done as WasMet, Got as HasGot}
+use Rattle.meet_line.specs.declared.answers.Followed.TheVariants.{Interrupted as WasCut, NotYet}
 use Rattle.meet_line.specs.declared.answers.TakenBack.{TakenBack}
 use Rattle.meet_line.specs.declared.answers.TakenBack.TheVariants.{Back, Late}
 use Rattle.meet_line.specs.declared.answers.Interrupted.{Interrupted as Struck}
 use Rattle.meet_line.specs.declared.answers.Interrupted.TheVariants.{Cut as CutOff, Flagged}
 use Rattle.meet_calls.specs.declared.queue_calls.DualCall.{DualCall}
-use Rattle.meet_calls.specs.declared.queue_calls.DualCall.TheVariants.{Give, Offer, Take, Poll, FollowUp, Cancel, Expire, Interrupt as InterruptSeat}
+use Rattle.meet_calls.specs.declared.queue_calls.DualCall.TheVariants.{Give, Offer, Take, Poll, FollowUp, Cancel}
+use Rattle.meet_calls.specs.declared.queue_calls.DualCall.TheVariants.{Expire, Interrupt as InterruptSeat}
 use Rattle.meet_calls.specs.declared.queue_calls.DualAnswer.{DualAnswer}
-use Rattle.meet_calls.specs.declared.queue_calls.DualAnswer.TheVariants.{Gave as ToGive, Offered as ToOffer, Took as ToTake, Polled as ToPoll, Followed as ToFollowUp, TakenBack as ToWithdrawal, Interrupted as ToInterrupt}
+use Rattle.meet_calls.specs.declared.queue_calls.DualAnswer.TheVariants.{Gave as ToGive, Offered as ToOffer}
+use Rattle.meet_calls.specs.declared.queue_calls.DualAnswer.TheVariants.{Took as ToTake, Polled as ToPoll}
+use Rattle.meet_calls.specs.declared.queue_calls.DualAnswer.TheVariants.{Followed as ToFollowUp}
+use Rattle.meet_calls.specs.declared.queue_calls.DualAnswer.TheVariants.{TakenBack as ToWithdrawal}
+use Rattle.meet_calls.specs.declared.queue_calls.DualAnswer.TheVariants.{Interrupted as ToInterrupt}
 
 -- a seat's record
 abbrev pub made : (seat ticket : ℕ) → Deed → Record Deed

@@ -13,17 +13,24 @@ use Rattle.meet_tickets.specs.declared.records.Deed.{Deed}
 use Rattle.meet_line.specs.Queue.{Queue, seats_of, count_of}
 use Rattle.meet_line.specs.Steps.{Uses, HandsTo, GetsFrom}
 use Rattle.meet_tickets.specs.BySeat.{Seats, is_open}
-use Rattle.meet_line.specs.declared.answers.Gave.TheVariants.{Waits as GiverWaits, Meets as GiverMeets, EntryInterrupted as GiverInterrupted}
-use Rattle.meet_line.specs.declared.answers.Took.TheVariants.{Waits as TakerWaits, Meets as TakerMeets, EntryInterrupted as TakerInterrupted}
+use Rattle.meet_line.specs.declared.answers.Gave.TheVariants.{Waits as GiverWaits, Meets as GiverMeets}
+use Rattle.meet_line.specs.declared.answers.Gave.TheVariants.{EntryInterrupted as GiverInterrupted}
+use Rattle.meet_line.specs.declared.answers.Took.TheVariants.{Waits as TakerWaits, Meets as TakerMeets}
+use Rattle.meet_line.specs.declared.answers.Took.TheVariants.{EntryInterrupted as TakerInterrupted}
 use Rattle.meet_line.specs.declared.answers.Offered.TheVariants.{Meets as OfferMeets, Fails as OfferFails}
 use Rattle.meet_line.specs.declared.answers.Polled.TheVariants.{Meets as PollMeets, Fails as PollFails}
 use Rattle.meet_line.specs.declared.answers.Followed.TheVariants.{Done, Got, Interrupted as WasCut, NotYet}
 use Rattle.meet_line.specs.declared.answers.TakenBack.TheVariants.{Back, Late}
 use Rattle.meet_line.specs.declared.answers.Interrupted.TheVariants.{Cut as CutOff, Flagged}
 use Rattle.meet_calls.specs.declared.queue_calls.DualCall.{DualCall}
-use Rattle.meet_calls.specs.declared.queue_calls.DualCall.TheVariants.{Give, Offer, Take, Poll, FollowUp, Cancel, Expire, Interrupt}
+use Rattle.meet_calls.specs.declared.queue_calls.DualCall.TheVariants.{Give, Offer, Take, Poll, FollowUp, Cancel}
+use Rattle.meet_calls.specs.declared.queue_calls.DualCall.TheVariants.{Expire, Interrupt}
 use Rattle.meet_calls.specs.declared.queue_calls.DualAnswer.{DualAnswer}
-use Rattle.meet_calls.specs.declared.queue_calls.DualAnswer.TheVariants.{Gave as ToGive, Offered as ToOffer, Took as ToTake, Polled as ToPoll, Followed as ToFollowUp, TakenBack as ToWithdrawal, Interrupted as ToInterrupt}
+use Rattle.meet_calls.specs.declared.queue_calls.DualAnswer.TheVariants.{Gave as ToGive, Offered as ToOffer}
+use Rattle.meet_calls.specs.declared.queue_calls.DualAnswer.TheVariants.{Took as ToTake, Polled as ToPoll}
+use Rattle.meet_calls.specs.declared.queue_calls.DualAnswer.TheVariants.{Followed as ToFollowUp}
+use Rattle.meet_calls.specs.declared.queue_calls.DualAnswer.TheVariants.{TakenBack as ToWithdrawal}
+use Rattle.meet_calls.specs.declared.queue_calls.DualAnswer.TheVariants.{Interrupted as ToInterrupt}
 use Rattle.meet_calls.specs.DualRecords.{dual_record}
 use Rattle.meet_tickets.specs.Bases.{Based, no_base}
 use Rattle.meet_line.specs.Seen.{marked_hold}
@@ -33,7 +40,8 @@ use Rattle.meet_calls.specs.DualSteps.{DualStep, dual_refusal, dual_need, dual_r
 abbrev pub roomy : {T : Type 0} → Queue T → ℕ → Queue T
 roomy q room = record q { room = room }
 
-pub roomy-refusal : {T : Type 0} (q : Queue T) (room seat : ℕ) (call : DualCall T) → dual_refusal (roomy q room) seat call ≡ dual_refusal q seat call
+pub roomy-refusal : {T : Type 0} (q : Queue T) (room seat : ℕ) (call : DualCall T)
+    → dual_refusal (roomy q room) seat call ≡ dual_refusal q seat call
 roomy-refusal q room seat (Give item) = refl
 roomy-refusal q room seat (Offer item) = refl
 roomy-refusal q room seat Take = refl
@@ -43,26 +51,42 @@ roomy-refusal q room seat (Cancel t) = refl
 roomy-refusal q room seat (Expire t) = refl
 roomy-refusal q room seat (Interrupt j) = refl
 
-pub roomy-leads : {T : Type 0} (mark : T → ℕ) (k : Kind) (q : Queue T) (room : ℕ) (b : Based) (records : List (Record Deed)) → LeadsTo mark k b records q → LeadsTo mark k b records (roomy q room)
-roomy-leads mark k q room b records l = record { well_formed = l.well_formed; legal = l.legal; last = l.last; next = l.next; leaves = l.leaves }
+pub roomy-leads : {T : Type 0} (mark : T → ℕ) (k : Kind) (q : Queue T) (room : ℕ) (b : Based)
+    (records : List (Record Deed)) → LeadsTo mark k b records q → LeadsTo mark k b records (roomy q room)
+roomy-leads mark k q room b records l =
+    record { well_formed = l.well_formed; legal = l.legal; last = l.last; next = l.next; leaves = l.leaves }
 
 -- a request's step
-pub roomy-uses : {T : Type 0} (q : Queue T) (room : ℕ) (new : Queue T) (t : ℕ) (seats : Seats T) → Uses (roomy q room) new t seats → Uses q new t seats
-roomy-uses q room new t seats uses = record { used = uses.used; last = uses.last; next = uses.next; count = uses.count; left = uses.left }
+pub roomy-uses : {T : Type 0} (q : Queue T) (room : ℕ) (new : Queue T) (t : ℕ) (seats : Seats T)
+    → Uses (roomy q room) new t seats → Uses q new t seats
+roomy-uses q room new t seats uses =
+    record { used = uses.used; last = uses.last; next = uses.next; count = uses.count; left = uses.left }
 
-pub roomy-hands : {T : Type 0} (mark : T → ℕ) (end : End) (q : Queue T) (room : ℕ) (item : T) (t u : ℕ) (new : Queue T) → HandsTo mark end (roomy q room) item t u new → HandsTo mark end q item t u new
-roomy-hands mark end q room item t u new (e, found, ticket, none, uses) = (e, found, ticket, none, roomy-uses q room new t _ uses)
+pub roomy-hands : {T : Type 0} (mark : T → ℕ) (end : End) (q : Queue T) (room : ℕ) (item : T) (t u : ℕ)
+    (new : Queue T) → HandsTo mark end (roomy q room) item t u new → HandsTo mark end q item t u new
+roomy-hands mark end q room item t u new (e, found, ticket, none, uses) =
+    (e, found, ticket, none, roomy-uses q room new t _ uses)
 
-roomy-gets : {T : Type 0} (mark : T → ℕ) (end : End) (q : Queue T) (room : ℕ) (t u : ℕ) (item : T) (new : Queue T) → GetsFrom mark end (roomy q room) t u item new → GetsFrom mark end q t u item new
-roomy-gets mark end q room t u item new (e, found, ticket, own, uses) = (e, found, ticket, own, roomy-uses q room new t _ uses)
+roomy-gets : {T : Type 0} (mark : T → ℕ) (end : End) (q : Queue T) (room : ℕ) (t u : ℕ) (item : T) (new : Queue T)
+    → GetsFrom mark end (roomy q room) t u item new → GetsFrom mark end q t u item new
+roomy-gets mark end q room t u item new (e, found, ticket, own, uses) =
+    (e, found, ticket, own, roomy-uses q room new t _ uses)
 
-pub roomy-steps : {T : Type 0} (mark : T → ℕ) (end : End) (q : Queue T) (room seat : ℕ) (call : DualCall T) (answer : DualAnswer T) (new : Queue T) → 0 < dual_room call → DualStep mark end (roomy q room) seat call answer new → DualStep mark end q seat call answer new
-roomy-steps mark end q room seat (Give item) (ToGive (GiverWaits t)) new need (alone, flag, uses) = (alone, flag, roomy-uses q room new t _ uses)
-roomy-steps mark end q room seat (Give item) (ToGive (GiverMeets t u)) new need step = roomy-hands mark end q room item t u new step
-roomy-steps mark end q room seat (Give item) (ToGive (GiverInterrupted t back)) new need (alone, flag, same, uses) = (alone, flag, same, roomy-uses q room new t _ uses)
-roomy-steps mark end q room seat Take (ToTake (TakerWaits t)) new need (alone, flag, uses) = (alone, flag, roomy-uses q room new t _ uses)
-roomy-steps mark end q room seat Take (ToTake (TakerMeets t u item)) new need step = roomy-gets mark end q room t u item new step
-roomy-steps mark end q room seat Take (ToTake (TakerInterrupted t)) new need (alone, flag, uses) = (alone, flag, roomy-uses q room new t _ uses)
+pub roomy-steps : {T : Type 0} (mark : T → ℕ) (end : End) (q : Queue T) (room seat : ℕ) (call : DualCall T)
+    (answer : DualAnswer T) (new : Queue T) → 0 < dual_room call
+    → DualStep mark end (roomy q room) seat call answer new → DualStep mark end q seat call answer new
+roomy-steps mark end q room seat (Give item) (ToGive (GiverWaits t)) new need (alone, flag, uses) =
+    (alone, flag, roomy-uses q room new t _ uses)
+roomy-steps mark end q room seat (Give item) (ToGive (GiverMeets t u)) new need step =
+    roomy-hands mark end q room item t u new step
+roomy-steps mark end q room seat (Give item) (ToGive (GiverInterrupted t back)) new need (alone, flag, same, uses) =
+    (alone, flag, same, roomy-uses q room new t _ uses)
+roomy-steps mark end q room seat Take (ToTake (TakerWaits t)) new need (alone, flag, uses) =
+    (alone, flag, roomy-uses q room new t _ uses)
+roomy-steps mark end q room seat Take (ToTake (TakerMeets t u item)) new need step =
+    roomy-gets mark end q room t u item new step
+roomy-steps mark end q room seat Take (ToTake (TakerInterrupted t)) new need (alone, flag, uses) =
+    (alone, flag, roomy-uses q room new t _ uses)
 roomy-steps mark end q room seat (Offer item) answer new need step = absurd (omega arith)
 roomy-steps mark end q room seat Poll answer new need step = absurd (omega arith)
 roomy-steps mark end q room seat (FollowUp t) answer new need step = absurd (omega arith)
@@ -91,18 +115,22 @@ free-from mark (Served t u item) same = cc
 free-from mark (Cut t item) same = cc
 
 -- of seats that hold nothing, none is counted
-none-open : {T : Type 0} (holds : ℕ → Hold T) → ((k : ℕ) → holds k ≡ Free) → (a n : ℕ) → count_by (λ k. is_open (holds k)) (range_with_len a n) ≡ 0
+none-open : {T : Type 0} (holds : ℕ → Hold T) → ((k : ℕ) → holds k ≡ Free) → (a n : ℕ)
+    → count_by (λ k. is_open (holds k)) (range_with_len a n) ≡ 0
 none-open holds free a zero = refl
 none-open holds free a (suc n) =
-    sum_by-cons (λ k. cond (is_open (holds k)) 1 0) a (range_with_len (a + 1) n) ∙ ap₂ ◌+◌ (ap (λ h. cond (is_open h) 1 0) (free a)) (none-open holds free (a + 1) n)
+    sum_by-cons (λ k. cond (is_open (holds k)) 1 0) a (range_with_len (a + 1) n)
+    ∙ ap₂ ◌+◌ (ap (λ h. cond (is_open h) 1 0) (free a)) (none-open holds free (a + 1) n)
 
 -- a queue without a history owes nothing
 pub roomy-fresh : {T : Type 0} (mark : T → ℕ) (k : Kind) (q : Queue T) → LeadsTo mark k no_base [] q → dual_owed q ≡ 0
 roomy-fresh mark k q leads =
-    none-open (seats_of q).holds (λ k. free-from mark ((seats_of q).holds k) (sym (ap (λ s. s.holds k) leads.leaves))) 0 (count_of q)
+    none-open (seats_of q).holds (λ k. free-from mark ((seats_of q).holds k)
+    (sym (ap (λ s. s.holds k) leads.leaves))) 0 (count_of q)
 
 -- a record is of the seat that called
-pub own-record : {T : Type 0} (mark : T → ℕ) (seat : ℕ) (call : DualCall T) (answer : DualAnswer T) → MatchOption (dual_record mark seat call answer) ⊤ (λ r. r.seat ≡ seat)
+pub own-record : {T : Type 0} (mark : T → ℕ) (seat : ℕ) (call : DualCall T) (answer : DualAnswer T)
+    → MatchOption (dual_record mark seat call answer) ⊤ (λ r. r.seat ≡ seat)
 own-record mark seat (Give item) (ToGive (GiverWaits t)) = refl
 own-record mark seat (Give item) (ToGive (GiverMeets t u)) = refl
 own-record mark seat (Give item) (ToGive (GiverInterrupted t back)) = refl

@@ -1,4 +1,5 @@
--- The calls that each queue has, as a book makes them: their steps, refusals and costs, and the histories that lead to a queue.
+-- The calls that each queue has, as a book makes them: their steps, refusals and costs, and the histories that lead
+-- to a queue.
 use Rattle.std.specs.Prelude.{◌+◌, ◌≡◌, ◌⊎◌, ℕ, ◌-◌, ◌<◌, Option, None, List}
 use Rattle.meet_tickets.specs.declared.places.Side.TheVariants.{Giver}
 use Rattle.meet_tickets.specs.declared.places.End.{End}
@@ -19,9 +20,14 @@ use Rattle.meet_line.specs.Seen.{marked}
 use Rattle.meet_line.specs.Queue.{Queue, seats_of, count_of, admit_refusal}
 use Rattle.meet_line.specs.Steps.{GiveStep, OfferStep, TakeStep, PollStep, FollowStep, WithdrawStep, InterruptStep}
 use Rattle.meet_calls.specs.declared.queue_calls.DualCall.{DualCall}
-use Rattle.meet_calls.specs.declared.queue_calls.DualCall.TheVariants.{Give, Offer, Take, Poll, FollowUp, Cancel, Expire, Interrupt}
+use Rattle.meet_calls.specs.declared.queue_calls.DualCall.TheVariants.{Give, Offer, Take, Poll, FollowUp, Cancel}
+use Rattle.meet_calls.specs.declared.queue_calls.DualCall.TheVariants.{Expire, Interrupt}
 use Rattle.meet_calls.specs.declared.queue_calls.DualAnswer.{DualAnswer}
-use Rattle.meet_calls.specs.declared.queue_calls.DualAnswer.TheVariants.{Gave as ToGive, Offered as ToOffer, Took as ToTake, Polled as ToPoll, Followed as ToFollowUp, TakenBack as ToWithdrawal, Interrupted as ToInterrupt}
+use Rattle.meet_calls.specs.declared.queue_calls.DualAnswer.TheVariants.{Gave as ToGive, Offered as ToOffer}
+use Rattle.meet_calls.specs.declared.queue_calls.DualAnswer.TheVariants.{Took as ToTake, Polled as ToPoll}
+use Rattle.meet_calls.specs.declared.queue_calls.DualAnswer.TheVariants.{Followed as ToFollowUp}
+use Rattle.meet_calls.specs.declared.queue_calls.DualAnswer.TheVariants.{TakenBack as ToWithdrawal}
+use Rattle.meet_calls.specs.declared.queue_calls.DualAnswer.TheVariants.{Interrupted as ToInterrupt}
 
 -- a seat's call makes the queue's step, with an answer of its own kind
 abbrev pub DualStep : {T : Type 0} → (T → ℕ) → End → Queue T → (seat : ℕ) → DualCall T → DualAnswer T → Queue T → Type 0
@@ -88,7 +94,8 @@ dual_available q = count_on Giver q.line
 abbrev pub dual_left : {T : Type 0} → Queue T → ℕ
 dual_left q = last_ticket + 1 - q.next
 
--- the order of a synchronous place whose entries are met at this end (SynchronousQueue in fair mode, or in its default mode)
+-- the order of a synchronous place whose entries are met at this end (SynchronousQueue in fair mode, or in its
+-- default mode)
 abbrev pub synchronous : End → Order
 synchronous Front = Fair
 synchronous Back = Unfair
@@ -98,7 +105,8 @@ abbrev pub kind_of : End → Kind
 kind_of end = record { order = synchronous end; bound = None }
 
 -- these records are legal after this base, their last ticket is the queue's, and they leave what the queue's seats hold
-pub record LeadsTo {T : Type 0} (mark : T → ℕ) (k : Kind) (b : Based) (records : List (Record Deed)) (q : Queue T) : Type 0 where
+pub record LeadsTo {T : Type 0} (mark : T → ℕ) (k : Kind) (b : Based) (records : List (Record Deed)) (q : Queue T)
+    : Type 0 where
   pub well_formed : IsWellFormed k b
   pub legal : IsLegalOn k b records
   pub last : (moment_of k (moment_of_base b) records).last ≡ q.last

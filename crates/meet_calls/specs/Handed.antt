@@ -14,7 +14,9 @@ use Rattle.meet_line.specs.declared.answers.TakenBack.TheVariants.{Back}
 use Rattle.meet_calls.specs.declared.queue_calls.DualCall.{DualCall}
 use Rattle.meet_calls.specs.declared.queue_calls.DualCall.TheVariants.{Take, Poll, FollowUp, Cancel, Expire}
 use Rattle.meet_calls.specs.declared.queue_calls.DualAnswer.{DualAnswer}
-use Rattle.meet_calls.specs.declared.queue_calls.DualAnswer.TheVariants.{Took as ToTake, Polled as ToPoll, Followed as ToFollowUp, TakenBack as ToWithdrawal}
+use Rattle.meet_calls.specs.declared.queue_calls.DualAnswer.TheVariants.{Took as ToTake, Polled as ToPoll}
+use Rattle.meet_calls.specs.declared.queue_calls.DualAnswer.TheVariants.{Followed as ToFollowUp}
+use Rattle.meet_calls.specs.declared.queue_calls.DualAnswer.TheVariants.{TakenBack as ToWithdrawal}
 use Rattle.meet_calls.specs.DualSteps.{DualStep, LeadsTo}
 
 -- a giver's ticket, and its item
@@ -35,6 +37,7 @@ handed call answer = None
 -- whatever led to a queue, an item that a step hands out has the mark that its giver's request brought
 abbrev pub HandsOutWhatWasBrought : {T : Type 0} → (mark : T → ℕ) → Type 0
 HandsOutWhatWasBrought {T} mark =
-    (k : Kind) (base : Based) (records : List (Record Deed)) (end : End) (old new : Queue T) (seat : ℕ) (call : DualCall T) (answer : DualAnswer T)
+    (k : Kind) (base : Based) (records : List (Record Deed)) (end : End) (old new : Queue T) (seat : ℕ)
+    (call : DualCall T) (answer : DualAnswer T)
     → LeadsTo mark k base records old → DualStep mark end old seat call answer new
     → IfSome (handed call answer) (λ given. brought_on base records given.ticket ≡ Some (mark given.item))

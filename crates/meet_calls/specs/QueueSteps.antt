@@ -27,9 +27,12 @@ dual_call (Dual call) = call
 
 -- a seat's call makes the queue's step: a put keeps the item or fails where the place keeps items, and else waits
 -- (LinkedTransferQueue.put, SynchronousQueue.put)
-abbrev pub QueueStep : {T : Type 0} → (T → ℕ) → Kind → Queue T → (seat : ℕ) → QueueCall T → QueueAnswer T → Queue T → Type 0
-QueueStep mark k old i (Put item) (ToPut answer) new = (keeps k.order ≡ true) × PutStep mark (end_of k.order) k.bound old i item answer new
-QueueStep mark k old i (Put item) (ToDual answer) new = (keeps k.order ≡ false) × DualStep mark (end_of k.order) old i (Give item) answer new
+abbrev pub QueueStep : {T : Type 0} → (T → ℕ) → Kind → Queue T → (seat : ℕ) → QueueCall T → QueueAnswer T → Queue T
+    → Type 0
+QueueStep mark k old i (Put item) (ToPut answer) new = (keeps k.order ≡ true)
+    × PutStep mark (end_of k.order) k.bound old i item answer new
+QueueStep mark k old i (Put item) (ToDual answer) new = (keeps k.order ≡ false)
+    × DualStep mark (end_of k.order) old i (Give item) answer new
 QueueStep mark k old i (Dual call) (ToDual answer) new = DualStep mark (end_of k.order) old i call answer new
 QueueStep mark k old i (Dual call) (ToPut answer) new = ⊥
 

@@ -1,7 +1,8 @@
 //! A queue's answers to a seat's calls, each with its record.
 
 ghost use Rattle.std.specs.Prelude.{◌≡◌, Some};
-ghost use Rattle.meet_calls.specs.DualRecords.{give_record, offer_record, take_record, poll_record, follow_record, back_record, interrupt_record};
+ghost use Rattle.meet_calls.specs.DualRecords.{give_record, offer_record, take_record, poll_record, follow_record};
+ghost use Rattle.meet_calls.specs.DualRecords.{back_record, interrupt_record};
 ghost use Rattle.meet_calls.specs.QueueSteps.{put_record};
 
 use crate::queue_calls::{DualAnswer, QueueAnswer};

@@ -43,8 +43,8 @@ impl<T: Marked, L: Line<T>> Dual<T, L> {
     ghost use Rattle.meet_line.specs.Steps.{GiveStep, TakeStep, OfferStep, PollStep};
     ghost use Rattle.meet_tickets.specs.declared.refusals.Refusal.TheVariants.{Memory};
 
-    /// A queue with no room yet, with this many seats, at most 65,536, and this first ticket, 1 to 2^63 - 1. The only refusal is
-    /// Memory.
+    /// A queue with no room yet, with this many seats, at most 65,536, and this first ticket, 1 to 2^63 - 1. The only
+    /// refusal is Memory.
     pub fn new(alloc: Global, seats: u64, first: u64) -> Result<Self, Refusal>
         requires seats { seats ≤ most_seats }
         requires first_from { 0 < first }
@@ -81,9 +81,9 @@ impl<T: Marked, L: Line<T>> Dual<T, L> {
         self.meetings.reserve(requests)
     }
 
-    /// `SynchronousQueue.put` up to its wait: the item goes to the taker that is met, or its giver goes to the line, or is
-    /// refused at entry where it is flagged. Refuses what `admit` does, then Memory, never where there is room; the item
-    /// comes back.
+    /// `SynchronousQueue.put` up to its wait: the item goes to the taker that is met, or its giver goes to the line,
+    /// or is refused at entry where it is flagged. Refuses what `admit` does, then Memory, never where there is room;
+    /// the item comes back.
     pub fn give(&mut self, seat: SeatNo, item: T) -> Result<Gave<T>, Refused<T>>
         ensures step { IfOk result (λ answer. GiveStep T.mark_of L.end self.old seat item answer self.new) }
         ensures admitted { IfOk result (λ _. admit_refusal self.old seat ≡ None) }
@@ -96,8 +96,9 @@ impl<T: Marked, L: Line<T>> Dual<T, L> {
         self.meetings.give(seat, item)
     }
 
-    /// `SynchronousQueue.take` up to its wait: the item comes from the giver that is met, or the taker goes to the line, or
-    /// is refused at entry where it is flagged. Refuses what `admit` does, then Memory, never where there is room.
+    /// `SynchronousQueue.take` up to its wait: the item comes from the giver that is met, or the taker goes to the
+    /// line, or is refused at entry where it is flagged. Refuses what `admit` does, then Memory, never where there is
+    /// room.
     pub fn take(&mut self, seat: SeatNo) -> Result<Took<T>, Refusal>
         ensures step { IfOk result (λ answer. TakeStep T.mark_of L.end self.old seat answer self.new) }
         ensures admitted { IfOk result (λ _. admit_refusal self.old seat ≡ None) }
@@ -122,8 +123,8 @@ impl<T: Marked, L: Line<T>> Dual<T, L> {
         self.meetings.offer(seat, item)
     }
 
-    /// `SynchronousQueue.poll`: the item comes from the giver that is met, if one is there. It takes no memory, and refuses
-    /// what `admit` does.
+    /// `SynchronousQueue.poll`: the item comes from the giver that is met, if one is there. It takes no memory, and
+    /// refuses what `admit` does.
     pub fn poll(&mut self, seat: SeatNo) -> Result<Polled<T>, Refusal>
         ensures step { IfOk result (λ answer. PollStep T.mark_of L.end self.old answer self.new) }
         ensures admitted { IfOk result (λ _. admit_refusal self.old seat ≡ None) }

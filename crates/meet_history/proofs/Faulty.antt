@@ -1,4 +1,4 @@
--- A record with a fault doesn't fit, and the front that it ends isn't legal.
+-- A record with a fault doesn't fit, and the prefix that it ends isn't legal.
 use Rattle.std.proofs.Common.{◌≡◌, ℕ, ◌+◌, ◌<◌, sym, ap, ◌∙◌, subst, true, false, Some, List, [], ◌∷◌, ◌++◌, length, take, drop, get_or, take-append-drop, length-take, arith}
 use Rattle.std.proofs.lemmas.List.{drop_more, take_more}
 use Rattle.meet_tickets.specs.declared.places.Kind.{Kind}
@@ -57,10 +57,10 @@ last-fits : (k : Kind) (m : Moment) (xs : List (Record Deed)) (r : Record Deed) 
 last-fits k m [] r legal = legal.0
 last-fits k m (x ∷ xs) r legal = last-fits k (moment_after k m x) xs r legal.1
 
--- so the record is the last of the shortest front that isn't legal
+-- so the record is the last of the shortest prefix that isn't legal
 pub illegal-at : (k : Kind) (records : List (Record Deed)) (n : ℕ) (r : Record Deed) (why : Why) → n < length records → r ≡ get_or records n r → IsLegalBySeat k (take n records) → IsFaulty k (moment_of k beginning (take n records)) r why → IsIllegalAt k records (n + 1) why
 illegal-at k records n r why there item legal faulty = record {
-  front = take n records;
+  prefix = take n records;
   bad = r;
   rest = drop (n + 1) records;
   parts = sym (take-append-drop n records) ∙ ap (λ xs. take n records ++ xs) (drop_more records n r there ∙ ap (λ x. x ∷ drop (n + 1) records) (sym item));

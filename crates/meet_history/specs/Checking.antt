@@ -39,16 +39,16 @@ IsUntimely m i t SeatOpen = is_open (m.seats.holds i) ≡ true
 IsUntimely m i t TicketOrder = IsFree m.seats i × (t ≤ m.last)
 IsUntimely m i t why = ⊥
 
--- the record of this number is the last of the shortest front that isn't legal
+-- the record of this number is the last of the shortest prefix that isn't legal
 pub record IsIllegalAt (k : Kind) (records : List (Record Deed)) (number : ℕ) (why : Why) : Type 0 where
-  pub front : List (Record Deed)
+  pub prefix : List (Record Deed)
   pub bad : Record Deed
   pub rest : List (Record Deed)
-  pub parts : records ≡ front ++ bad ∷ rest
-  pub last : number ≡ length front + 1
-  pub legal : IsLegal k front
-  pub illegal : IsLegal k (front ++ bad ∷ []) → ⊥
-  pub faulty : IsFaulty k (moment_of k beginning front) bad why
+  pub parts : records ≡ prefix ++ bad ∷ rest
+  pub last : number ≡ length prefix + 1
+  pub legal : IsLegal k prefix
+  pub illegal : IsLegal k (prefix ++ bad ∷ []) → ⊥
+  pub faulty : IsFaulty k (moment_of k beginning prefix) bad why
 
 -- what the checker says of records that aren't legal; want of memory says nothing
 abbrev pub IsCheckFault : Kind → List (Record Deed) → CheckFault → Type 0
@@ -74,4 +74,7 @@ pub record Checked : Type 0 where
 
 -- where the place is
 abbrev pub moment_at : Checked → Moment
-moment_at c = record { last = c.last; seats = record { line = c.line; holds = hold_at c.table.holds; flags = flag_at c.table.flags } }
+moment_at c = record {
+  last = c.last;
+  seats = record { line = c.line; holds = hold_at c.table.holds; flags = flag_at c.table.flags };
+}

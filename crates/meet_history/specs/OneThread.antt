@@ -1,5 +1,6 @@
 -- The replies of a place that one thread uses, whatever seats it speaks for.
-use Rattle.std.specs.Prelude.{ℕ, zero, suc, ◌+◌, ◌-◌, nat_lt, min, Bool, true, Option, Some, None, unwrap_or, List, [], ◌∷◌, ◌++◌, if◌then◌else◌}
+use Rattle.std.specs.Prelude.{ℕ, zero, suc, ◌+◌, ◌-◌, nat_lt, min, Bool, true, Option, Some, None, unwrap_or, List}
+use Rattle.std.specs.Prelude.{[], ◌∷◌, ◌++◌, if◌then◌else◌}
 use Rattle.std.specs.Option.{option_map_or}
 use Rattle.meet_tickets.specs.declared.lines.Entry.{Entry}
 use Rattle.meet_tickets.specs.declared.lines.Hold.{Hold}
@@ -11,7 +12,9 @@ use Rattle.meet_tickets.specs.declared.records.Record.{Record}
 use Rattle.meet_tickets.specs.declared.records.Cause.{Cause}
 use Rattle.meet_tickets.specs.declared.records.Cause.TheVariants.{Cancelled, Expired, Interrupted}
 use Rattle.meet_tickets.specs.declared.records.Deed.{Deed}
-use Rattle.meet_tickets.specs.declared.records.Deed.TheVariants.{GiveWaits, GiveMeets, GiveFails, GiveKept, TakeWaits, TakeMeets, TakeFails, EntryInterrupted, Done, Got, Withdrawn, Interrupt}
+use Rattle.meet_tickets.specs.declared.records.Deed.TheVariants.{GiveWaits, GiveMeets, GiveFails, GiveKept, TakeWaits}
+use Rattle.meet_tickets.specs.declared.records.Deed.TheVariants.{TakeMeets, TakeFails, EntryInterrupted, Done, Got}
+use Rattle.meet_tickets.specs.declared.records.Deed.TheVariants.{Withdrawn, Interrupt}
 use Rattle.meet_tickets.specs.declared.refusals.Refusal.{Refusal}
 use Rattle.meet_tickets.specs.declared.refusals.Refusal.TheVariants.{NotOpen}
 use Rattle.meet_tickets.specs.Meeting.{end_of, keeps, partner, kept_count, waiting_count, count_on}
@@ -24,12 +27,19 @@ use Rattle.meet_queues.specs.Probes.{size_of, remaining_of, peek_of}
 use Rattle.meet_history.specs.declared.one_thread.verbs.Call.{Call}
 use Rattle.meet_history.specs.declared.checker.Standing.{Standing}
 use Rattle.meet_history.specs.declared.one_thread.verbs.Verb.{Verb}
-use Rattle.meet_history.specs.declared.one_thread.verbs.Verb.TheVariants.{Put, Offer, Take, Poll, Transfer as TransferItem, Try, Follow, Cancel, Expire, Interrupt as InterruptSeat, Drain, Size, Room, Peek, Consumers}
+use Rattle.meet_history.specs.declared.one_thread.verbs.Verb.TheVariants.{Put, Offer, Take, Poll}
+use Rattle.meet_history.specs.declared.one_thread.verbs.Verb.TheVariants.{Transfer as TransferItem, Try, Follow}
+use Rattle.meet_history.specs.declared.one_thread.verbs.Verb.TheVariants.{Cancel, Expire, Interrupt as InterruptSeat}
+use Rattle.meet_history.specs.declared.one_thread.verbs.Verb.TheVariants.{Drain, Size, Room, Peek, Consumers}
 use Rattle.meet_history.specs.declared.one_thread.setup.Setup.{Setup}
 use Rattle.meet_history.specs.declared.one_thread.replies.Reply.{Reply}
 use Rattle.meet_history.specs.declared.one_thread.replies.Outcome.{Outcome}
-use Rattle.meet_history.specs.declared.one_thread.replies.Outcome.TheVariants.{Recorded, Interrupted as InterruptedSeat, NotYet, Late, Drained, Count, Peeked, Refused}
-use Rattle.meet_history.specs.declared.one_thread.replies.Answer.TheVariants.{Waits, Kept, Gave, Got as GotItem, Fails, Done as Finished, Withdrawn as TakenBack}
+use Rattle.meet_history.specs.declared.one_thread.replies.Outcome.TheVariants.{Recorded}
+use Rattle.meet_history.specs.declared.one_thread.replies.Outcome.TheVariants.{Interrupted as InterruptedSeat, NotYet}
+use Rattle.meet_history.specs.declared.one_thread.replies.Outcome.TheVariants.{Late, Drained, Count, Peeked, Refused}
+use Rattle.meet_history.specs.declared.one_thread.replies.Answer.TheVariants.{Waits, Kept, Gave, Got as GotItem}
+use Rattle.meet_history.specs.declared.one_thread.replies.Answer.TheVariants.{Fails, Done as Finished}
+use Rattle.meet_history.specs.declared.one_thread.replies.Answer.TheVariants.{Withdrawn as TakenBack}
 
 -- where the place is
 pub record Place : Type 0 where
@@ -60,7 +70,8 @@ abbrev pub named : ℕ → Option ℕ
 named zero = None
 named (suc t) = Some (suc t)
 
--- what the seat is told of its record: which number and ticket it has, and what came of it; a giver's item where it comes back
+-- what the seat is told of its record: which number and ticket it has, and what came of it; a giver's item where it
+-- comes back
 abbrev pub told : (number ticket : ℕ) → Deed → (back : Option ℕ) → Outcome
 told n t (GiveWaits m) back = Recorded n t Waits
 told n t (GiveMeets m u) back = Recorded n t (Gave m u)
@@ -133,7 +144,8 @@ take_alone s seat keeping = TakeFails
 -- the deed of a take: the partner is met, if there is one
 abbrev pub take_deed : Kind → Seats ℕ → (seat : ℕ) → Form → Deed
 take_deed k s seat form =
-    option_map_or (λ e. TakeMeets (unwrap_or e.item 0) e.ticket) (partner (end_of k.order) s.line Taker) (take_alone s seat form)
+    option_map_or (λ e. TakeMeets (unwrap_or e.item 0) e.ticket) (partner (end_of k.order) s.line Taker)
+    (take_alone s seat form)
 
 -- why a request is refused: the first that applies
 abbrev pub request_refusal : Setup → Place → (seat : ℕ) → Option Refusal
@@ -164,7 +176,8 @@ follow setup p seat (Cut t item) = stepped setup p seat t (Withdrawn Interrupted
 abbrev pub withdraw : Setup → Place → (seat : ℕ) → Cause → Hold ℕ → Turn
 withdraw setup p seat cause Free = refused p seat NotOpen
 withdraw setup p seat cause (Waiting t) =
-    option_map_or (λ e. stepped setup p seat t (Withdrawn cause) e.item) (entry_of p.seats.line (Waiting t)) (silent p seat Late)
+    option_map_or (λ e. stepped setup p seat t (Withdrawn cause) e.item) (entry_of p.seats.line (Waiting t))
+    (silent p seat Late)
 withdraw setup p seat cause (Handed t u mark) = silent p seat Late
 withdraw setup p seat cause (Served t u item) = silent p seat Late
 withdraw setup p seat cause (Cut t item) = silent p seat Late
@@ -193,7 +206,8 @@ drain_refusal setup p seat k =
 -- a drain of k items (drainTo of either queue): all of it, or a refusal
 abbrev pub drain : Setup → Place → (seat k : ℕ) → Turn
 drain setup p seat k =
-    option_map_or (refused p seat) (drain_refusal setup p seat k) (joined (polls setup p seat k) (λ q. silent q seat (Drained k)))
+    option_map_or (refused p seat) (drain_refusal setup p seat k)
+    (joined (polls setup p seat k) (λ q. silent q seat (Drained k)))
 
 -- SynchronousQueue.put waits; LinkedTransferQueue.put keeps its item
 abbrev pub put_form : Order → Form
@@ -238,8 +252,8 @@ replies setup calls = (turns setup (start setup) calls).replies
 abbrev pub records : Setup → List Call → List (Record Deed)
 records setup calls = (turns setup (start setup) calls).records
 
--- the numbers of tickets that wait in the line, that were met or cut and not collected, and of items that are kept, where
--- a place has so many seats
+-- the numbers of tickets that wait in the line, that were met or cut and not collected, and of items that are kept,
+-- where a place has so many seats
 abbrev pub standing_at : (seats : ℕ) → Seats ℕ → Standing
 standing_at count s = record {
   waiting = waiting_count s.line;

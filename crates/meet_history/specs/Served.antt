@@ -3,7 +3,8 @@ use Rattle.std.specs.Prelude.{Bool, true, false, if◌then◌else◌}
 use Rattle.meet_tickets.specs.declared.places.Order.{Order}
 use Rattle.meet_tickets.specs.Meeting.{keeps}
 use Rattle.meet_history.specs.declared.one_thread.verbs.Verb.{Verb}
-use Rattle.meet_history.specs.declared.one_thread.verbs.Verb.TheVariants.{Transfer as TransferItem, Try, Drain, Consumers}
+use Rattle.meet_history.specs.declared.one_thread.verbs.Verb.TheVariants.{Transfer as TransferItem, Try, Drain}
+use Rattle.meet_history.specs.declared.one_thread.verbs.Verb.TheVariants.{Consumers}
 
 -- a synchronous place serves all verbs but those that LinkedTransferQueue alone has
 abbrev pub serves_synchronous : Verb → Bool

@@ -10,13 +10,15 @@ use Rattle.meet_history.specs.declared.checker.Standing.{Standing}
 use Rattle.meet_history.specs.declared.one_thread.setup.Setup.{Setup}
 use Rattle.meet_history.specs.OneThread.{start, turns, records, standing_of}
 
--- the numbers of tickets with these fates: that wait in the line; that waited, were met or cut, and weren't told so; and
--- whose items are kept
+-- the numbers of tickets with these fates: that wait in the line; that waited, were met or cut, and weren't told so;
+-- and whose items are kept
 abbrev pub standing_in : List (Record Deed) → Standing
-standing_in history = record { waiting = waiting_in history; uncollected = uncollected_in history; kept = kept_in history }
+standing_in history =
+    record { waiting = waiting_in history; uncollected = uncollected_in history; kept = kept_in history }
 
 -- what one thread's calls write is legal, leaves the place as they do, and tells what stands there
 pub record IsRecorded (setup : Setup) (calls : List Call) : Type 0 where
   pub legal : IsLegal setup.kind (records setup calls)
-  pub leaves : (moment_of setup.kind beginning (records setup calls)).seats ≡ (turns setup (start setup) calls).place.seats
+  pub leaves : (moment_of setup.kind beginning (records setup calls)).seats
+      ≡ (turns setup (start setup) calls).place.seats
   pub standing : standing_of setup (turns setup (start setup) calls).place ≡ standing_in (records setup calls)

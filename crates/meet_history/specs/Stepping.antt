@@ -14,8 +14,11 @@ use Rattle.meet_line.specs.declared.answers.TakenBack.TheVariants.{Back}
 use Rattle.meet_book.specs.Received.{Received}
 use Rattle.meet_tickets.specs.BySeat.{owed_of}
 use Rattle.meet_calls.specs.declared.queue_calls.DualCall.{DualCall}
-use Rattle.meet_calls.specs.declared.queue_calls.DualCall.TheVariants.{Give, Offer, Take, Poll, FollowUp, Cancel, Expire, Interrupt}
-use Rattle.meet_calls.specs.declared.queue_calls.DualAnswer.TheVariants.{Gave as ToGive, Offered as ToOffer, Followed as ToFollowUp, TakenBack as ToWithdrawal}
+use Rattle.meet_calls.specs.declared.queue_calls.DualCall.TheVariants.{Give, Offer, Take, Poll, FollowUp, Cancel}
+use Rattle.meet_calls.specs.declared.queue_calls.DualCall.TheVariants.{Expire, Interrupt}
+use Rattle.meet_calls.specs.declared.queue_calls.DualAnswer.TheVariants.{Gave as ToGive, Offered as ToOffer}
+use Rattle.meet_calls.specs.declared.queue_calls.DualAnswer.TheVariants.{Followed as ToFollowUp}
+use Rattle.meet_calls.specs.declared.queue_calls.DualAnswer.TheVariants.{TakenBack as ToWithdrawal}
 use Rattle.meet_calls.specs.declared.queue_calls.QueueCall.{QueueCall}
 use Rattle.meet_calls.specs.declared.queue_calls.QueueCall.TheVariants.{Put, Dual}
 use Rattle.meet_calls.specs.declared.queue_calls.QueueAnswer.{QueueAnswer}
@@ -24,7 +27,8 @@ use Rattle.meet_history.specs.declared.one_thread.setup.Setup.{Setup}
 use Rattle.meet_history.specs.declared.one_thread.replies.Reply.{Reply}
 use Rattle.meet_history.specs.declared.one_thread.replies.Outcome.{Outcome}
 use Rattle.meet_history.specs.declared.one_thread.replies.Outcome.TheVariants.{NotYet, Late}
-use Rattle.meet_history.specs.OneThread.{Place, Turn, told, put_form, waiting, immediate, give, take, follow, withdraw, interrupt, request_refusal, interrupt_refusal}
+use Rattle.meet_history.specs.OneThread.{Place, Turn, told, put_form, waiting, immediate, give, take, follow}
+use Rattle.meet_history.specs.OneThread.{withdraw, interrupt, request_refusal, interrupt_refusal}
 
 -- what a run over a place shows of itself
 pub record Stepping : Type 0 where
@@ -93,7 +97,8 @@ back_of (ToDual (ToFollowUp (Interrupted item))) = item
 back_of (ToDual (ToWithdrawal (Back item))) = item
 back_of answer = None
 
--- what is told of a call that writes no record: a follow-up comes too early, a withdrawal too late; no other call is without one
+-- what is told of a call that writes no record: a follow-up comes too early, a withdrawal too late; no other call is
+-- without one
 abbrev pub unrecorded : QueueCall ℕ → Outcome
 unrecorded (Dual (FollowUp t)) = NotYet
 unrecorded call = Late

@@ -69,9 +69,16 @@ impl Model for Checker {
 
     ghost Value = { Checked };
 
-    ghost view = { λ c. record { kind = c.kind; last = c.last; line = c.line.entries; room = c.line.room; table = c.seats } };
+    ghost view = { λ c. record {
+      kind = c.kind;
+      last = c.last;
+      line = c.line.entries;
+      room = c.line.room;
+      table = c.seats;
+    } };
 
-    ghost invariant = { λ c. AreSeated (length c.seats.holds) c.line.entries × (c.line.end ≡ end_of c.kind.order) × (c.line.newest ≤ c.last) };
+    ghost invariant = { λ c. AreSeated (length c.seats.holds) c.line.entries × (c.line.end ≡ end_of c.kind.order)
+        × (c.line.newest ≤ c.last) };
 }
 
 impl Checker {
@@ -113,7 +120,8 @@ impl Checker {
         }
     }
 
-    /// Makes room for one entry more, and in the table for the seats that this record names. The only refusal is Memory.
+    /// Makes room for one entry more, and in the table for the seats that this record names. The only refusal is
+    /// Memory.
     fn reserve(&mut self, entry: &Record<Deed>) -> Result<(), Refusal>
         ensures kind { self.new.kind ≡ self.old.kind }
         ensures moment { moment_at self.new ≡ moment_at self.old }
@@ -149,7 +157,8 @@ impl Checker {
     /// Whether a request of this seat with this ticket may come now.
     fn requests(&self, seat: SeatNo, ticket: Ticket) -> Result<(), Why>
         requires { seat < length self.now.table.holds }
-        ensures timely { IfOk result (λ _. IsFree (moment_at self.now).seats seat × ((moment_at self.now).last < ticket)) }
+        ensures timely { IfOk result (λ _. IsFree (moment_at self.now).seats seat
+            × ((moment_at self.now).last < ticket)) }
         ensures faulty { IfErr result (λ why. IsUntimely (moment_at self.now) seat ticket why) }
     {
         if self.hold(seat).is_open() {
@@ -221,8 +230,9 @@ impl Checker {
     }
 }
 
-/// Whether these records, from the first, are a legal history of a place of this kind, and then where its tickets and items
-/// are. Else it names the last record of the shortest front that isn't legal, with the first reason that applies; or Memory.
+/// Whether these records, from the first, are a legal history of a place of this kind, and then where its tickets and
+/// items are. Else it names the last record of the shortest prefix that isn't legal, with the first reason that
+/// applies; or Memory.
 pub fn check(alloc: Global, kind: Kind, records: &[Record<Deed>]) -> Result<Standing, CheckFault>
     ensures legal { IfOk result (λ _. IsLegal kind records.now) }
     ensures standing { IfOk result (λ standing. standing ≡ standing_in records.now) }

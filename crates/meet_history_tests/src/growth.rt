@@ -1,5 +1,5 @@
-//! Checks and the calls of one thread bear one refusal of memory: the same that is done again succeeds. `bin/refuse` runs these
-//! tests with each allocation refused in turn.
+//! Checks and the calls of one thread bear one refusal of memory: the same that is done again succeeds. `bin/refuse`
+//! runs these tests with each allocation refused in turn.
 
 use crate::calls::{TRANSFER, record, reply, seat, ticket};
 use meet_history::{Answer, Call, CheckFault, Outcome, Reply, Standing, Verb, check, run_all};

@@ -19,7 +19,8 @@ left_of t standing item = option_map (λ own. record { ticket = t; item = own; s
 abbrev pub left_of_entry : {T : Type 0} → Entry T → Option (Left T)
 left_of_entry e = left_of e.ticket (if e.waits then Offered else Kept) e.item
 
--- what a seat leaves by what it holds: a taker that was met its giver's item, a giver that was cut its own; both are ready
+-- what a seat leaves by what it holds: a taker that was met its giver's item, a giver that was cut its own; both are
+-- ready
 abbrev pub left_of_hold : {T : Type 0} → Hold T → Option (Left T)
 left_of_hold Free = None
 left_of_hold (Waiting t) = None

@@ -1,5 +1,6 @@
 -- What a queue shows of itself.
-use Rattle.std.specs.Prelude.{◌≡◌, ◌≢◌, ℕ, ◌+◌, ◌<◌, ◌≤◌, true, false, Option, Some, is_some, IsSome, List, length, All, AllPairs}
+use Rattle.std.specs.Prelude.{◌≡◌, ◌≢◌, ℕ, ◌+◌, ◌<◌, ◌≤◌, true, false, Option, Some, is_some, IsSome, List, length}
+use Rattle.std.specs.Prelude.{All, AllPairs}
 use Rattle.meet_tickets.specs.declared.lines.Entry.{Entry}
 use Rattle.meet_tickets.specs.declared.lines.Hold.{Hold}
 use Rattle.meet_tickets.specs.declared.lines.Hold.TheVariants.{Waiting}
@@ -33,8 +34,8 @@ places_of q = length q.line + q.room
 abbrev pub admit_refusal : {T : Type 0} → Queue T → (seat : ℕ) → Option Refusal
 admit_refusal q seat = refusal_of (count_of q) q.next (seats_of q) seat
 
--- an entry that waits is what its seat holds; one that is kept has an item, and is open at no seat (LinkedTransferQueue:
--- the giver of a kept item went on); its ticket was used
+-- an entry that waits is what its seat holds; one that is kept has an item, and is open at no seat
+-- (LinkedTransferQueue: the giver of a kept item went on); its ticket was used
 pub record Stands {T : Type 0} (holds : ℕ → Hold T) (next : ℕ) (e : Entry T) : Type 0 where
   pub held : e.waits ≡ true → holds e.seat ≡ Waiting e.ticket
   pub given : e.waits ≡ false → IsSome e.item

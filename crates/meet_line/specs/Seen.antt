@@ -20,7 +20,8 @@ marked_hold mark (Cut t item) = Cut t (option_map mark item)
 
 -- the seats as histories see them: the line, what they hold, and their flags
 abbrev pub marked : {T : Type 0} → (T → ℕ) → Seats T → Seats ℕ
-marked mark s = record { line = map (marked_entry mark) s.line; holds = λ i. marked_hold mark (s.holds i); flags = s.flags }
+marked mark s =
+    record { line = map (marked_entry mark) s.line; holds = λ i. marked_hold mark (s.holds i); flags = s.flags }
 
 -- the moment that a queue shows
 abbrev pub moment_of_queue : {T : Type 0} → (T → ℕ) → Queue T → Moment

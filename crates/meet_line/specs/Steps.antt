@@ -9,7 +9,8 @@ use Rattle.meet_tickets.specs.BySeat.{Seats, entry_of, queued, paired, flagged, 
 use Rattle.meet_line.specs.declared.answers.Gave.{Gave}
 use Rattle.meet_line.specs.declared.answers.Gave.TheVariants.{Waits, Meets, EntryInterrupted}
 use Rattle.meet_line.specs.declared.answers.Took.{Took}
-use Rattle.meet_line.specs.declared.answers.Took.TheVariants.{Waits as TakerWaits, Meets as TakerMeets, EntryInterrupted as TakerInterrupted}
+use Rattle.meet_line.specs.declared.answers.Took.TheVariants.{Waits as TakerWaits, Meets as TakerMeets}
+use Rattle.meet_line.specs.declared.answers.Took.TheVariants.{EntryInterrupted as TakerInterrupted}
 use Rattle.meet_line.specs.declared.answers.Offered.{Offered}
 use Rattle.meet_line.specs.declared.answers.Offered.TheVariants.{Meets as OfferMeets, Fails}
 use Rattle.meet_line.specs.declared.answers.Put.{Put}
@@ -42,30 +43,36 @@ pub record Leaves {T : Type 0} (old new : Queue T) (seats : Seats T) : Type 0 wh
 -- the giver of ticket t met the taker of ticket u, which brought nothing
 abbrev pub HandsTo : {T : Type 0} → (T → ℕ) → End → Queue T → (item : T) → (t u : ℕ) → Queue T → Type 0
 HandsTo {T} mark end old item t u new =
-    (e : Entry T) × (partner end old.line Giver ≡ Some e) × (u ≡ e.ticket) × (e.item ≡ None) × Uses old new t (paired mark end (seats_of old) t (Some item) e)
+    (e : Entry T) × (partner end old.line Giver ≡ Some e) × (u ≡ e.ticket) × (e.item ≡ None)
+    × Uses old new t (paired mark end (seats_of old) t (Some item) e)
 
 -- the taker of ticket t met the giver of ticket u, and got the item that this one presented
 abbrev pub GetsFrom : {T : Type 0} → (T → ℕ) → End → Queue T → (t u : ℕ) → (item : T) → Queue T → Type 0
 GetsFrom {T} mark end old t u item new =
-    (e : Entry T) × (partner end old.line Taker ≡ Some e) × (u ≡ e.ticket) × (e.item ≡ Some item) × Uses old new t (paired mark end (seats_of old) t None e)
+    (e : Entry T) × (partner end old.line Taker ≡ Some e) × (u ≡ e.ticket) × (e.item ≡ Some item)
+    × Uses old new t (paired mark end (seats_of old) t None e)
 
 -- the same of a giver whose ticket t was drawn before
 abbrev pub HandsOver : {T : Type 0} → (T → ℕ) → End → Queue T → (item : T) → (t u : ℕ) → Queue T → Type 0
 HandsOver {T} mark end old item t u new =
-    (e : Entry T) × (partner end old.line Giver ≡ Some e) × (u ≡ e.ticket) × (e.item ≡ None) × Leaves old new (paired mark end (seats_of old) t (Some item) e)
+    (e : Entry T) × (partner end old.line Giver ≡ Some e) × (u ≡ e.ticket) × (e.item ≡ None)
+    × Leaves old new (paired mark end (seats_of old) t (Some item) e)
 
 -- and of such a taker
 abbrev pub Fetches : {T : Type 0} → (T → ℕ) → End → Queue T → (t u : ℕ) → (item : T) → Queue T → Type 0
 Fetches {T} mark end old t u item new =
-    (e : Entry T) × (partner end old.line Taker ≡ Some e) × (u ≡ e.ticket) × (e.item ≡ Some item) × Leaves old new (paired mark end (seats_of old) t None e)
+    (e : Entry T) × (partner end old.line Taker ≡ Some e) × (u ≡ e.ticket) × (e.item ≡ Some item)
+    × Leaves old new (paired mark end (seats_of old) t None e)
 
 -- a give that waits: with a partner they meet; without one it goes to the line, or is refused at entry
 abbrev pub GiveStep : {T : Type 0} → (T → ℕ) → End → Queue T → (seat : ℕ) → (item : T) → Gave T → Queue T → Type 0
 GiveStep mark end old seat item (Waits t) new =
-    (partner end old.line Giver ≡ None) × ((seats_of old).flags seat ≡ false) × Uses old new t (queued (seats_of old) seat t (Some item) true)
+    (partner end old.line Giver ≡ None) × ((seats_of old).flags seat ≡ false)
+    × Uses old new t (queued (seats_of old) seat t (Some item) true)
 GiveStep mark end old seat item (Meets t u) new = HandsTo mark end old item t u new
 GiveStep mark end old seat item (EntryInterrupted t back) new =
-    (partner end old.line Giver ≡ None) × ((seats_of old).flags seat ≡ true) × (back ≡ item) × Uses old new t (flagged (seats_of old) seat false)
+    (partner end old.line Giver ≡ None) × ((seats_of old).flags seat ≡ true) × (back ≡ item)
+    × Uses old new t (flagged (seats_of old) seat false)
 
 -- an immediate give: with a partner they meet; without one it fails, and only its ticket is used
 abbrev pub OfferStep : {T : Type 0} → (T → ℕ) → End → Queue T → (item : T) → Offered T → Queue T → Type 0
@@ -73,22 +80,28 @@ OfferStep mark end old item (OfferMeets t u) new = HandsTo mark end old item t u
 OfferStep mark end old item (Fails t back) new =
     (partner end old.line Giver ≡ None) × (back ≡ item) × Uses old new t (seats_of old)
 
--- a give that is kept (LinkedTransferQueue.put; that no more than so many are kept is our choice): with a partner they
--- meet; without one the item goes to the line where no bound says otherwise, and its seat stays free; it looks at no flag
-abbrev pub PutStep : {T : Type 0} → (T → ℕ) → End → (bound : Option ℕ) → Queue T → (seat : ℕ) → (item : T) → Put T → Queue T → Type 0
+-- a give that is kept (LinkedTransferQueue.put; that no more than so many are kept is our choice): with a partner
+-- they meet; without one the item goes to the line where no bound says otherwise, and its seat stays free; it looks
+-- at no flag
+abbrev pub PutStep : {T : Type 0} → (T → ℕ) → End → (bound : Option ℕ) → Queue T → (seat : ℕ) → (item : T) → Put T
+    → Queue T → Type 0
 PutStep mark end bound old seat item (Kept t) new =
-    (partner end old.line Giver ≡ None) × MatchOption bound ⊤ (λ most. kept_count old.line < most) × Uses old new t (queued (seats_of old) seat t (Some item) false)
+    (partner end old.line Giver ≡ None) × MatchOption bound ⊤ (λ most. kept_count old.line < most)
+    × Uses old new t (queued (seats_of old) seat t (Some item) false)
 PutStep mark end bound old seat item (PutMeets t u) new = HandsTo mark end old item t u new
 PutStep mark end bound old seat item (PutFails t back) new =
-    (partner end old.line Giver ≡ None) × MatchOption bound ⊥ (λ most. most ≤ kept_count old.line) × (back ≡ item) × Uses old new t (seats_of old)
+    (partner end old.line Giver ≡ None) × MatchOption bound ⊥ (λ most. most ≤ kept_count old.line) × (back ≡ item)
+    × Uses old new t (seats_of old)
 
 -- a take that waits
 abbrev pub TakeStep : {T : Type 0} → (T → ℕ) → End → Queue T → (seat : ℕ) → Took T → Queue T → Type 0
 TakeStep mark end old seat (TakerWaits t) new =
-    (partner end old.line Taker ≡ None) × ((seats_of old).flags seat ≡ false) × Uses old new t (queued (seats_of old) seat t None true)
+    (partner end old.line Taker ≡ None) × ((seats_of old).flags seat ≡ false)
+    × Uses old new t (queued (seats_of old) seat t None true)
 TakeStep mark end old seat (TakerMeets t u item) new = GetsFrom mark end old t u item new
 TakeStep mark end old seat (TakerInterrupted t) new =
-    (partner end old.line Taker ≡ None) × ((seats_of old).flags seat ≡ true) × Uses old new t (flagged (seats_of old) seat false)
+    (partner end old.line Taker ≡ None) × ((seats_of old).flags seat ≡ true)
+    × Uses old new t (flagged (seats_of old) seat false)
 
 -- an immediate take
 abbrev pub PollStep : {T : Type 0} → (T → ℕ) → End → Queue T → Polled T → Queue T → Type 0
@@ -108,13 +121,15 @@ FollowStep old seat t NotYet new = ((seats_of old).holds seat ≡ Waiting t) × 
 -- a cancel or an expiry of a seat's open ticket: it leaves the line where it stands there, with its item
 abbrev pub WithdrawStep : {T : Type 0} → Queue T → (seat ticket : ℕ) → TakenBack T → Queue T → Type 0
 WithdrawStep {T} old seat t (Back item) new =
-    (e : Entry T) × ((seats_of old).holds seat ≡ Waiting t) × (entry_of old.line (Waiting t) ≡ Some e) × (item ≡ e.item) × Leaves old new (left (seats_of old) seat t)
+    (e : Entry T) × ((seats_of old).holds seat ≡ Waiting t) × (entry_of old.line (Waiting t) ≡ Some e)
+    × (item ≡ e.item) × Leaves old new (left (seats_of old) seat t)
 WithdrawStep old seat t Late new = (entry_of old.line ((seats_of old).holds seat) ≡ None) × (new ≡ old)
 
 -- an interrupt of a seat: its ticket is cut where it stands in the line, and else the seat is flagged
 abbrev pub InterruptStep : {T : Type 0} → Queue T → (target : ℕ) → Struck → Queue T → Type 0
 InterruptStep {T} old target (CutOff t) new =
-    (e : Entry T) × (entry_of old.line ((seats_of old).holds target) ≡ Some e) × (t ≡ e.ticket) × Leaves old new (cut_off (seats_of old) target e)
+    (e : Entry T) × (entry_of old.line ((seats_of old).holds target) ≡ Some e) × (t ≡ e.ticket)
+    × Leaves old new (cut_off (seats_of old) target e)
 InterruptStep old target Flagged new =
     (entry_of old.line ((seats_of old).holds target) ≡ None) × Leaves old new (flagged (seats_of old) target true)
 

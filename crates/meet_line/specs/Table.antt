@@ -25,7 +25,7 @@ HasNoItem (Handed t u mark) = Unit {0}
 HasNoItem (Served t u item) = ⊥
 HasNoItem (Cut t item) = ⊥
 
--- how many seats a table of so many has that grows to have `count`: as many as it had, where these are enough; else that many,
--- and twice as many as it had, where a place may have so many
+-- how many seats a table of so many has that grows to have `count`: as many as it had, where these are enough; else
+-- that many, and twice as many as it had, where a place may have so many
 abbrev pub grown : (was count : ℕ) → ℕ
 grown was count = if nat_le count was then was else min most_seats (max count (2 * was))

@@ -25,7 +25,8 @@ impl<T> Model for FairLine<T> {
 
     ghost view = { λ line. record { entries = line.entries.items; room = line.room } };
 
-    ghost invariant = { λ line. (deque_len line.entries + line.room ≤ deque_capacity line.entries) × AllPairs (λ e f. e.ticket ≢ f.ticket) line.entries.items };
+    ghost invariant = { λ line. (deque_len line.entries + line.room ≤ deque_capacity line.entries)
+        × AllPairs (λ e f. e.ticket ≢ f.ticket) line.entries.items };
 }
 
 impl<T> Line<T> for FairLine<T> {

@@ -1,5 +1,5 @@
-//! What the queues of one thread are made of: the line of unmatched tickets, the table of the seats, and the meetings of
-//! one line at one table.
+//! What the queues of one thread are made of: the line of unmatched tickets, the table of the seats, and the meetings
+//! of one line at one table.
 #![tactic(auto)]
 
 mod answers;

@@ -1,6 +1,7 @@
 //! The line of a place's unmatched tickets, however it is kept.
 
-ghost use Rattle.std.specs.Prelude.{◌≡◌, ◌≢◌, ℕ, ◌+◌, ◌<◌, ◌≤◌, ◌==◌, List, [], ◌∷◌, ◌++◌, length, map, find, All, AllPairs, IsOk, IfOk, IfErr, OnOk, OnErr, option_to_list};
+ghost use Rattle.std.specs.Prelude.{◌≡◌, ◌≢◌, ℕ, ◌+◌, ◌<◌, ◌≤◌, ◌==◌, List, [], ◌∷◌, ◌++◌, length, map, find, All};
+ghost use Rattle.std.specs.Prelude.{AllPairs, IsOk, IfOk, IfErr, OnOk, OnErr, option_to_list};
 ghost use Rattle.std.specs.Slice.{IsItemAt};
 ghost use Rattle.meet_tickets.specs.Meeting.{met};
 ghost use Rattle.meet_tickets.specs.BySeat.{unmet, without_first};

@@ -13,7 +13,8 @@ use meet_tickets::{Entry, Hold, Marked, Side, Ticket};
 /// Takes the partner of a request of this side out of the line.
 pub(crate) fn meet<T, L: Line<T>>(line: &mut L, side: Side) -> Option<Entry<T>>
     ensures partner { result ≡ partner L.end (L.entries line.old) side }
-    ensures rest { L.entries line.new ≡ (if is_some result then unmet L.end (L.entries line.old) else L.entries line.old) }
+    ensures rest { L.entries line.new ≡ (if is_some result then unmet L.end (L.entries line.old)
+        else L.entries line.old) }
     ensures room { L.spare line.new ≡ L.spare line.old + length (option_to_list result) }
 {
     let own = match line.first() {
@@ -29,7 +30,8 @@ pub(crate) fn serve<T>(seats: &mut SeatTable<T>, taker: Entry<T>, giver: Ticket,
     requires seat { taker.seat < length seats.old.holds }
     requires no_item { HasNoItem (hold_at seats.old.holds taker.seat) }
     ensures ticket { result ≡ taker.ticket }
-    ensures held { hold_at seats.new.holds ≡ put_at (hold_at seats.old.holds) taker.seat (Served taker.ticket giver item) }
+    ensures held { hold_at seats.new.holds ≡ put_at (hold_at seats.old.holds) taker.seat
+        (Served taker.ticket giver item) }
     ensures count { length seats.new.holds ≡ length seats.old.holds }
     ensures flags { seats.new.flags ≡ seats.old.flags }
 {
@@ -58,7 +60,8 @@ pub(crate) fn collect<T: Marked>(
     requires no_item { HasNoItem (hold_at seats.old.holds giver.seat) }
     ensures ticket { result.0 ≡ giver.ticket }
     ensures item { giver.item ≡ Some result.1 }
-    ensures held { hold_at seats.new.holds ≡ put_at (hold_at seats.old.holds) giver.seat (Handed giver.ticket taker (T.mark_of result.1)) }
+    ensures held { hold_at seats.new.holds ≡ put_at (hold_at seats.old.holds) giver.seat
+        (Handed giver.ticket taker (T.mark_of result.1)) }
     ensures count { length seats.new.holds ≡ length seats.old.holds }
     ensures flags { seats.new.flags ≡ seats.old.flags }
 {

@@ -38,7 +38,13 @@ impl<T: Marked, L: Line<T>> Model for Meetings<T, L> {
 
     ghost Value = { Queue T };
 
-    ghost view = { λ meetings. record { line = L.entries meetings.line; room = L.spare meetings.line; table = meetings.seats; last = meetings.last; next = meetings.next } };
+    ghost view = { λ meetings. record {
+      line = L.entries meetings.line;
+      room = L.spare meetings.line;
+      table = meetings.seats;
+      last = meetings.last;
+      next = meetings.next;
+    } };
 
     ghost invariant = { λ meetings.
         IsSound (L.entries meetings.line) (hold_at meetings.seats.holds) meetings.next
@@ -51,8 +57,8 @@ impl<T: Marked, L: Line<T>> Meetings<T, L> {
     ghost use Rattle.meet_line.specs.Steps.{GiveStep, PutStep, TakeStep, OfferStep, PollStep};
     ghost use Rattle.meet_tickets.specs.declared.refusals.Refusal.TheVariants.{Memory};
 
-    /// A queue with no room yet, with this many seats, at most 65,536, and this first ticket, 1 to 2^63 - 1. The only refusal is
-    /// Memory.
+    /// A queue with no room yet, with this many seats, at most 65,536, and this first ticket, 1 to 2^63 - 1. The only
+    /// refusal is Memory.
     pub fn new(alloc: Global, seats: u64, first: u64) -> Result<Self, Refusal>
         requires seats { seats ≤ most_seats }
         requires first_from { 0 < first }
@@ -105,9 +111,9 @@ impl<T: Marked, L: Line<T>> Meetings<T, L> {
         self.line.reserve(requests)
     }
 
-    /// `SynchronousQueue.put` up to its wait: the item goes to the taker that is met, or its giver goes to the line, or is
-    /// refused at entry where it is flagged. Refuses what `admit` does, then Memory, never where there is room; the item
-    /// comes back.
+    /// `SynchronousQueue.put` up to its wait: the item goes to the taker that is met, or its giver goes to the line,
+    /// or is refused at entry where it is flagged. Refuses what `admit` does, then Memory, never where there is room;
+    /// the item comes back.
     pub fn give(&mut self, seat: SeatNo, item: T) -> Result<Gave<T>, Refused<T>>
         ensures step { IfOk result (λ answer. GiveStep T.mark_of L.end self.old seat item answer self.new) }
         ensures admitted { IfOk result (λ _. admit_refusal self.old seat ≡ None) }
@@ -127,9 +133,9 @@ impl<T: Marked, L: Line<T>> Meetings<T, L> {
         Ok(self.give_admitted(seat, item))
     }
 
-    /// `LinkedTransferQueue.put`: the item goes to the taker that is met, or is kept in the line, and its giver goes on; it
-    /// fails where as many items are kept as the bound says. Refuses what `admit` does, then Memory, never where there is
-    /// room; the item comes back.
+    /// `LinkedTransferQueue.put`: the item goes to the taker that is met, or is kept in the line, and its giver goes
+    /// on; it fails where as many items are kept as the bound says. Refuses what `admit` does, then Memory, never
+    /// where there is room; the item comes back.
     pub fn put(&mut self, seat: SeatNo, item: T, bound: Option<u64>) -> Result<Put<T>, Refused<T>>
         ensures step { IfOk result (λ answer. PutStep T.mark_of L.end bound self.old seat item answer self.new) }
         ensures admitted { IfOk result (λ _. admit_refusal self.old seat ≡ None) }
@@ -148,8 +154,9 @@ impl<T: Marked, L: Line<T>> Meetings<T, L> {
         Ok(self.put_admitted(seat, item, bound))
     }
 
-    /// `SynchronousQueue.take` up to its wait: the item comes from the giver that is met, or the taker goes to the line, or
-    /// is refused at entry where it is flagged. Refuses what `admit` does, then Memory, never where there is room.
+    /// `SynchronousQueue.take` up to its wait: the item comes from the giver that is met, or the taker goes to the
+    /// line, or is refused at entry where it is flagged. Refuses what `admit` does, then Memory, never where there is
+    /// room.
     pub fn take(&mut self, seat: SeatNo) -> Result<Took<T>, Refusal>
         ensures step { IfOk result (λ answer. TakeStep T.mark_of L.end self.old seat answer self.new) }
         ensures admitted { IfOk result (λ _. admit_refusal self.old seat ≡ None) }
@@ -181,8 +188,8 @@ impl<T: Marked, L: Line<T>> Meetings<T, L> {
         Ok(self.offer_admitted(seat, item))
     }
 
-    /// `SynchronousQueue.poll`: the item comes from the giver that is met, if one is there. It takes no memory, and refuses
-    /// what `admit` does.
+    /// `SynchronousQueue.poll`: the item comes from the giver that is met, if one is there. It takes no memory, and
+    /// refuses what `admit` does.
     pub fn poll(&mut self, seat: SeatNo) -> Result<Polled<T>, Refusal>
         ensures step { IfOk result (λ answer. PollStep T.mark_of L.end self.old answer self.new) }
         ensures admitted { IfOk result (λ _. admit_refusal self.old seat ≡ None) }

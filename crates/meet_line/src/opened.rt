@@ -1,6 +1,7 @@
 //! What a table of seats holds outside the line, as a base names it.
 
-ghost use Rattle.std.specs.Prelude.{◌≡◌, ◌<◌, ◌++◌, length, option_to_list, IfOk, IfErr, OnOk, IsPermutation, option_map};
+ghost use Rattle.std.specs.Prelude.{◌≡◌, ◌<◌, ◌++◌, length, option_to_list, IfOk, IfErr, OnOk, IsPermutation};
+ghost use Rattle.std.specs.Prelude.{option_map};
 ghost use Rattle.std.specs.List.Sorted.{IsNonDecreasingBy};
 ghost use Rattle.meet_line.specs.Opened.{pair_of, cut_of, pair_at, cut_at, flagged_at, gathered};
 ghost use Rattle.meet_tickets.specs.declared.refusals.Refusal.TheVariants.{Memory};
@@ -92,9 +93,12 @@ fn push_some<X: Copy>(list: &mut Vec<X>, item: Option<X>) -> Result<(), Refusal>
 
 /// The same in the order of the seats.
 fn by_seat<T: Marked>(alloc: Global, table: &SeatTable<T>) -> Result<Opened, Refusal>
-    ensures pairs { IfOk result (λ opened. opened.pairs.items ≡ gathered (pair_at T.mark_of table.now) (length table.now.holds)) }
-    ensures cut { IfOk result (λ opened. opened.cut.items ≡ gathered (cut_at T.mark_of table.now) (length table.now.holds)) }
-    ensures flags { IfOk result (λ opened. opened.flags.items ≡ gathered (flagged_at table.now) (length table.now.holds)) }
+    ensures pairs { IfOk result (λ opened. opened.pairs.items
+        ≡ gathered (pair_at T.mark_of table.now) (length table.now.holds)) }
+    ensures cut { IfOk result (λ opened. opened.cut.items
+        ≡ gathered (cut_at T.mark_of table.now) (length table.now.holds)) }
+    ensures flags { IfOk result (λ opened. opened.flags.items
+        ≡ gathered (flagged_at table.now) (length table.now.holds)) }
     ensures seats { length table.now.flags ≡ length table.now.holds }
     ensures memory { IfErr result (λ why. why ≡ Memory) }
 {
@@ -115,11 +119,14 @@ pub(crate) fn open_tickets<T: Marked>(
     alloc: Global,
     table: &SeatTable<T>,
 ) -> Result<Opened, Refusal>
-    ensures pairs { IfOk result (λ opened. IsPermutation (gathered (pair_at T.mark_of table.now) (length table.now.holds)) opened.pairs.items) }
+    ensures pairs { IfOk result (λ opened. IsPermutation
+        (gathered (pair_at T.mark_of table.now) (length table.now.holds)) opened.pairs.items) }
     ensures pairs_rise { IfOk result (λ opened. IsNonDecreasingBy (λ p. p.ticket) opened.pairs.items) }
-    ensures cut { IfOk result (λ opened. IsPermutation (gathered (cut_at T.mark_of table.now) (length table.now.holds)) opened.cut.items) }
+    ensures cut { IfOk result (λ opened. IsPermutation
+        (gathered (cut_at T.mark_of table.now) (length table.now.holds)) opened.cut.items) }
     ensures cut_rises { IfOk result (λ opened. IsNonDecreasingBy (λ c. c.ticket) opened.cut.items) }
-    ensures flags { IfOk result (λ opened. opened.flags.items ≡ gathered (flagged_at table.now) (length table.now.holds)) }
+    ensures flags { IfOk result (λ opened. opened.flags.items
+        ≡ gathered (flagged_at table.now) (length table.now.holds)) }
     ensures seats { length table.now.flags ≡ length table.now.holds }
     ensures memory { IfErr result (λ why. why ≡ Memory) }
 {

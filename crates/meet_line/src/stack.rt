@@ -24,7 +24,8 @@ impl<T> Model for StackLine<T> {
 
     ghost view = { λ line. record { entries = line.entries.items; room = line.room } };
 
-    ghost invariant = { λ line. (vec_len line.entries + line.room ≤ vec_capacity line.entries) × AllPairs (λ e f. e.ticket ≢ f.ticket) line.entries.items };
+    ghost invariant = { λ line. (vec_len line.entries + line.room ≤ vec_capacity line.entries)
+        × AllPairs (λ e f. e.ticket ≢ f.ticket) line.entries.items };
 }
 
 impl<T> Line<T> for StackLine<T> {

@@ -1,6 +1,7 @@
 //! The table of a place's seats: what each holds, which are flagged, and how many tickets are open.
 
-ghost use Rattle.std.specs.Prelude.{◌≡◌, ◌+◌, ◌++◌, ◌≤◌, ◌<◌, false, is_some, length, replicate, count_by, vec_len, IsOk, IfOk, OnOk, OnErr};
+ghost use Rattle.std.specs.Prelude.{◌≡◌, ◌+◌, ◌++◌, ◌≤◌, ◌<◌, false, is_some, length, replicate, count_by, vec_len};
+ghost use Rattle.std.specs.Prelude.{IsOk, IfOk, OnOk, OnErr};
 ghost use Rattle.std.specs.Vec.{vec_capacity};
 ghost use Rattle.meet_tickets.specs.BySeat.{put_at, owed_of, settled_of};
 ghost use Rattle.meet_tickets.specs.Limits.{most_seats};
@@ -43,8 +44,8 @@ impl<T> Model for SeatTable<T> {
 impl<T> SeatTable<T> {
     ghost use Rattle.meet_line.specs.Table.{hold_at, flag_at, HasNoItem};
 
-    /// A table of this many seats, at most 65,536, none of which holds anything or is flagged. The only error is want of
-    /// memory.
+    /// A table of this many seats, at most 65,536, none of which holds anything or is flagged. The only error is want
+    /// of memory.
     pub fn new(alloc: Global, count: u64) -> Result<Self, AllocError>
         requires { count ≤ most_seats }
         ensures count { IfOk result (λ table. length table.holds ≡ count) }
@@ -64,8 +65,8 @@ impl<T> SeatTable<T> {
         })
     }
 
-    /// Makes it so many seats at least, at most 65,536. The new ones hold nothing and aren't flagged. It grows by what it was, or
-    /// more, so that a seat's share of all growth is a constant. The only error is want of memory.
+    /// Makes it so many seats at least, at most 65,536. The new ones hold nothing and aren't flagged. It grows by
+    /// what it was, or more, so that a seat's share of all growth is a constant. The only error is want of memory.
     pub fn grow(&mut self, count: u64) -> Result<(), AllocError>
         requires { count ≤ most_seats }
         ensures holds { hold_at self.new.holds ≡ hold_at self.old.holds }
@@ -176,8 +177,8 @@ impl<T> SeatTable<T> {
         items_in(&self.holds) as u64
     }
 
-    /// Takes the table apart, and puts the items that its seats hold behind the others, by rising seat. The list must have
-    /// room for them: it takes no memory.
+    /// Takes the table apart, and puts the items that its seats hold behind the others, by rising seat. The list must
+    /// have room for them: it takes no memory.
     pub fn into_left(self, left: &mut Vec<Left<T>>)
         requires { vec_len left.old + length (left_at_seats self.holds) ≤ vec_capacity left.old }
         ensures items { left.new.items ≡ left.old.items ++ left_at_seats self.holds }

@@ -136,7 +136,8 @@ fn leaves<L: Line<Seal>>(rt: &impl Abort, alloc: Global, rows: &[Row], wanted: &
     has(rt, queue.into_left(room), wanted);
 }
 
-/// One item waits to be collected, one was collected, one's giver was cut, two are offered, and between these one is kept.
+/// One item waits to be collected, one was collected, one's giver was cut, two are offered, and between these one is
+/// kept.
 const MIXED: [Row; 10] = [
     (4, Ask::Take, None),
     (0, Ask::Give(10), None),

@@ -1,5 +1,5 @@
-//! Lines, tables of seats and their meetings, called from outside: items that a test knows again, room at size, memory that is
-//! refused, and what is left.
+//! Lines, tables of seats and their meetings, called from outside: items that a test knows again, room at size,
+//! memory that is refused, and what is left.
 #![tactic(auto)]
 
 #[cfg(test)]

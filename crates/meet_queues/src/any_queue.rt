@@ -10,7 +10,8 @@ ghost use Rattle.meet_tickets.specs.Limits.{most_seats, last_ticket};
 ghost use Rattle.meet_line.specs.Seen.{moment_of_queue};
 ghost use Rattle.meet_calls.specs.DualSteps.{LeadsTo, dual_owed, dual_available, dual_left};
 ghost use Rattle.meet_calls.specs.DualRoom.{roomy, roomy-leads, roomless, roomy-fresh};
-ghost use Rattle.meet_calls.specs.QueueSteps.{QueueStep, dual_call, queue_refusal, queue_need, queue_room, queue_record};
+ghost use Rattle.meet_calls.specs.QueueSteps.{QueueStep, dual_call, queue_refusal, queue_need, queue_room};
+ghost use Rattle.meet_calls.specs.QueueSteps.{queue_record};
 ghost use Rattle.meet_calls.specs.QueueRoom.{roomy-queue-refusal, roomy-queue-steps, own-queue-record};
 ghost use Rattle.meet_calls.specs.declared.queue_calls.DualCall.TheVariants.{Poll};
 ghost use Rattle.meet_calls.specs.declared.queue_calls.QueueCall.TheVariants.{Dual as EachHas};
@@ -53,8 +54,8 @@ impl AnyQueue {
     ghost use Rattle.meet_tickets.specs.Meeting.{FitsBound};
     ghost use Rattle.meet_queues.specs.Probes.{size_of, remaining_of, peek_of};
 
-    /// A queue of this kind, with this many seats, at most 65,536, and this first ticket, 1 to 2^63 - 1. Only a transfer queue
-    /// may have a bound, 1 to 1,048,576. The only refusal is Memory.
+    /// A queue of this kind, with this many seats, at most 65,536, and this first ticket, 1 to 2^63 - 1. Only a
+    /// transfer queue may have a bound, 1 to 1,048,576. The only refusal is Memory.
     pub fn new(alloc: Global, kind: Kind, seats: u64, first: u64) -> Result<Self, Refusal>
         requires bound { FitsBound kind.order kind.bound }
         requires seats { seats ≤ most_seats }
@@ -188,7 +189,8 @@ impl Object for AnyQueue {
 
     ghost leads = { λ base records any. LeadsTo (λ mark. mark) any.kind base records any.queue };
 
-    ghost steps = { λ old seat call answer new. (new.kind ≡ old.kind) × QueueStep (λ mark. mark) old.kind old.queue seat call answer new.queue };
+    ghost steps = { λ old seat call answer new. (new.kind ≡ old.kind)
+        × QueueStep (λ mark. mark) old.kind old.queue seat call answer new.queue };
 
     ghost record_of = { λ seat call answer. queue_record (λ mark. mark) seat call answer };
 
@@ -212,9 +214,11 @@ impl Object for AnyQueue {
 
     ghost same_owed = { λ any room. refl };
 
-    ghost same_leads = { λ any room base records leads. roomy-leads (λ mark. mark) any.kind any.queue room base records leads };
+    ghost same_leads = { λ any room base records leads.
+        roomy-leads (λ mark. mark) any.kind any.queue room base records leads };
 
-    ghost same_steps = { λ any room seat call answer new need step. (step.0, roomy-queue-steps (λ mark. mark) any.kind any.queue room seat call answer new.queue need step.1) };
+    ghost same_steps = { λ any room seat call answer new need step.
+        (step.0, roomy-queue-steps (λ mark. mark) any.kind any.queue room seat call answer new.queue need step.1) };
 
     ghost roomless = { λ call none. roomless (dual_call call) none };
 

@@ -14,8 +14,8 @@ use meet_tickets::{Marked, Refusal};
 use meet_transfer::Transfer;
 use std::alloc::Global;
 
-/// The book of a new synchronous queue with this many seats, at most 65,536, this first ticket, 1 to 2^63 - 1, and at most this many
-/// records, 1 to 1,048,576. The only refusal is Memory.
+/// The book of a new synchronous queue with this many seats, at most 65,536, this first ticket, 1 to 2^63 - 1, and at
+/// most this many records, 1 to 1,048,576. The only refusal is Memory.
 pub fn queue_book<T: Marked, L: Line<T>>(
     alloc: Global,
     seats: u64,
@@ -40,8 +40,9 @@ pub fn queue_book<T: Marked, L: Line<T>>(
     Ok(Book::new(alloc, queue, cap))
 }
 
-/// The book of a new transfer queue with this many seats, at most 65,536, this first ticket, 1 to 2^63 - 1, this bound on the items
-/// that it keeps, or none, and at most this many records, 1 to 1,048,576. The only refusal is Memory.
+/// The book of a new transfer queue with this many seats, at most 65,536, this first ticket, 1 to 2^63 - 1, this
+/// bound on the items that it keeps, or none, and at most this many records, 1 to 1,048,576. The only refusal is
+/// Memory.
 pub fn transfer_book<T: Marked>(
     alloc: Global,
     seats: u64,

@@ -1,5 +1,5 @@
-//! Books that are cut while seats wait, were met, were cut or are flagged, and items are kept: what their bases name, and that
-//! they go on.
+//! Books that are cut while seats wait, were met, were cut or are flagged, and items are kept: what their bases name,
+//! and that they go on.
 
 use crate::parcels::{Ask, Parcel, Row, Told};
 use crate::places::plays;

@@ -126,6 +126,26 @@ fn of_an_unfair_queue(rt: HostRuntime) -> Result<(), Fail> {
 }
 
 #[test]
+fn into_a_lent_list(rt: HostRuntime) -> Result<(), Fail> {
+    let mut book: Book<Dual<Parcel, FairLine<Parcel>>> = queue_book(rt.alloc(), 4, 1, 20)
+        .ok()
+        .ok_or("memory")?;
+    plays(&rt, &mut book, &THREE)?;
+    let room_for_two = Vec::with_capacity(rt.alloc(), 2).ok().ok_or("memory")?;
+    let got = book
+        .drain_into(seat(3)?, 9, room_for_two)
+        .ok()
+        .ok_or("refused")?;
+    are_taken(&rt, got, &[(4, 1, 10), (5, 2, 20)])?;
+    let room_for_nine = Vec::with_capacity(rt.alloc(), 9).ok().ok_or("memory")?;
+    let got = book
+        .drain_into(seat(3)?, 9, room_for_nine)
+        .ok()
+        .ok_or("refused")?;
+    are_taken(&rt, got, &[(6, 3, 30)])
+}
+
+#[test]
 fn of_a_transfer_queue(rt: HostRuntime) -> Result<(), Fail> {
     let mut book: Book<Transfer<Parcel>> = transfer_book(rt.alloc(), 4, 1, None, 20)
         .ok()

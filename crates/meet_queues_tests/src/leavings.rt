@@ -1,4 +1,5 @@
-//! What is left in a queue comes out of it: the line's parcels as they would be met, and then those that nobody collected.
+//! What is left in a queue comes out of it: the line's parcels as they would be met, and then those that nobody
+//! collected.
 
 use crate::parcels::{Ask, Parcel, Row, Told};
 use crate::places::plays;

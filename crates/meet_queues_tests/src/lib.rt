@@ -1,5 +1,5 @@
-//! Parcels that pass through the queues, called directly and under a book: each comes to whom it should, and is known by its
-//! serial number.
+//! Parcels that pass through the queues, called directly and under a book: each comes to whom it should, and is known
+//! by its serial number.
 #![tactic(auto)]
 
 #[cfg(test)]

@@ -15,8 +15,8 @@ fn number(ticket: Option<Ticket>) -> Option<u64> {
 
 const FIRST: u64 = 9223372036854775800;
 
-/// A synchronous queue shows so many of seats and of open tickets; of these so many wait, and so many were met or cut; so many
-/// givers in the line, and so many tickets that are left.
+/// A synchronous queue shows so many of seats and of open tickets; of these so many wait, and so many were met or
+/// cut; so many givers in the line, and so many tickets that are left.
 fn counts(rt: &impl Abort, queue: &Fair, wanted: [u64; 6]) {
     queue.stays_sound();
     let numbers = [
@@ -63,8 +63,8 @@ fn of_a_synchronous_queue(rt: HostRuntime) -> Result<(), Fail> {
     opens(&rt, &queue, [Some(FIRST), None])
 }
 
-/// A transfer queue shows so many of seats and of open tickets; of these so many wait, and so many were met or cut; so many
-/// items are kept, so many givers and so many takers stand in the line, and so many tickets are left.
+/// A transfer queue shows so many of seats and of open tickets; of these so many wait, and so many were met or cut;
+/// so many items are kept, so many givers and so many takers stand in the line, and so many tickets are left.
 fn counts_kept(rt: &impl Abort, queue: &Transfer<Parcel>, wanted: [u64; 8]) {
     queue.stays_sound();
     let numbers = [

@@ -44,9 +44,9 @@ head_in-is : (line : List ℕ) (kind : Kind) → head_in line ≡ Some kind → 
 unfolding head_in
 head_in-is line kind e =
     let b = bind-some (behind (codes "trace 1 ") line) kind_in kind e in
-    let front = behind-is (codes "trace 1 ") line b.0 b.1 in
+    let prefix = behind-is (codes "trace 1 ") line b.0 b.1 in
     let is = kind_in-is b.0 kind b.2 in
-    (front ∙ ap (λ (t : List ℕ). codes "trace 1 " ++ t) is.0, is.1)
+    (prefix ∙ ap (λ (t : List ℕ). codes "trace 1 " ++ t) is.0, is.1)
 
 -- ---- what is spelled is read
 

@@ -20,9 +20,9 @@ lines-ended [] rest h = refl
 lines-ended (b ∷ line) rest h = rw (h.0, lines-ended line rest h.1) refl
 
 -- a byte in front of the first line
-front-more : (b : ℕ) (bs line : List ℕ) (lines : List (List ℕ)) → eqb b 10 ≡ false → lines_of bs ≡ line ∷ lines → lines_of (b ∷ bs) ≡ (b ∷ line) ∷ lines
+prefix-more : (b : ℕ) (bs line : List ℕ) (lines : List (List ℕ)) → eqb b 10 ≡ false → lines_of bs ≡ line ∷ lines → lines_of (b ∷ bs) ≡ (b ∷ line) ∷ lines
 unfolding lines_of
-front-more b bs line lines e is = rw (e, is) refl
+prefix-more b bs line lines e is = rw (e, is) refl
 
 -- a last line that isn't ended
 lines-last : (line : List ℕ) → HasNoEnd line → 0 < length line → lines_of line ≡ line ∷ []
@@ -31,7 +31,7 @@ lines-last [] h some = absurd (omega arith)
 lines-last (b ∷ []) h some = rw h.0 refl
 lines-last (b ∷ c ∷ line) h some =
     let more : lines_of (c ∷ line) ≡ (c ∷ line) ∷ [] = lines-last (c ∷ line) h.1 (omega arith) in
-    front-more b (c ∷ line) (c ∷ line) [] h.0 more
+    prefix-more b (c ∷ line) (c ∷ line) [] h.0 more
 
 -- some first line, that has a byte at least more than this
 record BeginsLonger (line bs : List ℕ) : Type 0 where
@@ -40,9 +40,9 @@ record BeginsLonger (line bs : List ℕ) : Type 0 where
   is : lines_of bs ≡ first ∷ others
   longer : length line < length first
 
-front-longer : (b : ℕ) (rest : List ℕ) → eqb b 10 ≡ false → BeginsLonger [] (b ∷ rest)
+prefix-longer : (b : ℕ) (rest : List ℕ) → eqb b 10 ≡ false → BeginsLonger [] (b ∷ rest)
 unfolding lines_of
-front-longer b rest e = go (lines_of rest) refl
+prefix-longer b rest e = go (lines_of rest) refl
   where
     go : (ls : List (List ℕ)) → lines_of rest ≡ ls → BeginsLonger [] (b ∷ rest)
     go [] is = record { first = b ∷ []; others = []; is = rw (e, is) refl; longer = omega arith }
@@ -50,7 +50,7 @@ front-longer b rest e = go (lines_of rest) refl
 
 begins-longer : (line : List ℕ) (b : ℕ) (rest : List ℕ) → HasNoEnd line → eqb b 10 ≡ false → BeginsLonger line (line ++ b ∷ rest)
 unfolding lines_of
-begins-longer [] b rest h e = front-longer b rest e
+begins-longer [] b rest h e = prefix-longer b rest e
 begins-longer (x ∷ line) b rest h e =
     let more = begins-longer line b rest h.1 e in
     record { first = x ∷ more.first; others = more.others; is = rw (h.0, more.is) refl; longer = omega (arith, more.longer) }

@@ -13,9 +13,9 @@ use Rattle.meet_run.specs.Reading.{lines_of, Both}
 use Rattle.meet_run.specs.Running.{RunEnds, RunsOn}
 use Rattle.meet_run.specs.Script.{Reached, replies_text, fault_of, text_before, output_of}
 use Rattle.meet_run.specs.Wording.{last_line}
-use Rattle.meet_run.specs.Writing.{AppendsFront, IsFront}
-use Rattle.meet_run.proofs.WritingLemmas.{appends-more, front-of, front-more}
-use Rattle.meet_run.proofs.Reached.{Ended, EndedAtFault, reached-first, reached-more, reached-front, replies-next, reached-end, reached-fault, fault-at-first, fault-without-line}
+use Rattle.meet_run.specs.Writing.{AppendsPrefix, IsPrefix}
+use Rattle.meet_run.proofs.WritingLemmas.{appends-more, prefix-of, prefix-more}
+use Rattle.meet_run.proofs.Reached.{Ended, EndedAtFault, reached-first, reached-more, reached-prefix, replies-next, reached-end, reached-fault, fault-at-first, fault-without-line}
 
 -- whatever the first line was, the run has come this far
 abbrev pub CameFrom : Setup → (first rest : List ℕ) → (read : ℕ) → Place → (written : List ℕ) → Type 0
@@ -66,12 +66,12 @@ module _ (setup : Setup) (old mid : Option (List ℕ)) (before now : Option (Lis
   at_rest P (Some xs) (Some ys) came rest = λ input h. rest input (came input h)
 
   -- a read failed
-  pub ran-broken : IfSome old (λ first. (input : List ℕ) → Reached setup input first 2 (start setup) [] → AppendsFront before now (text_before input))
-  ran-broken = at_rest (λ input. AppendsFront before now (text_before input)) old mid ran.came (known mid)
+  pub ran-broken : IfSome old (λ first. (input : List ℕ) → Reached setup input first 2 (start setup) [] → AppendsPrefix before now (text_before input))
+  ran-broken = at_rest (λ input. AppendsPrefix before now (text_before input)) old mid ran.came (known mid)
     where
-      known : (m : Option (List ℕ)) → IfSome m (λ rest. (input : List ℕ) → Reached setup input rest (read + 1) place ran.written → AppendsFront before now (text_before input))
+      known : (m : Option (List ℕ)) → IfSome m (λ rest. (input : List ℕ) → Reached setup input rest (read + 1) place ran.written → AppendsPrefix before now (text_before input))
       known None = tt
-      known (Some ys) = λ input h. front-of before now ran.written (text_before input) ran.wrote (reached-front setup input ys (read + 1) place ran.written h).0
+      known (Some ys) = λ input h. prefix-of before now ran.written (text_before input) ran.wrote (reached-prefix setup input ys (read + 1) place ran.written h).0
 
   -- the next line is no call
   pub ran-faulty : IfSome mid (λ xs. (line : List ℕ) × (lines : List (List ℕ)) × (lines_of xs ≡ line ∷ lines) × (call_of setup.kind.order line ≡ None)) → IfSome old (λ first. (input : List ℕ) → Reached setup input first 2 (start setup) [] → (fault_of input ≡ Some (read + 1)) × Appends before now (output_of input))
@@ -81,16 +81,16 @@ module _ (setup : Setup) (old mid : Option (List ℕ)) (before now : Option (Lis
       known None faulty = tt
       known (Some ys) faulty = λ input h. (let ended : EndedAtFault input (read + 1) ran.written = reached-fault setup input ys (read + 1) place ran.written faulty.0 faulty.1 h faulty.2 faulty.3 in (ended.fault, subst (λ t. Appends before now t) (sym ended.output) ran.wrote))
 
-  -- a call was read, and only a front of its replies was written
-  pub ran-cut : (new after : Option (List ℕ)) (call : Call) → Both mid new (λ xs ys. (line : List ℕ) × (lines_of xs ≡ line ∷ lines_of ys) × (call_of setup.kind.order line ≡ Some call)) → AppendsFront now after (replies_text (turn setup place call).replies) → IfSome old (λ first. (input : List ℕ) → Reached setup input first 2 (start setup) [] → AppendsFront before after (text_before input) × AppendsFront before after (output_of input))
-  ran-cut new after call next front = at_rest (λ input. AppendsFront before after (text_before input) × AppendsFront before after (output_of input)) old mid ran.came (known mid new next)
+  -- a call was read, and only a prefix of its replies was written
+  pub ran-cut : (new after : Option (List ℕ)) (call : Call) → Both mid new (λ xs ys. (line : List ℕ) × (lines_of xs ≡ line ∷ lines_of ys) × (call_of setup.kind.order line ≡ Some call)) → AppendsPrefix now after (replies_text (turn setup place call).replies) → IfSome old (λ first. (input : List ℕ) → Reached setup input first 2 (start setup) [] → AppendsPrefix before after (text_before input) × AppendsPrefix before after (output_of input))
+  ran-cut new after call next prefix = at_rest (λ input. AppendsPrefix before after (text_before input) × AppendsPrefix before after (output_of input)) old mid ran.came (known mid new next)
     where
-      known : (m n : Option (List ℕ)) → Both m n (λ xs ys. (line : List ℕ) × (lines_of xs ≡ line ∷ lines_of ys) × (call_of setup.kind.order line ≡ Some call)) → IfSome m (λ rest. (input : List ℕ) → Reached setup input rest (read + 1) place ran.written → AppendsFront before after (text_before input) × AppendsFront before after (output_of input))
+      known : (m n : Option (List ℕ)) → Both m n (λ xs ys. (line : List ℕ) × (lines_of xs ≡ line ∷ lines_of ys) × (call_of setup.kind.order line ≡ Some call)) → IfSome m (λ rest. (input : List ℕ) → Reached setup input rest (read + 1) place ran.written → AppendsPrefix before after (text_before input) × AppendsPrefix before after (output_of input))
       known None n next = tt
       known (Some ys) None next = absurd next
       known (Some ys) (Some zs) next = λ input h.
-          (let fronts : IsFront (ran.written ++ replies_text (turn setup place call).replies) (text_before input) × IsFront (ran.written ++ replies_text (turn setup place call).replies) (output_of input) = replies-next setup input ys (read + 1) place ran.written next.0 zs call h next.1 next.2 in
-          (front-more before now after ran.written (replies_text (turn setup place call).replies) (text_before input) ran.wrote front fronts.0, front-more before now after ran.written (replies_text (turn setup place call).replies) (output_of input) ran.wrote front fronts.1))
+          (let prefixes : IsPrefix (ran.written ++ replies_text (turn setup place call).replies) (text_before input) × IsPrefix (ran.written ++ replies_text (turn setup place call).replies) (output_of input) = replies-next setup input ys (read + 1) place ran.written next.0 zs call h next.1 next.2 in
+          (prefix-more before now after ran.written (replies_text (turn setup place call).replies) (text_before input) ran.wrote prefix prefixes.0, prefix-more before now after ran.written (replies_text (turn setup place call).replies) (output_of input) ran.wrote prefix prefixes.1))
 
   -- no line is left
   pub ran-ended : (P : (input : List ℕ) → Type 0) → IfSome mid (λ xs. lines_of xs ≡ []) → ((input : List ℕ) → Ended setup input place ran.written → P input) → IfSome old (λ first. (input : List ℕ) → Reached setup input first 2 (start setup) [] → P input)
@@ -105,15 +105,15 @@ module _ (setup : Setup) (old mid : Option (List ℕ)) (before now : Option (Lis
   ran-closed after none wrote = ran-ended (λ input. (fault_of input ≡ None) × Appends before after (output_of input)) none
       (λ input ended. (ended.fault, subst (λ t. Appends before after t) (sym ended.output) (appends-more before now after ran.written (last_line place.records (standing_of setup place)) ran.wrote wrote)))
 
-  -- or only a front of it
-  pub ran-half_closed : (after : Option (List ℕ)) → IfSome mid (λ xs. lines_of xs ≡ []) → AppendsFront now after (last_line place.records (standing_of setup place)) → IfSome old (λ first. (input : List ℕ) → Reached setup input first 2 (start setup) [] → AppendsFront before after (output_of input))
-  ran-half_closed after none front = ran-ended (λ input. AppendsFront before after (output_of input)) none
-      (λ input ended. front-more before now after ran.written (last_line place.records (standing_of setup place)) (output_of input) ran.wrote front ([], ended.output ∙ sym (append-nil _)))
+  -- or only a prefix of it
+  pub ran-half_closed : (after : Option (List ℕ)) → IfSome mid (λ xs. lines_of xs ≡ []) → AppendsPrefix now after (last_line place.records (standing_of setup place)) → IfSome old (λ first. (input : List ℕ) → Reached setup input first 2 (start setup) [] → AppendsPrefix before after (output_of input))
+  ran-half_closed after none prefix = ran-ended (λ input. AppendsPrefix before after (output_of input)) none
+      (λ input ended. prefix-more before now after ran.written (last_line place.records (standing_of setup place)) (output_of input) ran.wrote prefix ([], ended.output ∙ sym (append-nil _)))
 
   -- or none of it
-  pub ran-unclosed : (after : Option (List ℕ)) → IfSome mid (λ xs. lines_of xs ≡ []) → AppendsFront now after [] → IfSome old (λ first. (input : List ℕ) → Reached setup input first 2 (start setup) [] → AppendsFront before after (text_before input))
-  ran-unclosed after none front = ran-ended (λ input. AppendsFront before after (text_before input)) none
-      (λ input ended. front-more before now after ran.written [] (text_before input) ran.wrote front ([], ended.text ∙ sym (append-nil ran.written) ∙ sym (append-nil (ran.written ++ []))))
+  pub ran-unclosed : (after : Option (List ℕ)) → IfSome mid (λ xs. lines_of xs ≡ []) → AppendsPrefix now after [] → IfSome old (λ first. (input : List ℕ) → Reached setup input first 2 (start setup) [] → AppendsPrefix before after (text_before input))
+  ran-unclosed after none prefix = ran-ended (λ input. AppendsPrefix before after (text_before input)) none
+      (λ input ended. prefix-more before now after ran.written [] (text_before input) ran.wrote prefix ([], ended.text ∙ sym (append-nil ran.written) ∙ sym (append-nil (ran.written ++ []))))
 
 -- a fact of a known value that follows from another
 pub follows : {X : Type 0} {P Q : X → Type 0} (o : Option X) → ((x : X) → P x → Q x) → IfSome o P → IfSome o Q
@@ -125,24 +125,24 @@ pub bad_line-ends : (f : RunFault) (n : ℕ) (fault : Option ℕ) (text output :
 bad_line-ends f n fault text output old new is at = subst (λ x. RunEnds fault text output (Err x) old new) (sym is) at
 
 -- how a run that was cut short ends
-cut-ends : (f : RunFault) (why : Refusal) (fault : Option ℕ) (text output : List ℕ) (old new : Option (List ℕ)) → f ≡ record { why = why; line = None } → (why ≡ Memory) ⊎ (why ≡ WriteFault) → AppendsFront old new text × AppendsFront old new output → RunEnds fault text output (Err f) old new
-cut-ends f why fault text output old new is (inl memory) fronts =
-    subst (λ x. RunEnds fault text output (Err x) old new) (sym (is ∙ ap (λ w. let x : RunFault = record { why = w; line = None } in x) memory)) fronts.0
-cut-ends f why fault text output old new is (inr write) fronts =
-    subst (λ x. RunEnds fault text output (Err x) old new) (sym (is ∙ ap (λ w. let x : RunFault = record { why = w; line = None } in x) write)) fronts.1
+cut-ends : (f : RunFault) (why : Refusal) (fault : Option ℕ) (text output : List ℕ) (old new : Option (List ℕ)) → f ≡ record { why = why; line = None } → (why ≡ Memory) ⊎ (why ≡ WriteFault) → AppendsPrefix old new text × AppendsPrefix old new output → RunEnds fault text output (Err f) old new
+cut-ends f why fault text output old new is (inl memory) prefixes =
+    subst (λ x. RunEnds fault text output (Err x) old new) (sym (is ∙ ap (λ w. let x : RunFault = record { why = w; line = None } in x) memory)) prefixes.0
+cut-ends f why fault text output old new is (inr write) prefixes =
+    subst (λ x. RunEnds fault text output (Err x) old new) (sym (is ∙ ap (λ w. let x : RunFault = record { why = w; line = None } in x) write)) prefixes.1
 
 module _ (setup : Setup) (old mid : Option (List ℕ)) (before now : Option (List ℕ)) (read : ℕ) (place : Place) (ran : Ran setup old mid before now read place) where
   -- a run whose call was answered and not written whole
-  pub runs-cut : (new after : Option (List ℕ)) (call : Call) (f : RunFault) (why : Refusal) → Both mid new (λ xs ys. (line : List ℕ) × (lines_of xs ≡ line ∷ lines_of ys) × (call_of setup.kind.order line ≡ Some call)) → AppendsFront now after (replies_text (turn setup place call).replies) → f ≡ record { why = why; line = None } → (why ≡ Memory) ⊎ (why ≡ WriteFault) → IfSome old (λ rest. RunsOn setup rest (Err f) before after)
-  runs-cut new after call f why next front is cut =
-      follows old (λ rest fronts input h. cut-ends f why (fault_of input) (text_before input) (output_of input) before after is cut (fronts input h)) (ran-cut setup old mid before now read place ran new after call next front)
+  pub runs-cut : (new after : Option (List ℕ)) (call : Call) (f : RunFault) (why : Refusal) → Both mid new (λ xs ys. (line : List ℕ) × (lines_of xs ≡ line ∷ lines_of ys) × (call_of setup.kind.order line ≡ Some call)) → AppendsPrefix now after (replies_text (turn setup place call).replies) → f ≡ record { why = why; line = None } → (why ≡ Memory) ⊎ (why ≡ WriteFault) → IfSome old (λ rest. RunsOn setup rest (Err f) before after)
+  runs-cut new after call f why next prefix is cut =
+      follows old (λ rest prefixes input h. cut-ends f why (fault_of input) (text_before input) (output_of input) before after is cut (prefixes input h)) (ran-cut setup old mid before now read place ran new after call next prefix)
 
   -- a run whose last line was not written whole
-  pub runs-unclosed : (after : Option (List ℕ)) (f : RunFault) (why : Refusal) → IfSome mid (λ xs. lines_of xs ≡ []) → AppendsFront now after (last_line place.records (standing_of setup place)) → (why ≡ Memory → AppendsFront now after []) → f ≡ record { why = why; line = None } → (why ≡ Memory) ⊎ (why ≡ WriteFault) → IfSome old (λ rest. RunsOn setup rest (Err f) before after)
-  runs-unclosed after f why none front nothing is (inl memory) =
+  pub runs-unclosed : (after : Option (List ℕ)) (f : RunFault) (why : Refusal) → IfSome mid (λ xs. lines_of xs ≡ []) → AppendsPrefix now after (last_line place.records (standing_of setup place)) → (why ≡ Memory → AppendsPrefix now after []) → f ≡ record { why = why; line = None } → (why ≡ Memory) ⊎ (why ≡ WriteFault) → IfSome old (λ rest. RunsOn setup rest (Err f) before after)
+  runs-unclosed after f why none prefix nothing is (inl memory) =
       follows old (λ rest text input h. subst (λ x. RunEnds (fault_of input) (text_before input) (output_of input) (Err x) before after) (sym (is ∙ ap (λ w. let x : RunFault = record { why = w; line = None } in x) memory)) (text input h)) (ran-unclosed setup old mid before now read place ran after none (nothing memory))
-  runs-unclosed after f why none front nothing is (inr write) =
-      follows old (λ rest text input h. subst (λ x. RunEnds (fault_of input) (text_before input) (output_of input) (Err x) before after) (sym (is ∙ ap (λ w. let x : RunFault = record { why = w; line = None } in x) write)) (text input h)) (ran-half_closed setup old mid before now read place ran after none front)
+  runs-unclosed after f why none prefix nothing is (inr write) =
+      follows old (λ rest text input h. subst (λ x. RunEnds (fault_of input) (text_before input) (output_of input) (Err x) before after) (sym (is ∙ ap (λ w. let x : RunFault = record { why = w; line = None } in x) write)) (text input h)) (ran-half_closed setup old mid before now read place ran after none prefix)
 
   -- a run that reached its end
   pub runs-closed : (after : Option (List ℕ)) → IfSome mid (λ xs. lines_of xs ≡ []) → Appends now after (last_line place.records (standing_of setup place)) → IfSome old (λ rest. RunsOn setup rest (Ok true) before after)
@@ -170,6 +170,6 @@ runs-lineless (Some xs) writer none =
     (ended.fault, subst (λ t. Appends writer writer t) (sym ended.output) (appends-nothing writer))
 
 -- a run that broke off before its first line
-pub runs-unstarted : (old writer : Option (List ℕ)) → IfSome old (λ input. AppendsFront writer writer (text_before input))
+pub runs-unstarted : (old writer : Option (List ℕ)) → IfSome old (λ input. AppendsPrefix writer writer (text_before input))
 runs-unstarted None writer = tt
 runs-unstarted (Some xs) writer = ([], appends-nothing writer, (text_before xs, refl))

@@ -6,7 +6,7 @@ use Rattle.meet_history.specs.OneThread.{Place, start, turn, standing_of}
 use Rattle.meet_run.specs.Grammar.{call_of, setup_of}
 use Rattle.meet_run.specs.Wording.{last_line}
 use Rattle.meet_run.specs.Reading.{lines_of, Listed, no_more, faulty_at, with_item}
-use Rattle.meet_run.specs.Writing.{IsFront}
+use Rattle.meet_run.specs.Writing.{IsPrefix}
 use Rattle.meet_run.specs.Script.{Reached, calls_from, replies_text, text_from, output_from, fault_in, text_in, output_in, fault_of, text_before, output_of}
 use Rattle.meet_run.proofs.ScriptLemmas.{reads, listed-end, listed-more, listed-fault, text-end, text-more, output-more, output-end, output-fault, first-line, first-fault, no-line}
 
@@ -34,14 +34,14 @@ reached-more setup input rest n place written line more call h is read =
     }
 
 -- what is written goes on with a call's replies
-pub replies-next : (setup : Setup) (input rest : List ℕ) (n : ℕ) (place : Place) (written line : List ℕ) (more : List ℕ) (call : Call) → Reached setup input rest n place written → lines_of rest ≡ line ∷ lines_of more → call_of setup.kind.order line ≡ Some call → IsFront (written ++ replies_text (turn setup place call).replies) (text_before input) × IsFront (written ++ replies_text (turn setup place call).replies) (output_of input)
+pub replies-next : (setup : Setup) (input rest : List ℕ) (n : ℕ) (place : Place) (written line : List ℕ) (more : List ℕ) (call : Call) → Reached setup input rest n place written → lines_of rest ≡ line ∷ lines_of more → call_of setup.kind.order line ≡ Some call → IsPrefix (written ++ replies_text (turn setup place call).replies) (text_before input) × IsPrefix (written ++ replies_text (turn setup place call).replies) (output_of input)
 replies-next setup input rest n place written line more call h is read =
     let next = reached-more setup input rest n place written line more call h is read in
     ((_, next.text), (_, next.output))
 
--- what is written is a front of all
-pub reached-front : (setup : Setup) (input rest : List ℕ) (n : ℕ) (place : Place) (written : List ℕ) → Reached setup input rest n place written → IsFront written (text_before input) × IsFront written (output_of input)
-reached-front setup input rest n place written h = ((_, h.text), (_, h.output))
+-- what is written is a prefix of all
+pub reached-prefix : (setup : Setup) (input rest : List ℕ) (n : ℕ) (place : Place) (written : List ℕ) → Reached setup input rest n place written → IsPrefix written (text_before input) × IsPrefix written (output_of input)
+reached-prefix setup input rest n place written h = ((_, h.text), (_, h.output))
 
 -- what a run gives at its end
 pub record Ended (setup : Setup) (input : List ℕ) (place : Place) (written : List ℕ) : Type 0 where

@@ -27,8 +27,8 @@ unfolding replies_text
 text-none = refl
 
 -- the text of some replies and of one more
-pub text-take : (front : List ℕ) (replies : List Reply) (i : ℕ) (reply : Reply) → i < length replies → reply ≡ get_or replies i reply → (front ++ replies_text (take i replies)) ++ text_of reply ≡ front ++ replies_text (take (i + 1) replies)
+pub text-take : (prefix : List ℕ) (replies : List Reply) (i : ℕ) (reply : Reply) → i < length replies → reply ≡ get_or replies i reply → (prefix ++ replies_text (take i replies)) ++ text_of reply ≡ prefix ++ replies_text (take (i + 1) replies)
 unfolding replies_text
-text-take front replies i reply there is =
-    flat_map_more text_of front (take i replies) reply
-    ∙ ap (λ rs. front ++ flat_map text_of rs) (ap (λ r. take i replies ++ r ∷ []) is ∙ sym (take_more replies i reply there))
+text-take prefix replies i reply there is =
+    flat_map_more text_of prefix (take i replies) reply
+    ∙ ap (λ rs. prefix ++ flat_map text_of rs) (ap (λ r. take i replies ++ r ∷ []) is ∙ sym (take_more replies i reply there))

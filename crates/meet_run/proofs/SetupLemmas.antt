@@ -140,11 +140,11 @@ number-again most n rest wide low high tail =
 
 option-again : (name : List ℕ) (most n : ℕ) (rest text : List ℕ) → behind name text ≡ Some (decimal n ++ rest) → most < 2 ^ 64 → IsWithin most (Some n) → IsTail rest → option_in name most text ≡ Some (Some n, rest)
 unfolding option_in
-option-again name most n rest text front wide h tail = rw front (number-again most n rest wide h.0 h.1 tail)
+option-again name most n rest text prefix wide h tail = rw prefix (number-again most n rest wide h.0 h.1 tail)
 
 option-absent : (name : List ℕ) (most : ℕ) (text : List ℕ) → behind name text ≡ None → option_in name most text ≡ Some (None, text)
 unfolding option_in
-option-absent name most text front = rw front refl
+option-absent name most text prefix = rw prefix refl
 
 -- the texts of the last option, of the last two and of the last three
 abbrev pub bound-text : Option ℕ → List ℕ

@@ -68,8 +68,8 @@ both : (word value w v : List ℕ) → word ≡ w → value ≡ v → word ++ 32
 both word value w v p q = ap (λ (t : List ℕ). t ++ 32 ∷ value) p ∙ ap (λ (t : List ℕ). w ++ 32 ∷ t) q
 
 -- what follows a word
-front : (word w rest : List ℕ) → word ≡ w → word ++ 32 ∷ rest ≡ w ++ 32 ∷ rest
-front word w rest p = both word rest w rest p refl
+prefix : (word w rest : List ℕ) → word ≡ w → word ++ 32 ∷ rest ≡ w ++ 32 ∷ rest
+prefix word w rest p = both word rest w rest p refl
 
 bare-is : (word : List ℕ) (d : Deed) → bare_deed_of word ≡ Some d → IsDeed word d
 unfolding bare_deed_of
@@ -84,9 +84,9 @@ unfolding marked_deed_of
 marked-is word m d lt e =
     let text : List ℕ = word ++ 32 ∷ decimal m in
     let P : Type 0 = IsDeed text d in
-    chosen word (codes "give-waits") (Some (GiveWaits m)) _ d P e (λ is f. made text (GiveWaits m) d (front word (codes "give-waits") (decimal m) is) lt f) (λ e1.
-    chosen word (codes "give-fails") (Some (GiveFails m)) _ d P e1 (λ is f. made text (GiveFails m) d (front word (codes "give-fails") (decimal m) is) lt f) (λ e2.
-    chosen word (codes "give-kept") (Some (GiveKept m)) _ d P e2 (λ is f. made text (GiveKept m) d (front word (codes "give-kept") (decimal m) is) lt f) (λ e3. absurd cc)))
+    chosen word (codes "give-waits") (Some (GiveWaits m)) _ d P e (λ is f. made text (GiveWaits m) d (prefix word (codes "give-waits") (decimal m) is) lt f) (λ e1.
+    chosen word (codes "give-fails") (Some (GiveFails m)) _ d P e1 (λ is f. made text (GiveFails m) d (prefix word (codes "give-fails") (decimal m) is) lt f) (λ e2.
+    chosen word (codes "give-kept") (Some (GiveKept m)) _ d P e2 (λ is f. made text (GiveKept m) d (prefix word (codes "give-kept") (decimal m) is) lt f) (λ e3. absurd cc)))
 
 entry-is : (word value : List ℕ) (d : Deed) → word ≡ codes "entry-interrupted" → (side_of value >>= λ side. Some (EntryInterrupted side)) ≡ Some d → IsDeed (word ++ 32 ∷ value) d
 entry-is word value d is e =
@@ -124,9 +124,9 @@ paired-is word m u d lm lu e =
     let pair : List ℕ = decimal m ++ 32 ∷ decimal u in
     let text : List ℕ = word ++ 32 ∷ pair in
     let P : Type 0 = IsDeed text d in
-    chosen word (codes "give-meets") (Some (GiveMeets m u)) _ d P e (λ is f. made text (GiveMeets m u) d (front word (codes "give-meets") pair is) (lm, lu) f) (λ e1.
-    chosen word (codes "take-meets") (Some (TakeMeets m u)) _ d P e1 (λ is f. made text (TakeMeets m u) d (front word (codes "take-meets") pair is) (lm, lu) f) (λ e2.
-    chosen word (codes "got") (Some (Got m u)) _ d P e2 (λ is f. made text (Got m u) d (front word (codes "got") pair is) (lm, lu) f) (λ e3. absurd cc)))
+    chosen word (codes "give-meets") (Some (GiveMeets m u)) _ d P e (λ is f. made text (GiveMeets m u) d (prefix word (codes "give-meets") pair is) (lm, lu) f) (λ e1.
+    chosen word (codes "take-meets") (Some (TakeMeets m u)) _ d P e1 (λ is f. made text (TakeMeets m u) d (prefix word (codes "take-meets") pair is) (lm, lu) f) (λ e2.
+    chosen word (codes "got") (Some (Got m u)) _ d P e2 (λ is f. made text (Got m u) d (prefix word (codes "got") pair is) (lm, lu) f) (λ e3. absurd cc)))
 
 -- a text whose word is all of it
 word-whole : (text : List ℕ) → rest_of text ≡ [] → word_of text ≡ text

@@ -10,7 +10,7 @@ use Rattle.meet_run.specs.declared.faults.RunFault.{RunFault}
 use Rattle.meet_run.specs.Reading.{lines_of, Listed, Both, listed, no_more, faulty_at, with_item}
 use Rattle.meet_run.specs.TraceGrammar.{head_of}
 use Rattle.meet_run.specs.Traces.{record_at, records_behind, trace_fault_in, IsTrace, NamesLine, IsVerdict, IsFound, CheckBreaks, CheckEnds, IsUnreadTrace, IsTraceFault}
-use Rattle.meet_run.specs.Writing.{AppendsFront}
+use Rattle.meet_run.specs.Writing.{AppendsPrefix}
 use Rattle.meet_run.proofs.Ran.{appends-nothing}
 use Rattle.meet_run.proofs.ScriptLemmas.{listed-end, listed-more, listed-fault}
 
@@ -113,10 +113,10 @@ pub check-found : (old : Option (List ℕ)) (kind : Kind) (records : List (Recor
 check-found None kind records legal text trace verdict = tt
 check-found (Some xs) kind records legal text trace verdict = record { kind = kind; records = records; trace = trace; verdict = verdict }
 
-pub check-broken : (old before after : Option (List ℕ)) (f : RunFault) (legal : Bool) (text : List ℕ) → f ≡ record { why = WriteFault; line = None } → IfSome old (λ input. IsFound (lines_of input) legal text) → AppendsFront before after text → IfSome old (λ input. CheckBreaks (lines_of input) f.why f.line before after)
-check-broken None before after f legal text is found front = tt
-check-broken (Some xs) before after f legal text is found front =
-    subst (λ (x : RunFault). CheckBreaks (lines_of xs) x.why x.line before after) (sym is) (legal, text, found, front)
+pub check-broken : (old before after : Option (List ℕ)) (f : RunFault) (legal : Bool) (text : List ℕ) → f ≡ record { why = WriteFault; line = None } → IfSome old (λ input. IsFound (lines_of input) legal text) → AppendsPrefix before after text → IfSome old (λ input. CheckBreaks (lines_of input) f.why f.line before after)
+check-broken None before after f legal text is found prefix = tt
+check-broken (Some xs) before after f legal text is found prefix =
+    subst (λ (x : RunFault). CheckBreaks (lines_of xs) x.why x.line before after) (sym is) (legal, text, found, prefix)
 
 pub check-done : (old before after : Option (List ℕ)) (legal : Bool) (text : List ℕ) → IfSome old (λ input. IsFound (lines_of input) legal text) → Appends before after text → IfSome old (λ input. CheckEnds (lines_of input) (Ok legal) before after)
 check-done None before after legal text found wrote = tt

@@ -8,9 +8,9 @@ use Rattle.meet_tickets.specs.declared.places.Kind.{Kind}
 use Rattle.meet_tickets.specs.declared.records.Deed.{Deed}
 use Rattle.meet_tickets.specs.declared.records.Record.{Record}
 use Rattle.meet_run.specs.TraceWording.{head_line, record_line, trace_text}
-use Rattle.meet_run.specs.Writing.{AppendsFront, IsFront}
+use Rattle.meet_run.specs.Writing.{AppendsPrefix, IsPrefix}
 use Rattle.meet_run.proofs.Ran.{appends-nothing}
-use Rattle.meet_run.proofs.WritingLemmas.{appends-more, front-of, front-more}
+use Rattle.meet_run.proofs.WritingLemmas.{appends-more, prefix-of, prefix-more}
 
 -- of this text and the first records' lines a part was written, and the rest is kept back
 pub record IsUnderWay (old now : Option (List ℕ)) (head kept : List ℕ) (records : List (Record Deed)) (n : ℕ) : Type 0 where
@@ -23,9 +23,9 @@ pub under_way-none : (writer : Option (List ℕ)) (head : List ℕ) (records : L
 under_way-none writer head records = record { written = []; wrote = appends-nothing writer; parts = sym (append-nil head) }
 
 module _ (old now : Option (List ℕ)) (head kept : List ℕ) (records : List (Record Deed)) (n : ℕ) (way : IsUnderWay old now head kept records n) where
-  -- what is written and kept back is a front of all
-  under_way-front : (next : List ℕ) → IsFront (kept ++ next) (kept ++ flat_map record_line (drop n records)) → IsFront (way.written ++ (kept ++ next)) (head ++ flat_map record_line records)
-  under_way-front next front = (front.0, whole)
+  -- what is written and kept back is a prefix of all
+  under_way-prefix : (next : List ℕ) → IsPrefix (kept ++ next) (kept ++ flat_map record_line (drop n records)) → IsPrefix (way.written ++ (kept ++ next)) (head ++ flat_map record_line records)
+  under_way-prefix next prefix = (prefix.0, whole)
     where
       lines : List (Record Deed) → List ℕ
       lines rs = flat_map record_line rs
@@ -33,20 +33,20 @@ module _ (old now : Option (List ℕ)) (head kept : List ℕ) (records : List (R
       split : lines records ≡ lines (take n records) ++ lines (drop n records)
       split = ap lines (sym (take-append-drop n records)) ∙ flat_map-append record_line (take n records) (drop n records)
 
-      whole : head ++ lines records ≡ (way.written ++ (kept ++ next)) ++ front.0
+      whole : head ++ lines records ≡ (way.written ++ (kept ++ next)) ++ prefix.0
       whole =
           ap (λ (t : List ℕ). head ++ t) split
           ∙ (sym (append_assoc head (lines (take n records)) (lines (drop n records)))
           ∙ (ap (λ (t : List ℕ). t ++ lines (drop n records)) (sym way.parts)
           ∙ (append_assoc way.written kept (lines (drop n records))
-          ∙ (ap (λ (t : List ℕ). way.written ++ t) front.1
-          ∙ sym (append_assoc way.written (kept ++ next) front.0)))))
+          ∙ (ap (λ (t : List ℕ). way.written ++ t) prefix.1
+          ∙ sym (append_assoc way.written (kept ++ next) prefix.0)))))
 
   -- there was no memory for the next line
-  pub under_way-stopped : AppendsFront old now (head ++ flat_map record_line records)
+  pub under_way-stopped : AppendsPrefix old now (head ++ flat_map record_line records)
   under_way-stopped =
-      let front : IsFront (way.written ++ (kept ++ [])) (head ++ flat_map record_line records) = under_way-front [] (flat_map record_line (drop n records), ap (λ (t : List ℕ). t ++ flat_map record_line (drop n records)) (sym (append-nil kept))) in
-      front-of old now way.written (head ++ flat_map record_line records) way.wrote (kept ++ [] ++ front.0, front.1 ∙ append_assoc way.written (kept ++ []) front.0)
+      let prefix : IsPrefix (way.written ++ (kept ++ [])) (head ++ flat_map record_line records) = under_way-prefix [] (flat_map record_line (drop n records), ap (λ (t : List ℕ). t ++ flat_map record_line (drop n records)) (sym (append-nil kept))) in
+      prefix-of old now way.written (head ++ flat_map record_line records) way.wrote (kept ++ [] ++ prefix.0, prefix.1 ∙ append_assoc way.written (kept ++ []) prefix.0)
 
   -- a line more is kept back
   pub under_way-more : (entry : Record Deed) (later : List ℕ) → n < length records → entry ≡ get_or records n entry → later ≡ kept ++ record_line entry → IsUnderWay old now head later records (n + 1)
@@ -69,11 +69,11 @@ module _ (old now : Option (List ℕ)) (head kept : List ℕ) (records : List (R
     parts = ap (λ (t : List ℕ). (way.written ++ kept) ++ t) is ∙ (append-nil (way.written ++ kept) ∙ way.parts);
   }
 
-  -- or only a front of it
-  pub under_way-broken : (after : Option (List ℕ)) → AppendsFront now after kept → AppendsFront old after (head ++ flat_map record_line records)
-  under_way-broken after front =
-      let all : IsFront (way.written ++ (kept ++ [])) (head ++ flat_map record_line records) = under_way-front [] (flat_map record_line (drop n records), ap (λ (t : List ℕ). t ++ flat_map record_line (drop n records)) (sym (append-nil kept))) in
-      front-more old now after way.written kept (head ++ flat_map record_line records) way.wrote front (subst (λ t. IsFront (way.written ++ t) (head ++ flat_map record_line records)) (append-nil kept) all)
+  -- or only a prefix of it
+  pub under_way-broken : (after : Option (List ℕ)) → AppendsPrefix now after kept → AppendsPrefix old after (head ++ flat_map record_line records)
+  under_way-broken after prefix =
+      let all : IsPrefix (way.written ++ (kept ++ [])) (head ++ flat_map record_line records) = under_way-prefix [] (flat_map record_line (drop n records), ap (λ (t : List ℕ). t ++ flat_map record_line (drop n records)) (sym (append-nil kept))) in
+      prefix-more old now after way.written kept (head ++ flat_map record_line records) way.wrote prefix (subst (λ t. IsPrefix (way.written ++ t) (head ++ flat_map record_line records)) (append-nil kept) all)
 
   -- all was written
   pub under_way-done : (after : Option (List ℕ)) → take n records ≡ records → Appends now after kept → Appends old after (head ++ flat_map record_line records)

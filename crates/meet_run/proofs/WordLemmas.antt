@@ -104,32 +104,32 @@ pub not-spelled : {E : Type 0} (word text : List ℕ) (r : Result ℕ E) (m : �
 not-spelled word text r m h same read other =
     number_spelled-none word (λ n lt e. let p : r ≡ Ok n = parsed word text r h same n lt e in let q : result_ok r ≡ Some n = ap (λ x. result_ok x) p in let eq : n ≡ m = cc in let yes-eq : bytes_eq word (decimal m) ≡ true = (bytes_eq-Decides word (decimal m)).1 (e ∙ ap (λ k. decimal k) eq) in absurd cc)
 
--- ---- a front
+-- ---- a prefix
 
-behind-at : (front text : List ℕ) → cond (bytes_eq (take (length front) text) front) (Some (drop (length front) text)) None ≡ behind front text
+behind-at : (prefix text : List ℕ) → cond (bytes_eq (take (length prefix) text) prefix) (Some (drop (length prefix) text)) None ≡ behind prefix text
 unfolding behind
 behind-at [] text = refl
-behind-at (c ∷ front) [] = refl
-behind-at (c ∷ front) (b ∷ text) = elim (cases_Bool (eqb b c)) [
-  | inl t ↦ rw t (behind-at front text)
+behind-at (c ∷ prefix) [] = refl
+behind-at (c ∷ prefix) (b ∷ text) = elim (cases_Bool (eqb b c)) [
+  | inl t ↦ rw t (behind-at prefix text)
   | inr f ↦ rw f refl
 ]
 
 -- what `strip_prefix` answers
-pub behind-stripped : (front text : List ℕ) (r : Option (Bor (List ℕ))) → MatchOption r (bytes_eq (take (length front) text) front ≡ false) (λ x. (bytes_eq (take (length front) text) front ≡ true) × (x.now ≡ drop (length front) text) × (length x.now + length front ≡ length text)) → option_map (λ x. x.now) r ≡ behind front text
-behind-stripped front text None h = sym (cond-false _ (Some (drop (length front) text)) None h) ∙ behind-at front text
-behind-stripped front text (Some x) h =
-    ap (λ (s : List ℕ). Some s) h.1 ∙ (sym (cond-true _ (Some (drop (length front) text)) None h.0) ∙ behind-at front text)
+pub behind-stripped : (prefix text : List ℕ) (r : Option (Bor (List ℕ))) → MatchOption r (bytes_eq (take (length prefix) text) prefix ≡ false) (λ x. (bytes_eq (take (length prefix) text) prefix ≡ true) × (x.now ≡ drop (length prefix) text) × (length x.now + length prefix ≡ length text)) → option_map (λ x. x.now) r ≡ behind prefix text
+behind-stripped prefix text None h = sym (cond-false _ (Some (drop (length prefix) text)) None h) ∙ behind-at prefix text
+behind-stripped prefix text (Some x) h =
+    ap (λ (s : List ℕ). Some s) h.1 ∙ (sym (cond-true _ (Some (drop (length prefix) text)) None h.0) ∙ behind-at prefix text)
 
--- a text that begins with a front is the front and what stands behind it
-pub behind-is : (front text rest : List ℕ) → behind front text ≡ Some rest → text ≡ front ++ rest
+-- a text that begins with a prefix is the prefix and what stands behind it
+pub behind-is : (prefix text rest : List ℕ) → behind prefix text ≡ Some rest → text ≡ prefix ++ rest
 unfolding behind
 behind-is [] text rest e = cc
-behind-is (c ∷ front) [] rest e = absurd cc
-behind-is (c ∷ front) (b ∷ text) rest e =
-    let p = chosen-some (eqb b c) (behind front text) rest e in
+behind-is (c ∷ prefix) [] rest e = absurd cc
+behind-is (c ∷ prefix) (b ∷ text) rest e =
+    let p = chosen-some (eqb b c) (behind prefix text) rest e in
     let head : b ≡ c = eqb-true b c p.0 in
-    let tail : text ≡ front ++ rest = behind-is front text rest p.1 in
+    let tail : text ≡ prefix ++ rest = behind-is prefix text rest p.1 in
     cc
 
 -- ---- a word and the rest of its line

@@ -1,5 +1,6 @@
 -- What the lines of a script say.
-use Rattle.std.specs.Prelude.{ℕ, nat_lt, nat_le, Bool, true, ◌&&◌, Option, Some, None, option_and_then, unwrap_or, List, [], ◌∷◌, length, codes, if◌then◌else◌}
+use Rattle.std.specs.Prelude.{ℕ, nat_lt, nat_le, Bool, true, ◌&&◌, Option, Some, None, option_and_then, unwrap_or}
+use Rattle.std.specs.Prelude.{List, [], ◌∷◌, length, codes, if◌then◌else◌}
 use Rattle.std.specs.Option.{option_map_or}
 use Rattle.std.specs.Str.{bytes_eq}
 use Rattle.meet_tickets.specs.declared.places.Order.{Order}
@@ -8,7 +9,10 @@ use Rattle.meet_tickets.specs.Meeting.{keeps}
 use Rattle.meet_tickets.specs.Limits.{most_seats, most_records, most_kept, last_ticket}
 use Rattle.meet_history.specs.declared.one_thread.verbs.Call.{Call}
 use Rattle.meet_history.specs.declared.one_thread.verbs.Verb.{Verb}
-use Rattle.meet_history.specs.declared.one_thread.verbs.Verb.TheVariants.{Put, Offer, Take, Poll, Transfer as TransferItem, Try, Follow, Cancel, Expire, Interrupt, Drain, Size, Room, Peek, Consumers}
+use Rattle.meet_history.specs.declared.one_thread.verbs.Verb.TheVariants.{Put, Offer, Take, Poll}
+use Rattle.meet_history.specs.declared.one_thread.verbs.Verb.TheVariants.{Transfer as TransferItem, Try, Follow}
+use Rattle.meet_history.specs.declared.one_thread.verbs.Verb.TheVariants.{Cancel, Expire, Interrupt, Drain, Size}
+use Rattle.meet_history.specs.declared.one_thread.verbs.Verb.TheVariants.{Room, Peek, Consumers}
 use Rattle.meet_run.specs.declared.first_line.Options.{Options}
 use Rattle.meet_history.specs.declared.one_thread.setup.Setup.{Setup}
 use Rattle.meet_history.specs.Served.{serves}

@@ -1,5 +1,6 @@
 -- The lines of a text, and what reading one of them takes.
-use Rattle.std.specs.Prelude.{◌≡◌, ◌⊎◌, ℕ, ◌+◌, ◌<◌, ◌≤◌, ◌==◌, Option, Some, None, IfSome, ⊤, List, [], ◌∷◌, length, if◌then◌else◌}
+use Rattle.std.specs.Prelude.{◌≡◌, ◌⊎◌, ℕ, ◌+◌, ◌<◌, ◌≤◌, ◌==◌, Option, Some, None, IfSome, ⊤, List, [], ◌∷◌, length}
+use Rattle.std.specs.Prelude.{if◌then◌else◌}
 use Rattle.std.specs.Option.{option_map_or}
 use Rattle.std.specs.Io.KnownBytes.{Consumes, IsAtEnd}
 use Rattle.meet_run.specs.declared.reading.ByteRead.{ByteRead}
@@ -37,7 +38,8 @@ with_item item rest = record { items = item ∷ rest.items; fault = rest.fault }
 -- what these lines read as, by their numbers, of which this is the first
 unfoldable pub listed : {A : Type 0} → (reading : ℕ → List ℕ → Option A) → (n : ℕ) → (lines : List (List ℕ)) → Listed A
 listed reading n [] = no_more
-listed reading n (line ∷ lines) = option_map_or (λ item. with_item item (listed reading (n + 1) lines)) (reading n line) (faulty_at n)
+listed reading n (line ∷ lines) =
+    option_map_or (λ item. with_item item (listed reading (n + 1) lines)) (reading n line) (faulty_at n)
 
 -- a fact of the known bytes before and after
 abbrev pub Both : (old new : Option (List ℕ)) → (List ℕ → List ℕ → Type 0) → Type 0

@@ -1,5 +1,6 @@
 -- What came of a run, and of a line of it.
-use Rattle.std.specs.Prelude.{◌≡◌, ◌⊎◌, ℕ, ◌+◌, ◌≤◌, ⊤, Bool, true, Option, Some, None, IfSome, Result, Ok, Err, List, ◌∷◌, []}
+use Rattle.std.specs.Prelude.{◌≡◌, ◌⊎◌, ℕ, ◌+◌, ◌≤◌, ⊤, Bool, true, Option, Some, None, IfSome, Result, Ok, Err, List}
+use Rattle.std.specs.Prelude.{◌∷◌, []}
 use Rattle.std.specs.Io.KnownBytes.{Appends, Consumes, IsAtEnd}
 use Rattle.meet_tickets.specs.declared.refusals.Refusal.{Refusal}
 use Rattle.meet_tickets.specs.declared.refusals.Refusal.TheVariants.{Memory, BadLine, ReadFault, WriteFault}
@@ -10,7 +11,7 @@ use Rattle.meet_run.specs.declared.next.Next.TheVariants.{Read, Ended, Faulty, B
 use Rattle.meet_run.specs.declared.reading.LineRead.{LineRead}
 use Rattle.meet_run.specs.declared.reading.LineRead.TheVariants.{Line, End, TooLong, Failed}
 use Rattle.meet_run.specs.Reading.{lines_of, Both}
-use Rattle.meet_run.specs.Writing.{AppendsFront}
+use Rattle.meet_run.specs.Writing.{AppendsPrefix}
 use Rattle.meet_history.specs.OneThread.{start}
 use Rattle.meet_run.specs.Script.{Reached, fault_of, text_before, output_of}
 
@@ -22,14 +23,18 @@ next_from End read = Ended
 next_from TooLong read = Faulty
 next_from Failed read = Broken
 
--- what the next line is, by a reading of lines: one that reads as this; none; one that reads as nothing; or a failed read
-abbrev pub IsNext : {A : Type 0} → (List ℕ → Option A) → Next A → (old new : Option (List ℕ)) → (turns left : ℕ) → Type 0
+-- what the next line is, by a reading of lines: one that reads as this; none; one that reads as nothing; or a failed
+-- read
+abbrev pub IsNext : {A : Type 0} → (List ℕ → Option A) → Next A → (old new : Option (List ℕ)) → (turns left : ℕ)
+    → Type 0
 IsNext reading (Read a) old new turns left =
-    Both old new (λ xs ys. (line : List ℕ) × (lines_of xs ≡ line ∷ lines_of ys) × (reading line ≡ Some a)) × (left + 1 ≤ turns)
+    Both old new (λ xs ys. (line : List ℕ) × (lines_of xs ≡ line ∷ lines_of ys) × (reading line ≡ Some a))
+    × (left + 1 ≤ turns)
 IsNext reading Ended old new turns left =
     IfSome old (λ xs. lines_of xs ≡ []) × Consumes old new [] × IsAtEnd new × (left + 1 ≤ turns)
 IsNext reading Faulty old new turns left =
-    IfSome old (λ xs. (line : List ℕ) × (lines : List (List ℕ)) × (lines_of xs ≡ line ∷ lines) × (reading line ≡ None)) × (left + 1 ≤ turns)
+    IfSome old (λ xs. (line : List ℕ) × (lines : List (List ℕ)) × (lines_of xs ≡ line ∷ lines)
+    × (reading line ≡ None)) × (left + 1 ≤ turns)
 IsNext reading Broken old new turns left = left ≤ turns
 
 -- a fact of what the next line reads as
@@ -56,17 +61,19 @@ abbrev pub CannotRead : {A : Type 0} → Result A RunFault → Type 0
 CannotRead (Ok a) = ⊥
 CannotRead (Err f) = (f.line ≡ None) × ((f.why ≡ ReadFault) ⊎ (f.why ≡ Memory))
 
--- what a fault leaves of a text: at a faulty line the whole of what comes before it; of a run that broke off, a front,
+-- what a fault leaves of a text: at a faulty line the whole of what comes before it; of a run that broke off, a prefix,
 -- and no last line but where a write failed
-abbrev pub FaultEnds : (fault : Option ℕ) → (text output : List ℕ) → Refusal → Option ℕ → (old new : Option (List ℕ)) → Type 0
+abbrev pub FaultEnds : (fault : Option ℕ) → (text output : List ℕ) → Refusal → Option ℕ → (old new : Option (List ℕ))
+    → Type 0
 FaultEnds fault text output BadLine (Some n) old new = (fault ≡ Some n) × Appends old new output
-FaultEnds fault text output Memory None old new = AppendsFront old new text
-FaultEnds fault text output ReadFault None old new = AppendsFront old new text
-FaultEnds fault text output WriteFault None old new = AppendsFront old new output
+FaultEnds fault text output Memory None old new = AppendsPrefix old new text
+FaultEnds fault text output ReadFault None old new = AppendsPrefix old new text
+FaultEnds fault text output WriteFault None old new = AppendsPrefix old new output
 FaultEnds fault text output _ _ old new = ⊥
 
 -- what came of a run over a text with this first faulty line, this text of the replies and this whole output
-abbrev pub RunEnds : (fault : Option ℕ) → (text output : List ℕ) → Result Bool RunFault → (old new : Option (List ℕ)) → Type 0
+abbrev pub RunEnds : (fault : Option ℕ) → (text output : List ℕ) → Result Bool RunFault → (old new : Option (List ℕ))
+    → Type 0
 RunEnds fault text output (Ok legal) old new = (legal ≡ true) × (fault ≡ None) × Appends old new output
 RunEnds fault text output (Err f) old new = FaultEnds fault text output f.why f.line old new
 
@@ -77,4 +84,5 @@ IsRunFault f = FaultIs f.why f.line
 -- what came of the calls behind a first line, wherever that line came from
 abbrev pub RunsOn : Setup → (rest : List ℕ) → Result Bool RunFault → (old new : Option (List ℕ)) → Type 0
 RunsOn setup rest result old new =
-    (input : List ℕ) → Reached setup input rest 2 (start setup) [] → RunEnds (fault_of input) (text_before input) (output_of input) result old new
+    (input : List ℕ) → Reached setup input rest 2 (start setup) []
+    → RunEnds (fault_of input) (text_before input) (output_of input) result old new

@@ -31,7 +31,8 @@ text setup calls = text_from setup (start setup) calls
 -- the last line, after the calls from here on
 unfoldable pub closing_from : Setup → Place → List Call → List ℕ
 closing_from setup place calls =
-    last_line (place.records + length (turns setup place calls).records) (standing_of setup (turns setup place calls).place)
+    last_line (place.records + length (turns setup place calls).records)
+    (standing_of setup (turns setup place calls).place)
 
 -- the same; after a fault there is none
 unfoldable pub ending_from : Setup → Place → Listed Call → List ℕ
@@ -97,7 +98,8 @@ abbrev pub FaultsEndScripts : Type 0
 FaultsEndScripts =
     (line : List ℕ) (lines : List (List ℕ)) (bad : List ℕ) (more : List (List ℕ)) (setup : Setup) (calls : List Call)
     → setup_of line ≡ Some setup → AreCalls setup.kind.order lines calls → call_of setup.kind.order bad ≡ None
-    → (fault_in (line ∷ (lines ++ bad ∷ more)) ≡ Some (length lines + 2)) × (output_in (line ∷ (lines ++ bad ∷ more)) ≡ text setup calls)
+    → (fault_in (line ∷ (lines ++ bad ∷ more)) ≡ Some (length lines + 2))
+    × (output_in (line ∷ (lines ++ bad ∷ more)) ≡ text setup calls)
 
 -- how far a run has come: of the input this rest is left, which begins with line n; the place is here, and this was
 -- written

@@ -5,7 +5,10 @@ use Rattle.meet_tickets.specs.declared.places.Order.TheVariants.{Fair, Unfair, T
 use Rattle.meet_tickets.specs.Limits.{most_seats}
 use Rattle.meet_history.specs.declared.one_thread.verbs.Call.{Call}
 use Rattle.meet_history.specs.declared.one_thread.verbs.Verb.{Verb}
-use Rattle.meet_history.specs.declared.one_thread.verbs.Verb.TheVariants.{Put, Offer, Take, Poll, Transfer as TransferItem, Try, Follow, Cancel, Expire, Interrupt, Drain, Size, Room, Peek, Consumers}
+use Rattle.meet_history.specs.declared.one_thread.verbs.Verb.TheVariants.{Put, Offer, Take, Poll}
+use Rattle.meet_history.specs.declared.one_thread.verbs.Verb.TheVariants.{Transfer as TransferItem, Try, Follow}
+use Rattle.meet_history.specs.declared.one_thread.verbs.Verb.TheVariants.{Cancel, Expire, Interrupt, Drain, Size}
+use Rattle.meet_history.specs.declared.one_thread.verbs.Verb.TheVariants.{Room, Peek, Consumers}
 use Rattle.meet_run.specs.declared.first_line.Options.{Options}
 use Rattle.meet_history.specs.declared.one_thread.setup.Setup.{Setup}
 use Rattle.meet_history.specs.Served.{serves}
@@ -61,7 +64,8 @@ pub record FitsCall (order : Order) (call : Call) : Type 0 where
 -- a line reads as a call exactly where it is that call's one spelling
 abbrev pub CallsHaveOneSpelling : Type 0
 CallsHaveOneSpelling =
-    (order : Order) (line : List ℕ) (call : Call) → (call_of order line ≡ Some call) ↔ ((line ≡ spelling call) × FitsCall order call)
+    (order : Order) (line : List ℕ) (call : Call)
+    → (call_of order line ≡ Some call) ↔ ((line ≡ spelling call) × FitsCall order call)
 
 -- a place's word
 abbrev pub place_text : Order → List ℕ
@@ -77,12 +81,15 @@ option_text name (Some n) = name ++ decimal n
 -- the options that are spelled out, in their order
 abbrev pub written_text : Options → List ℕ
 written_text written =
-    option_text (codes " seats ") written.seats ++ (option_text (codes " cap ") written.cap ++ (option_text (codes " first ") written.first ++ option_text (codes " bound ") written.bound))
+    option_text (codes " seats ") written.seats
+    ++ (option_text (codes " cap ") written.cap
+    ++ (option_text (codes " first ") written.first ++ option_text (codes " bound ") written.bound))
 
 -- a line spells a place: its word, and its options, where those at their default may be left out
 abbrev pub SpellsSetup : (line : List ℕ) → Setup → Type 0
 SpellsSetup line setup =
-    (written : Options) × (line ≡ place_text setup.kind.order ++ written_text written) × (setup ≡ setup_with setup.kind.order written)
+    (written : Options) × (line ≡ place_text setup.kind.order ++ written_text written)
+    × (setup ≡ setup_with setup.kind.order written)
 
 -- a first line reads as a place exactly where it spells it, with its numbers in their limits
 abbrev pub SetupsAreSpelled : Type 0

@@ -8,7 +8,9 @@ use Rattle.meet_tickets.specs.declared.places.Kind.{Kind}
 use Rattle.meet_tickets.specs.declared.records.Cause.{Cause}
 use Rattle.meet_tickets.specs.declared.records.Cause.TheVariants.{Cancelled, Expired, Interrupted}
 use Rattle.meet_tickets.specs.declared.records.Deed.{Deed}
-use Rattle.meet_tickets.specs.declared.records.Deed.TheVariants.{GiveWaits, GiveMeets, GiveFails, GiveKept, TakeWaits, TakeMeets, TakeFails, EntryInterrupted, Done, Got, Withdrawn, Interrupt}
+use Rattle.meet_tickets.specs.declared.records.Deed.TheVariants.{GiveWaits, GiveMeets, GiveFails, GiveKept, TakeWaits}
+use Rattle.meet_tickets.specs.declared.records.Deed.TheVariants.{TakeMeets, TakeFails, EntryInterrupted, Done, Got}
+use Rattle.meet_tickets.specs.declared.records.Deed.TheVariants.{Withdrawn, Interrupt}
 use Rattle.meet_tickets.specs.declared.records.Record.{Record}
 use Rattle.meet_tickets.specs.Limits.{most_kept, last_ticket}
 use Rattle.meet_run.specs.Words.{word_of, rest_of, behind, number_spelled}
@@ -54,7 +56,8 @@ unfoldable pub worded_deed_of : (word value : List ℕ) → Option Deed
 worded_deed_of word value =
     if bytes_eq word (codes "entry-interrupted") then (side_of value >>= λ side. Some (EntryInterrupted side)) else (
     if bytes_eq word (codes "withdrawn") then (cause_of value >>= λ cause. Some (Withdrawn cause)) else (
-    if bytes_eq word (codes "interrupt") then (seat_of value >>= λ target. Some (Interrupt target)) else (number_spelled value >>= marked_deed_of word)))
+    if bytes_eq word (codes "interrupt") then (seat_of value >>= λ target. Some (Interrupt target))
+    else (number_spelled value >>= marked_deed_of word)))
 
 -- the deed of a word with a mark and a partner's ticket behind it
 unfoldable pub paired_deed_of : (word : List ℕ) → (mark partner : ℕ) → Option Deed

@@ -4,7 +4,9 @@ use Rattle.meet_tickets.specs.declared.places.Side.{Side}
 use Rattle.meet_tickets.specs.declared.places.Side.TheVariants.{Giver, Taker}
 use Rattle.meet_tickets.specs.declared.places.Kind.{Kind}
 use Rattle.meet_tickets.specs.declared.records.Deed.{Deed}
-use Rattle.meet_tickets.specs.declared.records.Deed.TheVariants.{GiveWaits, GiveMeets, GiveFails, GiveKept, TakeWaits, TakeMeets, TakeFails, EntryInterrupted, Done, Got, Withdrawn, Interrupt}
+use Rattle.meet_tickets.specs.declared.records.Deed.TheVariants.{GiveWaits, GiveMeets, GiveFails, GiveKept, TakeWaits}
+use Rattle.meet_tickets.specs.declared.records.Deed.TheVariants.{TakeMeets, TakeFails, EntryInterrupted, Done, Got}
+use Rattle.meet_tickets.specs.declared.records.Deed.TheVariants.{Withdrawn, Interrupt}
 use Rattle.meet_tickets.specs.declared.records.Record.{Record}
 use Rattle.meet_tickets.specs.Limits.{most_seats, last_ticket}
 use Rattle.meet_tickets.specs.Meeting.{FitsBound}

@@ -1,5 +1,6 @@
 -- What a whole trace says, and what is found of it; and the trace that a script leaves.
-use Rattle.std.specs.Prelude.{◌+◌, ◌≡◌, ◌⊎◌, ℕ, nat_lt, Bool, true, false, Option, Some, None, Result, Ok, Err, List, [], ◌∷◌, length, if◌then◌else◌}
+use Rattle.std.specs.Prelude.{◌+◌, ◌≡◌, ◌⊎◌, ℕ, nat_lt, Bool, true, false, Option, Some, None, Result, Ok, Err, List}
+use Rattle.std.specs.Prelude.{[], ◌∷◌, length, if◌then◌else◌}
 use Rattle.std.specs.Io.KnownBytes.{Appends}
 use Rattle.std.specs.Option.{option_map_or}
 use Rattle.meet_tickets.specs.declared.places.Kind.{Kind}
@@ -22,7 +23,7 @@ use Rattle.meet_run.specs.Script.{calls_behind}
 use Rattle.meet_run.specs.TraceGrammar.{head_of, record_of}
 use Rattle.meet_run.specs.TraceWording.{trace_text, illegal_line}
 use Rattle.meet_run.specs.Wording.{last_line}
-use Rattle.meet_run.specs.Writing.{AppendsFront}
+use Rattle.meet_run.specs.Writing.{AppendsPrefix}
 
 -- the record of a line with this number: a trace has at most 1,048,576 of them, and no line behind these (our choice)
 unfoldable pub record_at : (n : ℕ) → (line : List ℕ) → Option (Record Deed)
@@ -49,7 +50,8 @@ pub record IsTrace (lines : List (List ℕ)) (kind : Kind) (records : List (Reco
 -- the first that can't stand, and why
 abbrev pub IsVerdict : Kind → List (Record Deed) → (legal : Bool) → (text : List ℕ) → Type 0
 IsVerdict kind records true text = IsLegal kind records × (text ≡ last_line (length records) (standing_in records))
-IsVerdict kind records false text = (number : ℕ) × (why : Why) × IsIllegalAt kind records number why × (text ≡ illegal_line number why)
+IsVerdict kind records false text = (number : ℕ) × (why : Why) × IsIllegalAt kind records number why
+    × (text ≡ illegal_line number why)
 
 -- the lines are a whole trace, of which this is found
 pub record IsFound (lines : List (List ℕ)) (legal : Bool) (text : List ℕ) : Type 0 where
@@ -62,12 +64,13 @@ pub record IsFound (lines : List (List ℕ)) (legal : Bool) (text : List ℕ) : 
 abbrev pub NamesLine : RunFault → (fault : Option ℕ) → Type 0
 NamesLine f fault = f.why ≡ BadTrace → f.line ≡ fault
 
--- what a fault leaves of a check: nothing is written but where a write failed, and then a front of what is found
+-- what a fault leaves of a check: nothing is written but where a write failed, and then a prefix of what is found
 abbrev pub CheckBreaks : (lines : List (List ℕ)) → Refusal → Option ℕ → (old new : Option (List ℕ)) → Type 0
 CheckBreaks lines BadTrace (Some n) old new = (trace_fault_in lines ≡ Some n) × Appends old new []
 CheckBreaks lines Memory None old new = Appends old new []
 CheckBreaks lines ReadFault None old new = Appends old new []
-CheckBreaks lines WriteFault None old new = (legal : Bool) × (text : List ℕ) × IsFound lines legal text × AppendsFront old new text
+CheckBreaks lines WriteFault None old new = (legal : Bool) × (text : List ℕ) × IsFound lines legal text
+    × AppendsPrefix old new text
 CheckBreaks lines _ _ old new = ⊥
 
 -- what came of a check
@@ -78,7 +81,8 @@ CheckEnds lines (Err f) old new = CheckBreaks lines f.why f.line old new
 -- the faults of a trace that wasn't read to its end: a line's, and want of memory or a read that failed
 abbrev pub IsUnreadTrace : RunFault → Type 0
 IsUnreadTrace f =
-    ((n : ℕ) × (f ≡ record { why = BadTrace; line = Some n })) ⊎ ((f ≡ record { why = Memory; line = None }) ⊎ (f ≡ record { why = ReadFault; line = None }))
+    ((n : ℕ) × (f ≡ record { why = BadTrace; line = Some n }))
+    ⊎ ((f ≡ record { why = Memory; line = None }) ⊎ (f ≡ record { why = ReadFault; line = None }))
 
 -- the faults that end a check
 abbrev pub TraceFaultIs : Refusal → Option ℕ → Type 0
@@ -107,7 +111,8 @@ abbrev pub trace_of : (input : List ℕ) → List ℕ
 trace_of input = trace_in (lines_of input)
 
 -- the calls of these lines, up to the first that is none, write these records
-pub record LeavesRecords (setup : Setup) (lines : List (List ℕ)) (written : List (Record Deed)) (bad : Option ℕ) : Type 0 where
+pub record LeavesRecords (setup : Setup) (lines : List (List ℕ)) (written : List (Record Deed)) (bad : Option ℕ) :
+    Type 0 where
   pub records : records setup (calls_behind setup lines).items ≡ written
   pub fault : (calls_behind setup lines).fault ≡ bad
 

@@ -5,9 +5,12 @@ use Rattle.meet_tickets.specs.declared.records.Cause.TheVariants.{Cancelled, Exp
 use Rattle.meet_tickets.specs.Refusals.{name_of}
 use Rattle.meet_history.specs.declared.one_thread.replies.Reply.{Reply}
 use Rattle.meet_history.specs.declared.one_thread.replies.Outcome.{Outcome}
-use Rattle.meet_history.specs.declared.one_thread.replies.Outcome.TheVariants.{Recorded, Interrupted as InterruptedSeat, NotYet, Late, Drained, Count, Peeked, Refused}
+use Rattle.meet_history.specs.declared.one_thread.replies.Outcome.TheVariants.{Recorded}
+use Rattle.meet_history.specs.declared.one_thread.replies.Outcome.TheVariants.{Interrupted as InterruptedSeat, NotYet}
+use Rattle.meet_history.specs.declared.one_thread.replies.Outcome.TheVariants.{Late, Drained, Count, Peeked, Refused}
 use Rattle.meet_history.specs.declared.one_thread.replies.Answer.{Answer}
-use Rattle.meet_history.specs.declared.one_thread.replies.Answer.TheVariants.{Waits, Kept, Gave, Got, Fails, Done, Withdrawn}
+use Rattle.meet_history.specs.declared.one_thread.replies.Answer.TheVariants.{Waits, Kept, Gave, Got, Fails, Done}
+use Rattle.meet_history.specs.declared.one_thread.replies.Answer.TheVariants.{Withdrawn}
 use Rattle.meet_history.specs.declared.checker.Standing.{Standing}
 
 -- a word, and a mark behind it where there is one
@@ -61,4 +64,5 @@ text_of reply = outcome_text reply.seat reply.outcome ++ codes "\n"
 -- the line at the end of a script
 unfoldable pub last_line : (records : ℕ) → Standing → List ℕ
 last_line records standing =
-    codes "legal " ++ decimal records ++ codes " waiting " ++ decimal standing.waiting ++ codes " uncollected " ++ decimal standing.uncollected ++ codes " kept " ++ decimal standing.kept ++ codes "\n"
+    codes "legal " ++ decimal records ++ codes " waiting " ++ decimal standing.waiting ++ codes " uncollected "
+    ++ decimal standing.uncollected ++ codes " kept " ++ decimal standing.kept ++ codes "\n"

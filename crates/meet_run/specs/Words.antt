@@ -13,11 +13,11 @@ unfoldable pub rest_of : List ℕ → List ℕ
 rest_of [] = []
 rest_of (b ∷ bs) = if b == 32 then b ∷ bs else rest_of bs
 
--- what stands behind a front, where a text begins with it
-unfoldable pub behind : (front text : List ℕ) → Option (List ℕ)
+-- what stands behind a prefix, where a text begins with it
+unfoldable pub behind : (prefix text : List ℕ) → Option (List ℕ)
 behind [] text = Some text
-behind (c ∷ front) [] = None
-behind (c ∷ front) (b ∷ text) = if b == c then behind front text else None
+behind (c ∷ prefix) [] = None
+behind (c ∷ prefix) (b ∷ text) = if b == c then behind prefix text else None
 
 -- a number, where it is below 2^64 and the word is its one spelling
 unfoldable pub number_if : (word : List ℕ) → ℕ → Option ℕ

@@ -5,7 +5,8 @@ ghost use Rattle.std.specs.Vec.{vec_capacity};
 ghost use Rattle.meet_tickets.specs.declared.refusals.Refusal.TheVariants.{Memory};
 ghost use Rattle.meet_run.specs.Reading.{UsesTurns, EndsInTurns, lines_of};
 ghost use Rattle.meet_run.specs.Running.{CannotRead};
-ghost use Rattle.meet_run.specs.Traces.{records_behind, trace_fault_in, IsTrace, NamesLine, IsVerdict, CheckEnds, IsUnreadTrace, IsTraceFault};
+ghost use Rattle.meet_run.specs.Traces.{records_behind, trace_fault_in, IsTrace, NamesLine, IsVerdict, CheckEnds};
+ghost use Rattle.meet_run.specs.Traces.{IsUnreadTrace, IsTraceFault};
 
 use crate::faults::{RunFault, at_line, cut_short};
 use crate::grammar::LONGEST_LINE;
@@ -28,8 +29,11 @@ fn read_records<R: Read>(
 ) -> Result<Vec<Record<Deed>>, RunFault>
     requires room { LONGEST_LINE ≤ vec_capacity line.old }
     requires turns { turns.old + 1 < 2 ^ 64 }
-    ensures records { IfOk result (λ records. IfSome (R.remaining reader.old) (λ rest. records_behind (lines_of rest) ≡ record { items = records.items; fault = None })) }
-    ensures bad { IfErr result (λ fault. IfSome (R.remaining reader.old) (λ rest. NamesLine fault (records_behind (lines_of rest)).fault)) }
+    ensures records { IfOk result (λ records.
+        IfSome (R.remaining reader.old) (λ rest. records_behind (lines_of rest)
+        ≡ record { items = records.items; fault = None })) }
+    ensures bad { IfErr result (λ fault. IfSome (R.remaining reader.old) (λ rest.
+        NamesLine fault (records_behind (lines_of rest)).fault)) }
     ensures uses { UsesTurns (R.remaining reader.old) (R.remaining reader.new) turns.old turns.new }
     ensures spent { turns.old ≡ 0 → CannotRead result }
     ensures ends { OnOk result (EndsInTurns (R.remaining reader.old) turns.old) }
@@ -57,8 +61,10 @@ fn read_trace<R: Read>(
     reader: &mut R,
     turns: u64,
 ) -> Result<(Kind, Vec<Record<Deed>>), RunFault>
-    ensures trace { IfOk result (λ trace. IfSome (R.remaining reader.old) (λ input. IsTrace (lines_of input) trace.0 trace.1.items)) }
-    ensures bad { IfErr result (λ fault. IfSome (R.remaining reader.old) (λ input. NamesLine fault (trace_fault_in (lines_of input)))) }
+    ensures trace { IfOk result (λ trace. IfSome (R.remaining reader.old) (λ input.
+        IsTrace (lines_of input) trace.0 trace.1.items)) }
+    ensures bad { IfErr result (λ fault. IfSome (R.remaining reader.old) (λ input.
+        NamesLine fault (trace_fault_in (lines_of input)))) }
     ensures uses { UsesTurns (R.remaining reader.old) (R.remaining reader.new) turns 0 }
     ensures spent { turns ≡ 0 → CannotRead result }
     ensures ends { OnOk result (EndsInTurns (R.remaining reader.old) turns) }
@@ -99,23 +105,24 @@ fn verdict(alloc: Global, kind: Kind, records: &[Record<Deed>]) -> Result<(bool,
     }
 }
 
-/// Checks the trace that this reader gives. The whole of it is read before anything is written; a read of the reader takes
-/// one byte and costs a turn.
+/// Checks the trace that this reader gives. The whole of it is read before anything is written; a read of the reader
+/// takes one byte and costs a turn.
 ///
 /// Where its records are legal it writes one line that counts them and says what stands at their end, and the answer is
 /// true. Else it writes one line that names the first record that can't stand, and why, and the answer is false.
 ///
-/// A line that can't be read, or that stands behind the 1,048,576th record, is BadTrace with its number, from 1; a text
-/// without a first line is a fault of line 1. That wins over an illegal record before it. A read that fails, or no turn left
-/// for it, is ReadFault; where memory is wanted and not there, it is Memory. Then nothing is written. A write that fails or
-/// takes no byte is WriteFault, and a front of the line is written.
+/// A line that can't be read, or that stands behind the 1,048,576th record, is BadTrace with its number, from 1; a
+/// text without a first line is a fault of line 1. That wins over an illegal record before it. A read that fails, or
+/// no turn left for it, is ReadFault; where memory is wanted and not there, it is Memory. Then nothing is written. A
+/// write that fails or takes no byte is WriteFault, and a prefix of the line is written.
 pub fn check_trace_within<R: Read, W: Write>(
     alloc: Global,
     reader: &mut R,
     writer: &mut W,
     turns: u64,
 ) -> Result<bool, RunFault>
-    ensures check { IfSome (R.remaining reader.old) (λ input. CheckEnds (lines_of input) result (W.contents writer.old) (W.contents writer.new)) }
+    ensures check { IfSome (R.remaining reader.old) (λ input.
+        CheckEnds (lines_of input) result (W.contents writer.old) (W.contents writer.new)) }
     ensures uses { UsesTurns (R.remaining reader.old) (R.remaining reader.new) turns 0 }
     ensures spent { turns ≡ 0 → CannotRead result }
     ensures ends { OnOk result (EndsInTurns (R.remaining reader.old) turns) }
@@ -141,7 +148,8 @@ pub fn check_trace<R: Read, W: Write>(
     reader: &mut R,
     writer: &mut W,
 ) -> Result<bool, RunFault>
-    ensures check { IfSome (R.remaining reader.old) (λ input. CheckEnds (lines_of input) result (W.contents writer.old) (W.contents writer.new)) }
+    ensures check { IfSome (R.remaining reader.old) (λ input.
+        CheckEnds (lines_of input) result (W.contents writer.old) (W.contents writer.new)) }
     ensures uses { UsesTurns (R.remaining reader.old) (R.remaining reader.new) (2 ^ 32) 0 }
     ensures ends { OnOk result (EndsInTurns (R.remaining reader.old) (2 ^ 32)) }
     ensures faults { IfErr result IsTraceFault }

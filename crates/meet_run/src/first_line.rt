@@ -4,7 +4,8 @@ ghost use Rattle.std.specs.Prelude.{◌≡◌, IfSome};
 ghost use Rattle.std.specs.Option.{option_map};
 ghost use Rattle.meet_run.specs.Words.{word_of, rest_of, behind};
 ghost use Rattle.meet_history.specs.Limits.{IsInLimits};
-ghost use Rattle.meet_run.specs.Grammar.{order_of, option_value, option_in, written_in, may_have, setup_at_end, setup_in, setup_of};
+ghost use Rattle.meet_run.specs.Grammar.{order_of, option_value, option_in, written_in, may_have, setup_at_end};
+ghost use Rattle.meet_run.specs.Grammar.{setup_in, setup_of};
 
 use crate::grammar::LONGEST_LINE;
 use crate::words::{read_number, split_word};
@@ -36,11 +37,11 @@ pub(crate) fn read_order(word: &[u8]) -> Option<Order>
     }
 }
 
-/// What stands behind a front, where a text begins with it.
-pub(crate) fn strip_front<'a>(front: &[u8], text: &'a [u8]) -> Option<&'a [u8]>
-    ensures { option_map (λ rest. rest.now) result ≡ behind front.now text.now }
+/// What stands behind a prefix, where a text begins with it.
+pub(crate) fn behind_prefix<'a>(prefix: &[u8], text: &'a [u8]) -> Option<&'a [u8]>
+    ensures { option_map (λ rest. rest.now) result ≡ behind prefix.now text.now }
 {
-    text.strip_prefix(front)
+    text.strip_prefix(prefix)
 }
 
 /// An option's number, from 1 to `most`, and the rest of its line.
@@ -63,7 +64,7 @@ fn read_value(most: u64, text: &[u8]) -> Option<(Option<u64>, &[u8])>
 pub fn read_option<'a>(name: &[u8], most: u64, rest: &'a [u8]) -> Option<(Option<u64>, &'a [u8])>
     ensures { option_map (λ found. (found.0, found.1.now)) result ≡ option_in name.now most rest.now }
 {
-    match strip_front(name, rest) {
+    match behind_prefix(name, rest) {
         None => Some((None, rest)),
         Some(text) => read_value(most, text),
     }
@@ -126,7 +127,7 @@ fn read_long_setup(line: &[u8]) -> Option<Setup>
 
 /// The place of a script's first line, or none where the line is at fault.
 #[tactic(auto, unfolding(crate::specs::Grammar::setup_of))]
-pub fn read_setup(line: &[u8]) -> Option<Setup>
+pub(crate) fn read_setup(line: &[u8]) -> Option<Setup>
     ensures read { result ≡ setup_of line.now }
     ensures fits { IfSome result IsInLimits }
 {

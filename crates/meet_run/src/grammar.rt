@@ -2,7 +2,8 @@
 
 ghost use Rattle.std.specs.Prelude.{◌≡◌, IfSome};
 ghost use Rattle.meet_run.specs.Spelling.{FitsCall};
-ghost use Rattle.meet_run.specs.Grammar.{seat_of, bare_verb_of, interrupt_of, numbered_verb_of, verb_of, verb_behind, call_in, served_call, call_of};
+ghost use Rattle.meet_run.specs.Grammar.{seat_of, bare_verb_of, interrupt_of, numbered_verb_of, verb_of, verb_behind};
+ghost use Rattle.meet_run.specs.Grammar.{call_in, served_call, call_of};
 
 use crate::words::{read_number, split_word};
 use meet_history::{Call, Verb, is_served};
@@ -120,7 +121,7 @@ pub(crate) fn read_any_call(line: &[u8]) -> Option<Call>
 
 /// The call of a line of a script about a place of this order, or none where the line is at fault.
 #[tactic(auto, unfolding(crate::specs::Grammar::call_of, crate::specs::Grammar::served_call))]
-pub fn read_call(order: Order, line: &[u8]) -> Option<Call>
+pub(crate) fn read_call(order: Order, line: &[u8]) -> Option<Call>
     ensures read { result ≡ call_of order line.now }
     ensures fits { IfSome result (FitsCall order) }
 {

@@ -60,7 +60,7 @@ pub fn next_setup<R: Read>(reader: &mut R, turns: &mut u64, line: &mut Vec<u8>) 
 }
 
 /// Reads the line of a call.
-pub fn next_call<R: Read>(
+pub(crate) fn next_call<R: Read>(
     reader: &mut R,
     turns: &mut u64,
     line: &mut Vec<u8>,
@@ -77,7 +77,7 @@ pub fn next_call<R: Read>(
 }
 
 /// Reads a trace's first line.
-pub fn next_head<R: Read>(reader: &mut R, turns: &mut u64, line: &mut Vec<u8>) -> Next<Kind>
+pub(crate) fn next_head<R: Read>(reader: &mut R, turns: &mut u64, line: &mut Vec<u8>) -> Next<Kind>
     requires { LONGEST_LINE ≤ vec_capacity line.old }
     ensures fits { IfRead result FitsHead }
     ensures next { IsNext head_of result (R.remaining reader.old) (R.remaining reader.new) turns.old turns.new }
@@ -100,14 +100,15 @@ fn read_record_behind(read: u64, line: &[u8]) -> Option<Record<Deed>>
 }
 
 /// Reads the line of a record, behind so many lines.
-pub fn next_record<R: Read>(
+pub(crate) fn next_record<R: Read>(
     reader: &mut R,
     turns: &mut u64,
     line: &mut Vec<u8>,
     read: u64,
 ) -> Next<Record<Deed>>
     requires { LONGEST_LINE ≤ vec_capacity line.old }
-    ensures next { IsNext (record_at (read + 1)) result (R.remaining reader.old) (R.remaining reader.new) turns.old turns.new }
+    ensures next { IsNext (record_at (read + 1)) result (R.remaining reader.old) (R.remaining reader.new) turns.old
+        turns.new }
     ensures uses { UsesTurns (R.remaining reader.old) (R.remaining reader.new) turns.old turns.new }
     ensures room { LONGEST_LINE ≤ vec_capacity line.new }
 {

@@ -2,16 +2,16 @@
 
 ghost use Rattle.std.specs.Prelude.{◌≡◌, [], IsOk, OnOk, OnErr, IfErr};
 ghost use Rattle.std.specs.Io.KnownBytes.{Appends};
-ghost use Rattle.meet_run.specs.Writing.{AppendsFront, AppendsLess};
+ghost use Rattle.meet_run.specs.Writing.{AppendsPrefix, AppendsLess};
 
 use meet_tickets::Refusal;
 use std::io::Write;
 
-/// Writes these bytes, as often as it takes, and for none of them not once. A write that fails, or that takes no byte, is a
-/// fault; what was written until then stays written, and isn't all.
+/// Writes these bytes, as often as it takes, and for none of them not once. A write that fails, or that takes no
+/// byte, is a fault; what was written until then stays written, and isn't all.
 pub fn write_whole<W: Write>(writer: &mut W, bytes: &[u8]) -> Result<(), Refusal>
     ensures ok { OnOk result (Appends (W.contents writer.old) (W.contents writer.new) bytes.now) }
-    ensures front { AppendsFront (W.contents writer.old) (W.contents writer.new) bytes.now }
+    ensures prefix { AppendsPrefix (W.contents writer.old) (W.contents writer.new) bytes.now }
     ensures less { OnErr result (AppendsLess (W.contents writer.old) (W.contents writer.new) bytes.now) }
     ensures fault { IfErr result (λ why. why ≡ Refusal.WriteFault) }
     ensures nothing { bytes.now ≡ [] → IsOk result }

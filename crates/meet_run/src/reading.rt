@@ -49,7 +49,8 @@ fn read_byte<R: Read>(reader: &mut R, turns: &mut u64) -> ByteRead
 /// Reads the next line, without the byte 10 at its end, into `line`, which has room for it. Each byte costs a turn.
 pub fn read_line<R: Read>(reader: &mut R, turns: &mut u64, line: &mut Vec<u8>) -> LineRead
     requires { LONGEST_LINE ≤ vec_capacity line.old }
-    ensures read { ReadsLine result (R.remaining reader.old) (R.remaining reader.new) turns.old turns.new line.new.items }
+    ensures read { ReadsLine result (R.remaining reader.old) (R.remaining reader.new) turns.old turns.new
+        line.new.items }
     ensures uses { UsesTurns (R.remaining reader.old) (R.remaining reader.new) turns.old turns.new }
     ensures spends { SpendsTurn result turns.old turns.new }
     ensures room { LONGEST_LINE ≤ vec_capacity line.new }

@@ -1,6 +1,7 @@
 //! A script from a reader, its replies to a writer, line by line.
 
-ghost use Rattle.std.specs.Prelude.{◌≡◌, ◌+◌, ◌^◌, ◌<◌, ◌≤◌, ◌++◌, [], length, Some, Err, IfSome, IfErr, OnOk, OnErr, IsTrue};
+ghost use Rattle.std.specs.Prelude.{◌≡◌, ◌+◌, ◌^◌, ◌<◌, ◌≤◌, ◌++◌, [], length, Some, Err, IfSome, IfErr, OnOk, OnErr};
+ghost use Rattle.std.specs.Prelude.{IsTrue};
 ghost use Rattle.std.specs.Io.KnownBytes.{Appends};
 ghost use Rattle.std.specs.Vec.{vec_capacity};
 ghost use Rattle.meet_tickets.specs.declared.refusals.Refusal.TheVariants.{Memory};
@@ -12,7 +13,7 @@ ghost use Rattle.meet_history.specs.Limits.{IsInLimits};
 ghost use Rattle.meet_history.specs.Served.{serves};
 ghost use Rattle.meet_run.specs.Wording.{last_line};
 ghost use Rattle.meet_run.specs.Running.{CannotRead, IsCutShort, IsRunFault, RunsOn, RunEnds};
-ghost use Rattle.meet_run.specs.Writing.{AppendsFront};
+ghost use Rattle.meet_run.specs.Writing.{AppendsPrefix};
 
 use crate::faults::{RunFault, at_line, cut_short};
 use crate::grammar::LONGEST_LINE;
@@ -48,8 +49,10 @@ fn serve<W: Write>(
 ) -> Result<(), Refusal>
     requires served { IsTrue (serves stepper.old.setup.kind.order call.verb) }
     ensures takes { OnOk result (Takes (turn stepper.old.setup (place_of stepper.old) call) stepper.old stepper.new) }
-    ensures written { OnOk result (Appends (W.contents writer.old) (W.contents writer.new) (replies_text (turn stepper.old.setup (place_of stepper.old) call).replies)) }
-    ensures front { AppendsFront (W.contents writer.old) (W.contents writer.new) (replies_text (turn stepper.old.setup (place_of stepper.old) call).replies) }
+    ensures written { OnOk result (Appends (W.contents writer.old) (W.contents writer.new)
+        (replies_text (turn stepper.old.setup (place_of stepper.old) call).replies)) }
+    ensures prefix { AppendsPrefix (W.contents writer.old) (W.contents writer.new)
+        (replies_text (turn stepper.old.setup (place_of stepper.old) call).replies) }
     ensures why { IfErr result IsCutShort }
 {
     replies.clear();
@@ -61,9 +64,11 @@ fn serve<W: Write>(
 
 /// Writes the last line.
 fn close<W: Write>(stepper: &Stepper, out: &mut Vec<u8>, writer: &mut W) -> Result<(), Refusal>
-    ensures written { OnOk result (Appends (W.contents writer.old) (W.contents writer.new) (last_line (place_of stepper.now).records (standing_of stepper.now.setup (place_of stepper.now)))) }
-    ensures front { AppendsFront (W.contents writer.old) (W.contents writer.new) (last_line (place_of stepper.now).records (standing_of stepper.now.setup (place_of stepper.now))) }
-    ensures memory { result ≡ Err Memory → AppendsFront (W.contents writer.old) (W.contents writer.new) [] }
+    ensures written { OnOk result (Appends (W.contents writer.old) (W.contents writer.new)
+        (last_line (place_of stepper.now).records (standing_of stepper.now.setup (place_of stepper.now)))) }
+    ensures prefix { AppendsPrefix (W.contents writer.old) (W.contents writer.new)
+        (last_line (place_of stepper.now).records (standing_of stepper.now.setup (place_of stepper.now))) }
+    ensures memory { result ≡ Err Memory → AppendsPrefix (W.contents writer.old) (W.contents writer.new) [] }
     ensures why { IfErr result IsCutShort }
 {
     out.clear();
@@ -85,7 +90,8 @@ fn run_calls<R: Read, W: Write>(
     requires limits { IsInLimits setup }
     requires room { LONGEST_LINE ≤ vec_capacity line.old }
     requires turns { turns.old + 1 < 2 ^ 64 }
-    ensures script { IfSome (R.remaining reader.old) (λ rest. RunsOn setup rest result (W.contents writer.old) (W.contents writer.new)) }
+    ensures script { IfSome (R.remaining reader.old) (λ rest.
+        RunsOn setup rest result (W.contents writer.old) (W.contents writer.new)) }
     ensures uses { UsesTurns (R.remaining reader.old) (R.remaining reader.new) turns.old turns.new }
     ensures spent { turns.old ≡ 0 → CannotRead result }
     ensures ends { OnOk result (EndsInTurns (R.remaining reader.old) turns.old) }
@@ -130,7 +136,8 @@ pub fn run_script_within<R: Read, W: Write>(
     turns: u64,
 ) -> Result<bool, RunFault>
     ensures script { IfSome (R.remaining reader.old) (λ input.
-        RunEnds (fault_of input) (text_before input) (output_of input) result (W.contents writer.old) (W.contents writer.new)) }
+        RunEnds (fault_of input) (text_before input) (output_of input) result (W.contents writer.old)
+        (W.contents writer.new)) }
     ensures uses { UsesTurns (R.remaining reader.old) (R.remaining reader.new) turns 0 }
     ensures spent { turns ≡ 0 → CannotRead result }
     ensures ends { OnOk result (EndsInTurns (R.remaining reader.old) turns) }
@@ -159,7 +166,8 @@ pub fn run_script<R: Read, W: Write>(
     writer: &mut W,
 ) -> Result<bool, RunFault>
     ensures script { IfSome (R.remaining reader.old) (λ input.
-        RunEnds (fault_of input) (text_before input) (output_of input) result (W.contents writer.old) (W.contents writer.new)) }
+        RunEnds (fault_of input) (text_before input) (output_of input) result (W.contents writer.old)
+        (W.contents writer.new)) }
     ensures uses { UsesTurns (R.remaining reader.old) (R.remaining reader.new) (2 ^ 32) 0 }
     ensures ends { OnOk result (EndsInTurns (R.remaining reader.old) (2 ^ 32)) }
     ensures faults { IfErr result IsRunFault }

@@ -10,7 +10,7 @@ ghost use Rattle.meet_run.specs.Running.{CannotRead, IsCutShort, IsRunFault, Run
 ghost use Rattle.meet_run.specs.Script.{fault_of};
 ghost use Rattle.meet_run.specs.TraceWording.{record_line, trace_text};
 ghost use Rattle.meet_run.specs.Traces.{trace_of, LeavesRecords, TracesOn, IsUnread};
-ghost use Rattle.meet_run.specs.Writing.{AppendsFront};
+ghost use Rattle.meet_run.specs.Writing.{AppendsPrefix};
 
 use crate::faults::{RunFault, at_line, cut_short};
 use crate::grammar::LONGEST_LINE;
@@ -32,8 +32,10 @@ fn write_records<W: Write>(
     records: &[Record<Deed>],
     writer: &mut W,
 ) -> Result<(), Refusal>
-    ensures written { OnOk result (Appends (W.contents writer.old) (W.contents writer.new) (out.old.items ++ flat_map record_line records.now)) }
-    ensures front { AppendsFront (W.contents writer.old) (W.contents writer.new) (out.old.items ++ flat_map record_line records.now) }
+    ensures written { OnOk result (Appends (W.contents writer.old) (W.contents writer.new) (out.old.items
+        ++ flat_map record_line records.now)) }
+    ensures prefix { AppendsPrefix (W.contents writer.old) (W.contents writer.new) (out.old.items
+        ++ flat_map record_line records.now) }
     ensures why { IfErr result IsCutShort }
 {
     for entry in records {
@@ -56,8 +58,9 @@ fn write_trace<W: Write>(
     records: &[Record<Deed>],
     writer: &mut W,
 ) -> Result<(), Refusal>
-    ensures written { OnOk result (Appends (W.contents writer.old) (W.contents writer.new) (trace_text kind records.now)) }
-    ensures front { AppendsFront (W.contents writer.old) (W.contents writer.new) (trace_text kind records.now) }
+    ensures written { OnOk result (Appends (W.contents writer.old) (W.contents writer.new)
+        (trace_text kind records.now)) }
+    ensures prefix { AppendsPrefix (W.contents writer.old) (W.contents writer.new) (trace_text kind records.now) }
     ensures why { IfErr result IsCutShort }
 {
     let mut out = Vec::new(alloc);
@@ -67,8 +70,8 @@ fn write_trace<W: Write>(
     }
 }
 
-/// Makes the calls behind the first line: the records that they write, up to the first faulty line, and the number of that
-/// line, if there is one.
+/// Makes the calls behind the first line: the records that they write, up to the first faulty line, and the number of
+/// that line, if there is one.
 fn record_calls<R: Read>(
     alloc: Global,
     reader: &mut R,
@@ -79,7 +82,8 @@ fn record_calls<R: Read>(
     requires limits { IsInLimits setup }
     requires room { LONGEST_LINE ≤ vec_capacity line.old }
     requires turns { turns.old + 1 < 2 ^ 64 }
-    ensures records { IfOk result (λ left. IfSome (R.remaining reader.old) (λ rest. LeavesRecords setup (lines_of rest) left.0.items left.1)) }
+    ensures records { IfOk result (λ left. IfSome (R.remaining reader.old) (λ rest.
+        LeavesRecords setup (lines_of rest) left.0.items left.1)) }
     ensures uses { UsesTurns (R.remaining reader.old) (R.remaining reader.new) turns.old turns.new }
     ensures ends { IfOk result (λ left. left.1 ≡ None → EndsInTurns (R.remaining reader.old) turns.old) }
     ensures why { IfErr result IsUnread }
@@ -114,7 +118,8 @@ fn trace_calls<R: Read, W: Write>(
     requires limits { IsInLimits setup }
     requires room { LONGEST_LINE ≤ vec_capacity line.old }
     requires turns { turns.old + 1 < 2 ^ 64 }
-    ensures trace { IfSome (R.remaining reader.old) (λ rest. TracesOn setup (lines_of rest) result (W.contents writer.old) (W.contents writer.new)) }
+    ensures trace { IfSome (R.remaining reader.old) (λ rest.
+        TracesOn setup (lines_of rest) result (W.contents writer.old) (W.contents writer.new)) }
     ensures uses { UsesTurns (R.remaining reader.old) (R.remaining reader.new) turns.old turns.new }
     ensures ends { OnOk result (EndsInTurns (R.remaining reader.old) turns.old) }
     ensures faults { IfErr result IsRunFault }
@@ -133,13 +138,14 @@ fn trace_calls<R: Read, W: Write>(
     }
 }
 
-/// Runs the script that this reader gives, and writes the trace of its records: a first line that names the place, and a
-/// line for each record. It is written once the script has ended. A read of the reader takes one byte and costs a turn.
+/// Runs the script that this reader gives, and writes the trace of its records: a first line that names the place,
+/// and a line for each record. It is written once the script has ended. A read of the reader takes one byte and costs
+/// a turn.
 ///
-/// The answer is true. A line that can't be read ends the script: the trace of the calls before it is written, and the
-/// fault is BadLine with the line's number, from 1; where that is the first line, or there is none, nothing is written. A
-/// read that fails, or no turn left for it, is ReadFault; a write that fails or takes no byte is WriteFault; where memory is
-/// wanted and not there, it is Memory. Then a front of the trace is written.
+/// The answer is true. A line that can't be read ends the script: the trace of the calls before it is written, and
+/// the fault is BadLine with the line's number, from 1; where that is the first line, or there is none, nothing is
+/// written. A read that fails, or no turn left for it, is ReadFault; a write that fails or takes no byte is
+/// WriteFault; where memory is wanted and not there, it is Memory. Then a prefix of the trace is written.
 pub fn run_trace_within<R: Read, W: Write>(
     alloc: Global,
     reader: &mut R,
@@ -147,7 +153,8 @@ pub fn run_trace_within<R: Read, W: Write>(
     turns: u64,
 ) -> Result<bool, RunFault>
     ensures trace { IfSome (R.remaining reader.old) (λ input.
-        RunEnds (fault_of input) (trace_of input) (trace_of input) result (W.contents writer.old) (W.contents writer.new)) }
+        RunEnds (fault_of input) (trace_of input) (trace_of input) result (W.contents writer.old)
+        (W.contents writer.new)) }
     ensures uses { UsesTurns (R.remaining reader.old) (R.remaining reader.new) turns 0 }
     ensures spent { turns ≡ 0 → CannotRead result }
     ensures ends { OnOk result (EndsInTurns (R.remaining reader.old) turns) }
@@ -173,7 +180,8 @@ pub fn run_trace<R: Read, W: Write>(
     writer: &mut W,
 ) -> Result<bool, RunFault>
     ensures trace { IfSome (R.remaining reader.old) (λ input.
-        RunEnds (fault_of input) (trace_of input) (trace_of input) result (W.contents writer.old) (W.contents writer.new)) }
+        RunEnds (fault_of input) (trace_of input) (trace_of input) result (W.contents writer.old)
+        (W.contents writer.new)) }
     ensures uses { UsesTurns (R.remaining reader.old) (R.remaining reader.new) (2 ^ 32) 0 }
     ensures ends { OnOk result (EndsInTurns (R.remaining reader.old) (2 ^ 32)) }
     ensures faults { IfErr result IsRunFault }

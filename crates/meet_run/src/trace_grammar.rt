@@ -2,9 +2,12 @@
 
 ghost use Rattle.std.specs.Prelude.{◌≡◌, IfSome};
 ghost use Rattle.meet_run.specs.TraceSpelling.{FitsRecord, FitsHead};
-ghost use Rattle.meet_run.specs.TraceGrammar.{ticket_of, side_of, cause_of, bare_deed_of, marked_deed_of, worded_deed_of, paired_deed_of, deed_with, deed_of, deed_behind, record_behind, record_in, record_of, kind_at_end, kind_in, head_in, head_of};
+ghost use Rattle.meet_run.specs.TraceGrammar.{ticket_of, side_of, cause_of, bare_deed_of, marked_deed_of};
+ghost use Rattle.meet_run.specs.TraceGrammar.{worded_deed_of, paired_deed_of, deed_with, deed_of, deed_behind};
+ghost use Rattle.meet_run.specs.TraceGrammar.{record_behind, record_in, record_of, kind_at_end, kind_in, head_in};
+ghost use Rattle.meet_run.specs.TraceGrammar.{head_of};
 
-use crate::first_line::{may_have_bound, read_option, read_order, strip_front};
+use crate::first_line::{behind_prefix, may_have_bound, read_option, read_order};
 use crate::grammar::{LONGEST_LINE, read_seat};
 use crate::words::{read_number, split_word};
 use meet_tickets::{Cause, Deed, Kind, MOST_KEPT, Order, Record, SeatNo, Side, Ticket};
@@ -187,7 +190,7 @@ fn read_any_record(line: &[u8]) -> Option<Record<Deed>>
 
 /// The record of a line of a trace, or none where the line is at fault.
 #[tactic(auto, unfolding(crate::specs::TraceGrammar::record_of))]
-pub fn read_record(line: &[u8]) -> Option<Record<Deed>>
+pub(crate) fn read_record(line: &[u8]) -> Option<Record<Deed>>
     ensures read { result ≡ record_of line.now }
     ensures fits { IfSome result FitsRecord }
 {
@@ -224,13 +227,13 @@ fn read_kind(text: &[u8]) -> Option<Kind>
 fn read_long_head(line: &[u8]) -> Option<Kind>
     ensures { result ≡ head_in line.now }
 {
-    let text = strip_front(b"trace 1 ", line)?;
+    let text = behind_prefix(b"trace 1 ", line)?;
     read_kind(text)
 }
 
 /// The kind of place of a trace's first line, or none where the line is at fault.
 #[tactic(auto, unfolding(crate::specs::TraceGrammar::head_of))]
-pub fn read_head(line: &[u8]) -> Option<Kind>
+pub(crate) fn read_head(line: &[u8]) -> Option<Kind>
     ensures read { result ≡ head_of line.now }
     ensures fits { IfSome result FitsHead }
 {

@@ -1,4 +1,5 @@
-//! The laws of a trace's grammar: what is read is what is spelled. Each is the contract of a function that does nothing.
+//! The laws of a trace's grammar: what is read is what is spelled. Each is the contract of a function that does
+//! nothing.
 
 ghost use Rattle.meet_run.specs.TraceSpelling.{RecordsHaveOneSpelling, HeadsHaveOneSpelling};
 

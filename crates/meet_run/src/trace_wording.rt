@@ -34,7 +34,7 @@ fn push_option(out: &mut Vec<u8>, name: &[u8], value: Option<u64>) -> Result<(),
 
 /// Appends a trace's first line.
 #[tactic(auto, unfolding(crate::specs::TraceWording::head_line))]
-pub fn push_head(out: &mut Vec<u8>, kind: Kind) -> Result<(), AllocError>
+pub(crate) fn push_head(out: &mut Vec<u8>, kind: Kind) -> Result<(), AllocError>
     ensures { OnOk result (out.new.items ≡ out.old.items ++ head_line kind) }
 {
     out.extend_from_slice(b"trace 1 ")?;
@@ -90,7 +90,7 @@ fn push_deed(out: &mut Vec<u8>, deed: Deed) -> Result<(), AllocError>
 
 /// Appends a record's line.
 #[tactic(auto, unfolding(crate::specs::TraceWording::record_line))]
-pub fn push_record(out: &mut Vec<u8>, entry: Record<Deed>) -> Result<(), AllocError>
+pub(crate) fn push_record(out: &mut Vec<u8>, entry: Record<Deed>) -> Result<(), AllocError>
     ensures { OnOk result (out.new.items ≡ out.old.items ++ record_line entry) }
 {
     push_pair(out, b"", entry.seat.number(), b" ", entry.ticket.number())?;
@@ -114,7 +114,7 @@ fn why_word(why: Why) -> &'static [u8]
 
 /// Appends the line that names the first record that can't stand, from 1, and why.
 #[tactic(auto, unfolding(crate::specs::TraceWording::illegal_line))]
-pub fn push_illegal(out: &mut Vec<u8>, number: u64, why: Why) -> Result<(), AllocError>
+pub(crate) fn push_illegal(out: &mut Vec<u8>, number: u64, why: Why) -> Result<(), AllocError>
     ensures { OnOk result (out.new.items ≡ out.old.items ++ illegal_line number why) }
 {
     push_numbered(out, b"illegal ", number)?;

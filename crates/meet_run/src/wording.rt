@@ -1,7 +1,8 @@
 //! The text of the replies, one line each. Where memory runs out, nothing is said of what was appended.
 
 ghost use Rattle.std.specs.Prelude.{◌≡◌, ◌++◌, OnOk, codes, decimal};
-ghost use Rattle.meet_run.specs.Wording.{with_mark, cause_text, answer_text, cut_text, mark_text, outcome_text, text_of, last_line};
+ghost use Rattle.meet_run.specs.Wording.{with_mark, cause_text, answer_text, cut_text, mark_text, outcome_text};
+ghost use Rattle.meet_run.specs.Wording.{text_of, last_line};
 
 use itoa::Buffer;
 use meet_history::{Answer, Outcome, Reply, Standing};
@@ -155,7 +156,7 @@ fn push_outcome(out: &mut Vec<u8>, seat: SeatNo, outcome: Outcome) -> Result<(),
 
 /// Appends a reply's line.
 #[tactic(auto, unfolding(crate::specs::Wording::text_of))]
-pub fn push_reply(out: &mut Vec<u8>, reply: &Reply) -> Result<(), AllocError>
+pub(crate) fn push_reply(out: &mut Vec<u8>, reply: &Reply) -> Result<(), AllocError>
     ensures { OnOk result (out.new.items ≡ out.old.items ++ text_of reply.now) }
 {
     push_outcome(out, reply.seat, reply.outcome)?;

@@ -16,7 +16,7 @@ pub fn split_word(text: &[u8]) -> (&[u8], &[u8])
 }
 
 /// The number below 2^64 of which this word is the one spelling, if there is one.
-pub fn read_number(word: &[u8]) -> Option<u64>
+pub(crate) fn read_number(word: &[u8]) -> Option<u64>
     ensures { result ≡ number_spelled word.now }
 {
     let number = str::from_utf8(word).ok()?.parse::<u64>().ok()?;

@@ -6,7 +6,7 @@ use meet_run::{Refusal, RunFault};
 use std::alloc::Global;
 use std::process::Abort;
 
-/// A task whose read of this number fails writes a front of what comes before the end of its text.
+/// A task whose read of this number fails writes a prefix of what comes before the end of its text.
 fn breaks(rt: &impl Abort, alloc: Global, row: Row, failed: u64) {
     let (task, text, _, before) = row;
     let mut written = Vec::new(alloc);

@@ -34,10 +34,13 @@ pub record Agrees (s : State) (m : Moment) : Type 0 where
 pub record TellingsAgree (k : Kind) (history : List (Record Deed)) : Type 0 where
   pub legal : IsLegal k history ↔ IsLegalBySeat k history
   pub leaves : IsLegal k history → Agrees (run empty history) (moment_of k beginning history)
-  pub next : IsLegal k history → (r : Record Deed) → IsStep k (run empty history) r.seat r.ticket r.deed ↔ Fits k (moment_of k beginning history) r
+  pub next : IsLegal k history → (r : Record Deed)
+      → IsStep k (run empty history) r.seat r.ticket r.deed ↔ Fits k (moment_of k beginning history) r
 
 -- the same of records after a base
 pub record TellingsAgreeOn (k : Kind) (b : Based) (records : List (Record Deed)) : Type 0 where
   pub legal : IsLegalOn k b records ↔ IsLegalBySeatFrom k (moment_of_base b) records
   pub leaves : IsLegalOn k b records → Agrees (run (state_of_base b) records) (moment_of k (moment_of_base b) records)
-  pub next : IsLegalOn k b records → (r : Record Deed) → IsStep k (run (state_of_base b) records) r.seat r.ticket r.deed ↔ Fits k (moment_of k (moment_of_base b) records) r
+  pub next : IsLegalOn k b records → (r : Record Deed)
+      → IsStep k (run (state_of_base b) records) r.seat r.ticket r.deed
+      ↔ Fits k (moment_of k (moment_of_base b) records) r

@@ -1,5 +1,7 @@
--- What stands for the records that were folded away: where they left the place. A history is a base and the records since.
-use Rattle.std.specs.Prelude.{◌≡◌, ◌≢◌, ◌↔◌, ℕ, ◌<◌, ◌≤◌, ◌==◌, true, false, ⊤, Option, is_some, MatchOption, List, [], ◌∷◌, ◌++◌, map, filter, find, Contains, All, AllPairs}
+-- What stands for the records that were folded away: where they left the place. A history is a base and the records
+-- since.
+use Rattle.std.specs.Prelude.{◌≡◌, ◌≢◌, ◌↔◌, ℕ, ◌<◌, ◌≤◌, ◌==◌, true, false, ⊤, Option, is_some, MatchOption, List}
+use Rattle.std.specs.Prelude.{[], ◌∷◌, ◌++◌, map, filter, find, Contains, All, AllPairs}
 use Rattle.std.specs.List.{list_any, flat_map}
 use Rattle.std.specs.Option.{option_map_or}
 use Rattle.meet_tickets.specs.declared.lines.Entry.{Entry}
@@ -60,7 +62,8 @@ held_in b = map waiting_held (filter (λ e. e.waits) b.line) ++ (map paired_held
 
 -- the tickets and partners that a base names
 abbrev pub named_in : Based → List ℕ
-named_in b = map (λ e. e.ticket) b.line ++ (flat_map (λ p. p.ticket ∷ p.partner ∷ []) b.pairs ++ map (λ c. c.ticket) b.cut)
+named_in b = map (λ e. e.ticket) b.line ++ (flat_map (λ p. p.ticket ∷ p.partner ∷ []) b.pairs
+    ++ map (λ c. c.ticket) b.cut)
 
 -- the state that a base stands for; of the pairs only those with an open ticket are left
 abbrev pub state_of_base : Based → State
@@ -114,16 +117,20 @@ pub record IsBaseOf (m : Moment) (count : ℕ) (b : Based) : Type 0 where
   pub pairs_sorted : AllPairs (λ p q. p.ticket ≤ q.ticket) b.pairs
   pub pair_seats : AllPairs (λ p q. p.seat ≢ q.seat) b.pairs
   pub pairs : (p : OpenPair) → Contains b.pairs p → m.seats.holds p.seat ≡ hold_met p.side p.ticket p.partner p.mark
-  pub handed : (i t u mark : ℕ) → m.seats.holds i ≡ Handed t u mark → Contains b.pairs (record { ticket = t; seat = i; side = Giver; partner = u; mark = mark })
-  pub served : (i t u mark : ℕ) → m.seats.holds i ≡ Served t u mark → Contains b.pairs (record { ticket = t; seat = i; side = Taker; partner = u; mark = mark })
+  pub handed : (i t u mark : ℕ) → m.seats.holds i ≡ Handed t u mark
+      → Contains b.pairs (record { ticket = t; seat = i; side = Giver; partner = u; mark = mark })
+  pub served : (i t u mark : ℕ) → m.seats.holds i ≡ Served t u mark
+      → Contains b.pairs (record { ticket = t; seat = i; side = Taker; partner = u; mark = mark })
   pub cut_sorted : AllPairs (λ c d. c.ticket ≤ d.ticket) b.cut
   pub cut_seats : AllPairs (λ c d. c.seat ≢ d.seat) b.cut
   pub cuts : (c : OpenCut) → Contains b.cut c → m.seats.holds c.seat ≡ Cut c.ticket c.item
-  pub cut : (i t : ℕ) (item : Option ℕ) → m.seats.holds i ≡ Cut t item → Contains b.cut (record { ticket = t; seat = i; item = item })
+  pub cut : (i t : ℕ) (item : Option ℕ) → m.seats.holds i ≡ Cut t item
+      → Contains b.cut (record { ticket = t; seat = i; item = item })
   pub flags_rise : AllPairs (λ i j. i < j) b.flags
   pub flags : (i : ℕ) → list_any (λ j. j == i) b.flags ≡ m.seats.flags i
 
--- a base that a moment left by records after another base stands for these: it is well formed, and the same records may come next
+-- a base that a moment left by records after another base stands for these: it is well formed, and the same records
+-- may come next
 pub record Folds (k : Kind) (old : Based) (records : List (Record Deed)) (new : Based) : Type 0 where
   pub well_formed : IsWellFormed k new
   pub stands : moment_of_base new ≡ moment_of k (moment_of_base old) records

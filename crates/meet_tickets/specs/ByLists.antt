@@ -3,14 +3,17 @@
 --
 -- A waiting call is split into its request and its follow-up (Scherer and Scott 2004), with givers that wait too
 -- (Scherer, Lea and Scott 2006).
-use Rattle.std.specs.Prelude.{◌≡◌, ℕ, zero, suc, ◌<◌, ◌==◌, not, true, false, Some, None, List, [], ◌∷◌, ◌++◌, filter, Contains}
+use Rattle.std.specs.Prelude.{◌≡◌, ℕ, zero, suc, ◌<◌, ◌==◌, not, true, false, Some, None, List, [], ◌∷◌, ◌++◌, filter}
+use Rattle.std.specs.Prelude.{Contains}
 use Rattle.meet_tickets.specs.declared.lines.Entry.{Entry}
 use Rattle.meet_tickets.specs.declared.places.Side.TheVariants.{Giver, Taker}
 use Rattle.meet_tickets.specs.declared.places.Kind.{Kind}
 use Rattle.meet_tickets.specs.declared.records.Record.{Record}
 use Rattle.meet_tickets.specs.declared.records.Cause.TheVariants.{Cancelled, Expired, Interrupted}
 use Rattle.meet_tickets.specs.declared.records.Deed.{Deed}
-use Rattle.meet_tickets.specs.declared.records.Deed.TheVariants.{GiveWaits, GiveMeets, GiveFails, GiveKept, TakeWaits, TakeMeets, TakeFails, EntryInterrupted, Done, Got, Withdrawn, Interrupt}
+use Rattle.meet_tickets.specs.declared.records.Deed.TheVariants.{GiveWaits, GiveMeets, GiveFails, GiveKept, TakeWaits}
+use Rattle.meet_tickets.specs.declared.records.Deed.TheVariants.{TakeMeets, TakeFails, EntryInterrupted, Done, Got}
+use Rattle.meet_tickets.specs.declared.records.Deed.TheVariants.{Withdrawn, Interrupt}
 use Rattle.meet_tickets.specs.Meeting.{Alone, Finds, MayKeep}
 
 -- two tickets that met, with the mark of the giver's item
@@ -52,8 +55,8 @@ pub record IsNew (s : State) (seat ticket : ℕ) : Type 0 where
 
 -- which deed may come next
 abbrev pub IsStep : Kind → State → (seat ticket : ℕ) → Deed → Type 0
--- SynchronousQueue.put and LinkedTransferQueue.transfer with no taker there; a flag stops only a request that would wait
--- (our choice)
+-- SynchronousQueue.put and LinkedTransferQueue.transfer with no taker there; a flag stops only a request that would
+-- wait (our choice)
 IsStep k s i t (GiveWaits m) = IsNew s i t × Alone k s.line Giver × (Contains s.flags i → ⊥)
 -- put, offer, transfer and tryTransfer with a taker there (Scherer and Scott 2004: the item goes to a reservation)
 IsStep k s i t (GiveMeets m u) = IsNew s i t × Finds k s.line Giver u None
@@ -132,7 +135,8 @@ after s i (suc t) (Interrupt j) = record s { line = without (suc t) s.line; cut 
 -- each record is a step from what the earlier ones left
 abbrev pub IsLegalFrom : Kind → State → List (Record Deed) → Type 0
 IsLegalFrom k s [] = Unit {0}
-IsLegalFrom k s (r ∷ history) = IsStep k s r.seat r.ticket r.deed × IsLegalFrom k (after s r.seat r.ticket r.deed) history
+IsLegalFrom k s (r ∷ history) = IsStep k s r.seat r.ticket r.deed
+    × IsLegalFrom k (after s r.seat r.ticket r.deed) history
 
 -- a history is legal where it is so from the empty place
 abbrev pub IsLegal : Kind → List (Record Deed) → Type 0

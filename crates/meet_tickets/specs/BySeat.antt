@@ -1,6 +1,7 @@
 -- The same rules told by seat, as the code sees them. A seat has at most one open ticket, so what it has open is one
 -- value. The rules are generic in the item: the item itself in the contracts of the queues, its mark in histories.
-use Rattle.std.specs.Prelude.{◌≡◌, ℕ, ◌-◌, ◌<◌, ◌==◌, Bool, true, false, Option, Some, None, is_some, IsSome, List, [], ◌∷◌, ◌++◌, take, drop, length, find, count_by, if◌then◌else◌}
+use Rattle.std.specs.Prelude.{◌≡◌, ℕ, ◌-◌, ◌<◌, ◌==◌, Bool, true, false, Option, Some, None, is_some, IsSome, List}
+use Rattle.std.specs.Prelude.{[], ◌∷◌, ◌++◌, take, drop, length, find, count_by, if◌then◌else◌}
 use Rattle.std.specs.List.{range_with_len}
 use Rattle.std.specs.Option.{option_map_or}
 use Rattle.meet_tickets.specs.declared.lines.Entry.{Entry}
@@ -14,7 +15,9 @@ use Rattle.meet_tickets.specs.declared.places.Kind.{Kind}
 use Rattle.meet_tickets.specs.declared.records.Record.{Record}
 use Rattle.meet_tickets.specs.declared.records.Cause.TheVariants.{Cancelled, Expired, Interrupted}
 use Rattle.meet_tickets.specs.declared.records.Deed.{Deed}
-use Rattle.meet_tickets.specs.declared.records.Deed.TheVariants.{GiveWaits, GiveMeets, GiveFails, GiveKept, TakeWaits, TakeMeets, TakeFails, EntryInterrupted, Done, Got, Withdrawn, Interrupt}
+use Rattle.meet_tickets.specs.declared.records.Deed.TheVariants.{GiveWaits, GiveMeets, GiveFails, GiveKept, TakeWaits}
+use Rattle.meet_tickets.specs.declared.records.Deed.TheVariants.{TakeMeets, TakeFails, EntryInterrupted, Done, Got}
+use Rattle.meet_tickets.specs.declared.records.Deed.TheVariants.{Withdrawn, Interrupt}
 use Rattle.meet_tickets.specs.Meeting.{end_of, partner, Alone, Finds, MayKeep}
 
 -- the line, and what each seat has open
@@ -93,7 +96,8 @@ served t u (Some item) = Served t u item
 
 -- what the seat of a waiting ticket holds once request u met it with this item (none: a taker's request): a giver knows
 -- the mark that went, a taker has the item that came
-abbrev pub paired_hold : {X : Type 0} → (X → ℕ) → (ticket : ℕ) → (own : Option X) → (u : ℕ) → (brought : Option X) → Hold X
+abbrev pub paired_hold : {X : Type 0} → (X → ℕ) → (ticket : ℕ) → (own : Option X) → (u : ℕ) → (brought : Option X)
+    → Hold X
 paired_hold mark t None u brought = served t u brought
 paired_hold mark t (Some item) u brought = Handed t u (mark item)
 
@@ -118,7 +122,8 @@ left s i t = record (released s i) { line = without_first (λ e. e.ticket == t) 
 
 -- the target's entry leaves the line, and awaits its follow-up
 abbrev pub cut_off : {X : Type 0} → Seats X → (target : ℕ) → Entry X → Seats X
-cut_off s j e = record s { line = without_first (λ f. f.ticket == e.ticket) s.line; holds = put_at s.holds j (Cut e.ticket e.item) }
+cut_off s j e =
+    record s { line = without_first (λ f. f.ticket == e.ticket) s.line; holds = put_at s.holds j (Cut e.ticket e.item) }
 
 -- an interrupt of the target cuts its ticket where it stands in the line, and else flags the target
 abbrev pub interrupted : {X : Type 0} → Seats X → ℕ → Seats X
@@ -130,7 +135,8 @@ cut_ticket s j = option_map_or (λ e. e.ticket) (entry_of s.line (s.holds j)) 0
 
 -- a meeting of histories, where an item is its own mark
 abbrev pub meets : Kind → Seats ℕ → (ticket : ℕ) → Option ℕ → Side → Seats ℕ
-meets k s t item side = option_map_or (paired (λ mark. mark) (end_of k.order) s t item) (partner (end_of k.order) s.line side) s
+meets k s t item side = option_map_or (paired (λ mark. mark) (end_of k.order) s t item)
+    (partner (end_of k.order) s.line side) s
 
 -- the seat holds nothing
 abbrev pub IsFree : {X : Type 0} → Seats X → ℕ → Type 0

@@ -1,14 +1,19 @@
--- What became of each ticket, read from the records alone, and how many tickets stand where. That a ticket's records tell
--- its whole story is our choice; Java shows a caller no such record.
-use Rattle.std.specs.Prelude.{◌≡◌, ℕ, nat_lt, ◌==◌, ◌&&◌, Bool, true, false, Option, Some, None, is_some, is_none, option_map, option_and_then, List, [], ◌∷◌, ◌++◌, map, filter, find, count_by, nat_le, Contains, if◌then◌else◌}
+-- What became of each ticket, read from the records alone, and how many tickets stand where. That a ticket's records
+-- tell its whole story is our choice; Java shows a caller no such record.
+use Rattle.std.specs.Prelude.{◌≡◌, ℕ, nat_lt, ◌==◌, ◌&&◌, Bool, true, false, Option, Some, None, is_some, is_none}
+use Rattle.std.specs.Prelude.{option_map, option_and_then, List, [], ◌∷◌, ◌++◌, map, filter, find, count_by, nat_le}
+use Rattle.std.specs.Prelude.{Contains, if◌then◌else◌}
 use Rattle.std.specs.List.{list_any, flat_map}
 use Rattle.std.specs.Option.{option_or, option_map_or}
 use Rattle.meet_tickets.specs.declared.records.Record.{Record}
 use Rattle.meet_tickets.specs.declared.records.Cause.{Cause}
 use Rattle.meet_tickets.specs.declared.records.Deed.{Deed}
-use Rattle.meet_tickets.specs.declared.records.Deed.TheVariants.{GiveWaits, GiveMeets, GiveFails, GiveKept, TakeWaits, TakeMeets, TakeFails, EntryInterrupted, Done, Got, Withdrawn, Interrupt}
+use Rattle.meet_tickets.specs.declared.records.Deed.TheVariants.{GiveWaits, GiveMeets, GiveFails, GiveKept, TakeWaits}
+use Rattle.meet_tickets.specs.declared.records.Deed.TheVariants.{TakeMeets, TakeFails, EntryInterrupted, Done, Got}
+use Rattle.meet_tickets.specs.declared.records.Deed.TheVariants.{Withdrawn, Interrupt}
 use Rattle.meet_tickets.specs.declared.fates.Fate.{Fate}
-use Rattle.meet_tickets.specs.declared.fates.Fate.TheVariants.{Never, Failed, EntryRefused, Paired, Collected, Withdrawn as TakenBack, Cut, Kept, Waiting, Past}
+use Rattle.meet_tickets.specs.declared.fates.Fate.TheVariants.{Never, Failed, EntryRefused, Paired, Collected}
+use Rattle.meet_tickets.specs.declared.fates.Fate.TheVariants.{Withdrawn as TakenBack, Cut, Kept, Waiting, Past}
 use Rattle.meet_tickets.specs.declared.lines.Entry.{Entry}
 use Rattle.meet_tickets.specs.declared.places.Side.{Side}
 use Rattle.meet_tickets.specs.declared.places.Side.TheVariants.{Giver, Taker}
@@ -139,16 +144,26 @@ abbrev pub met_on : Side → (mark ticket : ℕ) → Deed
 met_on Giver m t = TakeMeets m t
 met_on Taker m t = GiveMeets m t
 
--- the records of an entry of a base, as fates read them: its request; of one that was met its partner's too; of one that was
--- cut its interrupt
+-- the records of an entry of a base, as fates read them: its request; of one that was met its partner's too; of one
+-- that was cut its interrupt
 abbrev pub line_record : Entry ℕ → Record Deed
 line_record e = record { seat = e.seat; ticket = e.ticket; deed = asked_for e.item e.waits }
 
 abbrev pub pair_records : OpenPair → List (Record Deed)
-pair_records p = record { seat = p.seat; ticket = p.ticket; deed = asked_on p.side p.mark } ∷ record { seat = p.seat; ticket = p.partner; deed = met_on p.side p.mark p.ticket } ∷ []
+pair_records p = record { seat = p.seat; ticket = p.ticket; deed = asked_on p.side p.mark } ∷ record {
+  seat =
+      p.seat;
+  ticket = p.partner;
+  deed = met_on p.side p.mark p.ticket;
+} ∷ []
 
 abbrev pub cut_records : OpenCut → List (Record Deed)
-cut_records c = record { seat = c.seat; ticket = c.ticket; deed = asked_for c.item true } ∷ record { seat = c.seat; ticket = c.ticket; deed = Interrupt c.seat } ∷ []
+cut_records c = record { seat = c.seat; ticket = c.ticket; deed = asked_for c.item true } ∷ record {
+  seat =
+      c.seat;
+  ticket = c.ticket;
+  deed = Interrupt c.seat;
+} ∷ []
 
 -- a base's entries, as requests before the first record
 abbrev pub opening : Based → List (Record Deed)
@@ -176,5 +191,6 @@ pub record ShowsFates (b : Based) : Type 0 where
 -- the numbers that a base and the records tell are those of the place
 pub record StandsOn (k : Kind) (b : Based) (records : List (Record Deed)) (seats : ℕ) : Type 0 where
   pub waiting : waiting_in (opening b ++ records) ≡ waiting_count (moment_of k (moment_of_base b) records).seats.line
-  pub uncollected : uncollected_in (opening b ++ records) ≡ settled_of seats (moment_of k (moment_of_base b) records).seats.holds
+  pub uncollected : uncollected_in (opening b ++ records)
+      ≡ settled_of seats (moment_of k (moment_of_base b) records).seats.holds
   pub kept : kept_in (opening b ++ records) ≡ kept_count (moment_of k (moment_of_base b) records).seats.line

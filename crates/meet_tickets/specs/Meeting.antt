@@ -1,5 +1,6 @@
 -- Whom a request meets. Both tellings of the rules speak of a place's line in these words.
-use Rattle.std.specs.Prelude.{◌≡◌, ℕ, ◌-◌, ◌<◌, ◌≤◌, Bool, true, false, not, ⊤, Option, Some, None, is_some, is_none, List, [], ◌∷◌, length, slice_get, count_by, MatchOption, if◌then◌else◌}
+use Rattle.std.specs.Prelude.{◌≡◌, ℕ, ◌-◌, ◌<◌, ◌≤◌, Bool, true, false, not, ⊤, Option, Some, None, is_some, is_none}
+use Rattle.std.specs.Prelude.{List, [], ◌∷◌, length, slice_get, count_by, MatchOption, if◌then◌else◌}
 use Rattle.meet_tickets.specs.declared.lines.Entry.{Entry}
 use Rattle.meet_tickets.specs.declared.places.Side.{Side}
 use Rattle.meet_tickets.specs.declared.places.Side.TheVariants.{Giver, Taker}
@@ -15,8 +16,9 @@ abbrev pub is_on : {X : Type 0} → Side → Entry X → Bool
 is_on Giver e = is_some e.item
 is_on Taker e = is_none e.item
 
--- the end of its line at which a place's entries are met: the front (SynchronousQueue in fair mode, LinkedTransferQueue), or the
--- back (SynchronousQueue in its default mode; that it is exactly last in, first out is our choice)
+-- the end of its line at which a place's entries are met: the front (SynchronousQueue in fair mode,
+-- LinkedTransferQueue), or the back (SynchronousQueue in its default mode; that it is exactly last in, first out is
+-- our choice)
 abbrev pub end_of : Order → End
 end_of Fair = Front
 end_of Unfair = Back
@@ -45,7 +47,8 @@ Alone k line side = partner (end_of k.order) line side ≡ None
 
 -- the partner has this ticket and presents this item
 abbrev pub Finds : {X : Type 0} → Kind → List (Entry X) → Side → ℕ → Option X → Type 0
-Finds {X} k line side ticket item = (e : Entry X) × (partner (end_of k.order) line side ≡ Some e) × (e.ticket ≡ ticket) × (e.item ≡ item)
+Finds {X} k line side ticket item = (e : Entry X) × (partner (end_of k.order) line side ≡ Some e)
+    × (e.ticket ≡ ticket) × (e.item ≡ item)
 
 -- how many entries wait: their tickets are open
 abbrev pub waiting_count : {X : Type 0} → List (Entry X) → ℕ

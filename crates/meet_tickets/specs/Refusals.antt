@@ -1,10 +1,15 @@
 -- The number and the name of each refusal, and which one a request, an ending or an interrupt gets (our choice).
-use Rattle.std.specs.Prelude.{◌≡◌, ℕ, nat_eq, nat_lt, nat_le, false, ◌||◌, Option, Some, None, MatchOption, List, codes, if◌then◌else◌}
+use Rattle.std.specs.Prelude.{◌≡◌, ℕ, nat_eq, nat_lt, nat_le, false, ◌||◌, Option, Some, None, MatchOption, List}
+use Rattle.std.specs.Prelude.{codes, if◌then◌else◌}
 use Rattle.std.specs.Option.{option_map_or}
 use Rattle.meet_tickets.specs.BySeat.{Seats, is_open}
 use Rattle.meet_tickets.specs.Limits.{last_ticket}
 use Rattle.meet_tickets.specs.declared.refusals.Refusal.{Refusal}
-use Rattle.meet_tickets.specs.declared.refusals.Refusal.TheVariants.{Memory, HistoryFull, TicketsSpent, SeatOpen, NoSuchSeat, NotOpen, Differs, SeatMissing, Contended, Worn, BadSizes, PolicyNeedsBuffer, NoThread, BadLine, BadTrace, ReadFault, WriteFault}
+use Rattle.meet_tickets.specs.declared.refusals.Refusal.TheVariants.{Memory, HistoryFull, TicketsSpent, SeatOpen}
+use Rattle.meet_tickets.specs.declared.refusals.Refusal.TheVariants.{NoSuchSeat, NotOpen, Differs, SeatMissing}
+use Rattle.meet_tickets.specs.declared.refusals.Refusal.TheVariants.{Contended, Worn, BadSizes, PolicyNeedsBuffer}
+use Rattle.meet_tickets.specs.declared.refusals.Refusal.TheVariants.{NoThread, BadLine, BadTrace, ReadFault}
+use Rattle.meet_tickets.specs.declared.refusals.Refusal.TheVariants.{WriteFault}
 
 -- its number
 abbrev pub number_of : Refusal → ℕ
@@ -49,7 +54,9 @@ name_of WriteFault = codes "WriteFault"
 -- why a place with this many seats, whose next ticket is `next`, refuses a request of this seat: the first that applies
 abbrev pub refusal_of : {X : Type 0} → (count next : ℕ) → Seats X → (seat : ℕ) → Option Refusal
 refusal_of count next s seat =
-    if nat_le count seat then Some NoSuchSeat else (if is_open (s.holds seat) then Some SeatOpen else (if nat_lt last_ticket next then Some TicketsSpent else None))
+    if nat_le count seat then Some NoSuchSeat
+    else (if is_open (s.holds seat) then Some SeatOpen
+    else (if nat_lt last_ticket next then Some TicketsSpent else None))
 
 -- why an ending of this ticket is refused, where this one is open
 abbrev pub refusal_unless : (opened : Option ℕ) → (ticket : ℕ) → Option Refusal

@@ -44,7 +44,14 @@ impl Model for Base {
 
     ghost Value = { Based };
 
-    ghost view = { λ b. record { gone = b.gone; last = b.last; line = b.line.items; pairs = b.pairs.items; cut = b.cut.items; flags = b.flags.items } };
+    ghost view = { λ b. record {
+      gone = b.gone;
+      last = b.last;
+      line = b.line.items;
+      pairs = b.pairs.items;
+      cut = b.cut.items;
+      flags = b.flags.items;
+    } };
 }
 
 impl Base {

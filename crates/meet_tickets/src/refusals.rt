@@ -7,8 +7,8 @@ use std::error::Error;
 use std::fmt;
 use std::fmt::{Debug, Display, Formatter, Write};
 
-/// Each reason for which a call of this workspace is refused. `Differs` to `NoThread` are named for places that aren't here
-/// yet; no call answers them.
+/// Each reason for which a call of this workspace is refused. `Differs` to `NoThread` are named for places that
+/// aren't here yet; no call answers them.
 #[derive(Clone, Copy, PartialEq, Eq, Hash, Debug)]
 pub enum Refusal {
     /// Memory was wanted and not there.
@@ -113,7 +113,8 @@ impl Display for Refusal {
 
 impl Error for Refusal {}
 
-/// A refusal, with what was handed in. A `?` makes it a `Refusal` where the item may be let go: match it to keep the item.
+/// A refusal, with what was handed in. A `?` makes it a `Refusal` where the item may be let go: match it to keep the
+/// item.
 #[derive(Drop)]
 pub struct Refused<I> {
     /// Why the call is refused.

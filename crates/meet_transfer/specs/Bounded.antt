@@ -11,5 +11,7 @@ pub record Bounded (T : Type 0) : Type 0 where
   pub bound : Option ℕ  -- how many items are kept at most (our choice; LinkedTransferQueue has no bound)
 
 -- a transfer queue's step leaves its bound
-abbrev pub BoundedStep : {T : Type 0} → (T → ℕ) → Bounded T → (seat : ℕ) → QueueCall T → QueueAnswer T → Bounded T → Type 0
-BoundedStep mark old i call answer new = (new.bound ≡ old.bound) × QueueStep mark (bounded_kind old.bound) old.queue i call answer new.queue
+abbrev pub BoundedStep : {T : Type 0} → (T → ℕ) → Bounded T → (seat : ℕ) → QueueCall T → QueueAnswer T → Bounded T
+    → Type 0
+BoundedStep mark old i call answer new = (new.bound ≡ old.bound)
+    × QueueStep mark (bounded_kind old.bound) old.queue i call answer new.queue

@@ -39,8 +39,8 @@ impl<T: Marked> Transfer<T> {
     ghost use Rattle.meet_line.specs.Steps.{GiveStep, PutStep, TakeStep, OfferStep, PollStep};
     ghost use Rattle.meet_tickets.specs.declared.refusals.Refusal.TheVariants.{Memory};
 
-    /// A queue without a bound and with no room yet, with this many seats, at most 65,536, and this first ticket, 1 to 2^63 - 1.
-    /// The only refusal is Memory.
+    /// A queue without a bound and with no room yet, with this many seats, at most 65,536, and this first ticket, 1
+    /// to 2^63 - 1. The only refusal is Memory.
     pub fn new(alloc: Global, seats: u64, first: u64) -> Result<Self, Refusal>
         requires seats { seats ≤ most_seats }
         requires first_from { 0 < first }
@@ -60,8 +60,8 @@ impl<T: Marked> Transfer<T> {
         })
     }
 
-    /// A queue that keeps at most this many items, any number of them: with 0 it keeps none. Seats, first ticket and refusal
-    /// as of `new`.
+    /// A queue that keeps at most this many items, any number of them: with 0 it keeps none. Seats, first ticket and
+    /// refusal as of `new`.
     pub fn with_bound(alloc: Global, seats: u64, first: u64, bound: u64) -> Result<Self, Refusal>
         requires seats { seats ≤ most_seats }
         requires first_from { 0 < first }
@@ -84,7 +84,8 @@ impl<T: Marked> Transfer<T> {
     /// The ticket that a request of this seat would use, or why it would be refused: NoSuchSeat, SeatOpen or
     /// TicketsSpent, the first that applies.
     pub fn admit(&self, seat: SeatNo) -> Result<Ticket, Refusal>
-        ensures admitted { IfOk result (λ ticket. (admit_refusal self.now.queue seat ≡ None) × (ticket ≡ self.now.queue.next)) }
+        ensures admitted { IfOk result (λ ticket. (admit_refusal self.now.queue seat ≡ None)
+            × (ticket ≡ self.now.queue.next)) }
         ensures refused { IfErr result (λ why. admit_refusal self.now.queue seat ≡ Some why) }
     {
         self.meetings.admit(seat)
@@ -103,11 +104,12 @@ impl<T: Marked> Transfer<T> {
         self.meetings.reserve(requests)
     }
 
-    /// `LinkedTransferQueue.put`, `offer` and timed `offer`, which are one: the item goes to the taker that is met, or is kept
-    /// in the line, and its giver goes on, or fails where as many items are kept as the bound says. It looks at no flag.
-    /// Refuses what `admit` does, then Memory, never where there is room; the item comes back.
+    /// `LinkedTransferQueue.put`, `offer` and timed `offer`, which are one: the item goes to the taker that is met,
+    /// or is kept in the line, and its giver goes on, or fails where as many items are kept as the bound says. It
+    /// looks at no flag. Refuses what `admit` does, then Memory, never where there is room; the item comes back.
     pub fn put(&mut self, seat: SeatNo, item: T) -> Result<Put<T>, Refused<T>>
-        ensures step { IfOk result (λ answer. PutStep T.mark_of Front self.old.bound self.old.queue seat item answer self.new.queue) }
+        ensures step { IfOk result (λ answer. PutStep T.mark_of Front self.old.bound self.old.queue seat item answer
+            self.new.queue) }
         ensures admitted { IfOk result (λ _. admit_refusal self.old.queue seat ≡ None) }
         ensures enough { 0 < self.old.queue.room → admit_refusal self.old.queue seat ≡ None → IsOk result }
         ensures places { places_of self.old.queue ≤ places_of self.new.queue }
@@ -119,9 +121,9 @@ impl<T: Marked> Transfer<T> {
         self.meetings.put(seat, item, self.bound)
     }
 
-    /// `LinkedTransferQueue.transfer` up to its wait: the item goes to the taker that is met, or its giver goes to the line
-    /// behind who stands there, or is refused at entry where it is flagged. Refuses what `admit` does, then Memory, never
-    /// where there is room; the item comes back.
+    /// `LinkedTransferQueue.transfer` up to its wait: the item goes to the taker that is met, or its giver goes to
+    /// the line behind who stands there, or is refused at entry where it is flagged. Refuses what `admit` does, then
+    /// Memory, never where there is room; the item comes back.
     pub fn transfer(&mut self, seat: SeatNo, item: T) -> Result<Gave<T>, Refused<T>>
         ensures step { IfOk result (λ answer. GiveStep T.mark_of Front self.old.queue seat item answer self.new.queue) }
         ensures admitted { IfOk result (λ _. admit_refusal self.old.queue seat ≡ None) }
@@ -135,8 +137,8 @@ impl<T: Marked> Transfer<T> {
         self.meetings.give(seat, item)
     }
 
-    /// `LinkedTransferQueue.tryTransfer`: the item goes to the taker that is met, or comes back. It takes no memory, and
-    /// refuses what `admit` does; the item comes back then too.
+    /// `LinkedTransferQueue.tryTransfer`: the item goes to the taker that is met, or comes back. It takes no memory,
+    /// and refuses what `admit` does; the item comes back then too.
     pub fn try_transfer(&mut self, seat: SeatNo, item: T) -> Result<Offered<T>, Refused<T>>
         ensures step { IfOk result (λ answer. OfferStep T.mark_of Front self.old.queue item answer self.new.queue) }
         ensures admitted { IfOk result (λ _. admit_refusal self.old.queue seat ≡ None) }
@@ -149,9 +151,9 @@ impl<T: Marked> Transfer<T> {
         self.meetings.offer(seat, item)
     }
 
-    /// `LinkedTransferQueue.take` up to its wait: the item comes from the giver that stands there longest, kept or waiting,
-    /// or the taker goes to the line, or is refused at entry where it is flagged. Refuses what `admit` does, then Memory,
-    /// never where there is room.
+    /// `LinkedTransferQueue.take` up to its wait: the item comes from the giver that stands there longest, kept or
+    /// waiting, or the taker goes to the line, or is refused at entry where it is flagged. Refuses what `admit` does,
+    /// then Memory, never where there is room.
     pub fn take(&mut self, seat: SeatNo) -> Result<Took<T>, Refusal>
         ensures step { IfOk result (λ answer. TakeStep T.mark_of Front self.old.queue seat answer self.new.queue) }
         ensures admitted { IfOk result (λ _. admit_refusal self.old.queue seat ≡ None) }
@@ -164,8 +166,8 @@ impl<T: Marked> Transfer<T> {
         self.meetings.take(seat)
     }
 
-    /// `LinkedTransferQueue.poll`: the item comes from the giver that stands there longest, kept or waiting, if one is there.
-    /// It takes no memory, and refuses what `admit` does.
+    /// `LinkedTransferQueue.poll`: the item comes from the giver that stands there longest, kept or waiting, if one
+    /// is there. It takes no memory, and refuses what `admit` does.
     pub fn poll(&mut self, seat: SeatNo) -> Result<Polled<T>, Refusal>
         ensures step { IfOk result (λ answer. PollStep T.mark_of Front self.old.queue answer self.new.queue) }
         ensures admitted { IfOk result (λ _. admit_refusal self.old.queue seat ≡ None) }

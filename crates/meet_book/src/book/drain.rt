@@ -1,6 +1,7 @@
 //! A drain: one recorded poll after another, all under one hold.
 
-ghost use Rattle.std.specs.Prelude.{◌≡◌, ◌+◌, ◌<◌, ◌≤◌, ◌^◌, Some, None, [], ◌∷◌, ◌++◌, length, map, min, vec_len, IfNone, IsOk, IfOk, IfErr};
+ghost use Rattle.std.specs.Prelude.{◌≡◌, ◌+◌, ◌<◌, ◌≤◌, ◌^◌, Some, None, [], ◌∷◌, ◌++◌, length, map, min, vec_len};
+ghost use Rattle.std.specs.Prelude.{IfNone, IsOk, IfOk, IfErr};
 ghost use Rattle.std.specs.Vec.{vec_capacity};
 ghost use Rattle.meet_book.specs.Draining.{book_drain_refusal, TakesOne, TakingPolls, AreNumbered};
 ghost use Rattle.meet_tickets.specs.Refusals.{IsWhy};
@@ -9,13 +10,14 @@ ghost use Rattle.meet_tickets.specs.declared.refusals.Refusal.TheVariants.{Memor
 use super::{Book, write};
 use crate::object::Drains;
 use crate::receipt::Receipt;
-use meet_tickets::{Record, Refusal, SeatNo};
+use meet_tickets::{Record, Refusal, Refused, SeatNo};
 use std::alloc::Global;
 
 impl<O: Drains> Book<O> {
     /// Why a drain of k items is refused, Memory aside: the first that applies.
     fn drain_refusal(&self, seat: SeatNo, k: u64) -> Option<Refusal>
-        ensures first { result ≡ book_drain_refusal (O.refusal_of self.now.object seat O.poll) (O.left_of self.now.object) (O.owed_of self.now.object) self.now k }
+        ensures first { result ≡ book_drain_refusal (O.refusal_of self.now.object seat O.poll)
+            (O.left_of self.now.object) (O.owed_of self.now.object) self.now k }
         ensures fits { IfNone result (0 < k → length self.now.records + O.owed_of self.now.object + k < self.now.cap) }
         ensures free { IfNone result (0 < k → O.refusal_of self.now.object seat O.poll ≡ None) }
         ensures left { IfNone result (k ≤ O.left_of self.now.object) }
@@ -38,10 +40,10 @@ impl<O: Drains> Book<O> {
         }
     }
 
-    /// `BlockingQueue.drainTo`: takes up to `max` items, one recorded poll after another, and answers them in order. k is the
-    /// lesser of `max` and the items that are there. It refuses what the seat is refused, NoSuchSeat or SeatOpen, for k = 0
-    /// too; for k above 0 TicketsSpent where fewer than k tickets are left, HistoryFull where records, owed and k + 1 are
-    /// more than the book may have, then Memory. Then nothing but room has changed.
+    /// `BlockingQueue.drainTo`: takes up to `max` items, one recorded poll after another, and answers them in order.
+    /// k is the lesser of `max` and the items that are there. It refuses what the seat is refused, NoSuchSeat or
+    /// SeatOpen, for k = 0 too; for k above 0 TicketsSpent where fewer than k tickets are left, HistoryFull where
+    /// records, owed and k + 1 are more than the book may have, then Memory. Then nothing but room has changed.
     pub fn drain(
         &mut self,
         alloc: Global,
@@ -49,19 +51,27 @@ impl<O: Drains> Book<O> {
         max: u64,
     ) -> Result<Vec<(O::Answer, Receipt<O::Deed>)>, Refusal>
         ensures count { IfOk result (λ got. length got.items ≡ min max (O.available_of self.old.object)) }
-        ensures polls { IfOk result (λ got. TakingPolls (λ old answer new. O.steps old seat O.poll answer new) (O.record_of seat O.poll) (λ o. O.refusal_of o seat O.poll)
+        ensures polls { IfOk result (λ got. TakingPolls (λ old answer new.
+            O.steps old seat O.poll answer new) (O.record_of seat O.poll) (λ o. O.refusal_of o seat O.poll)
             O.available_of O.left_of O.owed_of self.old.object got.items self.new.object) }
-        ensures records { IfOk result (λ got. self.new.records ≡ self.old.records ++ map (λ one. one.1.entry) got.items) }
-        ensures places { IfOk result (λ got. AreNumbered (O.gone_of self.old.base + length self.old.records) got.items) }
-        ensures admitted { IfOk result (λ _. book_drain_refusal (O.refusal_of self.old.object seat O.poll) (O.left_of self.old.object) (O.owed_of self.old.object) self.old (min max (O.available_of self.old.object)) ≡ None) }
-        ensures why { IfErr result (IsWhy (book_drain_refusal (O.refusal_of self.old.object seat O.poll) (O.left_of self.old.object) (O.owed_of self.old.object) self.old (min max (O.available_of self.old.object)))) }
+        ensures records { IfOk result (λ got. self.new.records ≡ self.old.records
+            ++ map (λ one. one.1.entry) got.items) }
+        ensures places { IfOk result (λ got. AreNumbered (O.gone_of self.old.base + length self.old.records)
+            got.items) }
+        ensures admitted { IfOk result (λ _. book_drain_refusal (O.refusal_of self.old.object seat O.poll)
+            (O.left_of self.old.object) (O.owed_of self.old.object) self.old
+            (min max (O.available_of self.old.object)) ≡ None) }
+        ensures why { IfErr result (IsWhy (book_drain_refusal (O.refusal_of self.old.object seat O.poll)
+            (O.left_of self.old.object) (O.owed_of self.old.object) self.old
+            (min max (O.available_of self.old.object)))) }
         ensures unchanged { IfErr result (λ _. self.new ≡ record self.old { room = self.new.room }) }
         ensures room { length self.old.records + self.old.room ≤ length self.new.records + self.new.room }
         ensures spare { O.spare self.old.object ≤ O.spare self.new.object }
         ensures cap { self.new.cap ≡ self.old.cap }
         ensures base { self.new.base ≡ self.old.base }
         ensures none { min max (O.available_of self.old.object) ≡ 0
-            → book_drain_refusal (O.refusal_of self.old.object seat O.poll) (O.left_of self.old.object) (O.owed_of self.old.object) self.old 0 ≡ None → IsOk result }
+            → book_drain_refusal (O.refusal_of self.old.object seat O.poll) (O.left_of self.old.object)
+            (O.owed_of self.old.object) self.old 0 ≡ None → IsOk result }
     {
         let k = max.min(self.object.available());
         match self.drain_refusal(seat, k) {
@@ -74,14 +84,104 @@ impl<O: Drains> Book<O> {
         let Ok(got) = Vec::with_capacity(alloc, k as usize) else {
             return Err(Refusal::Memory);
         };
+        match self.drain_reserved(seat, k, got) {
+            Ok(got) => Ok(got),
+            Err(refused) => {
+                refused.back.destroy_empty();
+                Err(refused.why)
+            }
+        }
+    }
 
+    /// `drain` into an empty list that is lent, of no more items than the list has room for. It allocates nothing but the
+    /// room that the book's records lack, so that it is never refused for memory where they have it. A refusal is one of
+    /// those of `drain`, for as many items; it hands the list back, and nothing but room has changed.
+    pub fn drain_into(
+        &mut self,
+        seat: SeatNo,
+        max: u64,
+        empty: Vec<(O::Answer, Receipt<O::Deed>)>,
+    ) -> Result<Vec<(O::Answer, Receipt<O::Deed>)>, Refused<Vec<(O::Answer, Receipt<O::Deed>)>>>
+        requires empty { empty.items ≡ [] }
+        ensures count { IfOk result (λ got. length got.items
+            ≡ min (min max (vec_capacity empty)) (O.available_of self.old.object)) }
+        ensures polls { IfOk result (λ got. TakingPolls (λ old answer new. O.steps old seat O.poll answer new)
+            (O.record_of seat O.poll) (λ o. O.refusal_of o seat O.poll)
+            O.available_of O.left_of O.owed_of self.old.object got.items self.new.object) }
+        ensures records { IfOk result (λ got. self.new.records ≡ self.old.records
+            ++ map (λ one. one.1.entry) got.items) }
+        ensures places { IfOk result (λ got. AreNumbered (O.gone_of self.old.base + length self.old.records)
+            got.items) }
+        ensures admitted { IfOk result (λ _. book_drain_refusal (O.refusal_of self.old.object seat O.poll)
+            (O.left_of self.old.object) (O.owed_of self.old.object) self.old
+            (min (min max (vec_capacity empty)) (O.available_of self.old.object)) ≡ None) }
+        ensures why { IfErr result (λ refused. IsWhy (book_drain_refusal (O.refusal_of self.old.object seat O.poll)
+            (O.left_of self.old.object) (O.owed_of self.old.object) self.old
+            (min (min max (vec_capacity empty)) (O.available_of self.old.object))) refused.why) }
+        ensures back { IfErr result (λ refused. refused.back ≡ empty) }
+        ensures unchanged { IfErr result (λ _. self.new ≡ record self.old { room = self.new.room }) }
+        ensures room { length self.old.records + self.old.room ≤ length self.new.records + self.new.room }
+        ensures spare { O.spare self.old.object ≤ O.spare self.new.object }
+        ensures cap { self.new.cap ≡ self.old.cap }
+        ensures base { self.new.base ≡ self.old.base }
+        ensures enough { O.owed_of self.old.object
+            + min (min max (vec_capacity empty)) (O.available_of self.old.object) ≤ self.old.room
+            → book_drain_refusal (O.refusal_of self.old.object seat O.poll) (O.left_of self.old.object)
+            (O.owed_of self.old.object) self.old
+            (min (min max (vec_capacity empty)) (O.available_of self.old.object)) ≡ None → IsOk result }
+    {
+        let k = max
+            .min(empty.capacity() as u64)
+            .min(self.object.available());
+        match self.drain_refusal(seat, k) {
+            Some(why) => return Err(Refused { why, back: empty }),
+            None => {}
+        }
+        if k == 0 {
+            return Ok(empty);
+        }
+        self.drain_reserved(seat, k, empty)
+    }
+
+    /// An admitted drain of k items into a list with room for them: its only refusal is Memory, for the book's records.
+    fn drain_reserved(
+        &mut self,
+        seat: SeatNo,
+        k: u64,
+        empty: Vec<(O::Answer, Receipt<O::Deed>)>,
+    ) -> Result<Vec<(O::Answer, Receipt<O::Deed>)>, Refused<Vec<(O::Answer, Receipt<O::Deed>)>>>
+        requires empty { empty.items ≡ [] }
+        requires list { k ≤ vec_capacity empty }
+        requires there { k ≤ O.available_of self.old.object }
+        requires left { k ≤ O.left_of self.old.object }
+        requires free { O.refusal_of self.old.object seat O.poll ≡ None }
+        requires fits { length self.old.records + O.owed_of self.old.object + k < self.old.cap }
+        ensures count { IfOk result (λ got. length got.items ≡ k) }
+        ensures polls { IfOk result (λ got. TakingPolls (λ old answer new. O.steps old seat O.poll answer new)
+            (O.record_of seat O.poll) (λ o. O.refusal_of o seat O.poll)
+            O.available_of O.left_of O.owed_of self.old.object got.items self.new.object) }
+        ensures records { IfOk result (λ got. self.new.records ≡ self.old.records
+            ++ map (λ one. one.1.entry) got.items) }
+        ensures places { IfOk result (λ got. AreNumbered (O.gone_of self.old.base + length self.old.records)
+            got.items) }
+        ensures why { IfErr result (λ refused. refused.why ≡ Memory) }
+        ensures back { IfErr result (λ refused. refused.back ≡ empty) }
+        ensures unchanged { IfErr result (λ _. self.new ≡ record self.old { room = self.new.room }) }
+        ensures room { length self.old.records + self.old.room ≤ length self.new.records + self.new.room }
+        ensures spare { O.spare self.old.object ≤ O.spare self.new.object }
+        ensures cap { self.new.cap ≡ self.old.cap }
+        ensures base { self.new.base ≡ self.old.base }
+        ensures enough { O.owed_of self.old.object + k ≤ self.old.room → IsOk result }
+    {
         let wanted = self.object.owed() + k;
         if self.records.reserve(wanted as usize).is_err() {
-            got.destroy_empty();
-            return Err(Refusal::Memory);
+            return Err(Refused {
+                why: Refusal::Memory,
+                back: empty,
+            });
         }
         let gone = O::gone(&self.base);
-        Ok(poll_all(&mut self.object, &mut self.records, gone, seat, k, got))
+        Ok(poll_all(&mut self.object, &mut self.records, gone, seat, k, empty))
     }
 }
 
@@ -102,12 +202,14 @@ fn poll_all<O: Drains>(
     requires free { O.refusal_of object.old seat O.poll ≡ None }
     requires places { vec_len records.old + count ≤ vec_capacity records.old }
     ensures count { length result.items ≡ count }
-    ensures polls { TakingPolls (λ old answer new. O.steps old seat O.poll answer new) (O.record_of seat O.poll) (λ o. O.refusal_of o seat O.poll)
+    ensures polls { TakingPolls (λ old answer new. O.steps old seat O.poll answer new)
+        (O.record_of seat O.poll) (λ o. O.refusal_of o seat O.poll)
         O.available_of O.left_of O.owed_of object.old result.items object.new }
     ensures records { records.new.items ≡ records.old.items ++ map (λ one. one.1.entry) result.items }
     ensures places { AreNumbered (gone + length records.old.items) result.items }
     ensures len { vec_len records.new ≡ vec_len records.old + count }
-    ensures leads { (base : O.Base) → O.leads base records.old.items object.old → O.leads base records.new.items object.new }
+    ensures leads { (base : O.Base) → O.leads base records.old.items object.old
+        → O.leads base records.new.items object.new }
     ensures owed { O.owed_of object.new ≡ O.owed_of object.old }
     ensures capacity { vec_capacity records.new ≡ vec_capacity records.old }
     ensures spare { O.spare object.old ≤ O.spare object.new }
@@ -134,8 +236,10 @@ fn poll_one<O: Drains>(
     ensures record { O.record_of seat O.poll result.0 ≡ Some result.1.entry }
     ensures records { records.new.items ≡ records.old.items ++ result.1.entry ∷ [] }
     ensures place { result.1.place ≡ gone + length records.old.items + 1 }
-    ensures leads { (base : O.Base) → O.leads base records.old.items object.old → O.leads base records.new.items object.new }
-    ensures takes { TakesOne O.available_of O.left_of O.owed_of (λ o. O.refusal_of o seat O.poll) (O.record_of seat O.poll result.0) object.old object.new }
+    ensures leads { (base : O.Base) → O.leads base records.old.items object.old
+        → O.leads base records.new.items object.new }
+    ensures takes { TakesOne O.available_of O.left_of O.owed_of
+        (λ o. O.refusal_of o seat O.poll) (O.record_of seat O.poll result.0) object.old object.new }
     ensures spare { O.spare object.old ≤ O.spare object.new }
     ensures capacity { vec_capacity records.new ≡ vec_capacity records.old }
 {

@@ -5,8 +5,10 @@ ghost use Rattle.meet_line.specs.Queue.{places_of};
 ghost use Rattle.meet_calls.specs.DualRecords.{dual_record};
 ghost use Rattle.meet_tickets.specs.Bases.{no_base, IsBaseOf};
 ghost use Rattle.meet_line.specs.Seen.{moment_of_queue};
-ghost use Rattle.meet_calls.specs.DualSteps.{DualStep, LeadsTo, kind_of, dual_refusal, dual_need, dual_room, dual_owed, dual_available, dual_left};
-ghost use Rattle.meet_calls.specs.DualRoom.{roomy, roomy-refusal, roomy-leads, roomy-steps, roomless, roomy-fresh, own-record};
+ghost use Rattle.meet_calls.specs.DualSteps.{DualStep, LeadsTo, kind_of, dual_refusal, dual_need, dual_room};
+ghost use Rattle.meet_calls.specs.DualSteps.{dual_owed, dual_available, dual_left};
+ghost use Rattle.meet_calls.specs.DualRoom.{roomy, roomy-refusal, roomy-leads, roomy-steps, roomless, roomy-fresh};
+ghost use Rattle.meet_calls.specs.DualRoom.{own-record};
 ghost use Rattle.meet_calls.specs.declared.queue_calls.DualCall.TheVariants.{Poll};
 
 use super::Dual;
@@ -57,7 +59,8 @@ impl<T: Marked, L: Line<T>> Object for Dual<T, L> {
 
     ghost same_leads = { λ q room base records leads. roomy-leads T.mark_of (kind_of L.end) q room base records leads };
 
-    ghost same_steps = { λ q room seat call answer new need step. roomy-steps T.mark_of L.end q room seat call answer new need step };
+    ghost same_steps = { λ q room seat call answer new need step.
+        roomy-steps T.mark_of L.end q room seat call answer new need step };
 
     ghost roomless = { λ call none. roomless call none };
 

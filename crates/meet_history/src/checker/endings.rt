@@ -2,7 +2,8 @@
 
 ghost use Rattle.std.specs.Prelude.{◌≡◌, ℕ, ◌<◌, ◌↔◌, ◌==◌, length, true, Option, IsTrue, IsSome};
 ghost use Rattle.std.specs.Option.{option_map_or};
-ghost use Rattle.meet_tickets.specs.BySeat.{entry_of, without_first, released, left, interrupted, cut_ticket, Allows, seats_after};
+ghost use Rattle.meet_tickets.specs.BySeat.{entry_of, without_first, released, left, interrupted, cut_ticket, Allows};
+ghost use Rattle.meet_tickets.specs.BySeat.{seats_after};
 ghost use Rattle.meet_tickets.specs.declared.lines.Hold.TheVariants.{Waiting, Handed, Served, Cut};
 ghost use Rattle.meet_tickets.specs.declared.records.Deed.TheVariants.{Withdrawn};
 ghost use Rattle.meet_history.specs.Checking.{is_ending, moment_at};
@@ -16,7 +17,8 @@ impl Checker {
         requires seat { seat < length self.old.table.holds }
         requires ending { is_ending deed ≡ true }
         ensures allowed { IsTrue result ↔ Allows self.old.kind (moment_at self.old).seats seat ticket deed }
-        ensures seats { IsTrue result → (moment_at self.new).seats ≡ seats_after self.old.kind (moment_at self.old).seats seat ticket deed }
+        ensures seats { IsTrue result → (moment_at self.new).seats
+            ≡ seats_after self.old.kind (moment_at self.old).seats seat ticket deed }
         ensures last { self.new.last ≡ self.old.last }
         ensures kind { self.new.kind ≡ self.old.kind }
     {
@@ -37,8 +39,10 @@ impl Checker {
     /// Takes a withdrawal's record in, if the rules give it.
     fn takes_back(&mut self, seat: SeatNo, ticket: Ticket, cause: Cause) -> bool
         requires { seat < length self.old.table.holds }
-        ensures allowed { IsTrue result ↔ Allows self.old.kind (moment_at self.old).seats seat ticket (Withdrawn cause) }
-        ensures seats { IsTrue result → (moment_at self.new).seats ≡ seats_after self.old.kind (moment_at self.old).seats seat ticket (Withdrawn cause) }
+        ensures allowed { IsTrue result ↔ Allows self.old.kind (moment_at self.old).seats seat ticket
+            (Withdrawn cause) }
+        ensures seats { IsTrue result → (moment_at self.new).seats
+            ≡ seats_after self.old.kind (moment_at self.old).seats seat ticket (Withdrawn cause) }
         ensures last { self.new.last ≡ self.old.last }
         ensures kind { self.new.kind ≡ self.old.kind }
     {
@@ -78,7 +82,8 @@ impl Checker {
     /// This ticket leaves the line and ends, if it is the seat's and stands there.
     fn withdraws(&mut self, seat: SeatNo, ticket: Ticket) -> bool
         requires { seat < length self.old.table.holds }
-        ensures allowed { IsTrue result ↔ (((moment_at self.old).seats.holds seat ≡ Waiting ticket) × IsSome (entry_of self.old.line ((moment_at self.old).seats.holds seat))) }
+        ensures allowed { IsTrue result ↔ (((moment_at self.old).seats.holds seat ≡ Waiting ticket)
+            × IsSome (entry_of self.old.line ((moment_at self.old).seats.holds seat))) }
         ensures seats { IsTrue result → (moment_at self.new).seats ≡ left (moment_at self.old).seats seat ticket }
         ensures last { self.new.last ≡ self.old.last }
         ensures kind { self.new.kind ≡ self.old.kind }
@@ -95,8 +100,8 @@ impl Checker {
         }
     }
 
-    /// The target's ticket is cut where it stands in the line, and else the target is flagged. Whether this is the ticket
-    /// that an interrupt names: the one that was cut, or 0.
+    /// The target's ticket is cut where it stands in the line, and else the target is flagged. Whether this is the
+    /// ticket that an interrupt names: the one that was cut, or 0.
     pub(super) fn interrupts(&mut self, target: SeatNo, ticket: Ticket) -> bool
         requires { target < length self.old.table.holds }
         ensures allowed { IsTrue result ↔ (ticket ≡ cut_ticket (moment_at self.old).seats target) }
@@ -126,7 +131,8 @@ impl Checker {
     fn cut_out(&mut self, seat: SeatNo) -> Option<Entry<u64>>
         requires { seat < length self.old.table.holds }
         ensures entry { result ≡ entry_of self.old.line ((moment_at self.old).seats.holds seat) }
-        ensures line { self.new.line ≡ option_map_or (λ entry. without_first (λ e. e.ticket == entry.ticket) self.old.line) result self.old.line }
+        ensures line { self.new.line ≡ option_map_or
+            (λ entry. without_first (λ e. e.ticket == entry.ticket) self.old.line) result self.old.line }
         ensures table { self.new.table ≡ self.old.table }
         ensures last { self.new.last ≡ self.old.last }
         ensures kind { self.new.kind ≡ self.old.kind }

@@ -1,6 +1,7 @@
 //! The line of a history's marks, met at the end of its place.
 
-ghost use Rattle.std.specs.Prelude.{◌≡◌, ◌≢◌, ◌+◌, ◌<◌, ◌==◌, [], ◌∷◌, ◌++◌, find, length, All, OnOk, IsOk, IfErr, option_to_list, is_some, if◌then◌else◌};
+ghost use Rattle.std.specs.Prelude.{◌≡◌, ◌≢◌, ◌+◌, ◌<◌, ◌==◌, [], ◌∷◌, ◌++◌, find, length, All, OnOk, IsOk, IfErr};
+ghost use Rattle.std.specs.Prelude.{option_to_list, is_some, if◌then◌else◌};
 ghost use Rattle.std.specs.Slice.{IsItemAt};
 ghost use Rattle.meet_tickets.specs.Meeting.{met, partner, kept_count};
 ghost use Rattle.meet_tickets.specs.BySeat.{unmet, without_first};
@@ -34,9 +35,15 @@ impl Model for MarkLine {
 
     ghost Value = { MarkedLine };
 
-    ghost view = { λ marks. record { end = met_end marks.line; entries = entries_of marks.line; room = room_of marks.line; newest = marks.newest } };
+    ghost view = { λ marks. record {
+      end = met_end marks.line;
+      entries = entries_of marks.line;
+      room = room_of marks.line;
+      newest = marks.newest;
+    } };
 
-    ghost invariant = { λ marks. All (λ e. e.ticket ≤ marks.newest) (entries_of marks.line) × (marks.kept ≡ kept_count (entries_of marks.line)) };
+    ghost invariant = { λ marks. All (λ e. e.ticket ≤ marks.newest) (entries_of marks.line)
+        × (marks.kept ≡ kept_count (entries_of marks.line)) };
 }
 
 impl MarkLine {
@@ -104,7 +111,8 @@ impl MarkLine {
     pub(crate) fn partner(&mut self, side: Side) -> Option<Entry<u64>>
         ensures end { self.new.end ≡ self.old.end }
         ensures partner { result ≡ partner self.old.end self.old.entries side }
-        ensures entries { self.new.entries ≡ (if is_some result then unmet self.old.end self.old.entries else self.old.entries) }
+        ensures entries { self.new.entries ≡ (if is_some result then unmet self.old.end self.old.entries
+            else self.old.entries) }
         ensures newest { self.new.newest ≡ self.old.newest }
     {
         let own = match self.first() {

@@ -2,7 +2,8 @@
 
 ghost use Rattle.std.specs.Prelude.{◌≡◌, ◌<◌, ◌↔◌, length, true, false, Some, IsTrue};
 ghost use Rattle.meet_tickets.specs.Meeting.{Alone, Finds, MayKeep};
-ghost use Rattle.meet_tickets.specs.BySeat.{queued, paired_hold, meets, flagged, IsFree, is_request, Allows, seats_after};
+ghost use Rattle.meet_tickets.specs.BySeat.{queued, paired_hold, meets, flagged, IsFree, is_request, Allows};
+ghost use Rattle.meet_tickets.specs.BySeat.{seats_after};
 ghost use Rattle.meet_tickets.specs.declared.places.Side.TheVariants.{Giver};
 ghost use Rattle.meet_history.specs.Checking.{moment_at};
 
@@ -18,7 +19,8 @@ impl Checker {
         requires free { IsFree (moment_at self.old).seats seat }
         requires above { self.old.last < ticket }
         ensures allowed { IsTrue result ↔ Allows self.old.kind (moment_at self.old).seats seat ticket deed }
-        ensures seats { IsTrue result → (moment_at self.new).seats ≡ seats_after self.old.kind (moment_at self.old).seats seat ticket deed }
+        ensures seats { IsTrue result → (moment_at self.new).seats
+            ≡ seats_after self.old.kind (moment_at self.old).seats seat ticket deed }
         ensures last { IsTrue result → self.new.last ≡ ticket }
         ensures kind { self.new.kind ≡ self.old.kind }
     {
@@ -40,8 +42,10 @@ impl Checker {
         requires seat { seat < length self.old.table.holds }
         requires room { 0 < self.old.room }
         requires above { self.old.last < ticket }
-        ensures allowed { IsTrue result ↔ (Alone self.old.kind self.old.line side × ((moment_at self.old).seats.flags seat ≡ false)) }
-        ensures seats { IsTrue result → (moment_at self.new).seats ≡ queued (moment_at self.old).seats seat ticket item true }
+        ensures allowed { IsTrue result ↔ (Alone self.old.kind self.old.line side
+            × ((moment_at self.old).seats.flags seat ≡ false)) }
+        ensures seats { IsTrue result → (moment_at self.new).seats
+            ≡ queued (moment_at self.old).seats seat ticket item true }
         ensures last { IsTrue result → self.new.last ≡ ticket }
         ensures kind { self.new.kind ≡ self.old.kind }
     {
@@ -85,7 +89,8 @@ impl Checker {
     ) -> bool
         requires { self.old.last < ticket }
         ensures allowed { IsTrue result ↔ Finds self.old.kind self.old.line side with presented }
-        ensures seats { IsTrue result → (moment_at self.new).seats ≡ meets self.old.kind (moment_at self.old).seats ticket brought side }
+        ensures seats { IsTrue result → (moment_at self.new).seats
+            ≡ meets self.old.kind (moment_at self.old).seats ticket brought side }
         ensures last { IsTrue result → self.new.last ≡ ticket }
         ensures kind { self.new.kind ≡ self.old.kind }
     {
@@ -124,7 +129,8 @@ impl Checker {
     fn is_refused_at_entry(&mut self, seat: SeatNo, ticket: Ticket, side: Side) -> bool
         requires seat { seat < length self.old.table.holds }
         requires above { self.old.last < ticket }
-        ensures allowed { IsTrue result ↔ (Alone self.old.kind self.old.line side × ((moment_at self.old).seats.flags seat ≡ true)) }
+        ensures allowed { IsTrue result ↔ (Alone self.old.kind self.old.line side
+            × ((moment_at self.old).seats.flags seat ≡ true)) }
         ensures seats { IsTrue result → (moment_at self.new).seats ≡ flagged (moment_at self.old).seats seat false }
         ensures last { IsTrue result → self.new.last ≡ ticket }
         ensures kind { self.new.kind ≡ self.old.kind }
@@ -142,8 +148,10 @@ impl Checker {
         requires seat { seat < length self.old.table.holds }
         requires room { 0 < self.old.room }
         requires above { self.old.last < ticket }
-        ensures allowed { IsTrue result ↔ (Alone self.old.kind self.old.line Giver × MayKeep self.old.kind self.old.line) }
-        ensures seats { IsTrue result → (moment_at self.new).seats ≡ queued (moment_at self.old).seats seat ticket (Some mark) false }
+        ensures allowed { IsTrue result ↔ (Alone self.old.kind self.old.line Giver
+            × MayKeep self.old.kind self.old.line) }
+        ensures seats { IsTrue result → (moment_at self.new).seats
+            ≡ queued (moment_at self.old).seats seat ticket (Some mark) false }
         ensures last { IsTrue result → self.new.last ≡ ticket }
         ensures kind { self.new.kind ≡ self.old.kind }
     {

@@ -12,8 +12,8 @@ use meet_tickets::{Deed, Record, Refusal};
 use std::alloc::Global;
 
 /// The replies to these calls, one after another, on a place of this setup, and the records that they write. The only
-/// refusal is Memory. It asks that the setup is in its limits, as what `Setup::new` answers is, and that the place serves
-/// each call's verb, which `is_served` says.
+/// refusal is Memory. It asks that the setup is in its limits, as what `Setup::new` answers is, and that the place
+/// serves each call's verb, which `is_served` says.
 pub fn run_all(
     alloc: Global,
     setup: Setup,

@@ -27,11 +27,12 @@ fn fits_bound(kind: Kind) -> bool
 }
 
 impl Setup {
-    /// A place of this kind, with this many seats, 1 to 65,536, this first ticket, 1 to 2^63 - 1, and room for this many
-    /// records, 1 to 1,048,576. Only a transfer queue may have a bound, 1 to 1,048,576. None where any of these is out of its
-    /// limits.
+    /// A place of this kind, with this many seats, 1 to 65,536, this first ticket, 1 to 2^63 - 1, and room for this
+    /// many records, 1 to 1,048,576. Only a transfer queue may have a bound, 1 to 1,048,576. None where any of these
+    /// is out of its limits.
     pub fn new(kind: Kind, seats: u64, first: u64, cap: u64) -> Option<Setup>
-        ensures given { IfSome result (λ setup. setup ≡ record { kind = kind; seats = seats; cap = cap; first = first }) }
+        ensures given { IfSome result (λ setup. setup
+            ≡ record { kind = kind; seats = seats; cap = cap; first = first }) }
         ensures limits { IsSome result ↔ IsInLimits (record { kind = kind; seats = seats; cap = cap; first = first }) }
     {
         let setup = Setup {

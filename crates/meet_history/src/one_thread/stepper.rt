@@ -1,6 +1,7 @@
 //! A place that one thread uses, call by call.
 
-ghost use Rattle.std.specs.Prelude.{◌≡◌, ◌≢◌, None, [], ◌++◌, ◌<◌, length, vec_len, IsTrue, IsOk, IfOk, IfErr, OnOk, OnErr};
+ghost use Rattle.std.specs.Prelude.{◌≡◌, ◌≢◌, None, [], ◌++◌, ◌<◌, length, vec_len, IsTrue, IsOk, IfOk, IfErr, OnOk};
+ghost use Rattle.std.specs.Prelude.{OnErr};
 ghost use Rattle.std.specs.Vec.{vec_capacity};
 ghost use Rattle.meet_history.specs.Stepping.{reply_of, unrecorded, back_of};
 ghost use Rattle.meet_tickets.specs.declared.refusals.Refusal.TheVariants.{Memory};
@@ -32,9 +33,15 @@ impl Model for Stepper {
 
     ghost Value = { Stepping };
 
-    ghost view = { λ s. record { setup = s.setup; queue = s.book.object.queue; records = s.book.records; room = s.book.room } };
+    ghost view = { λ s. record {
+      setup = s.setup;
+      queue = s.book.object.queue;
+      records = s.book.records;
+      room = s.book.room;
+    } };
 
-    ghost invariant = { λ s. (s.book.object.kind ≡ s.setup.kind) × (count_of s.book.object.queue ≡ s.setup.seats) × (s.book.cap ≡ s.setup.cap) × (s.book.base ≡ no_base) };
+    ghost invariant = { λ s. (s.book.object.kind ≡ s.setup.kind) × (count_of s.book.object.queue ≡ s.setup.seats)
+        × (s.book.cap ≡ s.setup.cap) × (s.book.base ≡ no_base) };
 }
 
 /// The reply to a call that was refused; want of memory has none.
@@ -98,7 +105,8 @@ impl Stepper {
     ghost use Rattle.meet_calls.specs.DualSteps.{dual_need, dual_refusal};
     ghost use Rattle.meet_history.specs.OneThread.{start, turn, standing_of};
     ghost use Rattle.meet_history.specs.Served.{serves, IsOne};
-    ghost use Rattle.meet_history.specs.Stepping.{place_of, Takes, TakesTurn, LacksMemory, HasRoom, StaysButForRoom, turn_of_call, refusal_at};
+    ghost use Rattle.meet_history.specs.Stepping.{place_of, Takes, TakesTurn, LacksMemory, HasRoom, StaysButForRoom};
+    ghost use Rattle.meet_history.specs.Stepping.{turn_of_call, refusal_at};
     ghost use Rattle.meet_calls.specs.QueueSteps.{dual_call, queue_need, queue_refusal};
     ghost use Rattle.meet_history.specs.Limits.{IsInLimits};
 
@@ -115,13 +123,15 @@ impl Stepper {
         Ok(Stepper { alloc, setup, book })
     }
 
-    /// Makes a call of the queue; an ending is of the seat's open ticket. The reply tells the record, where there is one. The only
-    /// refusal is Memory.
+    /// Makes a call of the queue; an ending is of the seat's open ticket. The reply tells the record, where there is
+    /// one. The only refusal is Memory.
     #[inline(always)]
     fn make(&mut self, seat: SeatNo, call: QueueCall<u64>) -> Result<Reply, Refusal>
         requires opened { queue_need call ≡ 0 → queue_refusal self.old.queue seat call ≡ None }
-        ensures turn { IfOk result (TakesTurn (turn_of_call self.old.setup (place_of self.old) seat call) self.old self.new) }
-        ensures memory { IfErr result (LacksMemory (refusal_at self.old.setup (place_of self.old) seat (dual_call call)) self.old self.new) }
+        ensures turn { IfOk result (TakesTurn (turn_of_call self.old.setup (place_of self.old) seat call) self.old
+            self.new) }
+        ensures memory { IfErr result (LacksMemory
+            (refusal_at self.old.setup (place_of self.old) seat (dual_call call)) self.old self.new) }
         ensures enough { HasRoom self.old → IsOk result }
     {
         let otherwise = unrecorded(&call);
@@ -142,8 +152,10 @@ impl Stepper {
     #[inline(always)]
     fn dual(&mut self, seat: SeatNo, call: DualCall<u64>) -> Result<Reply, Refusal>
         requires opened { dual_need call ≡ 0 → dual_refusal self.old.queue seat call ≡ None }
-        ensures turn { IfOk result (TakesTurn (turn_of_call self.old.setup (place_of self.old) seat (QueueCall.Dual call)) self.old self.new) }
-        ensures memory { IfErr result (LacksMemory (refusal_at self.old.setup (place_of self.old) seat call) self.old self.new) }
+        ensures turn { IfOk result (TakesTurn (turn_of_call self.old.setup (place_of self.old) seat
+            (QueueCall.Dual call)) self.old self.new) }
+        ensures memory { IfErr result (LacksMemory (refusal_at self.old.setup (place_of self.old) seat call) self.old
+            self.new) }
         ensures enough { HasRoom self.old → IsOk result }
     {
         self.make(seat, QueueCall::Dual(call))
@@ -196,16 +208,19 @@ impl Stepper {
         }
     }
 
-    /// Makes a call, and puts its replies behind `replies`. The only refusal is Memory, and for a call with one reply never where there
-    /// is room for it, for two records and for a place in the line; then nothing has changed, and the replies so far stay.
+    /// Makes a call, and puts its replies behind `replies`. The only refusal is Memory, and for a call with one reply
+    /// never where there is room for it, for two records and for a place in the line; then nothing has changed, and
+    /// the replies so far stay.
     pub fn answer(&mut self, call: Call, replies: &mut Vec<Reply>) -> Result<(), Refusal>
         requires served { IsTrue (serves self.old.setup.kind.order call.verb) }
-        ensures replies { OnOk result (replies.new.items ≡ replies.old.items ++ (turn self.old.setup (place_of self.old) call).replies) }
+        ensures replies { OnOk result (replies.new.items ≡ replies.old.items
+            ++ (turn self.old.setup (place_of self.old) call).replies) }
         ensures takes { OnOk result (Takes (turn self.old.setup (place_of self.old) call) self.old self.new) }
         ensures stay { OnErr result (replies.new.items ≡ replies.old.items) }
         ensures unchanged { OnErr result (StaysButForRoom self.old self.new) }
         ensures memory { IfErr result (λ why. why ≡ Memory) }
-        ensures enough { IsOne call.verb → vec_len replies.old < vec_capacity replies.old → HasRoom self.old → IsOk result }
+        ensures enough { IsOne call.verb → vec_len replies.old < vec_capacity replies.old → HasRoom self.old
+            → IsOk result }
     {
         let Call { seat, verb } = call;
         if let Verb::Drain(most) = verb {

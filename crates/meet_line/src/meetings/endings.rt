@@ -14,8 +14,8 @@ impl<T: Marked, L: Line<T>> Meetings<T, L> {
     ghost use Rattle.meet_line.specs.Steps.{FollowStep, WithdrawStep, InterruptStep, CutsWaiting};
     ghost use Rattle.meet_tickets.specs.declared.refusals.Refusal.TheVariants.{NoSuchSeat, NotOpen};
 
-    /// The follow-up of the seat's open ticket. Refuses NotOpen where the ticket isn't the open one of that seat, also for
-    /// a seat that isn't there.
+    /// The follow-up of the seat's open ticket. Refuses NotOpen where the ticket isn't the open one of that seat,
+    /// also for a seat that isn't there.
     pub fn follow_up(&mut self, seat: SeatNo, ticket: Ticket) -> Result<Followed<T>, Refusal>
         ensures step { IfOk result (λ answer. FollowStep self.old seat ticket answer self.new) }
         ensures open { IsOk result ↔ (open_ticket ((seats_of self.old).holds seat) ≡ Some ticket) }
@@ -59,8 +59,8 @@ impl<T: Marked, L: Line<T>> Meetings<T, L> {
         }
     }
 
-    /// The time of the seat's open ticket ran out, as in timed `SynchronousQueue.offer` and `poll`: it is taken back as by
-    /// `cancel`.
+    /// The time of the seat's open ticket ran out, as in timed `SynchronousQueue.offer` and `poll`: it is taken back
+    /// as by `cancel`.
     pub fn expire(&mut self, seat: SeatNo, ticket: Ticket) -> Result<TakenBack<T>, Refusal>
         ensures step { IfOk result (λ answer. WithdrawStep self.old seat ticket answer self.new) }
         ensures open { IsOk result ↔ (open_ticket ((seats_of self.old).holds seat) ≡ Some ticket) }
@@ -72,8 +72,8 @@ impl<T: Marked, L: Line<T>> Meetings<T, L> {
         self.cancel(seat, ticket)
     }
 
-    /// `Thread.interrupt` of the target: its ticket is cut where it stands in the line, and awaits its follow-up; else the
-    /// target is flagged. Refuses NoSuchSeat where the target isn't there.
+    /// `Thread.interrupt` of the target: its ticket is cut where it stands in the line, and awaits its follow-up;
+    /// else the target is flagged. Refuses NoSuchSeat where the target isn't there.
     pub fn interrupt(&mut self, target: SeatNo) -> Result<Interrupted, Refusal>
         ensures step { IfOk result (λ answer. InterruptStep self.old target answer self.new) }
         ensures waited { IfOk result (λ answer. CutsWaiting self.old target answer) }

@@ -24,17 +24,18 @@ fn empty_line<T, L: Line<T>>(line: L, left: &mut Vec<Left<T>>)
 }
 
 impl<T: Marked, L: Line<T>> Meetings<T, L> {
-    /// How many items are left in the queue: those in the line, offered or kept, and those that were cut or taken and that
-    /// nobody has collected. It counts the line's at constant cost, and looks at every seat.
+    /// How many items are left in the queue: those in the line, offered or kept, and those that were cut or taken and
+    /// that nobody has collected. It counts the line's at constant cost, and looks at every seat.
     pub fn left(&self) -> u64
         ensures { result ≡ length (left_in L.end self.now) }
     {
         self.givers() + self.seats.left()
     }
 
-    /// Takes the queue apart, and takes out the items that are left in it: the line's, in the order in which they would be
-    /// met, and then the seats', rising. These are all the items, each once, with its giver's ticket. The list must have
-    /// room for them (`left` says how many they are): so the call takes no memory, and no item is let go.
+    /// Takes the queue apart, and takes out the items that are left in it: the line's, in the order in which they
+    /// would be met, and then the seats', rising. These are all the items, each once, with its giver's ticket. The
+    /// list must have room for them (`left` says how many they are): so the call takes no memory, and no item is let
+    /// go.
     pub fn into_left(self, empty: Vec<Left<T>>) -> Vec<Left<T>>
         requires empty { empty.items ≡ [] }
         requires room { length (left_in L.end self) ≤ vec_capacity empty }

@@ -1,6 +1,7 @@
 //! The moves that the steps of a queue are made of.
 
-ghost use Rattle.std.specs.Prelude.{◌≡◌, ◌≢◌, ℕ, ◌+◌, ◌<◌, ◌≤◌, ⊤, Some, None, IfOk, IfErr, IfSome, IfNone, MatchOption, All, true, false};
+ghost use Rattle.std.specs.Prelude.{◌≡◌, ◌≢◌, ℕ, ◌+◌, ◌<◌, ◌≤◌, ⊤, Some, None, IfOk, IfErr, IfSome, IfNone};
+ghost use Rattle.std.specs.Prelude.{MatchOption, All, true, false};
 ghost use Rattle.meet_tickets.specs.Meeting.{partner, kept_count};
 ghost use Rattle.meet_tickets.specs.BySeat.{queued, open_ticket, entry_of, left};
 ghost use Rattle.meet_tickets.specs.Limits.{last_ticket};
@@ -72,7 +73,8 @@ impl<T: Marked, L: Line<T>> Meetings<T, L> {
         requires room { 0 < self.old.room }
         requires new { All (λ e. e.ticket < ticket) self.old.line }
         requires used { ticket < self.old.next }
-        requires alone { MatchOption item (partner L.end self.old.line Taker ≡ None) (λ _. partner L.end self.old.line Giver ≡ None) }
+        requires alone { MatchOption item (partner L.end self.old.line Taker ≡ None) (λ _.
+            partner L.end self.old.line Giver ≡ None) }
         ensures queued { Leaves self.old self.new (queued (seats_of self.old) seat ticket item true) }
         ensures kept { kept_count self.new.line ≡ kept_count self.old.line }
         ensures places { places_of self.new ≡ places_of self.old }

@@ -41,7 +41,8 @@ pub(crate) fn step<T: Marked, L: Line<T>>(
     requires room { queue_room call ≤ queue.old.room }
     ensures step { QueueStep T.mark_of (kind_of L.end) queue.old seat call result.0 queue.new }
     ensures entry { result.1 ≡ queue_record T.mark_of seat call result.0 }
-    ensures leads { (base : Based) (records : List (Record Deed)) → LeadsTo T.mark_of (kind_of L.end) base records queue.old
+    ensures leads { (base : Based) (records : List (Record Deed))
+        → LeadsTo T.mark_of (kind_of L.end) base records queue.old
         → LeadsTo T.mark_of (kind_of L.end) base (records ++ option_to_list result.1) queue.new }
     ensures owed { length (option_to_list result.1) + dual_owed queue.new ≤ dual_owed queue.old + queue_need call }
     ensures room { queue.old.room ≤ queue.new.room + queue_room call }

@@ -10,17 +10,18 @@ use meet_line::Left;
 use meet_tickets::Marked;
 
 impl<T: Marked> Transfer<T> {
-    /// How many items are left in the queue: those in the line, offered or kept, and those that were cut or taken and that
-    /// nobody has collected. It looks at every seat.
+    /// How many items are left in the queue: those in the line, offered or kept, and those that were cut or taken and
+    /// that nobody has collected. It looks at every seat.
     pub fn left(&self) -> u64
         ensures { result ≡ length (left_in Front self.now.queue) }
     {
         self.meetings.left()
     }
 
-    /// Takes the queue apart, and takes out the items that are left in it: the line's, in the order in which they would be
-    /// met, and then the seats', rising. These are all the items, each once, with its giver's ticket. The list must have
-    /// room for them (`left` says how many they are): so the call takes no memory, and no item is let go.
+    /// Takes the queue apart, and takes out the items that are left in it: the line's, in the order in which they
+    /// would be met, and then the seats', rising. These are all the items, each once, with its giver's ticket. The
+    /// list must have room for them (`left` says how many they are): so the call takes no memory, and no item is let
+    /// go.
     pub fn into_left(self, empty: Vec<Left<T>>) -> Vec<Left<T>>
         requires empty { empty.items ≡ [] }
         requires room { length (left_in Front self.queue) ≤ vec_capacity empty }

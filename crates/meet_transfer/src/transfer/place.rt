@@ -6,7 +6,8 @@ ghost use Rattle.meet_tickets.specs.Bases.{no_base, IsBaseOf};
 ghost use Rattle.meet_line.specs.Seen.{moment_of_queue};
 ghost use Rattle.meet_calls.specs.DualSteps.{LeadsTo, dual_owed, dual_available, dual_left};
 ghost use Rattle.meet_transfer.specs.Bounded.{BoundedStep};
-ghost use Rattle.meet_calls.specs.QueueSteps.{bounded_kind, dual_call, queue_refusal, queue_need, queue_room, queue_record};
+ghost use Rattle.meet_calls.specs.QueueSteps.{bounded_kind, dual_call, queue_refusal, queue_need, queue_room};
+ghost use Rattle.meet_calls.specs.QueueSteps.{queue_record};
 ghost use Rattle.meet_calls.specs.DualRoom.{roomy, roomy-leads, roomless, roomy-fresh};
 ghost use Rattle.meet_calls.specs.QueueRoom.{roomy-queue-refusal, roomy-queue-steps, own-queue-record};
 ghost use Rattle.meet_calls.specs.declared.queue_calls.DualCall.TheVariants.{Poll};
@@ -57,9 +58,14 @@ impl<T: Marked> Object for Transfer<T> {
 
     ghost same_owed = { λ b room. refl };
 
-    ghost same_leads = { λ b room base records leads. roomy-leads T.mark_of (bounded_kind b.bound) b.queue room base records leads };
+    ghost same_leads = { λ b room base records leads.
+        roomy-leads T.mark_of (bounded_kind b.bound) b.queue room base records leads };
 
-    ghost same_steps = { λ b room seat call answer new need step. (step.0, roomy-queue-steps T.mark_of (bounded_kind b.bound) b.queue room seat call answer new.queue need step.1) };
+    ghost same_steps = { λ b room seat call answer new need step. (
+      step.0,
+      roomy-queue-steps T.mark_of (bounded_kind b.bound) b.queue room seat call answer new.queue need
+          step.1,
+    ) };
 
     ghost roomless = { λ call none. roomless (dual_call call) none };
 

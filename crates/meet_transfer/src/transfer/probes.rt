@@ -119,9 +119,9 @@ impl<T: Marked> Transfer<T> {
         self.meetings.tickets_left()
     }
 
-    /// What is always true of a queue: each entry of its line has a used ticket, and is what its seat holds where it waits;
-    /// where it is kept it has an item, and no seat has its ticket open; no two share a ticket, and all have one side. It
-    /// does nothing.
+    /// What is always true of a queue: each entry of its line has a used ticket, and is what its seat holds where it
+    /// waits; where it is kept it has an item, and no seat has its ticket open; no two share a ticket, and all have
+    /// one side. It does nothing.
     pub fn stays_sound(&self)
         ensures { IsSound self.now.queue.line (seats_of self.now.queue).holds self.now.queue.next }
     {

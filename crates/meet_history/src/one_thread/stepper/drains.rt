@@ -24,8 +24,10 @@ impl Stepper {
         most: u64,
         replies: &mut Vec<Reply>,
     ) -> Result<(), Refusal>
-        ensures replies { OnOk result (replies.new.items ≡ replies.old.items ++ (turn_of self.old.setup (place_of self.old) seat (Drain most)).replies) }
-        ensures takes { OnOk result (Takes (turn_of self.old.setup (place_of self.old) seat (Drain most)) self.old self.new) }
+        ensures replies { OnOk result (replies.new.items ≡ replies.old.items
+            ++ (turn_of self.old.setup (place_of self.old) seat (Drain most)).replies) }
+        ensures takes { OnOk result (Takes (turn_of self.old.setup (place_of self.old) seat (Drain most)) self.old
+            self.new) }
         ensures stay { OnErr result (replies.new.items ≡ replies.old.items) }
         ensures unchanged { OnErr result (StaysButForRoom self.old self.new) }
         ensures memory { IfErr result (λ why. why ≡ Memory) }
@@ -59,7 +61,8 @@ impl Stepper {
 /// Puts the replies of a drain's polls behind others, where there is room.
 fn push_polls(replies: &mut Vec<Reply>, seat: SeatNo, got: &[(QueueAnswer<u64>, Receipt<Deed>)])
     requires { vec_len replies.old + length got.now ≤ vec_capacity replies.old }
-    ensures replies { replies.new.items ≡ replies.old.items ++ map (λ one. reply_of seat one.1 (back_of one.0)) got.now }
+    ensures replies { replies.new.items ≡ replies.old.items
+        ++ map (λ one. reply_of seat one.1 (back_of one.0)) got.now }
     ensures capacity { vec_capacity replies.new ≡ vec_capacity replies.old }
 {
     for one in got {

@@ -1,7 +1,7 @@
 use Rattle.std.proofs.Common.{None, ap, subst, ◌∙◌}
 use Rattle.meet_run.specs.declared.faults.RunFault.{RunFault}
 use Rattle.meet_run.specs.Traces.{IsVerdict}
-use Rattle.meet_run.specs.Writing.{AppendsFront}
+use Rattle.meet_run.specs.Writing.{AppendsPrefix}
 use Rattle.meet_run.proofs.TraceReading.{check-unread, check-found, check-broken}
 use Rattle.meet_run.proofs.check.check_trace_within.Goals as goal
 
@@ -15,4 +15,4 @@ returns-clause-check g c =
     (subst (λ rs. IsVerdict c.in-Ok.trace.0 rs c.in-Ok-verdict.found.0 c.in-Ok-verdict.found.1.items) c.as_slice.ensures.value c.in-Ok-verdict.ensures.verdict) in
     check-broken (g.R.Read.remaining c.args.reader.now) (g.W.Write.contents c.args.writer.now) (g.W.Write.contents c.write_whole.new.writer) c.cut_short-in-Err-write_whole.result c.in-Ok-verdict.found.0 c.in-Ok-verdict.found.1.items
     (c.cut_short-in-Err-write_whole.ensures ∙ ap (λ w. let x : RunFault = record { why = w; line = None } in x) c.in-Err-write_whole.ensures.fault) found
-    (subst (λ t. AppendsFront (g.W.Write.contents c.args.writer.now) (g.W.Write.contents c.write_whole.new.writer) t) c.as_slice-2.ensures.value c.in-Err-write_whole.ensures.front)
+    (subst (λ t. AppendsPrefix (g.W.Write.contents c.args.writer.now) (g.W.Write.contents c.write_whole.new.writer) t) c.as_slice-2.ensures.value c.in-Err-write_whole.ensures.prefix)

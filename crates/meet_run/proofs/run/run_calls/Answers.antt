@@ -3,7 +3,7 @@ use Rattle.std.specs.Io.KnownBytes.{Appends}
 use Rattle.meet_history.specs.OneThread.{turn, standing_of}
 use Rattle.meet_run.specs.Script.{replies_text, fault_of, text_before, output_of}
 use Rattle.meet_run.specs.Wording.{last_line}
-use Rattle.meet_run.specs.Writing.{AppendsFront}
+use Rattle.meet_run.specs.Writing.{AppendsPrefix}
 use Rattle.meet_history.specs.Served.{serves}
 use Rattle.meet_history.specs.Stepping.{place_of}
 use Rattle.meet_run.proofs.LineLemmas.{uses-more, ends-in-turns, at-end-before}
@@ -30,7 +30,7 @@ returns-in-Err-serve-clause-script g c =
     let invariant = c.loop-call.invariant in
     let same : turn c.loop-call.stepper.setup (place_of c.loop-call.stepper) c.in-Read.call ≡ turn c.args.setup (place_of c.loop-call.stepper) c.in-Read.call = ap (λ s. turn s (place_of c.loop-call.stepper) c.in-Read.call) invariant.setup in
     runs-cut c.args.setup (g.R.Read.remaining c.args.reader.now) (g.R.Read.remaining c.loop-call.reader) (g.W.Write.contents c.args.writer.now) (g.W.Write.contents c.loop-call.writer) c.loop-call.read (place_of c.loop-call.stepper) invariant.ran (g.R.Read.remaining c.next_call.new.reader) (g.W.Write.contents c.serve.new.writer) c.in-Read.call c.cut_short-in-Err-serve.result c.in-Err-serve.why c.in-Read.ensures.next.0
-    (subst (λ t. AppendsFront (g.W.Write.contents c.loop-call.writer) (g.W.Write.contents c.serve.new.writer) (replies_text t.replies)) same c.serve.ensures.front) c.cut_short-in-Err-serve.ensures c.in-Err-serve.ensures.why
+    (subst (λ t. AppendsPrefix (g.W.Write.contents c.loop-call.writer) (g.W.Write.contents c.serve.new.writer) (replies_text t.replies)) same c.serve.ensures.prefix) c.cut_short-in-Err-serve.ensures c.in-Err-serve.ensures.why
 
 pub returns-in-Ok-close-clause-script : goal.returns-in-Ok-close-clause-script
 returns-in-Ok-close-clause-script g c =
@@ -42,7 +42,7 @@ pub returns-in-Err-close-clause-script : goal.returns-in-Err-close-clause-script
 returns-in-Err-close-clause-script g c =
     let invariant = c.loop-call.invariant in
     runs-unclosed c.args.setup (g.R.Read.remaining c.args.reader.now) (g.R.Read.remaining c.loop-call.reader) (g.W.Write.contents c.args.writer.now) (g.W.Write.contents c.loop-call.writer) c.loop-call.read (place_of c.loop-call.stepper) invariant.ran (g.W.Write.contents c.close.new.writer) c.cut_short-in-Err-close.result c.in-Err-close.why c.in-Ended.ensures.next.0
-    (subst (λ s. AppendsFront (g.W.Write.contents c.loop-call.writer) (g.W.Write.contents c.close.new.writer) (last_line (place_of c.loop-call.stepper).records (standing_of s (place_of c.loop-call.stepper)))) invariant.setup c.close.ensures.front)
+    (subst (λ s. AppendsPrefix (g.W.Write.contents c.loop-call.writer) (g.W.Write.contents c.close.new.writer) (last_line (place_of c.loop-call.stepper).records (standing_of s (place_of c.loop-call.stepper)))) invariant.setup c.close.ensures.prefix)
     (λ memory. c.close.ensures.memory (c.in-Err-close.is ∙ ap (λ w. Err w) memory)) c.cut_short-in-Err-close.ensures c.in-Err-close.ensures.why
 
 pub returns-in-Faulty-clause-script : goal.returns-in-Faulty-clause-script

@@ -1,16 +1,16 @@
 use Rattle.std.proofs.Common.{◌+◌, ap, sym, subst, ◌∙◌}
 use Rattle.std.specs.Io.KnownBytes.{Appends}
-use Rattle.meet_run.specs.Writing.{AppendsFront}
+use Rattle.meet_run.specs.Writing.{AppendsPrefix}
 use Rattle.meet_run.proofs.TraceWriting.{IsUnderWay, under_way-stopped, under_way-more, under_way-written, under_way-broken}
 use Rattle.meet_run.proofs.trace.write_records.Goals.{then-len-ge-BLOCK+in_ok-write_whole, else-len-ge-BLOCK}
 use Rattle.meet_run.proofs.trace.write_records.Goals as goal
 
-pub returns-in-Err-clause-front : goal.returns-in-Err-clause-front
-returns-in-Err-clause-front g c =
+pub returns-in-Err-clause-prefix : goal.returns-in-Err-clause-prefix
+returns-in-Err-clause-prefix g c =
     under_way-stopped (g.W.Write.contents c.args.writer.now) (g.W.Write.contents c.loop-entry.writer) c.args.out.now.items c.loop-entry.out.items c.args.records.now c.loop-entry.entry-index c.loop-entry.invariant
 
-pub returns-in_err-write_whole-clause-front : goal.returns-in_err-write_whole-clause-front
-returns-in_err-write_whole-clause-front g c =
+pub returns-in_err-write_whole-clause-prefix : goal.returns-in_err-write_whole-clause-prefix
+returns-in_err-write_whole-clause-prefix g c =
     let old = g.W.Write.contents c.args.writer.now in
     let now = g.W.Write.contents c.loop-entry.writer in
     let head = c.args.out.now.items in
@@ -18,7 +18,7 @@ returns-in_err-write_whole-clause-front g c =
     let n = c.loop-entry.entry-index in
     let more : IsUnderWay old now head kept c.args.records.now (n + 1) = under_way-more old now head c.loop-entry.out.items c.args.records.now n c.loop-entry.invariant c.entry-item.result kept c.loop-entry-test.true c.entry-item.is c.in-Ok.ensures in
     under_way-broken old now head kept c.args.records.now (n + 1) more (g.W.Write.contents c.write_whole.new.writer)
-    (subst (λ t. AppendsFront now (g.W.Write.contents c.write_whole.new.writer) t) c.as_slice.ensures.value c.write_whole.ensures.front)
+    (subst (λ t. AppendsPrefix now (g.W.Write.contents c.write_whole.new.writer) t) c.as_slice.ensures.value c.write_whole.ensures.prefix)
 
 pub loop-entry-preserved : goal.loop-entry-preserved
 loop-entry-preserved g c =
@@ -39,7 +39,7 @@ loop-entry-preserved g c =
           (subst (λ v. IsUnderWay old now head v.items c.args.records.now (n + 1)) (sym w.out-is) more)
     ]
 
-pub returns-clause-front : goal.returns-clause-front
-returns-clause-front g c =
+pub returns-clause-prefix : goal.returns-clause-prefix
+returns-clause-prefix g c =
     under_way-broken (g.W.Write.contents c.args.writer.now) (g.W.Write.contents c.loop-entry.writer) c.args.out.now.items c.loop-entry.out.items c.args.records.now c.loop-entry.entry-index c.loop-entry.invariant (g.W.Write.contents c.write_whole-2.new.writer)
-    (subst (λ t. AppendsFront (g.W.Write.contents c.loop-entry.writer) (g.W.Write.contents c.write_whole-2.new.writer) t) c.as_slice-2.ensures.value c.write_whole-2.ensures.front)
+    (subst (λ t. AppendsPrefix (g.W.Write.contents c.loop-entry.writer) (g.W.Write.contents c.write_whole-2.new.writer) t) c.as_slice-2.ensures.value c.write_whole-2.ensures.prefix)
