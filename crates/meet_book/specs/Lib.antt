@@ -1,4 +1,5 @@
 pub mod Booked
 pub mod Booking
 pub mod Draining
+pub mod Listed
 pub mod Received

@@ -2,9 +2,11 @@
 #![tactic(auto)]
 
 mod book;
+mod comparing;
 mod object;
 mod receipt;
 
 pub use book::Book;
+pub use comparing::{Holds, Same, compare};
 pub use object::{Bases, Drains, Object};
 pub use receipt::Receipt;

@@ -10,12 +10,13 @@ use std::alloc::Global;
 use std::process::Abort;
 use std::test::Fail;
 
-fn seat(number: u64) -> Result<SeatNo, Fail> {
+/// A seat by its number.
+pub fn seat(number: u64) -> Result<SeatNo, Fail> {
     Ok(SeatNo::new(number).ok_or("no such seat number")?)
 }
 
 /// A book of an empty cell with so many tickets, that makes room for so many puts at most.
-fn book_of(alloc: Global, tickets: u64, most: u64, cap: u64) -> Result<Book<Cell>, Fail>
+pub fn book_of(alloc: Global, tickets: u64, most: u64, cap: u64) -> Result<Book<Cell>, Fail>
     requires cap_from { 0 < cap }
     requires cap_to { cap ≤ most_records }
 {

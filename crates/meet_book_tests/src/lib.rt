@@ -5,3 +5,5 @@
 mod books;
 #[cfg(test)]
 mod cell;
+#[cfg(test)]
+mod comparing;
