@@ -18,7 +18,7 @@ abbrev pub times : ℕ → List ℕ → ℕ
 times k xs = count_by (λ x. x == k) xs
 
 -- one element more in front
-count-cons : {X : Type 0} (p : X → Bool) (x : X) (xs : List X) → count_by p (x ∷ xs) ≡ one (p x) + count_by p xs
+pub count-cons : {X : Type 0} (p : X → Bool) (x : X) (xs : List X) → count_by p (x ∷ xs) ≡ one (p x) + count_by p xs
 count-cons p x xs = sum_by-cons (λ y. one (p y)) x xs
 
 -- one element more at the end

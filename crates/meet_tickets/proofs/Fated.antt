@@ -77,9 +77,9 @@ hold_weight s (Cut t item) = s
 abbrev pub IsLined : Bool → Said → Type 0
 IsLined waits x = (j : Joining) × (waits_of j ≡ waits) × (x ≡ only_asked (deed_of j))
 
--- what is said of one that waited and was met
-abbrev pub IsMet : Said → Type 0
-IsMet x = (j : Joining) × (u : ℕ) × (waits_of j ≡ true) × (x ≡ only_met j u)
+-- what is said of one that waited and was met, by this ticket
+abbrev pub IsMet : ℕ → Said → Type 0
+IsMet u x = (j : Joining) × (waits_of j ≡ true) × (x ≡ only_met j u)
 
 -- what is said of one that waited and was cut
 abbrev pub IsCut : Said → Type 0
@@ -89,8 +89,8 @@ IsCut x = (j : Joining) × (waits_of j ≡ true) × (x ≡ only_cut j)
 abbrev pub IsHeld : (ℕ → Said) → Hold ℕ → Type 0
 IsHeld f Free = Unit {0}
 IsHeld f (Waiting t) = Unit {0}
-IsHeld f (Handed t u mark) = IsMet (f t)
-IsHeld f (Served t u mark) = IsMet (f t)
+IsHeld f (Handed t u mark) = IsMet u (f t)
+IsHeld f (Served t u mark) = IsMet u (f t)
 IsHeld f (Cut t item) = IsCut (f t)
 
 -- how much the tickets weigh
@@ -155,16 +155,16 @@ pub blank_unlined : (b : Bool) (x : Said) → x ≡ blank → IsLined b x → �
 blank_unlined b x is l = let apart : None ≡ Some (deed_of l.0) = sym (ap (λ y. y.asked) is) ∙ ap (λ y. y.asked) l.2 in cc
 
 -- nor was it met
-pub blank_unmet : (x : Said) → x ≡ blank → IsMet x → ⊥
-blank_unmet x is m = let apart : None ≡ Some (deed_of m.0) = sym (ap (λ y. y.asked) is) ∙ ap (λ y. y.asked) m.3 in cc
+pub blank_unmet : (x : Said) → x ≡ blank → (u : ℕ) → IsMet u x → ⊥
+blank_unmet x is u m = let apart : None ≡ Some (deed_of m.0) = sym (ap (λ y. y.asked) is) ∙ ap (λ y. y.asked) m.2 in cc
 
 -- nor cut
 pub blank_uncut : (x : Said) → x ≡ blank → IsCut x → ⊥
 blank_uncut x is c = let apart : None ≡ Some (deed_of c.0) = sym (ap (λ y. y.asked) is) ∙ ap (λ y. y.asked) c.2 in cc
 
 -- a ticket in the line wasn't met
-pub lined_unmet : (b : Bool) (x : Said) → IsLined b x → IsMet x → ⊥
-lined_unmet b x l m = let apart : None ≡ Some m.1 = sym (ap (λ y. y.met) l.2) ∙ ap (λ y. y.met) m.3 in cc
+pub lined_unmet : (b : Bool) (x : Said) → IsLined b x → (u : ℕ) → IsMet u x → ⊥
+lined_unmet b x l u m = let apart : None ≡ Some u = sym (ap (λ y. y.met) l.2) ∙ ap (λ y. y.met) m.2 in cc
 
 -- nor cut
 pub lined_uncut : (b : Bool) (x : Said) → IsLined b x → IsCut x → ⊥
@@ -172,19 +172,19 @@ lined_uncut b x l c = true≢false (sym (ap (λ y. y.cut) c.2) ∙ ap (λ y. y.c
 
 module _ (f f' : ℕ → Said) (x : ℕ) (same : (t : ℕ) → t ≢ x → f' t ≡ f t) where
   -- a seat that holds no ticket of which more is said
-  pub held_apart : (hold : Hold ℕ) → (IsMet (f x) → ⊥) → (IsCut (f x) → ⊥) → IsHeld f hold → IsHeld f' hold
+  pub held_apart : (hold : Hold ℕ) → ((u : ℕ) → IsMet u (f x) → ⊥) → (IsCut (f x) → ⊥) → IsHeld f hold → IsHeld f' hold
   held_apart Free unmet uncut h = tt
   held_apart (Waiting t) unmet uncut h = tt
-  held_apart (Handed t u mark) unmet uncut h = subst IsMet (sym (same t (λ e. unmet (subst (λ y. IsMet (f y)) e h)))) h
-  held_apart (Served t u mark) unmet uncut h = subst IsMet (sym (same t (λ e. unmet (subst (λ y. IsMet (f y)) e h)))) h
+  held_apart (Handed t u mark) unmet uncut h = subst (IsMet u) (sym (same t (λ e. unmet u (subst (λ y. IsMet u (f y)) e h)))) h
+  held_apart (Served t u mark) unmet uncut h = subst (IsMet u) (sym (same t (λ e. unmet u (subst (λ y. IsMet u (f y)) e h)))) h
   held_apart (Cut t item) unmet uncut h = subst IsCut (sym (same t (λ e. uncut (subst (λ y. IsCut (f y)) e h)))) h
 
   -- a seat whose open ticket is another
   pub held_other : (hold : Hold ℕ) → (open_ticket hold ≡ Some x → ⊥) → IsHeld f hold → IsHeld f' hold
   held_other Free other h = tt
   held_other (Waiting t) other h = tt
-  held_other (Handed t u mark) other h = subst IsMet (sym (same t (λ e. other (ap (λ y. Some y) e)))) h
-  held_other (Served t u mark) other h = subst IsMet (sym (same t (λ e. other (ap (λ y. Some y) e)))) h
+  held_other (Handed t u mark) other h = subst (IsMet u) (sym (same t (λ e. other (ap (λ y. Some y) e)))) h
+  held_other (Served t u mark) other h = subst (IsMet u) (sym (same t (λ e. other (ap (λ y. Some y) e)))) h
   held_other (Cut t item) other h = subst IsCut (sym (same t (λ e. other (ap (λ y. Some y) e)))) h
 
 -- what is said fits what was put at one seat

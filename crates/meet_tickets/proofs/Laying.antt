@@ -242,13 +242,13 @@ module _ (n bound : ℕ) where
   -- a ticket that waited, and the request that met it
   lay_met : (history : List (Record Deed)) (line : List (Entry ℕ)) (holds : ℕ → Hold ℕ) (i t u : ℕ) (j : Joining) (d : Deed) (x : Hold ℕ) → Fits history line holds → t ≤ n → u ≤ n → t ≢ u → said history t ≡ blank → said history u ≡ blank →
       holds i ≡ Free → i < bound → waits_of j ≡ true → is_request d ≡ true → named_by d ≡ Some t → heard d u true false (nat_lt 0 u) blank ≡ only_asked d → heard d u false true (nat_lt 0 t) (only_asked (deed_of j)) ≡ only_met j u →
-      ((w k s : Bool) → weight w k s (only_asked d) ≡ false) → ((f : ℕ → Said) → IsMet (f t) → IsHeld f x) → ((s : Bool) → hold_weight s x ≡ s) →
+      ((w k s : Bool) → weight w k s (only_asked d) ≡ false) → ((f : ℕ → Said) → IsMet u (f t) → IsHeld f x) → ((s : Bool) → hold_weight s x ≡ s) →
       Fits (history ++ record { seat = i; ticket = t; deed = deed_of j } ∷ record { seat = i; ticket = u; deed = d } ∷ []) line (put_at holds i x)
   lay_met history line holds i t u j d x fits under_t under_u apart unsaid_t unsaid_u free below waits request named adds tells light shape weighs =
       subst (λ h. Fits h line (put_at holds i x)) (append_assoc history (record { seat = i; ticket = t; deed = deed_of j } ∷ []) (record { seat = i; ticket = u; deed = d } ∷ []))
       (subst (λ ts. Fated says ts n line (put_at holds i x) bound) (sym more)
       (asks (sits fits middle t middle_others (only_met j u) refl n (omega arith) under_t unsaid_t (put_at_here (said history) t (only_met j u)) i x below free
-      (shape middle (j, u, waits, put_at_here (said history) t (only_met j u))) (λ w k s. weight_met w k s j u ∙ ap (λ b. b && s) waits ∙ sym (weighs s)))
+      (shape middle (j, waits, put_at_here (said history) t (only_met j u))) (λ w k s. weight_met w k s j u ∙ ap (λ b. b && s) waits ∙ sym (weighs s)))
       says u others (only_asked d) refl n (omega arith) under_u (put_at_there (said history) t (only_met j u) u (λ e. apart (sym e)) ∙ unsaid_u) own light))
     where
       first : Record Deed

@@ -8,6 +8,7 @@ pub mod Fated
 pub mod FatesOn
 pub mod Folded
 pub mod Folding
+pub mod Found
 pub mod Histories
 pub mod Holding
 pub mod Keeping
@@ -17,6 +18,8 @@ pub mod Members
 pub mod Opening
 pub mod Orderly
 pub mod Partners
+pub mod Pigeons
+pub mod Placed
 pub mod Recorded
 pub mod Refusing
 pub mod Remembered

@@ -54,7 +54,7 @@ flag_says history i j = fun_ext each
     each (suc x) = said_of_others history r (suc x) (λ e. omega arith) refl
 
 -- the open ticket of what a seat holds is open
-opened_of : (s : State) (i t : ℕ) (x : Hold ℕ) → Holds s i x → open_ticket x ≡ Some t → IsOpen s i t
+pub opened_of : (s : State) (i t : ℕ) (x : Hold ℕ) → Holds s i x → open_ticket x ≡ Some t → IsOpen s i t
 opened_of s i t Free h is = absurd (cc)
 opened_of s i t (Waiting u) h is = let e : u ≡ t = cc in subst (IsOpen s i) e h.0.opened
 opened_of s i t (Handed u v mark) h is = let e : u ≡ t = cc in subst (IsOpen s i) e h.0.opened
@@ -124,7 +124,7 @@ module _ {s : State} (told : Told s) (k : Kind) (history : List (Record Deed)) (
 
   -- a request meets an entry, whose seat, where it waits, holds the pair
   met_leaves : (u t : ℕ) (e : Entry ℕ) → Contains s.line e → e.ticket ≡ u → (is : IsLined e.waits (said history u)) → (x : Hold ℕ) →
-      ((f : ℕ → Said) → IsMet (f u) → IsHeld f x) → ((m : Bool) → hold_weight m x ≡ m) →
+      ((f : ℕ → Said) → IsMet t (f u) → IsHeld f x) → ((m : Bool) → hold_weight m x ≡ m) →
       Fated (meeting u t is.0) (tickets_of history) s.last (without u s.line) (if e.waits then put_at told.held e.seat x else told.held) bound
   met_leaves u t e m ticket is x shape weighs = ⊎_elim waiting still (cases_Bool e.waits)
     where
@@ -145,7 +145,7 @@ module _ {s : State} (told : Told s) (k : Kind) (history : List (Record Deed)) (
           let seat_waits = held_waiting s told.reached e.seat e.ticket (told.held e.seat) (told.holds e.seat) (told.reached.opened.waits e m w) (told.reached.placed.lined e m) in
           subst (λ h. Fated (meeting u t is.0) (tickets_of history) s.last (without u s.line) h bound) (sym (cond-true e.waits (put_at told.held e.seat x) told.held w))
           (leaves_seat fated (meeting u t is.0) u others e m ticket told.reached.distinct asked e.seat e.ticket seat_waits x
-          (shape (meeting u t is.0) (is.0, t, is.1 ∙ w, here))
+          (shape (meeting u t is.0) (is.0, is.1 ∙ w, here))
           (λ v l n. heavy v l n ∙ ap (λ b. b && n) (is.1 ∙ w) ∙ sym (weighs n)))
 
       still : e.waits ≡ false → Fated (meeting u t is.0) (tickets_of history) s.last (without u s.line) (if e.waits then put_at told.held e.seat x else told.held) bound
@@ -160,7 +160,7 @@ module _ {s : State} (told : Told s) (k : Kind) (history : List (Record Deed)) (
       ((j : Joining) → heard d t false true (nat_lt 0 u) (only_asked (deed_of j)) ≡ only_met j t) →
       ((w l m : Bool) → weight w l m (only_asked d) ≡ false) →
       paired_hold (λ mark. mark) found.0.ticket found.0.item t own ≡ x →
-      ((f : ℕ → Said) → IsMet (f u) → IsHeld f x) → ((m : Bool) → hold_weight m x ≡ m) →
+      ((f : ℕ → Said) → IsMet t (f u) → IsHeld f x) → ((m : Bool) → hold_weight m x ≡ m) →
       Fated (says i t d) (tickets_of (history ++ recorded i t d ∷ [])) t (without u s.line) (meets k (seats_of told) t own side).holds bound
   meets_goes i t u d side own other x above found request named adds tells light holds shape weighs =
       subst (λ h. Fated (says i t d) (tickets_of (history ++ recorded i t d ∷ [])) t (without u s.line) h bound) (sym held_then)
@@ -209,18 +209,18 @@ module _ {s : State} (told : Told s) (k : Kind) (history : List (Record Deed)) (
   open_here i t is j n there = n (same_seat s told.reached i j t (opened_of s i t (told.held i) (told.holds i) is) (opened_of s j t (told.held j) (told.holds j) there))
 
   -- a ticket that was met learns so
-  learns_goes : (i t : ℕ) (d : Deed) → named_by d ≡ None → is_request d ≡ false → ((j : Joining) (u : ℕ) → heard d t true false (nat_lt 0 t) (only_met j u) ≡ record (only_met j u) { learned = true }) →
-      open_ticket (told.held i) ≡ Some t → ((m : Bool) → hold_weight m (told.held i) ≡ m) → IsMet (said history t) →
+  learns_goes : (i t v : ℕ) (d : Deed) → named_by d ≡ None → is_request d ≡ false → ((j : Joining) (u : ℕ) → heard d t true false (nat_lt 0 t) (only_met j u) ≡ record (only_met j u) { learned = true }) →
+      open_ticket (told.held i) ≡ Some t → ((m : Bool) → hold_weight m (told.held i) ≡ m) → IsMet v (said history t) →
       Fated (says i t d) (tickets_of (history ++ recorded i t d ∷ [])) s.last s.line (put_at told.held i Free) bound
-  learns_goes i t d none other adds opened heavy met =
+  learns_goes i t v d none other adds opened heavy met =
       subst (λ ts. Fated (says i t d) ts s.last s.line (put_at told.held i Free) bound) (sym (tickets_same history (recorded i t d) other))
-      (ends fated (says i t d) t (says_others i t d none) i (some_open t (told.held i) opened) (open_here i t opened) (λ b l. lined_unmet b (said history t) l met)
-      (ap (λ y. is_some y.asked) met.3) (ap (λ y. is_some y.asked) now)
-      (λ w l m. ap (weight w l m) met.3 ∙ weight_met w l m met.0 met.1 ∙ ap (λ b. b && m) met.2 ∙ sym (heavy m))
-      (λ w l m. ap (weight w l m) now ∙ weight_learned w l m met.0 met.1))
+      (ends fated (says i t d) t (says_others i t d none) i (some_open t (told.held i) opened) (open_here i t opened) (λ b l. lined_unmet b (said history t) l v met)
+      (ap (λ y. is_some y.asked) met.2) (ap (λ y. is_some y.asked) now)
+      (λ w l m. ap (weight w l m) met.2 ∙ weight_met w l m met.0 v ∙ ap (λ b. b && m) met.1 ∙ sym (heavy m))
+      (λ w l m. ap (weight w l m) now ∙ weight_learned w l m met.0 v))
     where
-      now : says i t d t ≡ record (only_met met.0 met.1) { learned = true }
-      now = says_own i t d (only_met met.0 met.1) met.3 none ∙ adds met.0 met.1
+      now : says i t d t ≡ record (only_met met.0 v) { learned = true }
+      now = says_own i t d (only_met met.0 v) met.2 none ∙ adds met.0 v
 
   -- a ticket that was cut is collected
   collected_goes : (i t : ℕ) (item : Option ℕ) → told.held i ≡ Cut t item → Goes i t (Withdrawn Interrupted)
@@ -313,10 +313,10 @@ module _ {s : State} (told : Told s) (k : Kind) (history : List (Record Deed)) (
   goes i t (EntryInterrupted side) below z = fails_goes i t (EntryInterrupted side) z.0.above refl refl refl (λ w l n. refl)
   goes i t Done below z =
       let handed = ((follows told k i t Done).next.0 z).allowed in
-      learns_goes i t Done refl refl (λ j u. refl) (ap open_ticket handed.2) (λ n. ap (hold_weight n) handed.2) (subst (IsHeld (said history)) handed.2 (fated.held i))
+      learns_goes i t handed.0 Done refl refl (λ j u. refl) (ap open_ticket handed.2) (λ n. ap (hold_weight n) handed.2) (subst (IsHeld (said history)) handed.2 (fated.held i))
   goes i t (Got m u) below z =
       let served = ((follows told k i t (Got m u)).next.0 z).allowed in
-      learns_goes i t (Got m u) refl refl (λ j v. refl) (ap open_ticket served) (λ n. ap (hold_weight n) served) (subst (IsHeld (said history)) served (fated.held i))
+      learns_goes i t u (Got m u) refl refl (λ j v. refl) (ap open_ticket served) (λ n. ap (hold_weight n) served) (subst (IsHeld (said history)) served (fated.held i))
   goes i t (Withdrawn Cancelled) below z = back_goes i t Cancelled z.0 z.1
   goes i t (Withdrawn Expired) below z = back_goes i t Expired z.0 z.1
   goes i t (Withdrawn Interrupted) below z =

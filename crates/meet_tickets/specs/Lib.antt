@@ -6,4 +6,5 @@ pub mod BySeat
 pub mod Fates
 pub mod Limits
 pub mod Meeting
+pub mod Placed
 pub mod Refusals

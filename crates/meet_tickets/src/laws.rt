@@ -1,11 +1,12 @@
 //! Laws: that the two tellings of the rules are one, what bases stand for, and that what a place holds was asked.
 //! Each is the contract of a function that does nothing.
-ghost use Rattle.std.specs.Prelude.{◌≡◌, ◌≤◌, ℕ, List};
+ghost use Rattle.std.specs.Prelude.{◌≡◌, ◌≤◌, ◌++◌, ℕ, List};
 ghost use Rattle.meet_tickets.specs.Agreement.{TellingsAgree, TellingsAgreeOn};
 ghost use Rattle.meet_tickets.specs.Asked.{request_on, Remembers};
 ghost use Rattle.meet_tickets.specs.Bases.{Based, no_base, moment_of_base, IsWellFormed, IsLegalOn, IsBaseOf, Folds};
 ghost use Rattle.meet_tickets.specs.BySeat.{beginning, moment_of};
-ghost use Rattle.meet_tickets.specs.Fates.{ShowsFates, StandsOn};
+ghost use Rattle.meet_tickets.specs.Fates.{ShowsFates, StandsOn, opening};
+ghost use Rattle.meet_tickets.specs.Placed.{TellsPlace};
 ghost use Rattle.meet_tickets.specs.declared.lines.Hold.TheVariants.{Free};
 ghost use Rattle.meet_tickets.specs.declared.places.Kind.{Kind};
 ghost use Rattle.meet_tickets.specs.declared.records.Record.{Record};
@@ -61,4 +62,12 @@ pub fn bases_stand()
 pub fn requests_are_remembered()
     ensures { (k : Kind) (base : Based) (records : List (Record Deed)) → IsWellFormed k base → IsLegalOn k base records
         → Remembers (request_on base records) (moment_of k (moment_of_base base) records).seats }
+{}
+
+/// After a well-formed base and legal records the fates of the tickets are what the place holds, ticket by ticket: each
+/// entry of the line, each seat's ticket that was met or cut, and no other ticket waits, is kept or awaits its ending.
+/// It does nothing.
+pub fn fates_are_placed()
+    ensures { (k : Kind) (base : Based) (records : List (Record Deed)) → IsWellFormed k base → IsLegalOn k base records
+        → TellsPlace (opening base ++ records) (moment_of k (moment_of_base base) records).seats }
 {}

@@ -1,7 +1,8 @@
 //! The names that every meeting place shares, and the rules of a legal history.
 //!
 //! `specs/` has the rules: `Meeting` says whom a request meets, `ByLists` which histories are legal, `BySeat` the same
-//! as the code sees it, `Fates` what became of each ticket, `Asked` that a place holds what its tickets brought.
+//! as the code sees it, `Fates` what became of each ticket, `Placed` that this is what the place holds, `Asked` that it
+//! holds what its tickets brought.
 #![tactic(auto)]
 
 pub mod bases;
@@ -19,8 +20,8 @@ pub use bases::{Base, OpenCut, OpenPair};
 pub use fates::Fate;
 pub use items::Marked;
 pub use laws::{
-    bases_are_one, bases_fold, bases_show_fates, bases_stand, requests_are_remembered,
-    tellings_agree, tellings_agree_on,
+    bases_are_one, bases_fold, bases_show_fates, bases_stand, fates_are_placed,
+    requests_are_remembered, tellings_agree, tellings_agree_on,
 };
 pub use limits::{
     LAST_TICKET, MOST_GONE, MOST_KEPT, MOST_RECORDS, MOST_SEATS, TOLD_CAPACITY, limits_agree,
