@@ -3,6 +3,7 @@ pub mod Counts
 pub mod Following
 pub mod Gathered
 pub mod Leaving
+pub mod LeftTold
 pub mod Moves
 pub mod Removals
 pub mod Removed

@@ -1,5 +1,6 @@
 pub mod Answers
 pub mod Left
+pub mod LeftTold
 pub mod Lined
 pub mod Opened
 pub mod Queue
