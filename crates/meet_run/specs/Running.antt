@@ -56,10 +56,10 @@ FaultIs ReadFault None = ⊤
 FaultIs WriteFault None = ⊤
 FaultIs _ _ = ⊥
 
--- a run that no turn was left for: it read nothing more, or had no memory to begin with
+-- what comes of a run that has no turn left: a read that failed, in no line
 abbrev pub CannotRead : {A : Type 0} → Result A RunFault → Type 0
 CannotRead (Ok a) = ⊥
-CannotRead (Err f) = (f.line ≡ None) × ((f.why ≡ ReadFault) ⊎ (f.why ≡ Memory))
+CannotRead (Err f) = (f.line ≡ None) × (f.why ≡ ReadFault)
 
 -- what a fault leaves of a text: at a faulty line the whole of what comes before it; of a run that broke off, a prefix,
 -- and no last line but where a write failed

@@ -70,6 +70,9 @@ fn read_trace<R: Read>(
     ensures ends { OnOk result (EndsInTurns (R.remaining reader.old) turns) }
     ensures faults { IfErr result IsUnreadTrace }
 {
+    if turns == 0 {
+        return Err(cut_short(Refusal::ReadFault));
+    }
     let mut left = turns;
     let mut line = match Vec::with_capacity(alloc, LONGEST_LINE) {
         Ok(line) => line,

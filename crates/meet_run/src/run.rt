@@ -97,6 +97,9 @@ fn run_calls<R: Read, W: Write>(
     ensures ends { OnOk result (EndsInTurns (R.remaining reader.old) turns.old) }
     ensures faults { IfErr result IsRunFault }
 {
+    if *turns == 0 {
+        return Err(cut_short(Refusal::ReadFault));
+    }
     let mut stepper = match Stepper::new(alloc, setup) {
         Ok(stepper) => stepper,
         Err(why) => return Err(cut_short(why)),
@@ -128,7 +131,8 @@ fn run_calls<R: Read, W: Write>(
 ///
 /// The answer is true. A line that can't be read ends the run with BadLine and its number, from 1, as soon as it is
 /// known; a text without a first line is a fault of line 1. A read that fails, or no turn left for it, is ReadFault; a
-/// write that fails or takes no byte is WriteFault; where memory is wanted and not there, it is Memory.
+/// write that fails or takes no byte is WriteFault; where memory is wanted and not there, it is Memory. Where no turn is
+/// left behind the first line, or none was given, it is ReadFault before any memory is wanted.
 pub fn run_script_within<R: Read, W: Write>(
     alloc: Global,
     reader: &mut R,
@@ -143,6 +147,9 @@ pub fn run_script_within<R: Read, W: Write>(
     ensures ends { OnOk result (EndsInTurns (R.remaining reader.old) turns) }
     ensures faults { IfErr result IsRunFault }
 {
+    if turns == 0 {
+        return Err(cut_short(Refusal::ReadFault));
+    }
     let mut left = turns;
     let mut line = match Vec::with_capacity(alloc, LONGEST_LINE) {
         Ok(line) => line,

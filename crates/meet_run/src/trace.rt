@@ -1,9 +1,10 @@
 //! The trace of a script: the records that its calls write.
 
-ghost use Rattle.std.specs.Prelude.{◌≡◌, ◌+◌, ◌^◌, ◌<◌, ◌≤◌, ◌++◌, None, IfSome, IfOk, IfErr, OnOk, IsTrue};
+ghost use Rattle.std.specs.Prelude.{◌≡◌, ◌+◌, ◌^◌, ◌<◌, ◌≤◌, ◌++◌, None, Err, IfSome, IfOk, IfErr, OnOk};
 ghost use Rattle.std.specs.Io.KnownBytes.{Appends};
 ghost use Rattle.std.specs.List.{flat_map};
 ghost use Rattle.std.specs.Vec.{vec_capacity};
+ghost use Rattle.meet_tickets.specs.declared.refusals.Refusal.TheVariants.{ReadFault};
 ghost use Rattle.meet_history.specs.Limits.{IsInLimits};
 ghost use Rattle.meet_run.specs.Reading.{UsesTurns, EndsInTurns, lines_of};
 ghost use Rattle.meet_run.specs.Running.{CannotRead, IsCutShort, IsRunFault, RunEnds};
@@ -85,9 +86,13 @@ fn record_calls<R: Read>(
     ensures records { IfOk result (λ left. IfSome (R.remaining reader.old) (λ rest.
         LeavesRecords setup (lines_of rest) left.0.items left.1)) }
     ensures uses { UsesTurns (R.remaining reader.old) (R.remaining reader.new) turns.old turns.new }
+    ensures spent { turns.old ≡ 0 → result ≡ Err ReadFault }
     ensures ends { IfOk result (λ left. left.1 ≡ None → EndsInTurns (R.remaining reader.old) turns.old) }
     ensures why { IfErr result IsUnread }
 {
+    if *turns == 0 {
+        return Err(Refusal::ReadFault);
+    }
     let mut stepper = Stepper::new(alloc, setup)?;
     let mut replies = Vec::new(alloc);
     // How many lines were read.
@@ -121,6 +126,7 @@ fn trace_calls<R: Read, W: Write>(
     ensures trace { IfSome (R.remaining reader.old) (λ rest.
         TracesOn setup (lines_of rest) result (W.contents writer.old) (W.contents writer.new)) }
     ensures uses { UsesTurns (R.remaining reader.old) (R.remaining reader.new) turns.old turns.new }
+    ensures spent { turns.old ≡ 0 → CannotRead result }
     ensures ends { OnOk result (EndsInTurns (R.remaining reader.old) turns.old) }
     ensures faults { IfErr result IsRunFault }
 {
@@ -160,6 +166,9 @@ pub fn run_trace_within<R: Read, W: Write>(
     ensures ends { OnOk result (EndsInTurns (R.remaining reader.old) turns) }
     ensures faults { IfErr result IsRunFault }
 {
+    if turns == 0 {
+        return Err(cut_short(Refusal::ReadFault));
+    }
     let mut left = turns;
     let mut line = match Vec::with_capacity(alloc, LONGEST_LINE) {
         Ok(line) => line,
