@@ -56,7 +56,7 @@ FaultIs ReadFault None = ⊤
 FaultIs WriteFault None = ⊤
 FaultIs _ _ = ⊥
 
--- what comes of a run that has no turn left: a read that failed, in no line
+-- what comes of a run that has no turn left: ReadFault in no line, whether or not there is memory
 abbrev pub CannotRead : {A : Type 0} → Result A RunFault → Type 0
 CannotRead (Ok a) = ⊥
 CannotRead (Err f) = (f.line ≡ None) × (f.why ≡ ReadFault)

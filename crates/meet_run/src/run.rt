@@ -131,8 +131,8 @@ fn run_calls<R: Read, W: Write>(
 ///
 /// The answer is true. A line that can't be read ends the run with BadLine and its number, from 1, as soon as it is
 /// known; a text without a first line is a fault of line 1. A read that fails, or no turn left for it, is ReadFault; a
-/// write that fails or takes no byte is WriteFault; where memory is wanted and not there, it is Memory. Without a turn it
-/// is ReadFault, whether or not there is memory.
+/// write that fails or takes no byte is WriteFault; where memory is wanted and not there, it is Memory. Without a turn
+/// it is ReadFault, whether or not there is memory.
 pub fn run_script_within<R: Read, W: Write>(
     alloc: Global,
     reader: &mut R,

@@ -151,8 +151,8 @@ fn trace_calls<R: Read, W: Write>(
 /// The answer is true. A line that can't be read ends the script: the trace of the calls before it is written, and
 /// the fault is BadLine with the line's number, from 1; where that is the first line, or there is none, nothing is
 /// written. A read that fails, or no turn left for it, is ReadFault; a write that fails or takes no byte is
-/// WriteFault; where memory is wanted and not there, it is Memory. Then a prefix of the trace is written. Without a turn
-/// it is ReadFault, whether or not there is memory.
+/// WriteFault; where memory is wanted and not there, it is Memory. Then a prefix of the trace is written. Without a
+/// turn it is ReadFault, whether or not there is memory.
 pub fn run_trace_within<R: Read, W: Write>(
     alloc: Global,
     reader: &mut R,
