@@ -3,7 +3,7 @@
 ghost use Rattle.std.specs.Prelude.{◌≡◌, ◌≤◌, IfOk};
 ghost use Rattle.std.specs.Vec.{vec_capacity};
 ghost use Rattle.meet_history.specs.Limits.{IsInLimits};
-ghost use Rattle.meet_run.specs.Running.{IsNext, IfRead};
+ghost use Rattle.meet_run.specs.Running.{CannotRead, IsNext, IfRead};
 ghost use Rattle.meet_bench.specs.Tasks.{FitsTask, task_of};
 ghost use Rattle.meet_bench.specs.Asked.{at_end, task_asked, asked_in, IsAsked};
 
@@ -70,7 +70,8 @@ fn task_behind<R: Read>(
 }
 
 /// Reads what a text asks for within so many turns, or says why it can't: the number of the first line at fault,
-/// ReadFault where a read failed, Memory where there was none for a line.
+/// ReadFault where a read failed or no turn was left for it, Memory where there was none for a line. Without a turn it
+/// is ReadFault, whether or not there is memory.
 pub fn read_asked<R: Read>(
     alloc: Global,
     reader: &mut R,
@@ -79,7 +80,11 @@ pub fn read_asked<R: Read>(
     ensures asked { IsAsked asked_in result (R.remaining reader.old) }
     ensures setup { IfOk result (λ asked. IsInLimits asked.0) }
     ensures task { IfOk result (λ asked. FitsTask asked.1) }
+    ensures spent { turns ≡ 0 → CannotRead result }
 {
+    if turns == 0 {
+        return Err(cut_short(Refusal::ReadFault));
+    }
     let mut turns = turns;
     let mut line = match Vec::with_capacity(alloc, LONGEST_LINE) {
         Ok(line) => line,

@@ -60,6 +60,24 @@ fn replies_before_the_next_line(rt: HostRuntime) {
     assert!(rt; written.as_slice() == b"1 0 t1 waits\n".as_slice());
 }
 
+/// A task without a turn reads nothing and writes nothing.
+fn without_a_turn(rt: &impl Abort, alloc: Global, row: Row) {
+    let (task, text, _, _) = row;
+    let mut written = Vec::new(alloc);
+    let mut reader = feed_of(text, 0);
+    let end = perform_within(alloc, task, &mut reader, &mut written, 0);
+    assert!(rt; end == cut(Refusal::ReadFault), "{task:?}");
+    assert_eq!(rt; reader.reads, 0);
+    assert!(rt; written.is_empty(), "{task:?}");
+}
+
+#[test]
+fn no_read_at_all(rt: HostRuntime) {
+    for row in HANDOFF {
+        without_a_turn(&rt, rt.alloc(), row);
+    }
+}
+
 /// A script whose second line goes on without an end takes so many reads of those that it may have, and writes nothing.
 fn goes_on(rt: &impl Abort, alloc: Global, turns: u64, reads: u64, wanted: Result<bool, RunFault>) {
     let mut reader = feed_of(b"fair\n0 put 1", 0);
@@ -73,6 +91,8 @@ fn goes_on(rt: &impl Abort, alloc: Global, turns: u64, reads: u64, wanted: Resul
 
 #[test]
 fn a_line_without_an_end(rt: HostRuntime) {
+    // The first line alone.
+    goes_on(&rt, rt.alloc(), 5, 5, cut(Refusal::ReadFault));
     goes_on(&rt, rt.alloc(), 20, 20, cut(Refusal::ReadFault));
     let fault = RunFault {
         why: Refusal::BadLine,
