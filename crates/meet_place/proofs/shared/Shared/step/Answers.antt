@@ -1,0 +1,10 @@
+use Rattle.std.proofs.Common.{sym, ap, ◌∙◌}
+use Rattle.meet_book.specs.Booking.{record_of_receipt}
+use Rattle.meet_place.proofs.Stepped.{adds_none}
+use Rattle.meet_place.proofs.shared.Shared.step.Goals as goal
+
+pub returns-in-None-clause-adds : goal.returns-in-None-clause-adds
+returns-in-None-clause-adds g c =
+    adds_none _ _ _ (ap (λ s. s.list) c.seat.view_is)
+    (ap record_of_receipt (sym c.in-None.is) ∙ c.in-Ok.ensures.«record»
+    ∙ ap (λ n. g.O.Object.record_of n c.args.call c.in-Ok.stepped.0) (ap (λ s. s.number) c.seat.view_is))

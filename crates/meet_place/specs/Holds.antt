@@ -1,0 +1,17 @@
+-- What a place answers that other threads may have changed in between (our choice).
+use Rattle.std.specs.Prelude.{◌≡◌, ℕ, Option, Some, None, nat_lt, nat_eq, ◌||◌, if◌then◌else◌}
+use Rattle.meet_tickets.specs.declared.refusals.Refusal.{Refusal}
+use Rattle.meet_tickets.specs.declared.refusals.Refusal.TheVariants.{BadSizes}
+use Rattle.meet_tickets.specs.Limits.{most_seats}
+use Rattle.meet_tickets.specs.Refusals.{IsWhy}
+use Rattle.meet_book.specs.Booked.{Booked}
+use Rattle.meet_book.specs.Booking.{book_refusal}
+
+-- this is why a book refuses a call, where this is its place's own reason, and what the place owes and the call needs;
+-- a call that needs no record is refused for the place's own reason alone
+abbrev pub BookRefuses : {O B D : Type 0} → (first : Option Refusal) → (owed need : ℕ) → Booked O B D → Refusal → Type 0
+BookRefuses first owed need book why = IsWhy (book_refusal first owed need book) why × (need ≡ 0 → first ≡ Some why)
+
+-- why a place with so many gates isn't made, Memory aside
+abbrev pub sizes_refusal : (gates : ℕ) → Option Refusal
+sizes_refusal gates = if nat_eq gates 0 || nat_lt most_seats gates then Some BadSizes else None

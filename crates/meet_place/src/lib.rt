@@ -1,0 +1,13 @@
+//! A place that threads share: a book under a lock, a seat for each thread, and a gate at which each seat waits. It
+//! names no queue.
+#![tactic(auto)]
+
+mod gates;
+mod place;
+mod seats;
+mod shared;
+
+pub use gates::{Gate, Turn};
+pub use place::{NewPlace, Place, Wakes};
+pub use seats::{Back, Pending, Seat};
+pub use shared::Shared;

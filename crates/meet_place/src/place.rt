@@ -1,0 +1,245 @@
+//! One place that threads share.
+
+ghost use Rattle.std.specs.Prelude.{◌≡◌, ◌+◌, ◌<◌, ◌≤◌, [], None, length, option_to_list, IfOk, IfErr, vec_len};
+ghost use Rattle.std.specs.Fn.{FnOnceReturnsAt};
+ghost use Rattle.std.specs.Vec.{vec_capacity};
+ghost use Rattle.meet_tickets.specs.Limits.{most_seats};
+ghost use Rattle.meet_tickets.specs.Refusals.{IsWhy};
+ghost use Rattle.meet_book.specs.Booked.{Booked};
+ghost use Rattle.meet_place.specs.Seats.{Adds, AreFresh};
+ghost use Rattle.meet_place.specs.Holds.{BookRefuses, sizes_refusal};
+
+use crate::gates::{Gate, Turn};
+use crate::seats::{Pending, Seat};
+use crate::shared::Shared;
+use crossbeam_utils::CachePadded;
+use meet_book::{Book, Object};
+use meet_tickets::{MOST_SEATS, Refusal, Refused, SeatNo};
+use std::alloc::Global;
+use std::marker::Model;
+use std::sync::ledger::{Blank, Ledger, Share};
+use std::sync::{Mutex, MutexGuard, Wait, ledger};
+use std::time::Clock;
+
+/// Whom a call should wake.
+pub trait Wakes: Object {
+    /// The seat that may go on, now that a call was answered so. It is a hint: nothing is promised of it.
+    fn wakes(&self, answer: &Self::Answer) -> Option<SeatNo>;
+}
+
+/// What a place is made of.
+pub struct NewPlace<O: Object, G> {
+    /// The book of a place that has no history yet.
+    pub book: Book<O>,
+    /// A gate for each seat.
+    pub gates: Vec<G>,
+    /// A ledger with a part for each seat.
+    pub blank: Blank,
+}
+
+/// A book under a lock, and a gate for each seat. A contract sees the number of its seats: what lies under the lock is
+/// changed by all threads, so it is known while one holds the lock, and not else.
+#[derive(Drop)]
+pub struct Place<O: Object, G, N: Ledger> {
+    gates: Vec<CachePadded<G>>,
+    shared: Mutex<Shared<O, N>>,
+}
+
+impl<O: Object, G, N: Ledger> Model for Place<O, G, N> {
+    ghost use Rattle.std.specs.Prelude.{◌≡◌, ◌≤◌, ℕ, vec_len};
+    ghost use Rattle.meet_tickets.specs.Limits.{most_seats};
+
+    ghost Value = { ℕ };
+
+    ghost view = { λ p. vec_len p.gates };
+
+    ghost invariant = { λ p. (vec_len p.gates ≡ N.parts) × (vec_len p.gates ≤ most_seats) };
+}
+
+/// The seat of this number.
+fn seat_of(number: usize) -> SeatNo
+    requires { number < most_seats }
+    ensures { result ≡ number }
+{
+    SeatNo::new(number as u64).unwrap()
+}
+
+impl<O: Object, G: Drop, N: Ledger> Place<O, G, N> {
+    /// A place over the book of a place that has no history yet, and its seats, one for each gate, numbered from 0. It
+    /// refuses BadSizes exactly where there is no gate or more than 65,536, then Memory; then all comes back.
+    pub fn new(
+        alloc: Global,
+        parts: NewPlace<O, G>,
+    ) -> Result<(Self, Vec<Seat<O::Deed, N>>), Refused<NewPlace<O, G>>>
+        requires fresh { O.gone_of parts.book.base + length parts.book.records ≡ 0 }
+        requires name { parts.blank.name ≡ N.name }
+        requires parts { parts.blank.parts ≡ N.parts }
+        requires one_each { parts.blank.parts ≡ vec_len parts.gates }
+        ensures count { IfOk result (λ made. made.0 ≡ vec_len parts.gates) }
+        ensures seats { IfOk result (λ made. vec_len made.1 ≡ vec_len parts.gates) }
+        ensures numbers { IfOk result (λ made. AreFresh made.1.items) }
+        ensures sizes { IfOk result (λ _. sizes_refusal (vec_len parts.gates) ≡ None) }
+        ensures why { IfErr result (λ refused. IsWhy (sizes_refusal (vec_len parts.gates)) refused.why) }
+        ensures back { IfErr result (λ refused. refused.back ≡ parts) }
+    {
+        let count = parts.gates.len();
+        if count == 0 || count as u64 > MOST_SEATS {
+            return Err(Refused {
+                why: Refusal::BadSizes,
+                back: parts,
+            });
+        }
+        let mut padded = Vec::new(alloc);
+        let mut seats = Vec::new(alloc);
+        if padded.reserve(count).is_err() || seats.reserve(count).is_err() {
+            return Err(Refused {
+                why: Refusal::Memory,
+                back: parts,
+            });
+        }
+        Ok(Self::with_room(alloc, parts, padded, seats))
+    }
+
+    /// The place and its seats. The empty lists have room for the gates and the seats, so that nothing is refused, and
+    /// the book is never let go.
+    fn with_room(
+        alloc: Global,
+        parts: NewPlace<O, G>,
+        mut padded: Vec<CachePadded<G>>,
+        mut seats: Vec<Seat<O::Deed, N>>,
+    ) -> (Self, Vec<Seat<O::Deed, N>>)
+        requires fresh { O.gone_of parts.book.base + length parts.book.records ≡ 0 }
+        requires limit { vec_len parts.gates ≤ most_seats }
+        requires name { parts.blank.name ≡ N.name }
+        requires parts { parts.blank.parts ≡ N.parts }
+        requires one_each { parts.blank.parts ≡ vec_len parts.gates }
+        requires empty { (padded.items ≡ []) × (seats.items ≡ []) }
+        requires room { (vec_len parts.gates ≤ vec_capacity padded) × (vec_len parts.gates ≤ vec_capacity seats) }
+        ensures count { result.0 ≡ vec_len parts.gates }
+        ensures seats { vec_len result.1 ≡ vec_len parts.gates }
+        ensures numbers { AreFresh result.1.items }
+    {
+        let NewPlace { book, gates, blank } = parts;
+        let (total, mut rest) = blank.open::<N>();
+        for gate in gates {
+            let number = seat_of(padded.len());
+            padded.push_reserved(CachePadded::new(gate));
+            seats.push_reserved(Seat::new(alloc, number, rest.split_off(1, 0)));
+        }
+        let place = Place {
+            gates: padded,
+            shared: Mutex::new(Shared::new(book, total, rest)),
+        };
+        (place, seats)
+    }
+
+    /// How many seats there are.
+    pub fn seats(&self) -> usize
+        ensures count { result ≡ self.now }
+        ensures parts { result ≡ N.parts }
+        ensures limit { result ≤ most_seats }
+    {
+        self.gates.len()
+    }
+}
+
+impl<O: Object, G, N: Ledger> Place<O, G, N> {
+    /// Takes the lock, once no other thread has it, and holds it until the guard is let go.
+    pub fn hold<R: Wait>(&self, rt: &R) -> MutexGuard<'_, Shared<O, N>> {
+        self.shared.lock(rt)
+    }
+
+    /// What this closure answers of the place as it is at some time, under one hold of the lock.
+    pub fn look<R: Wait, A, F: FnOnce(&O) -> A>(&self, rt: &R, look: F) -> A
+        requires { F.IsAlwaysCallable look }
+        ensures { (object : O) × FnOnceReturnsAt F.FnOnce look object result }
+    {
+        let shared = self.shared.lock(rt);
+        look(shared.probe())
+    }
+
+    /// The gates, the book, the ledger of its records, and a share that has no part.
+    pub(crate) fn into_parts(self) -> (Vec<CachePadded<G>>, Book<O>, ledger::Book<N>, Share<N>)
+        ensures gates { (vec_len result.0 ≡ self) × (self ≡ N.parts) × (self ≤ most_seats) }
+        ensures total { O.gone_of result.1.base + length result.1.records ≡ result.2.total }
+        ensures rest { (result.3.parts ≡ 0) × (result.3.amount ≡ 0) }
+    {
+        let Place { gates, shared } = self;
+        let (book, total, rest) = shared.into_inner().into_parts();
+        (gates, book, total, rest)
+    }
+
+    /// The place of these parts.
+    pub(crate) fn of_parts(
+        gates: Vec<CachePadded<G>>,
+        book: Book<O>,
+        total: ledger::Book<N>,
+        rest: Share<N>,
+    ) -> Self
+        requires gates { (vec_len gates ≡ N.parts) × (vec_len gates ≤ most_seats) }
+        requires total { O.gone_of book.base + length book.records ≡ total.total }
+        requires rest { (rest.parts ≡ 0) × (rest.amount ≡ 0) }
+        ensures { result ≡ vec_len gates }
+    {
+        Place {
+            gates,
+            shared: Mutex::new(Shared::new(book, total, rest)),
+        }
+    }
+}
+
+impl<O: Wakes, G, N: Ledger> Place<O, G, N> {
+    /// Makes a call of a seat under one hold of the lock: its answer, and whom it should wake, once the lock is free
+    /// again. The seat's list has room for the receipt, so under the lock nothing grows but the book's records. It
+    /// refuses what the book's `step` does; then the seat is as it was, and the call comes back.
+    pub fn locked_step<R: Wait>(
+        &self,
+        rt: &R,
+        seat: &mut Seat<O::Deed, N>,
+        call: O::Call,
+    ) -> Result<(O::Answer, Option<SeatNo>), Refused<O::Call>>
+        requires room { 0 < seat.old.room }
+        ensures number { seat.new.number ≡ seat.old.number }
+        ensures room { length seat.new.list + seat.new.room ≡ length seat.old.list + seat.old.room }
+        ensures adds { IfOk result (λ made. Adds seat.old.list seat.new.list
+            (option_to_list (O.record_of seat.old.number call made.0))) }
+        ensures step { IfOk result (λ made. (old : O) × (new : O) × O.steps old seat.old.number call made.0 new) }
+        ensures why { IfErr result (λ refused. (book : Booked O O.Base O.Deed)
+            × BookRefuses (O.refusal_of book.object seat.old.number call) (O.owed_of book.object) (O.need_of call) book
+            refused.why) }
+        ensures back { IfErr result (λ refused. refused.back ≡ call) }
+        ensures same { IfErr result (λ _. seat.new ≡ seat.old) }
+    {
+        let mut shared = self.shared.lock(rt);
+        match shared.step(seat, call) {
+            Ok(answer) => {
+                let woken = shared.probe().wakes(&answer);
+                Ok((answer, woken))
+            }
+            Err(refused) => Err(refused),
+        }
+    }
+}
+
+impl<O: Object, G: Gate, N: Ledger> Place<O, G, N> {
+    /// Wakes the gate of this seat, if one is given and is there.
+    pub fn wake(&self, seat: Option<SeatNo>) {
+        if let Some(seat) = seat {
+            let at = seat.number() as usize;
+            if at < self.gates.len() {
+                self.gates[at].wake();
+            }
+        }
+    }
+
+    /// Waits at the gate of this seat, for this many milliseconds where there is a limit.
+    pub fn wait<R: Wait + Clock>(
+        &self,
+        rt: &R,
+        pending: &Pending<O::Deed, N>,
+        limit: Option<u64>,
+    ) -> Turn {
+        let at = pending.number().number() as usize;
+        self.gates[at].wait(rt, limit)
+    }
+}

@@ -1,0 +1,186 @@
+//! Seats, and seats whose ticket is open.
+
+ghost use Rattle.std.specs.Prelude.{◌≡◌, ◌<◌, ◌≤◌, [], IfErr, OnOk};
+ghost use Rattle.meet_tickets.specs.declared.refusals.Refusal.TheVariants.{Memory};
+ghost use Rattle.meet_place.specs.Backs.{bare_of};
+ghost use Rattle.meet_place.specs.Seats.{SeatView, PendingView};
+
+use meet_book::Receipt;
+use meet_tickets::{Refusal, SeatNo, Ticket};
+use std::alloc::Global;
+use std::marker::Model;
+use std::sync::ledger::{Ledger, Share};
+
+/// A seat of a place: its number, its receipts, and its share of the number of records, which is the number of its
+/// receipts. It is of the one place whose ledger is `N`, and no other seat of it has this number's share.
+#[derive(Drop)]
+pub struct Seat<D: Copy, N: Ledger> {
+    pub(crate) number: SeatNo,
+    pub(crate) list: Vec<Receipt<D>>,
+    pub(crate) share: Share<N>,
+}
+
+impl<D: Copy, N: Ledger> Model for Seat<D, N> {
+    ghost use Rattle.std.specs.Prelude.{◌≡◌, ◌<◌, ◌-◌, ℕ, vec_len};
+    ghost use Rattle.std.specs.Vec.{vec_capacity};
+    ghost use Rattle.meet_place.specs.Seats.{SeatView};
+
+    ghost Value = { SeatView D };
+
+    ghost view = { λ s. record {
+      number = s.number;
+      list = s.list.items;
+      room = vec_capacity s.list - vec_len s.list;
+    } };
+
+    ghost invariant = { λ s. (s.share.parts ≡ 1) × (s.share.amount ≡ vec_len s.list) × (s.number < N.parts) };
+}
+
+impl<D: Copy, N: Ledger> Seat<D, N> {
+    /// A new seat, which has no receipt.
+    pub(crate) fn new(alloc: Global, number: SeatNo, share: Share<N>) -> Self
+        requires share { (share.parts ≡ 1) × (share.amount ≡ 0) }
+        requires number { number < N.parts }
+        ensures number { result.number ≡ number }
+        ensures list { result.list ≡ [] }
+    {
+        Seat {
+            number,
+            list: Vec::new(alloc),
+            share,
+        }
+    }
+
+    /// The seat's number, which is below the number of seats that its place was made with.
+    pub fn number(&self) -> SeatNo
+        ensures number { result ≡ self.now.number }
+        ensures within { result < N.parts }
+    {
+        self.number
+    }
+
+    /// The seat's receipts so far, in order.
+    pub fn receipts(&self) -> &[Receipt<D>]
+        ensures { result.now ≡ self.now.list }
+    {
+        self.list.as_slice()
+    }
+
+    /// Makes room for so many receipts, ahead of a call. The only refusal is Memory; then nothing has changed.
+    pub fn reserve(&mut self, receipts: usize) -> Result<(), Refusal>
+        ensures room { OnOk result (receipts ≤ self.new.room) }
+        ensures more { self.old.room ≤ self.new.room }
+        ensures number { self.new.number ≡ self.old.number }
+        ensures list { self.new.list ≡ self.old.list }
+        ensures memory { IfErr result (λ why. why ≡ Memory) }
+        ensures unchanged { IfErr result (λ _. self.new ≡ self.old) }
+    {
+        match self.list.reserve(receipts) {
+            Ok(()) => Ok(()),
+            Err(_) => Err(Refusal::Memory),
+        }
+    }
+}
+
+/// A seat whose ticket is open, with the mark that its request brought, where it brought an item. Its list has room for
+/// the receipt of the ending.
+#[derive(Drop)]
+pub struct Pending<D: Copy, N: Ledger> {
+    seat: Seat<D, N>,
+    ticket: Ticket,
+    mark: Option<u64>,
+}
+
+impl<D: Copy, N: Ledger> Model for Pending<D, N> {
+    ghost use Rattle.std.specs.Prelude.{◌<◌};
+    ghost use Rattle.meet_place.specs.Seats.{PendingView};
+
+    ghost Value = { PendingView D };
+
+    ghost view = { λ p. record { number = p.seat.number; list = p.seat.list; ticket = p.ticket; mark = p.mark } };
+
+    ghost invariant = { λ p. 0 < p.seat.room };
+}
+
+impl<D: Copy, N: Ledger> Pending<D, N> {
+    /// This seat, which has room for one receipt more, with its open ticket and the mark that its request brought.
+    pub fn new(seat: Seat<D, N>, ticket: Ticket, mark: Option<u64>) -> Self
+        requires room { 0 < seat.room }
+        ensures { result ≡ record { number = seat.number; list = seat.list; ticket = ticket; mark = mark } }
+    {
+        Pending { seat, ticket, mark }
+    }
+
+    /// The seat's number, which is below the number of seats that its place was made with.
+    pub fn number(&self) -> SeatNo
+        ensures number { result ≡ self.now.number }
+        ensures within { result < N.parts }
+    {
+        self.seat.number()
+    }
+
+    /// The open ticket.
+    pub fn ticket(&self) -> Ticket
+        ensures { result ≡ self.now.ticket }
+    {
+        self.ticket
+    }
+
+    /// The mark that the ticket's request brought; none where it brought no item.
+    pub fn mark(&self) -> Option<u64>
+        ensures { result ≡ self.now.mark }
+    {
+        self.mark
+    }
+
+    /// The seat's receipts so far, in order.
+    pub fn receipts(&self) -> &[Receipt<D>]
+        ensures { result.now ≡ self.now.list }
+    {
+        self.seat.receipts()
+    }
+
+    /// The seat, which has room for the receipt of the ending; the ticket, and the mark.
+    pub fn into_parts(self) -> (Seat<D, N>, Ticket, Option<u64>)
+        ensures room { 0 < result.0.room }
+        ensures number { result.0.number ≡ self.number }
+        ensures list { result.0.list ≡ self.list }
+        ensures ticket { result.1 ≡ self.ticket }
+        ensures mark { result.2 ≡ self.mark }
+    {
+        let Pending { seat, ticket, mark } = self;
+        (seat, ticket, mark)
+    }
+}
+
+/// A seat that is given back at the end.
+#[derive(Drop)]
+pub enum Back<D: Copy, N: Ledger> {
+    /// One without an open ticket.
+    Free(Seat<D, N>),
+    /// One whose ticket is still open.
+    Held(Pending<D, N>),
+}
+
+impl<D: Copy, N: Ledger> Back<D, N> {
+    /// The seat's number, which is below the number of seats that its place was made with.
+    pub fn number(&self) -> SeatNo
+        ensures number { result ≡ (bare_of self.now).number }
+        ensures within { result < N.parts }
+    {
+        match self {
+            Back::Free(seat) => seat.number(),
+            Back::Held(pending) => pending.number(),
+        }
+    }
+
+    /// The seat's receipts so far, in order.
+    pub fn receipts(&self) -> &[Receipt<D>]
+        ensures { result.now ≡ (bare_of self.now).list }
+    {
+        match self {
+            Back::Free(seat) => seat.receipts(),
+            Back::Held(pending) => pending.receipts(),
+        }
+    }
+}
