@@ -1,6 +1,7 @@
 //! One place that threads share.
 
-ghost use Rattle.std.specs.Prelude.{◌≡◌, ◌+◌, ◌<◌, ◌≤◌, [], None, length, option_to_list, IfOk, IfErr, vec_len};
+ghost use Rattle.std.specs.Prelude.{◌≡◌, ◌+◌, ◌<◌, ◌≤◌, [], None, length, option_to_list, IfOk, IfErr};
+ghost use Rattle.std.specs.Prelude.{vec_len};
 ghost use Rattle.std.specs.Fn.{FnOnceReturnsAt};
 ghost use Rattle.std.specs.Vec.{vec_capacity};
 ghost use Rattle.meet_tickets.specs.Limits.{most_seats};
@@ -28,6 +29,7 @@ pub trait Wakes: Object {
 }
 
 /// What a place is made of.
+#[derive(Drop)]
 pub struct NewPlace<O: Object, G> {
     /// The book of a place that has no history yet.
     pub book: Book<O>,
@@ -132,7 +134,9 @@ impl<O: Object, G: Drop, N: Ledger> Place<O, G, N> {
         };
         (place, seats)
     }
+}
 
+impl<O: Object, G, N: Ledger> Place<O, G, N> {
     /// How many seats there are.
     pub fn seats(&self) -> usize
         ensures count { result ≡ self.now }
@@ -141,9 +145,7 @@ impl<O: Object, G: Drop, N: Ledger> Place<O, G, N> {
     {
         self.gates.len()
     }
-}
 
-impl<O: Object, G, N: Ledger> Place<O, G, N> {
     /// Takes the lock, once no other thread has it, and holds it until the guard is let go.
     pub fn hold<R: Wait>(&self, rt: &R) -> MutexGuard<'_, Shared<O, N>> {
         self.shared.lock(rt)
@@ -154,7 +156,7 @@ impl<O: Object, G, N: Ledger> Place<O, G, N> {
         requires { F.IsAlwaysCallable look }
         ensures { (object : O) × FnOnceReturnsAt F.FnOnce look object result }
     {
-        let shared = self.shared.lock(rt);
+        let shared = self.hold(rt);
         look(shared.probe())
     }
 
@@ -210,7 +212,7 @@ impl<O: Wakes, G, N: Ledger> Place<O, G, N> {
         ensures back { IfErr result (λ refused. refused.back ≡ call) }
         ensures same { IfErr result (λ _. seat.new ≡ seat.old) }
     {
-        let mut shared = self.shared.lock(rt);
+        let mut shared = self.hold(rt);
         match shared.step(seat, call) {
             Ok(answer) => {
                 let woken = shared.probe().wakes(&answer);

@@ -12,7 +12,7 @@ use std::marker::Model;
 use std::sync::ledger::{Ledger, Share};
 
 /// A seat of a place: its number, its receipts, and its share of the number of records, which is the number of its
-/// receipts. It is of the one place whose ledger is `N`, and no other seat of it has this number's share.
+/// receipts. It is of the one place whose ledger is `N`, which alone makes its seats, each number once.
 #[derive(Drop)]
 pub struct Seat<D: Copy, N: Ledger> {
     pub(crate) number: SeatNo,

@@ -44,7 +44,14 @@ impl<O: Object, N: Ledger> Shared<O, N> {
         Shared { book, total, rest }
     }
 
-    /// The place, to be looked at.
+    /// The book, to be looked at.
+    pub fn book(&self) -> &Book<O>
+        ensures { result.now ≡ self.now }
+    {
+        &self.book
+    }
+
+    /// The object itself, to be looked at.
     pub fn probe(&self) -> &O
         ensures { result.now ≡ self.now.object }
     {
