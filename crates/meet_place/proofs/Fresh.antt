@@ -1,5 +1,6 @@
 -- New seats.
-use Rattle.std.proofs.Common.{◌≡◌, ℕ, zero, suc, List, [], ◌∷◌, ◌++◌, length, Some, inl, inr, ⊎_elim, ◌⊎◌, refl, sym, ap, ◌∙◌, arith}
+use Rattle.std.proofs.Common.{◌≡◌, ℕ, zero, suc, List, [], ◌∷◌, ◌++◌, length, Some, inl, inr, ⊎_elim, ◌⊎◌}
+use Rattle.std.proofs.Common.{refl, sym, ap, ◌∙◌}
 use Rattle.std.specs.Prelude.{slice_get}
 use Rattle.meet_place.specs.Seats.{SeatView, AreFresh}
 
@@ -15,6 +16,7 @@ last_is (z ∷ xs) x y (suc i) e =
 pub fresh_push : {D : Type 0} (seats : List (SeatView D)) (s : SeatView D) → AreFresh seats → s.number ≡ length seats
     → s.list ≡ [] → AreFresh (seats ++ s ∷ [])
 fresh_push seats s h number list i t e =
-    ⊎_elim (λ was. h i t was) (λ (same : (i ≡ length seats) × (s ≡ t)).
+    ⊎_elim (λ was. h i t was)
+    (λ (same : (i ≡ length seats) × (s ≡ t)).
     (ap (λ u. u.number) (sym same.1) ∙ number ∙ sym same.0, ap (λ u. u.list) (sym same.1) ∙ list))
     (last_is seats s t i e)

@@ -1,5 +1,5 @@
 -- What a step that writes no record leaves in its seat's list.
-use Rattle.std.proofs.Common.{◌≡◌, Option, None, List, [], ◌++◌, sym, ap, ◌∙◌}
+use Rattle.std.proofs.Common.{◌≡◌, Option, None, List, [], sym, ap, ◌∙◌}
 use Rattle.std.specs.Prelude.{option_to_list}
 use Rattle.std.proofs.lemmas.List.{append-nil}
 use Rattle.meet_tickets.specs.declared.records.Record.{Record}

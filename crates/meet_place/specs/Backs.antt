@@ -1,7 +1,6 @@
 -- What contracts see of a seat that is given back (our choice).
 use Rattle.std.specs.Prelude.{ℕ, Option, Some, None, List}
 use Rattle.meet_book.specs.Received.{Received}
-use Rattle.meet_place.specs.Seats.{SeatView, PendingView}
 use Rattle.meet_place.specs.declared.seats.Back.{Back}
 use Rattle.meet_place.specs.declared.seats.Back.TheVariants.{Free, Held}
 
