@@ -2,6 +2,7 @@
 
 ghost use Rattle.std.specs.Prelude.{◌≡◌, ◌≢◌, ℕ, ◌+◌, ◌<◌, ◌≤◌, Option, Some, None, List, [], ◌++◌, length};
 ghost use Rattle.std.specs.Prelude.{option_to_list, MatchOption, ⊤, IsOk, IfOk, IfErr, OnOk, OnErr};
+ghost use Rattle.std.specs.Vec.{vec_capacity};
 ghost use Rattle.meet_tickets.specs.declared.records.Record.{Record};
 ghost use Rattle.meet_tickets.specs.declared.refusals.Refusal.{Refusal};
 ghost use Rattle.meet_tickets.specs.declared.refusals.Refusal.TheVariants.{Memory, HistoryFull, TicketsSpent};
@@ -188,4 +189,30 @@ pub trait Drains: Object {
 
     /// A poll uses no room.
     ghost poll_fits: { Self.room_of poll ≡ 0 };
+}
+
+/// A place whose answers tell whom a call should wake.
+pub trait Wakes: Object {
+    /// The seat that may go on, now that a call was answered so and has left the place like this. It is a hint: nothing
+    /// is promised of it.
+    fn wakes(&self, answer: &Self::Answer) -> Option<SeatNo>;
+}
+
+/// A place that can be taken apart, with all that lies in it.
+pub trait Leaves: Object {
+    /// One thing that lies in the place.
+    type Left;
+
+    /// What lies in the place, each thing once.
+    ghost left_of: { Self → List Self.Left };
+
+    /// How many things lie in the place. It takes no memory.
+    fn left(&self) -> u64
+        ensures { result ≡ length (left_of self.now) };
+
+    /// Takes out what lies in the place, into this empty list, which has room for it. It takes no memory.
+    fn leave(self, empty: Vec<Self::Left>) -> Vec<Self::Left>
+        requires empty { empty.items ≡ [] }
+        requires room { length (left_of self) ≤ vec_capacity empty }
+        ensures { result.items ≡ left_of self };
 }

@@ -1,17 +1,27 @@
--- What contracts see of a seat that is given back (our choice).
-use Rattle.std.specs.Prelude.{ℕ, Option, Some, None, List}
+-- What contracts see of seats that are given back (our choice).
+use Rattle.std.specs.Prelude.{ℕ, ◌+◌, Option, Some, None, List, [], ◌∷◌, length}
 use Rattle.meet_book.specs.Received.{Received}
 use Rattle.meet_place.specs.declared.seats.Back.{Back}
 use Rattle.meet_place.specs.declared.seats.Back.TheVariants.{Free, Held}
 
--- a seat's number, its receipts in order, and its open ticket and the mark of that, where it has them
-pub record Bare (D : Type 0) : Type 0 where
-  pub number : ℕ
-  pub list : List (Received D)
-  pub ticket : Option ℕ
-  pub mark : Option ℕ
+module _ {D N : Type 0} where
+  -- its seat's number
+  abbrev pub number_of : Back D N → ℕ
+  number_of (Free seat) = seat.number
+  number_of (Held p) = p.number
 
--- what is given back: a seat that is free, or one whose ticket is open
-abbrev pub bare_of : {D N : Type 0} → Back D N → Bare D
-bare_of (Free seat) = record { number = seat.number; list = seat.list; ticket = None; mark = None }
-bare_of (Held p) = record { number = p.number; list = p.list; ticket = Some p.ticket; mark = p.mark }
+  -- its seat's receipts, in order
+  abbrev pub list_of : Back D N → List (Received D)
+  list_of (Free seat) = seat.list
+  list_of (Held p) = p.list
+
+  -- the seat of this number, with these receipts and so much room; held, where a ticket is open, with that and its mark
+  abbrev pub back_of : ℕ → List (Received D) → ℕ → Option (ℕ × Option ℕ) → Back D N
+  back_of number list room None = Free (record { number = number; list = list; room = room })
+  back_of number list room (Some held) = Held (record { number = number; list = list; ticket = held.0; mark = held.1 })
+
+module _ {D : Type 0} where
+  -- how many receipts these lists have
+  abbrev pub receipts_in : List (List (Received D)) → ℕ
+  receipts_in [] = 0
+  receipts_in (list ∷ lists) = length list + receipts_in lists

@@ -1,3 +1,4 @@
 pub mod Backs
+pub mod Faults
 pub mod Holds
 pub mod Seats

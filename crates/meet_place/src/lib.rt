@@ -2,12 +2,15 @@
 //! names no queue.
 #![tactic(auto)]
 
+mod backs;
+mod close;
 mod gates;
 mod place;
 mod seats;
 mod shared;
 
+pub use close::{CloseFault, Closed};
 pub use gates::{Gate, Turn};
-pub use place::{NewPlace, Place, Wakes};
+pub use place::{NewPlace, Place};
 pub use seats::{Back, Pending, Seat};
 pub use shared::Shared;

@@ -14,19 +14,13 @@ use crate::gates::{Gate, Turn};
 use crate::seats::{Pending, Seat};
 use crate::shared::Shared;
 use crossbeam_utils::CachePadded;
-use meet_book::{Book, Object};
+use meet_book::{Book, Object, Wakes};
 use meet_tickets::{MOST_SEATS, Refusal, Refused, SeatNo};
 use std::alloc::Global;
 use std::marker::Model;
 use std::sync::ledger::{Blank, Ledger, Share};
 use std::sync::{Mutex, MutexGuard, Wait, ledger};
 use std::time::Clock;
-
-/// Whom a call should wake.
-pub trait Wakes: Object {
-    /// The seat that may go on, now that a call was answered so. It is a hint: nothing is promised of it.
-    fn wakes(&self, answer: &Self::Answer) -> Option<SeatNo>;
-}
 
 /// What a place is made of.
 #[derive(Drop)]

@@ -2,7 +2,7 @@
 
 ghost use Rattle.std.specs.Prelude.{◌≡◌, ◌<◌, ◌≤◌, [], IfErr, OnOk};
 ghost use Rattle.meet_tickets.specs.declared.refusals.Refusal.TheVariants.{Memory};
-ghost use Rattle.meet_place.specs.Backs.{bare_of};
+ghost use Rattle.meet_place.specs.Backs.{number_of, list_of};
 ghost use Rattle.meet_place.specs.Seats.{SeatView, PendingView};
 
 use meet_book::Receipt;
@@ -165,7 +165,7 @@ pub enum Back<D: Copy, N: Ledger> {
 impl<D: Copy, N: Ledger> Back<D, N> {
     /// The seat's number, which is below the number of seats that its place was made with.
     pub fn number(&self) -> SeatNo
-        ensures number { result ≡ (bare_of self.now).number }
+        ensures number { result ≡ number_of self.now }
         ensures within { result < N.parts }
     {
         match self {
@@ -176,7 +176,7 @@ impl<D: Copy, N: Ledger> Back<D, N> {
 
     /// The seat's receipts so far, in order.
     pub fn receipts(&self) -> &[Receipt<D>]
-        ensures { result.now ≡ (bare_of self.now).list }
+        ensures { result.now ≡ list_of self.now }
     {
         match self {
             Back::Free(seat) => seat.receipts(),

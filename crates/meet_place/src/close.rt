@@ -1,0 +1,147 @@
+//! The end of a place.
+
+ghost use Rattle.std.specs.Prelude.{◌≡◌, ◌+◌, ◌≤◌, List, length, map, IsPermutation, IfOk, IfErr, [], vec_len};
+ghost use Rattle.std.specs.Vec.{vec_capacity};
+ghost use Rattle.meet_book.specs.Listed.{AreListed};
+ghost use Rattle.meet_place.specs.Backs.{list_of, receipts_in};
+ghost use Rattle.meet_place.specs.Faults.{FaultFits, why_of};
+ghost use Rattle.meet_place.specs.declared.seats.Back.{Back};
+
+use crate::backs::{lists_of, put_together, take_apart};
+use crate::place::Place;
+use crate::seats::Back;
+use meet_book::{Book, Leaves, Object, Receipt, Same, compare};
+use meet_tickets::{Record, Refusal, SeatNo};
+use std::alloc::Global;
+use std::sync::ledger::Ledger;
+
+/// What a place leaves once it is closed.
+#[derive(Drop)]
+pub struct Closed<O: Leaves> {
+    /// What stands for the records that were folded away.
+    pub base: O::Base,
+    /// The records since, in order.
+    pub records: Vec<Record<O::Deed>>,
+    /// The receipts of each seat, in the order of their numbers.
+    pub lists: Vec<Vec<Receipt<O::Deed>>>,
+    /// What was left in the place.
+    pub left: Vec<O::Left>,
+}
+
+/// Why a place was not closed.
+#[derive(Drop)]
+pub enum CloseFault<O: Object, G, N: Ledger> {
+    /// Fewer seats were given back than were made. The place and the seats come back.
+    SeatMissing {
+        /// How many were given back.
+        have: usize,
+        /// How many were made.
+        made: usize,
+        place: Place<O, G, N>,
+        seats: Vec<Back<O::Deed, N>>,
+    },
+    /// Memory was wanted and not there. The place and the seats come back.
+    Memory {
+        place: Place<O, G, N>,
+        seats: Vec<Back<O::Deed, N>>,
+    },
+    /// The records of a seat aren't those of its receipts. The book comes back, out of its lock, and the seats, in the
+    /// order of their numbers.
+    Differs {
+        /// The least such seat.
+        seat: SeatNo,
+        /// The first index at which they differ, counted from 0 among the seat's records.
+        index: u64,
+        book: Book<O>,
+        seats: Vec<Back<O::Deed, N>>,
+    },
+}
+
+impl<O: Object, G, N: Ledger> CloseFault<O, G, N> {
+    /// The reason as a refusal: SeatMissing, Memory or Differs.
+    pub fn why(&self) -> Refusal
+        ensures { result ≡ why_of self.now }
+    {
+        match self {
+            CloseFault::SeatMissing { .. } => Refusal::SeatMissing,
+            CloseFault::Memory { .. } => Refusal::Memory,
+            CloseFault::Differs { .. } => Refusal::Differs,
+        }
+    }
+}
+
+impl<O: Leaves, G: Drop, N: Ledger> Place<O, G, N>
+where
+    O::Base: Drop,
+    O::Deed: Same + Drop,
+    O::Left: Drop,
+{
+    /// Ends the place: takes all seats back, in whatever order, compares the records with their receipts, and takes out
+    /// what is left. It refuses SeatMissing exactly where fewer seats are given back than were made, then Memory, then
+    /// Differs where a seat's receipts aren't its records.
+    pub fn close(
+        self,
+        alloc: Global,
+        mut seats: Vec<Back<O::Deed, N>>,
+    ) -> Result<Closed<O>, CloseFault<O, G, N>>
+        ensures listed { IfOk result (λ c. AreListed (O.gone_of c.base) c.records.items
+            (map (λ list. list.items) c.lists.items)) }
+        ensures left { IfOk result (λ c. (object : O) × O.leads c.base c.records.items object
+            × (c.left.items ≡ O.left_of object)) }
+        ensures lists { IfOk result (λ c. (ordered : List (Back O.Deed N)) × IsPermutation seats.items ordered
+            × (map (λ list. list.items) c.lists.items ≡ map list_of ordered)) }
+        ensures count { IfOk result (λ c. vec_len c.lists ≡ self) }
+        ensures receipts { IfOk result (λ c. O.gone_of c.base + length c.records.items
+            ≡ receipts_in (map (λ list. list.items) c.lists.items)) }
+        ensures fault { IfErr result (λ fault. FaultFits O.gone_of self seats.items fault) }
+    {
+        let made = self.seats();
+        let have = seats.len();
+        if have < made {
+            return Err(CloseFault::SeatMissing {
+                have,
+                made,
+                place: self,
+                seats,
+            });
+        }
+        let mut bares = Vec::new(alloc);
+        let mut backs = Vec::new(alloc);
+        let mut lists = Vec::new(alloc);
+        if bares.reserve(have).is_err()
+            || backs.reserve(have).is_err()
+            || lists.reserve(have).is_err()
+        {
+            return Err(CloseFault::Memory { place: self, seats });
+        }
+        let (gates, book, mut total, mut rest) = self.into_parts();
+        let mut left = Vec::new(alloc);
+        if left.reserve(book.probe().left() as usize).is_err() {
+            let place = Place::of_parts(gates, book, total, rest);
+            return Err(CloseFault::Memory { place, seats });
+        }
+        seats.sort_unstable_by_key(|back| back.number().number());
+        let bares = take_apart(seats, &mut rest, bares);
+        total.audit(&mut rest);
+        match compare(O::gone(book.base()), book.records(), bares.as_slice()) {
+            None => {}
+            Some((seat, index)) => {
+                return Err(CloseFault::Differs {
+                    seat,
+                    index,
+                    book,
+                    seats: put_together(bares, rest, backs),
+                });
+            }
+        }
+        let lists = lists_of(bares, lists);
+        let (object, base, records) = book.into_parts();
+        let left = object.leave(left);
+        Ok(Closed {
+            base,
+            records,
+            lists,
+            left,
+        })
+    }
+}
