@@ -203,16 +203,20 @@ pub trait Leaves: Object {
     /// One thing that lies in the place.
     type Left;
 
-    /// What lies in the place, each thing once.
-    ghost left_of: { Self → List Self.Left };
+    /// How many things lie in the place.
+    ghost left_count: { Self → ℕ };
+
+    /// What lies in a place to which these records lead after this base: these things, each once, and no other.
+    ghost are_left: { Self.Base → List (Record Self.Deed) → List Self.Left → Type 0 };
 
     /// How many things lie in the place. It takes no memory.
     fn left(&self) -> u64
-        ensures { result ≡ length (left_of self.now) };
+        ensures { result ≡ left_count self.now };
 
     /// Takes out what lies in the place, into this empty list, which has room for it. It takes no memory.
     fn leave(self, empty: Vec<Self::Left>) -> Vec<Self::Left>
         requires empty { empty.items ≡ [] }
-        requires room { length (left_of self) ≤ vec_capacity empty }
-        ensures { result.items ≡ left_of self };
+        requires room { left_count self ≤ vec_capacity empty }
+        ensures { (base : Self.Base) (records : List (Record Self.Deed)) → Self.leads base records self
+            → are_left base records result.items };
 }

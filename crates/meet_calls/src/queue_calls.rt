@@ -71,6 +71,35 @@ pub enum DualAnswer<T> {
     Interrupted(Interrupted),
 }
 
+impl<T> DualAnswer<T> {
+    /// Whether the call met a ticket, or cut one, so that another seat may go on.
+    pub fn frees(&self) -> bool {
+        match self {
+            DualAnswer::Gave(gave) => match gave {
+                Gave::Meets(_, _) => true,
+                Gave::Waits(_) | Gave::EntryInterrupted(_, _) => false,
+            },
+            DualAnswer::Offered(offered) => match offered {
+                Offered::Meets(_, _) => true,
+                Offered::Fails(_, _) => false,
+            },
+            DualAnswer::Took(took) => match took {
+                Took::Meets(_, _, _) => true,
+                Took::Waits(_) | Took::EntryInterrupted(_) => false,
+            },
+            DualAnswer::Polled(polled) => match polled {
+                Polled::Meets(_, _, _) => true,
+                Polled::Fails(_) => false,
+            },
+            DualAnswer::Interrupted(interrupted) => match interrupted {
+                Interrupted::Cut(_) => true,
+                Interrupted::Flagged => false,
+            },
+            DualAnswer::Followed(_) | DualAnswer::TakenBack(_) => false,
+        }
+    }
+}
+
 /// A call of a queue of any kind.
 #[derive(Drop)]
 pub enum QueueCall<T> {
@@ -111,4 +140,17 @@ pub enum QueueAnswer<T> {
     Put(Put<T>),
     /// To another call, or to a put that waits.
     Dual(DualAnswer<T>),
+}
+
+impl<T> QueueAnswer<T> {
+    /// Whether the call met a ticket, or cut one, so that another seat may go on.
+    pub fn frees(&self) -> bool {
+        match self {
+            QueueAnswer::Put(put) => match put {
+                Put::Meets(_, _) => true,
+                Put::Kept(_) | Put::Fails(_, _) => false,
+            },
+            QueueAnswer::Dual(answer) => answer.frees(),
+        }
+    }
 }

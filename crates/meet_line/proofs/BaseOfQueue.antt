@@ -22,7 +22,7 @@ use Rattle.meet_line.specs.Seen.{marked_entry, marked_hold, moment_of_queue}
 use Rattle.meet_line.specs.Opened.{pair_of, cut_of, pair_at, cut_at, flagged_at, gathered}
 use Rattle.meet_line.proofs.Gathered.{there_gathered, had_by, rising_gathered}
 
-flips : (x y : ℕ) → (x == y) ≡ (y == x)
+pub flips : (x y : ℕ) → (x == y) ≡ (y == x)
 flips x y = ⊎_elim (λ same. same.0 ∙ sym (eq-eqb y x (sym same.1))) (λ other. other.0 ∙ sym (ne_eqb y x (λ e. other.1 (sym e)))) (eqb_tells x y)
 
 -- numbers that rise stay apart when they change places

@@ -33,6 +33,9 @@ told_hold (CutAt t item) = option_map (λ m. record { ticket = t; mark = m; stan
 told_asked : (history : List (Record Deed)) (t : ℕ) (d : Deed) → request_of history t ≡ Some d → left_told history t ≡ left_asked history t d
 told_asked history t d is = ap (option_and_then (left_asked history t)) is
 
+some_is : {A : Type 0} {x y : A} → Some x ≡ Some y → x ≡ y
+some_is e = cc
+
 module _ (history : List (Record Deed)) (s : Seats ℕ) (tells : TellsPlace history s) (asked : Remembers (request_of history) s) where
   -- what an entry leaves is told
   pub entry_told : (e : Entry ℕ) → Contains s.line e → (a : Leaving) → told_entry e ≡ Some a → left_told history a.ticket ≡ Some a
@@ -222,3 +225,52 @@ module _ (history : List (Record Deed)) (s : Seats ℕ) (tells : TellsPlace hist
       by_request : (o : Option Deed) → request_of history t ≡ o → Leaves a
       by_request None r = absurd (let no : None ≡ Some a = sym (ap (option_and_then (left_asked history t)) r) ∙ told in cc)
       by_request (Some d) r = by_deed d r (sym (told_asked history t d r) ∙ told)
+
+  -- no two seats leave items of one giver
+  pub seats_leave_apart : (i j : ℕ) (x y : Hold ℕ) → s.holds i ≡ x → s.holds j ≡ y → (a b : Leaving) → told_hold x ≡ Some a → told_hold y ≡ Some b → a.ticket ≡ b.ticket → i ≡ j
+  seats_leave_apart i j Free y p q a b l r same = absurd (cc)
+  seats_leave_apart i j (WaitingAt t) y p q a b l r same = absurd (cc)
+  seats_leave_apart i j (Handed t u m) y p q a b l r same = absurd (cc)
+  seats_leave_apart i j x Free p q a b l r same = absurd (cc)
+  seats_leave_apart i j x (WaitingAt t) p q a b l r same = absurd (cc)
+  seats_leave_apart i j x (Handed t u m) p q a b l r same = absurd (cc)
+  seats_leave_apart i j (CutAt t None) y p q a b l r same = absurd (cc)
+  seats_leave_apart i j x (CutAt t None) p q a b l r same = absurd (cc)
+  seats_leave_apart i j (Served t u m) (Served v w n) p q a b l r same =
+      let giver : u ≡ w = ap (λ (z : Leaving). z.ticket) (some_is l) ∙ same ∙ sym (ap (λ (z : Leaving). z.ticket) (some_is r)) in
+      let asks : Some (GiveMeets m t) ≡ Some (GiveMeets n v) = sym (asked.served i t u m p) ∙ ap (request_of history) giver ∙ asked.served j v w n q in
+      let taker : t ≡ v = cc in
+      tells.seats_apart i j t (ap open_ticket p) (ap open_ticket q ∙ ap (λ z. Some z) (sym taker))
+  seats_leave_apart i j (Served t u m) (CutAt v (Some n)) p q a b l r same =
+      let giver : u ≡ v = ap (λ (z : Leaving). z.ticket) (some_is l) ∙ same ∙ sym (ap (λ (z : Leaving). z.ticket) (some_is r)) in
+      let asks : Some (GiveMeets m t) ≡ Some (GiveWaits n) = sym (asked.served i t u m p) ∙ ap (request_of history) giver ∙ asked.cut j v (Some n) q in
+      absurd (cc)
+  seats_leave_apart i j (CutAt v (Some n)) (Served t u m) p q a b l r same =
+      let giver : v ≡ u = ap (λ (z : Leaving). z.ticket) (some_is l) ∙ same ∙ sym (ap (λ (z : Leaving). z.ticket) (some_is r)) in
+      let asks : Some (GiveWaits n) ≡ Some (GiveMeets m t) = sym (asked.cut i v (Some n) p) ∙ ap (request_of history) giver ∙ asked.served j t u m q in
+      absurd (cc)
+  seats_leave_apart i j (CutAt t (Some m)) (CutAt v (Some n)) p q a b l r same =
+      let giver : t ≡ v = ap (λ (z : Leaving). z.ticket) (some_is l) ∙ same ∙ sym (ap (λ (z : Leaving). z.ticket) (some_is r)) in
+      tells.seats_apart i j t (ap open_ticket p) (ap open_ticket q ∙ ap (λ z. Some z) (sym giver))
+
+  -- nor does a seat leave one of a giver whose entry does
+  pub line_leaves_apart : (e : Entry ℕ) → Contains s.line e → (i : ℕ) (x : Hold ℕ) → s.holds i ≡ x → (b : Leaving) → told_hold x ≡ Some b → b.ticket ≢ e.ticket
+  line_leaves_apart e there i Free p b r same = absurd (cc)
+  line_leaves_apart e there i (WaitingAt t) p b r same = absurd (cc)
+  line_leaves_apart e there i (Handed t u m) p b r same = absurd (cc)
+  line_leaves_apart e there i (CutAt t None) p b r same = absurd (cc)
+  line_leaves_apart e there i (Served t u m) p b r same =
+      let giver : u ≡ e.ticket = ap (λ (z : Leaving). z.ticket) (some_is r) ∙ same in
+      asks_to_wait m t e.item e.waits (sym (asked.served i t u m p) ∙ ap (request_of history) giver ∙ asked.line e there)
+    where
+      asks_to_wait : (m t : ℕ) (item : Option ℕ) (waits : Bool) → Some (GiveMeets m t) ≡ Some (asked_for item waits) → ⊥
+      asks_to_wait m t None waits is = absurd (cc)
+      asks_to_wait m t (Some n) true is = absurd (cc)
+      asks_to_wait m t (Some n) false is = absurd (cc)
+  line_leaves_apart e there i (CutAt t (Some m)) p b r same =
+      let giver : t ≡ e.ticket = ap (λ (z : Leaving). z.ticket) (some_is r) ∙ same in
+      stands e.waits (sym (tells.cut i t (Some m) p) ∙ ap (fate history) giver ∙ tells.line e there)
+    where
+      stands : (waits : Bool) → Cut ≡ (if waits then Waiting else KeptFate) → ⊥
+      stands true is = absurd (cc)
+      stands false is = absurd (cc)

@@ -3,6 +3,7 @@ pub mod Counts
 pub mod Following
 pub mod Gathered
 pub mod Leaving
+pub mod LeftThere
 pub mod LeftTold
 pub mod Moves
 pub mod Removals

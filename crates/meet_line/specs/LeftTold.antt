@@ -1,12 +1,13 @@
 -- What is left in a queue, told by the records: whose items lie there still, and how they stand (our choice).
-use Rattle.std.specs.Prelude.{◌≡◌, ◌↔◌, ℕ, ◌<◌, ◌==◌, Option, Some, None, option_map, option_and_then, List}
-use Rattle.std.specs.Prelude.{Contains, AllPairs, if◌then◌else◌}
+use Rattle.std.specs.Prelude.{◌≡◌, ◌↔◌, ℕ, ◌<◌, ◌==◌, Option, Some, None, option_map, option_and_then, List, ◌++◌}
+use Rattle.std.specs.Prelude.{map, Contains, AllPairs, if◌then◌else◌}
 use Rattle.meet_tickets.specs.declared.fates.Fate.{Fate}
 use Rattle.meet_tickets.specs.declared.fates.Fate.TheVariants.{Paired, Cut, Kept as KeptFate, Waiting}
 use Rattle.meet_tickets.specs.declared.records.Record.{Record}
 use Rattle.meet_tickets.specs.declared.records.Deed.{Deed}
 use Rattle.meet_tickets.specs.declared.records.Deed.TheVariants.{GiveWaits, GiveMeets, GiveKept}
-use Rattle.meet_tickets.specs.Fates.{fate, request_of, has_waited}
+use Rattle.meet_tickets.specs.Bases.{Based}
+use Rattle.meet_tickets.specs.Fates.{fate, request_of, has_waited, opening}
 use Rattle.meet_line.specs.declared.left.Left.{Left}
 use Rattle.meet_line.specs.declared.left.LeftStanding.{LeftStanding}
 use Rattle.meet_line.specs.declared.left.LeftStanding.TheVariants.{Offered, Kept, Ready}
@@ -46,7 +47,7 @@ left_asked history t (GiveKept m) =
     option_map (λ s. record { ticket = t; mark = m; standing = s }) (standing_kept (fate history t))
 left_asked history t (GiveMeets m u) =
     if has_waited history u then
-      option_map (λ s. record { ticket = t; mark = m; standing = s }) (standing_met t (fate history u))
+    option_map (λ s. record { ticket = t; mark = m; standing = s }) (standing_met t (fate history u))
     else None
 left_asked history t deed = None
 
@@ -58,3 +59,7 @@ left_told history t = option_and_then (left_asked history t) (request_of history
 pub record AreLeft (history : List (Record Deed)) (left : List Leaving) : Type 0 where
   pub rising : AllPairs (λ a b. a.ticket < b.ticket) left
   pub all : (a : Leaving) → Contains left a ↔ (left_told history a.ticket ≡ Some a)
+
+-- the same of a queue's items, after a base
+abbrev pub AreLeftOn : {T : Type 0} → (T → ℕ) → Based → List (Record Deed) → List (Left T) → Type 0
+AreLeftOn mark b records items = AreLeft (opening b ++ records) (map (leaving_of mark) items)

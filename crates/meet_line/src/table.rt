@@ -22,6 +22,7 @@ pub struct SeatTable<T> {
     holds: Vec<Hold<T>>,
     flags: Vec<bool>,
     settled: u64,
+    changed: Option<SeatNo>,
 }
 
 impl<T> Model for SeatTable<T> {
@@ -62,6 +63,7 @@ impl<T> SeatTable<T> {
             holds,
             flags,
             settled: 0,
+            changed: None,
         })
     }
 
@@ -144,6 +146,7 @@ impl<T> SeatTable<T> {
         let was = mem::replace(&mut self.holds[seat.number() as usize], hold);
         self.owed = owed - u64::from(was.is_open());
         self.settled = settled - u64::from(was.is_settled());
+        self.changed = Some(seat);
         was
     }
 
@@ -169,6 +172,11 @@ impl<T> SeatTable<T> {
         self.settled
     }
 
+    /// The seat whose hold was changed last, where one was: a hint, of which nothing is promised.
+    pub fn changed(&self) -> Option<SeatNo> {
+        self.changed
+    }
+
     /// How many items the seats hold. It looks at every seat.
     pub fn left(&self) -> u64
         ensures value { result ≡ length (left_at_seats self.now.holds) }
@@ -189,6 +197,7 @@ impl<T> SeatTable<T> {
             flags,
             owed: _,
             settled: _,
+            changed: _,
         } = self;
         drop(flags);
         let mut holds = holds.into_iter();

@@ -86,8 +86,8 @@ where
     ) -> Result<Closed<O>, CloseFault<O, G, N>>
         ensures listed { IfOk result (λ c. AreListed (O.gone_of c.base) c.records.items
             (map (λ list. list.items) c.lists.items)) }
-        ensures left { IfOk result (λ c. (object : O) × O.leads c.base c.records.items object
-            × (c.left.items ≡ O.left_of object)) }
+        ensures legal { IfOk result (λ c. (object : O) × O.leads c.base c.records.items object) }
+        ensures left { IfOk result (λ c. O.are_left c.base c.records.items c.left.items) }
         ensures lists { IfOk result (λ c. (ordered : List (Back O.Deed N)) × IsPermutation seats.items ordered
             × (map (λ list. list.items) c.lists.items ≡ map list_of ordered)) }
         ensures count { IfOk result (λ c. vec_len c.lists ≡ self) }

@@ -1,9 +1,14 @@
 //! The synchronous queue as a book's place, over either line.
 
-ghost use Rattle.std.specs.Prelude.{◌≡◌, ◌≤◌, None, refl};
+ghost use Rattle.std.specs.Prelude.{◌≡◌, ◌≤◌, None, [], List, length, refl};
 ghost use Rattle.meet_line.specs.Queue.{places_of};
 ghost use Rattle.meet_calls.specs.DualRecords.{dual_record};
-ghost use Rattle.meet_tickets.specs.Bases.{no_base, IsBaseOf};
+ghost use Rattle.meet_tickets.specs.Bases.{Based, no_base, IsBaseOf};
+ghost use Rattle.std.specs.Vec.{vec_capacity};
+ghost use Rattle.meet_tickets.specs.declared.records.Deed.{Deed as Told};
+ghost use Rattle.meet_tickets.specs.declared.records.Record.{Record as Entered};
+ghost use Rattle.meet_line.specs.Left.{left_in};
+ghost use Rattle.meet_line.specs.LeftTold.{AreLeftOn};
 ghost use Rattle.meet_line.specs.Seen.{moment_of_queue};
 ghost use Rattle.meet_calls.specs.DualSteps.{DualStep, LeadsTo, kind_of, dual_refusal, dual_need, dual_room};
 ghost use Rattle.meet_calls.specs.DualSteps.{dual_owed, dual_available, dual_left};
@@ -12,9 +17,9 @@ ghost use Rattle.meet_calls.specs.DualRoom.{own-record};
 ghost use Rattle.meet_calls.specs.declared.queue_calls.DualCall.TheVariants.{Poll};
 
 use super::Dual;
-use meet_book::{Bases, Drains, Object};
+use meet_book::{Bases, Drains, Leaves, Object, Wakes};
 use meet_calls::{Answered, DualAnswer, DualCall, admit_call, make_call};
-use meet_line::Line;
+use meet_line::{Left, Line};
 use meet_tickets::{Base, Deed, Marked, Record, Refusal, SeatNo};
 use std::alloc::Global;
 
@@ -134,6 +139,37 @@ impl<T: Marked, L: Line<T>> Drains for Dual<T, L> {
     fn poll_call(&self) -> DualCall<T> {
         self.stays_sound();
         DualCall::Poll
+    }
+}
+
+impl<T: Marked, L: Line<T>> Wakes for Dual<T, L> {
+    fn wakes(&self, answer: &DualAnswer<T>) -> Option<SeatNo> {
+        if answer.frees() {
+            self.meetings.changed()
+        } else {
+            None
+        }
+    }
+}
+
+impl<T: Marked, L: Line<T>> Leaves for Dual<T, L> {
+    type Left = Left<T>;
+
+    ghost left_count = { λ q. length (left_in L.end q) };
+
+    ghost are_left = { λ base records left. AreLeftOn T.mark_of base records left };
+
+    fn left(&self) -> u64 {
+        self.meetings.left()
+    }
+
+    fn leave(self, empty: Vec<Left<T>>) -> Vec<Left<T>>
+        requires empty { empty.items ≡ [] }
+        requires room { length (left_in L.end self) ≤ vec_capacity empty }
+        ensures { (base : Based) (records : List (Entered Told)) → LeadsTo T.mark_of (kind_of L.end) base records self
+            → AreLeftOn T.mark_of base records result.items }
+    {
+        self.meetings.into_left_by_ticket(empty)
     }
 }
 

@@ -1,6 +1,7 @@
 //! What is left in a queue, counted and taken out. Neither call takes memory.
 
-ghost use Rattle.std.specs.Prelude.{◌≡◌, ◌+◌, ◌≤◌, ◌++◌, [], length, vec_len};
+ghost use Rattle.std.specs.Prelude.{◌≡◌, ◌+◌, ◌≤◌, ◌++◌, [], length, vec_len, IsPermutation};
+ghost use Rattle.std.specs.List.Sorted.{IsNonDecreasingBy};
 ghost use Rattle.std.specs.Vec.{vec_capacity};
 ghost use Rattle.meet_line.specs.Left.{left_in_line, left_in};
 
@@ -51,6 +52,18 @@ impl<T: Marked, L: Line<T>> Meetings<T, L> {
         let mut left = empty;
         empty_line(line, &mut left);
         seats.into_left(&mut left);
+        left
+    }
+
+    /// The same, by rising ticket: n items cost n log n.
+    pub fn into_left_by_ticket(self, empty: Vec<Left<T>>) -> Vec<Left<T>>
+        requires empty { empty.items ≡ [] }
+        requires room { length (left_in L.end self) ≤ vec_capacity empty }
+        ensures items { IsPermutation (left_in L.end self) result.items }
+        ensures rises { IsNonDecreasingBy (λ left. left.ticket) result.items }
+    {
+        let mut left = self.into_left(empty);
+        left.sort_unstable_by_key(|left| left.ticket);
         left
     }
 }

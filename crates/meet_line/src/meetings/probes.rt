@@ -25,6 +25,12 @@ impl<T: Marked, L: Line<T>> Meetings<T, L> {
         }
     }
 
+    /// The seat whose hold was changed last, where one was: after two tickets met, or one was cut, that of the one that
+    /// waited. It is a hint, of which nothing is promised.
+    pub fn changed(&self) -> Option<SeatNo> {
+        self.seats.changed()
+    }
+
     /// How many seats there are.
     pub fn seats(&self) -> u64
         ensures { result ≡ count_of self.now }

@@ -1,8 +1,14 @@
 //! The transfer queue as a book's place.
 
-ghost use Rattle.std.specs.Prelude.{◌≡◌, ◌≤◌, None, refl, Option};
+ghost use Rattle.std.specs.Prelude.{◌≡◌, ◌≤◌, None, [], List, length, refl, Option};
+ghost use Rattle.meet_tickets.specs.declared.places.End.TheVariants.{Front};
 ghost use Rattle.meet_line.specs.Queue.{places_of};
-ghost use Rattle.meet_tickets.specs.Bases.{no_base, IsBaseOf};
+ghost use Rattle.meet_tickets.specs.Bases.{Based, no_base, IsBaseOf};
+ghost use Rattle.std.specs.Vec.{vec_capacity};
+ghost use Rattle.meet_tickets.specs.declared.records.Deed.{Deed as Told};
+ghost use Rattle.meet_tickets.specs.declared.records.Record.{Record as Entered};
+ghost use Rattle.meet_line.specs.Left.{left_in};
+ghost use Rattle.meet_line.specs.LeftTold.{AreLeftOn};
 ghost use Rattle.meet_line.specs.Seen.{moment_of_queue};
 ghost use Rattle.meet_calls.specs.DualSteps.{LeadsTo, dual_owed, dual_available, dual_left};
 ghost use Rattle.meet_transfer.specs.Bounded.{BoundedStep};
@@ -14,8 +20,9 @@ ghost use Rattle.meet_calls.specs.declared.queue_calls.DualCall.TheVariants.{Pol
 ghost use Rattle.meet_calls.specs.declared.queue_calls.QueueCall.TheVariants.{Dual as EachHas};
 
 use super::Transfer;
-use meet_book::{Bases, Drains, Object};
+use meet_book::{Bases, Drains, Leaves, Object, Wakes};
 use meet_calls::{DualCall, QueueAnswer, QueueCall, admit_call, answered_put, make_call};
+use meet_line::Left;
 use meet_tickets::{Base, Deed, Marked, Record, Refusal, SeatNo};
 use std::alloc::Global;
 
@@ -143,6 +150,37 @@ impl<T: Marked> Drains for Transfer<T> {
     fn poll_call(&self) -> QueueCall<T> {
         self.stays_sound();
         QueueCall::Dual(DualCall::Poll)
+    }
+}
+
+impl<T: Marked> Wakes for Transfer<T> {
+    fn wakes(&self, answer: &QueueAnswer<T>) -> Option<SeatNo> {
+        if answer.frees() {
+            self.meetings.changed()
+        } else {
+            None
+        }
+    }
+}
+
+impl<T: Marked> Leaves for Transfer<T> {
+    type Left = Left<T>;
+
+    ghost left_count = { λ b. length (left_in Front b.queue) };
+
+    ghost are_left = { λ base records left. AreLeftOn T.mark_of base records left };
+
+    fn left(&self) -> u64 {
+        self.meetings.left()
+    }
+
+    fn leave(self, empty: Vec<Left<T>>) -> Vec<Left<T>>
+        requires empty { empty.items ≡ [] }
+        requires room { length (left_in Front self.queue) ≤ vec_capacity empty }
+        ensures { (base : Based) (records : List (Entered Told)) → LeadsTo T.mark_of (bounded_kind self.bound) base records self.queue
+            → AreLeftOn T.mark_of base records result.items }
+    {
+        self.meetings.into_left_by_ticket(empty)
     }
 }
 

@@ -1,0 +1,26 @@
+-- What a queue leaves is what the records that lead to it tell.
+use Rattle.std.proofs.Common.{ℕ, ◌++◌, subst, List, IsPermutation}
+use Rattle.std.specs.List.Sorted.{IsNonDecreasingBy}
+use Rattle.meet_tickets.specs.declared.places.End.{End}
+use Rattle.meet_tickets.specs.declared.places.Kind.{Kind}
+use Rattle.meet_tickets.specs.declared.records.Record.{Record}
+use Rattle.meet_tickets.specs.declared.records.Deed.{Deed}
+use Rattle.meet_tickets.specs.Asked.{request_on, Remembers}
+use Rattle.meet_tickets.specs.Bases.{Based}
+use Rattle.meet_tickets.specs.Fates.{opening}
+use Rattle.meet_tickets.specs.Placed.{TellsPlace}
+use Rattle.meet_tickets.proofs.Placed.{tells_place}
+use Rattle.meet_tickets.proofs.Remembered.{remembered}
+use Rattle.meet_line.specs.declared.left.Left.{Left}
+use Rattle.meet_line.specs.Left.{left_in}
+use Rattle.meet_line.specs.LeftTold.{AreLeftOn}
+use Rattle.meet_line.specs.Queue.{Queue}
+use Rattle.meet_line.proofs.LeftThere.{are_left}
+use Rattle.meet_calls.specs.DualSteps.{LeadsTo}
+
+pub left_on : {T : Type 0} (mark : T → ℕ) (k : Kind) (end : End) (b : Based) (records : List (Record Deed)) (q : Queue T) (items : List (Left T)) → LeadsTo mark k b records q → IsPermutation (left_in end q) items → IsNonDecreasingBy (λ (x : Left T). x.ticket) items → AreLeftOn mark b records items
+left_on mark k end b records q items leads moved rises =
+    are_left mark (opening b ++ records) q
+    (subst (TellsPlace (opening b ++ records)) leads.leaves (tells_place k b records leads.well_formed leads.legal))
+    (subst (Remembers (request_on b records)) leads.leaves (remembered k b records leads.well_formed leads.legal))
+    end items moved rises
