@@ -1,5 +1,6 @@
 -- What contracts see of seats that are given back (our choice).
-use Rattle.std.specs.Prelude.{ℕ, ◌+◌, Option, Some, None, List, [], ◌∷◌, length}
+use Rattle.std.specs.Prelude.{ℕ, ◌+◌, Option, Some, None, List, [], ◌∷◌, length, IsPermutation}
+use Rattle.std.specs.List.Sorted.{IsNonDecreasingBy}
 use Rattle.meet_book.specs.Received.{Received}
 use Rattle.meet_place.specs.declared.seats.Back.{Back}
 use Rattle.meet_place.specs.declared.seats.Back.TheVariants.{Free, Held}
@@ -19,6 +20,11 @@ module _ {D N : Type 0} where
   abbrev pub back_of : ℕ → List (Received D) → ℕ → Option (ℕ × Option ℕ) → Back D N
   back_of number list room None = Free (record { number = number; list = list; room = room })
   back_of number list room (Some held) = Held (record { number = number; list = list; ticket = held.0; mark = held.1 })
+
+  -- these are the same seats, in the order of their numbers
+  pub record AreOrdered (seats ordered : List (Back D N)) : Type 0 where
+    pub same : IsPermutation seats ordered
+    pub rising : IsNonDecreasingBy number_of ordered
 
 module _ {D : Type 0} where
   -- how many receipts these lists have

@@ -2,7 +2,7 @@
 
 ghost use Rattle.std.specs.Prelude.{◌≡◌, ◌+◌, ◌≤◌, [], length, map, vec_len};
 ghost use Rattle.std.specs.Vec.{vec_capacity};
-ghost use Rattle.meet_place.specs.Backs.{list_of, receipts_in};
+ghost use Rattle.meet_place.specs.Backs.{list_of, AreOrdered, receipts_in};
 
 use crate::seats::{Back, Pending, Seat};
 use meet_book::{Holds, Receipt};
@@ -111,6 +111,14 @@ fn part<D: Copy, N: Ledger>(back: Back<D, N>) -> (BareSeat<D, N>, Share<N>)
         of: PhantomData,
     };
     (bare, share)
+}
+
+/// Puts the seats into the order of their numbers.
+pub(crate) fn put_in_order<D: Copy, N: Ledger>(seats: &mut Vec<Back<D, N>>)
+    ensures ordered { AreOrdered seats.old.items seats.new.items }
+    ensures count { vec_len seats.new ≡ vec_len seats.old }
+{
+    seats.sort_unstable_by_key(|back| back.number().number());
 }
 
 /// Takes the seats apart, in their order. Their shares go to one share.

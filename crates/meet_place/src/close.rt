@@ -1,18 +1,20 @@
 //! The end of a place.
 
-ghost use Rattle.std.specs.Prelude.{◌≡◌, ◌+◌, ◌≤◌, List, length, map, IsPermutation, IfOk, IfErr, [], vec_len};
+ghost use Rattle.std.specs.Prelude.{◌≡◌, ◌+◌, ◌≤◌, List, length, map, IfOk, IfErr, [], vec_len};
 ghost use Rattle.std.specs.Vec.{vec_capacity};
 ghost use Rattle.meet_book.specs.Listed.{AreListed};
-ghost use Rattle.meet_place.specs.Backs.{list_of, receipts_in};
+ghost use Rattle.meet_place.specs.Backs.{list_of, AreOrdered, receipts_in};
 ghost use Rattle.meet_place.specs.Faults.{FaultFits, why_of};
 ghost use Rattle.meet_place.specs.declared.seats.Back.{Back};
 
-use crate::backs::{lists_of, put_together, take_apart};
+use crate::backs::{lists_of, put_in_order, put_together, take_apart};
 use crate::place::Place;
 use crate::seats::Back;
 use meet_book::{Book, Leaves, Object, Receipt, Same, compare};
 use meet_tickets::{Record, Refusal, SeatNo};
 use std::alloc::Global;
+use std::fmt;
+use std::fmt::{Debug, Display, Formatter, Write};
 use std::sync::ledger::Ledger;
 
 /// What a place leaves once it is closed.
@@ -28,7 +30,7 @@ pub struct Closed<O: Leaves> {
     pub left: Vec<O::Left>,
 }
 
-/// Why a place was not closed.
+/// Why a place was not closed. As an error its text is the name of the refusal that it is.
 #[derive(Drop)]
 pub enum CloseFault<O: Object, G, N: Ledger> {
     /// Fewer seats were given back than were made. The place and the seats come back.
@@ -70,6 +72,26 @@ impl<O: Object, G, N: Ledger> CloseFault<O, G, N> {
     }
 }
 
+/// The name of the reason.
+impl<O: Object, G, N: Ledger> Display for CloseFault<O, G, N> {
+    ghost use Rattle.std.specs.Prelude.{Some};
+    ghost use Rattle.meet_tickets.specs.Refusals.{name_of};
+    ghost use Rattle.meet_place.specs.Faults.{why_of};
+
+    ghost output = { λ fault. Some (name_of (why_of fault)) };
+
+    fn fmt<W: Write>(&self, f: &mut Formatter<W>) -> fmt::Result {
+        f.write_str(self.why().name())
+    }
+}
+
+/// The reason alone: what comes back need not be such as can be shown.
+impl<O: Object, G, N: Ledger> Debug for CloseFault<O, G, N> {
+    fn fmt<W: Write>(&self, f: &mut Formatter<W>) -> fmt::Result {
+        write!(f, "CloseFault({})", self.why())
+    }
+}
+
 impl<O: Leaves, G: Drop, N: Ledger> Place<O, G, N>
 where
     O::Base: Drop,
@@ -88,7 +110,7 @@ where
             (map (λ list. list.items) c.lists.items)) }
         ensures legal { IfOk result (λ c. (object : O) × O.leads c.base c.records.items object) }
         ensures left { IfOk result (λ c. O.are_left c.base c.records.items c.left.items) }
-        ensures lists { IfOk result (λ c. (ordered : List (Back O.Deed N)) × IsPermutation seats.items ordered
+        ensures lists { IfOk result (λ c. (ordered : List (Back O.Deed N)) × AreOrdered seats.items ordered
             × (map (λ list. list.items) c.lists.items ≡ map list_of ordered)) }
         ensures count { IfOk result (λ c. vec_len c.lists ≡ self) }
         ensures receipts { IfOk result (λ c. O.gone_of c.base + length c.records.items
@@ -120,7 +142,7 @@ where
             let place = Place::of_parts(gates, book, total, rest);
             return Err(CloseFault::Memory { place, seats });
         }
-        seats.sort_unstable_by_key(|back| back.number().number());
+        put_in_order(&mut seats);
         let bares = take_apart(seats, &mut rest, bares);
         total.audit(&mut rest);
         match compare(O::gone(book.base()), book.records(), bares.as_slice()) {
