@@ -1,18 +1,19 @@
 //! The end of a place.
 
-ghost use Rattle.std.specs.Prelude.{◌≡◌, ◌+◌, ◌≤◌, List, length, map, IfOk, IfErr, [], vec_len};
+ghost use Rattle.std.specs.Prelude.{◌≡◌, ◌+◌, ◌≤◌, List, length, map, IfSome, IfOk, IfErr, [], vec_len};
 ghost use Rattle.std.specs.Vec.{vec_capacity};
 ghost use Rattle.meet_book.specs.Listed.{AreListed};
 ghost use Rattle.meet_place.specs.Backs.{list_of, AreOrdered, receipts_in};
 ghost use Rattle.meet_place.specs.Faults.{FaultFits, why_of};
 ghost use Rattle.meet_place.specs.declared.seats.Back.{Back};
 
-use crate::backs::{lists_of, put_in_order, put_together, take_apart};
+use crate::backs::{BareSeat, lists_of, put_in_order, put_together, take_apart};
 use crate::place::Place;
 use crate::seats::Back;
 use meet_book::{Book, Leaves, Object, Receipt, Same, compare};
 use meet_tickets::{Record, Refusal, SeatNo};
 use std::alloc::Global;
+use std::error::Error;
 use std::fmt;
 use std::fmt::{Debug, Display, Formatter, Write};
 use std::sync::ledger::Ledger;
@@ -92,6 +93,33 @@ impl<O: Object, G, N: Ledger> Debug for CloseFault<O, G, N> {
     }
 }
 
+impl<O: Object + Drop, G: Drop, N: Ledger> Error for CloseFault<O, G, N>
+where
+    O::Base: Drop,
+    O::Deed: Drop,
+{}
+
+/// Empty lists, each with room for all seats.
+#[derive(Drop)]
+struct Room<D: Copy, N: Ledger> {
+    bares: Vec<BareSeat<D, N>>,
+    backs: Vec<Back<D, N>>,
+    lists: Vec<Vec<Receipt<D>>>,
+}
+
+/// Room for so many seats, or none where memory is short.
+fn room_for<D: Copy + Drop, N: Ledger>(alloc: Global, seats: usize) -> Option<Room<D, N>>
+    ensures bares { IfSome result (λ room. (room.bares.items ≡ []) × (seats ≤ vec_capacity room.bares)) }
+    ensures backs { IfSome result (λ room. (room.backs.items ≡ []) × (seats ≤ vec_capacity room.backs)) }
+    ensures lists { IfSome result (λ room. (room.lists.items ≡ []) × (seats ≤ vec_capacity room.lists)) }
+{
+    Some(Room {
+        bares: Vec::with_capacity(alloc, seats).ok()?,
+        backs: Vec::with_capacity(alloc, seats).ok()?,
+        lists: Vec::with_capacity(alloc, seats).ok()?,
+    })
+}
+
 impl<O: Leaves, G: Drop, N: Ledger> Place<O, G, N>
 where
     O::Base: Drop,
@@ -127,15 +155,14 @@ where
                 seats,
             });
         }
-        let mut bares = Vec::new(alloc);
-        let mut backs = Vec::new(alloc);
-        let mut lists = Vec::new(alloc);
-        if bares.reserve(have).is_err()
-            || backs.reserve(have).is_err()
-            || lists.reserve(have).is_err()
-        {
-            return Err(CloseFault::Memory { place: self, seats });
-        }
+        let Room {
+            bares,
+            backs,
+            lists,
+        } = match room_for(alloc, have) {
+            Some(room) => room,
+            None => return Err(CloseFault::Memory { place: self, seats }),
+        };
         let (gates, book, mut total, mut rest) = self.into_parts();
         let mut left = Vec::new(alloc);
         if left.reserve(book.probe().left() as usize).is_err() {
