@@ -132,6 +132,9 @@ fn a_record_of_a_seat_without_a_list_is_found(rt: HostRuntime) -> Result<(), Fai
     let mut lists = Vec::with_capacity(rt.alloc(), 1).ok().ok_or("memory")?;
     lists.push_reserved(first);
     let found = compare(0, book.records(), lists.as_slice());
-    assert_eq!(rt; found.map(|(seat, index)| (seat.number(), index)), Some((1, 0)));
+    assert_eq!(rt;
+        found.map(|(seat, index)| (seat.number(), index)),
+        Some((1, 0))
+    );
     Ok(())
 }
