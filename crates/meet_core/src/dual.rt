@@ -1,6 +1,6 @@
 //! The dual queue: givers and takers that meet.
 
-ghost use Rattle.std.specs.Prelude.{◌+◌, ◌≡◌, ◌≤◌, ◌<◌, ◌-◌, Some, None, IsOk, IfOk, IfErr, OnOk, OnErr};
+ghost use Rattle.std.specs.Prelude.{◌+◌, ◌≡◌, ◌≤◌, ◌<◌, ◌-◌, Some, None, IsOk, IfOk, IfErr, OnOk, OnErr, ◌↔◌, IsTrue};
 ghost use Rattle.meet_tickets.specs.Meeting.{waiting_count, kept_count, count_on};
 ghost use Rattle.meet_tickets.specs.BySeat.{nobody, open_ticket, owed_of, settled_of};
 ghost use Rattle.meet_tickets.specs.declared.places.Side.TheVariants.{Giver};
@@ -39,6 +39,7 @@ impl<T: Marked, L: Line<T>> Model for Dual<T, L> {
 }
 
 impl<T: Marked, L: Line<T>> Dual<T, L> {
+    ghost use Rattle.meet_line.specs.Awaits.{AwaitsAs};
     ghost use Rattle.meet_line.specs.Queue.{seats_of, count_of, places_of, admit_refusal, IsSound};
     ghost use Rattle.meet_line.specs.Steps.{GiveStep, TakeStep, OfferStep, PollStep};
     ghost use Rattle.meet_tickets.specs.declared.refusals.Refusal.TheVariants.{Memory};
@@ -133,6 +134,14 @@ impl<T: Marked, L: Line<T>> Dual<T, L> {
         ensures unchanged { IfErr result (λ _. self.new ≡ self.old) }
     {
         self.meetings.poll(seat)
+    }
+
+    /// Whether the seat's open ticket is this one; and while its item lies here, since it waits or was cut, whether the
+    /// item has this mark, or there is none where this is none. It walks the line where the ticket waits.
+    pub fn awaits(&self, seat: SeatNo, ticket: Ticket, mark: Option<u64>) -> bool
+        ensures { IsTrue result ↔ AwaitsAs T.mark_of (seats_of self.now) seat ticket mark }
+    {
+        self.meetings.awaits(seat, ticket, mark)
     }
 
     /// The seat's open ticket, if it has one.

@@ -1,3 +1,4 @@
+pub mod Awaits
 pub mod BaseOfQueue
 pub mod Counts
 pub mod Following

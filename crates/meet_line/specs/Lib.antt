@@ -1,4 +1,5 @@
 pub mod Answers
+pub mod Awaits
 pub mod Left
 pub mod LeftTold
 pub mod Lined

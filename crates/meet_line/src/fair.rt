@@ -84,6 +84,10 @@ impl<T> Line<T> for FairLine<T> {
         self.entries.front()
     }
 
+    fn entry(&self, ticket: Ticket) -> Option<&Entry<T>> {
+        self.entries.iter().find(|entry| entry.ticket == ticket)
+    }
+
     fn list(&self, alloc: Global) -> Result<Vec<&Entry<T>>, Refusal> {
         match self.entries.iter().collect(alloc) {
             Ok(list) => Ok(list),

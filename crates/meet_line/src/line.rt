@@ -1,7 +1,7 @@
 //! The line of a place's unmatched tickets, however it is kept.
 
 ghost use Rattle.std.specs.Prelude.{◌≡◌, ◌≢◌, ℕ, ◌+◌, ◌<◌, ◌≤◌, ◌==◌, List, [], ◌∷◌, ◌++◌, length, map, find, All};
-ghost use Rattle.std.specs.Prelude.{AllPairs, IsOk, IfOk, IfErr, OnOk, OnErr, option_to_list};
+ghost use Rattle.std.specs.Prelude.{AllPairs, IsOk, IfOk, IfErr, OnOk, OnErr, option_map, option_to_list};
 ghost use Rattle.std.specs.Slice.{IsItemAt};
 ghost use Rattle.meet_tickets.specs.Meeting.{met};
 ghost use Rattle.meet_tickets.specs.BySeat.{unmet, without_first};
@@ -59,6 +59,10 @@ pub trait Line<T> {
     /// The entry that came first, if anybody is there.
     fn first(&self) -> Option<&Entry<T>>
         ensures { IsItemAt (entries self.now) 0 result };
+
+    /// The entry of this ticket, if it is there.
+    fn entry(&self, ticket: Ticket) -> Option<&Entry<T>>
+        ensures { option_map (λ e. e.now) result ≡ find (λ e. e.ticket == ticket) (entries self.now) };
 
     /// The entries in order of arrival, lent. The only refusal is Memory.
     fn list(&self, alloc: Global) -> Result<Vec<&Entry<T>>, Refusal>

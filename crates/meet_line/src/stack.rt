@@ -83,6 +83,10 @@ impl<T> Line<T> for StackLine<T> {
         self.entries.first()
     }
 
+    fn entry(&self, ticket: Ticket) -> Option<&Entry<T>> {
+        self.entries.iter().find(|entry| entry.ticket == ticket)
+    }
+
     fn list(&self, alloc: Global) -> Result<Vec<&Entry<T>>, Refusal> {
         match self.entries.iter().collect(alloc) {
             Ok(list) => Ok(list),

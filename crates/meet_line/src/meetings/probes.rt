@@ -1,6 +1,6 @@
 //! What a queue shows of itself, each at constant cost.
 
-ghost use Rattle.std.specs.Prelude.{◌+◌, ◌≡◌, ◌≤◌, ◌-◌, option_map, slice_get};
+ghost use Rattle.std.specs.Prelude.{◌+◌, ◌≡◌, ◌≤◌, ◌-◌, ◌↔◌, IsTrue, option_map, slice_get};
 ghost use Rattle.std.specs.Option.{option_and_then};
 ghost use Rattle.meet_tickets.specs.Meeting.{waiting_count, kept_count, count_on};
 ghost use Rattle.meet_tickets.specs.BySeat.{open_ticket, owed_of, settled_of};
@@ -9,9 +9,18 @@ ghost use Rattle.meet_tickets.specs.declared.places.Side.TheVariants.{Giver, Tak
 
 use crate::line::Line;
 use crate::meetings::Meetings;
-use meet_tickets::{LAST_TICKET, Marked, SeatNo, Side, Ticket};
+use crate::opened::mark_of;
+use meet_tickets::{Hold, LAST_TICKET, Marked, SeatNo, Side, Ticket};
+
+/// Whether an item has this mark, or there is none where this is none.
+fn has_mark<T: Marked>(item: &Option<T>, mark: Option<u64>) -> bool
+    ensures { IsTrue result ↔ (option_map T.mark_of item.now ≡ mark) }
+{
+    mark_of(item) == mark
+}
 
 impl<T: Marked, L: Line<T>> Meetings<T, L> {
+    ghost use Rattle.meet_line.specs.Awaits.{AwaitsAs};
     ghost use Rattle.meet_line.specs.Queue.{seats_of, count_of, IsSound};
 
     /// The seat's open ticket, if it has one.
@@ -29,6 +38,24 @@ impl<T: Marked, L: Line<T>> Meetings<T, L> {
     /// waited. It is a hint, of which nothing is promised.
     pub fn changed(&self) -> Option<SeatNo> {
         self.seats.changed()
+    }
+
+    /// Whether the seat's open ticket is this one; and while its item lies here, since it waits or was cut, whether the
+    /// item has this mark, or there is none where this is none. It walks the line where the ticket waits.
+    pub fn awaits(&self, seat: SeatNo, ticket: Ticket, mark: Option<u64>) -> bool
+        ensures { IsTrue result ↔ AwaitsAs T.mark_of (seats_of self.now) seat ticket mark }
+    {
+        if self.open_ticket(seat) != Some(ticket) {
+            return false;
+        }
+        match self.seats.hold(seat) {
+            Hold::Waiting(_) => match self.line.entry(ticket) {
+                Some(entry) => has_mark(&entry.item, mark),
+                None => true,
+            },
+            Hold::Cut(_, item) => has_mark(item, mark),
+            Hold::Free | Hold::Handed(_, _, _) | Hold::Served(_, _, _) => true,
+        }
     }
 
     /// How many seats there are.

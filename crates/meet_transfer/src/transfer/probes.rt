@@ -11,6 +11,7 @@ use crate::transfer::Transfer;
 use meet_tickets::{Marked, SeatNo, TOLD_CAPACITY, Ticket};
 
 impl<T: Marked> Transfer<T> {
+    ghost use Rattle.meet_line.specs.Awaits.{AwaitsAs};
     ghost use Rattle.meet_line.specs.Queue.{seats_of, count_of, IsSound};
 
     /// `LinkedTransferQueue.size`: how many givers stand in the line, kept or waiting.
@@ -60,6 +61,14 @@ impl<T: Marked> Transfer<T> {
         ensures { result ≡ self.now.bound }
     {
         self.bound
+    }
+
+    /// Whether the seat's open ticket is this one; and while its item lies here, since it waits or was cut, whether the
+    /// item has this mark, or there is none where this is none. It walks the line where the ticket waits.
+    pub fn awaits(&self, seat: SeatNo, ticket: Ticket, mark: Option<u64>) -> bool
+        ensures { IsTrue result ↔ AwaitsAs T.mark_of (seats_of self.now.queue) seat ticket mark }
+    {
+        self.meetings.awaits(seat, ticket, mark)
     }
 
     /// The seat's open ticket, if it has one. That of a kept item never is.
