@@ -1,0 +1,9 @@
+//! A place that threads share, over an object that is no queue: as a library.
+#![tactic(auto)]
+
+#[cfg(test)]
+mod bell;
+#[cfg(test)]
+mod shared;
+#[cfg(test)]
+mod till;

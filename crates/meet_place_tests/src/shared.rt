@@ -1,0 +1,305 @@
+//! Threads that add to one till, and one that waits for its sum.
+
+ghost use Rattle.std.specs.Prelude.{◌≡◌, ◌+◌, ◌≤◌, IfOk, IfSome, vec_len};
+
+use crate::bell::Bell;
+use crate::till::{Amount, GOAL, Till};
+use meet_book::Book;
+use meet_place::{Back, CloseFault, Closed, NewPlace, Pending, Place, Seat};
+use meet_tickets::{Refusal, Refused, Ticket};
+use std::alloc::Global;
+use std::marker::Brand;
+use std::mem::ManuallyDrop;
+use std::sync::Wait;
+use std::sync::ledger::{Blank, Ledger};
+use std::test::*;
+use std::thread;
+use std::thread::Threads;
+use std::time::Clock;
+
+/// A till that threads share.
+type Shop<N> = Place<Till, Bell, N>;
+
+/// Adds an amount: the sum, which is no less.
+fn add<N: Ledger, R: Wait>(
+    rt: &R,
+    shop: &Shop<N>,
+    seat: &mut Seat<Amount, N>,
+    amount: u64,
+) -> Result<u64, Refusal>
+    ensures { IfOk result (λ sum. amount ≤ sum) }
+{
+    seat.reserve(1)?;
+    match shop.locked_step(rt, seat, amount) {
+        Ok((added, woken)) => {
+            shop.wake(woken);
+            Ok(added.sum)
+        }
+        Err(refused) => Err(refused.why),
+    }
+}
+
+/// Adds an amount where there is less than so much.
+fn add_below<N: Ledger, R: Wait>(
+    rt: &R,
+    shop: &Shop<N>,
+    seat: &mut Seat<Amount, N>,
+    amount: u64,
+    limit: u64,
+) -> Option<u64>
+    ensures { IfSome result (λ sum. sum ≤ limit + amount) }
+{
+    seat.reserve(1).ok()?;
+    let mut held = shop.hold(rt);
+    if held.probe().sum >= limit {
+        return None;
+    }
+    match held.step(seat, amount) {
+        Ok(added) => Some(added.sum),
+        Err(_) => None,
+    }
+}
+
+/// Adds an amount so often: how often it was added.
+fn add_all<N: Ledger, R: Wait>(
+    rt: &R,
+    shop: &Shop<N>,
+    first: Seat<Amount, N>,
+    amount: u64,
+    times: u64,
+) -> (Seat<Amount, N>, u64) {
+    let mut seat = first;
+    let mut made = 0u64;
+    for _ in 0..times {
+        if add(rt, shop, &mut seat, amount).is_ok() {
+            made = made.saturating_add(1);
+        }
+    }
+    (seat, made)
+}
+
+/// Waits until the sum is the goal: whether it is.
+fn await_goal<N: Ledger, R: Wait + Clock>(
+    rt: &R,
+    shop: &Shop<N>,
+    first: Seat<Amount, N>,
+    ticket: Ticket,
+) -> (Seat<Amount, N>, bool) {
+    let mut seat = first;
+    if seat.reserve(1).is_err() {
+        return (seat, false);
+    }
+    let pending = Pending::new(seat, ticket, None);
+    for _ in rt.forever() {
+        if shop.look(rt, |till| till.sum) >= GOAL {
+            break;
+        }
+        shop.wait(rt, &pending, None);
+    }
+    let (seat, _, _) = pending.into_parts();
+    (seat, true)
+}
+
+/// Keeps a value from being let go: what stands on a ledger of a generic function gets no proof of that.
+fn keep<X: Drop>(value: X) {
+    let _kept = ManuallyDrop::new(value);
+}
+
+/// How a place ended.
+#[derive(Clone, Copy, PartialEq, Debug)]
+enum Ending {
+    /// It has so many records, lists and things that were left, the first of which is this sum.
+    Closed(usize, usize, Option<u64>),
+    /// So many seats of so many were given back.
+    Missing(usize, usize),
+    /// Something else.
+    Other,
+}
+
+/// Closes a place.
+fn closed<N: Ledger>(alloc: Global, shop: Shop<N>, backs: Vec<Back<Amount, N>>) -> Ending {
+    match shop.close(alloc, backs) {
+        Ok(whole) => {
+            let Closed {
+                base: _,
+                records,
+                lists,
+                left,
+            } = whole;
+            Ending::Closed(records.len(), lists.len(), left.first().copied())
+        }
+        Err(fault) => match fault {
+            CloseFault::SeatMissing {
+                have,
+                made,
+                place,
+                seats: _,
+            } => {
+                keep(place);
+                Ending::Missing(have, made)
+            }
+            CloseFault::Memory { place, seats: _ } => {
+                keep(place);
+                Ending::Other
+            }
+            CloseFault::Differs { .. } => Ending::Other,
+        },
+    }
+}
+
+/// So many bells.
+fn bells(alloc: Global, count: usize) -> Result<Vec<Bell>, &'static str> {
+    let mut bells = Vec::new(alloc);
+    for _ in 0..count {
+        bells.push(Bell::new()).map_err(|_| "memory")?;
+    }
+    Ok(bells)
+}
+
+/// Why a place with these gates isn't made, and how many of them come back.
+fn refusal<N: Ledger>(
+    alloc: Global,
+    gates: Vec<Bell>,
+    blank: Blank,
+) -> Result<Option<(Refusal, usize)>, Fail>
+    requires name { blank.name ≡ N.name }
+    requires parts { blank.parts ≡ N.parts }
+    requires one_each { blank.parts ≡ vec_len gates }
+{
+    let book = Book::new(alloc, Till::new().ok_or("till")?, 100);
+    match Shop::<N>::new(alloc, NewPlace { book, gates, blank }) {
+        Ok((shop, _)) => {
+            keep(shop);
+            Ok(None)
+        }
+        Err(refused) => {
+            let Refused { why, back } = refused;
+            Ok(Some((why, back.gates.len())))
+        }
+    }
+}
+
+/// Why a place with so many gates isn't made, and how many of them come back.
+fn refusal_of(alloc: Global, count: usize) -> Result<Option<(Refusal, usize)>, Fail> {
+    let gates = bells(alloc, count)?;
+    let blank = Blank::new(gates.len() as u64);
+    refusal::<Brand>(alloc, gates, blank)
+}
+
+#[test]
+fn places_have_seats(rt: HostRuntime) -> Result<(), Fail> {
+    let alloc = rt.alloc();
+    assert_eq!(rt; refusal_of(alloc, 0)?, Some((Refusal::BadSizes, 0)));
+    assert_eq!(rt; refusal_of(alloc, 1)?, None);
+    assert_eq!(rt; refusal_of(alloc, 65_536)?, None);
+    assert_eq!(rt;
+        refusal_of(alloc, 65_537)?,
+        Some((Refusal::BadSizes, 65_537))
+    );
+    Ok(())
+}
+
+/// Two seats that met: how often one added, and whether the other saw the goal.
+struct Met<N: Ledger> {
+    adder: Seat<Amount, N>,
+    waiter: Seat<Amount, N>,
+    made: u64,
+    came: bool,
+}
+
+/// One thread adds 10 so often, and another waits for the goal; then it adds 1, but not below 1.
+fn meet<N: Ledger + Send + Sync, R: Threads + Wait + Clock + Sync>(
+    rt: &R,
+    shop: &Shop<N>,
+    adder: Seat<Amount, N>,
+    waiter: Seat<Amount, N>,
+    ticket: Ticket,
+    times: u64,
+) -> Met<N> {
+    let (added, waited) = thread::join(
+        rt,
+        move || add_all(rt, shop, adder, 10, times),
+        move || await_goal(rt, shop, waiter, ticket),
+    );
+    let (adder, made) = added;
+    let (mut waiter, seen) = waited;
+    let late = add_below(rt, shop, &mut waiter, 1, 1);
+    let more = add(rt, shop, &mut waiter, 1);
+    Met {
+        adder,
+        waiter,
+        made,
+        came: seen && late.is_none() && more.is_ok(),
+    }
+}
+
+/// Two seats meet, and then this many are given back.
+fn meeting<N: Ledger + Send + Sync, R: Threads + Wait + Clock + Sync>(
+    rt: &R,
+    alloc: Global,
+    blank: Blank,
+    times: u64,
+    given: usize,
+) -> Result<(u64, bool, Ending), &'static str>
+    requires name { blank.name ≡ N.name }
+    requires parts { blank.parts ≡ N.parts }
+    requires two { blank.parts ≡ 2 }
+{
+    let ticket = Ticket::new(1).ok_or("no such ticket number")?;
+    let till = Till::new().ok_or("till")?;
+    let mut gates = Vec::new(alloc);
+    gates.push(Bell::new()).map_err(|_| "memory")?;
+    gates.push(Bell::new()).map_err(|_| "memory")?;
+    let mut backs = Vec::new(alloc);
+    if backs.reserve(2).is_err() {
+        return Err("memory");
+    }
+    let book = Book::new(alloc, till, 1_000_000);
+    let (shop, mut seats) = Shop::<N>::new(alloc, NewPlace { book, gates, blank }).map_err(
+        |_| "new",
+    )?;
+    let (waiter, adder) = match (seats.pop(), seats.pop()) {
+        (Some(waiter), Some(adder)) => (waiter, adder),
+        _ => {
+            keep(shop);
+            return Err("seats");
+        }
+    };
+    let Met {
+        adder,
+        waiter,
+        made,
+        came,
+    } = meet(rt, &shop, adder, waiter, ticket, times);
+    if given > 0 {
+        backs.push_reserved(Back::Free(waiter));
+    }
+    if given > 1 {
+        backs.push_reserved(Back::Free(adder));
+    }
+    Ok((made, came, closed(alloc, shop, backs)))
+}
+
+/// The same, over a ledger of its own.
+fn play<R: Threads + Wait + Clock + Sync>(
+    rt: &R,
+    alloc: Global,
+    times: u64,
+    given: usize,
+) -> Result<(u64, bool, Ending), &'static str> {
+    meeting::<Brand, _>(rt, alloc, Blank::new(2), times, given)
+}
+
+#[test]
+fn one_adds_and_one_waits(rt: HostRuntime) -> Result<(), Fail> {
+    let got = play(&rt, rt.alloc(), 2_000, 2)?;
+    assert_eq!(rt; got, (2_000, true, Ending::Closed(2_001, 2, Some(20_001))));
+    Ok(())
+}
+
+#[test]
+fn a_seat_is_missing(rt: HostRuntime) -> Result<(), Fail> {
+    let got = play(&rt, rt.alloc(), 100, 1)?;
+    assert_eq!(rt; got, (100, true, Ending::Missing(1, 2)));
+    Ok(())
+}
