@@ -1,4 +1,4 @@
-//! What a queue shows of itself, each at constant cost.
+//! What a queue shows of itself, each at constant cost but `awaits`, which walks the line. None of these takes memory.
 
 ghost use Rattle.std.specs.Prelude.{◌+◌, ◌≡◌, ◌≤◌, ◌-◌, ◌↔◌, IsTrue, option_map, slice_get};
 ghost use Rattle.std.specs.Option.{option_and_then};

@@ -1,4 +1,4 @@
-//! What a queue shows of itself, each at constant cost. None of these calls takes memory.
+//! What a queue shows of itself, each at constant cost but `awaits`, which walks the line. None of these takes memory.
 
 ghost use Rattle.std.specs.Prelude.{◌+◌, ◌≡◌, ◌≤◌, ◌-◌, ◌↔◌, IsTrue, nat_lt, option_map, slice_get};
 ghost use Rattle.std.specs.Option.{option_and_then};
