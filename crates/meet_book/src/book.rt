@@ -89,6 +89,25 @@ impl<O: Object> Book<O> {
         self.records.as_slice()
     }
 
+    /// Makes room for this many records, beside those that are owed, and this much in the place: while it lasts, no
+    /// call is refused for memory. The only refusal is Memory; then nothing but the book's room has changed.
+    pub fn reserve(&mut self, records: u64, room: u64) -> Result<(), Refusal>
+        requires few { records ≤ most_records }
+        ensures room { OnOk result (O.owed_of self.old.object + records ≤ self.new.room) }
+        ensures spare { OnOk result (room ≤ O.spare self.new.object) }
+        ensures object { OnOk result (self.new.object ≡ O.with_room self.old.object (O.spare self.new.object)) }
+        ensures records { self.new.records ≡ self.old.records }
+        ensures base { self.new.base ≡ self.old.base }
+        ensures cap { self.new.cap ≡ self.old.cap }
+        ensures more { self.old.room ≤ self.new.room }
+        ensures memory { IfErr result (λ why. why ≡ Memory) }
+        ensures unchanged { OnErr result (self.new ≡ record self.old { room = self.new.room }) }
+        ensures enough { O.owed_of self.old.object + records ≤ self.old.room → room ≤ O.spare self.old.object
+            → IsOk result }
+    {
+        make_room(&mut self.object, &mut self.records, records, room)
+    }
+
     /// Why a call is refused, Memory aside: the first that applies.
     fn refusal(&self, seat: SeatNo, call: &O::Call) -> Option<Refusal>
         ensures first { result ≡ book_refusal (O.refusal_of self.now.object seat call.now)
