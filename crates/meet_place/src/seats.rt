@@ -1,6 +1,6 @@
 //! Seats, and seats whose ticket is open.
 
-ghost use Rattle.std.specs.Prelude.{◌≡◌, ◌<◌, ◌≤◌, [], IfErr, OnOk};
+ghost use Rattle.std.specs.Prelude.{◌≡◌, ◌<◌, ◌≤◌, [], IsOk, IfErr, OnOk};
 ghost use Rattle.meet_tickets.specs.declared.refusals.Refusal.TheVariants.{Memory};
 ghost use Rattle.meet_place.specs.Backs.{number_of, list_of};
 ghost use Rattle.meet_place.specs.Seats.{SeatView, PendingView};
@@ -66,7 +66,8 @@ impl<D: Copy, N: Ledger> Seat<D, N> {
         self.list.as_slice()
     }
 
-    /// Makes room for so many receipts, ahead of a call. The only refusal is Memory; then nothing has changed.
+    /// Makes room for so many receipts, ahead of a call. The only refusal is Memory, and never where there is so much;
+    /// then nothing has changed.
     pub fn reserve(&mut self, receipts: usize) -> Result<(), Refusal>
         ensures room { OnOk result (receipts ≤ self.new.room) }
         ensures more { self.old.room ≤ self.new.room }
@@ -74,6 +75,7 @@ impl<D: Copy, N: Ledger> Seat<D, N> {
         ensures list { self.new.list ≡ self.old.list }
         ensures memory { IfErr result (λ why. why ≡ Memory) }
         ensures unchanged { IfErr result (λ _. self.new ≡ self.old) }
+        ensures enough { receipts ≤ self.old.room → IsOk result }
     {
         match self.list.reserve(receipts) {
             Ok(()) => Ok(()),

@@ -1,7 +1,8 @@
 //! What the lock guards.
 
-ghost use Rattle.std.specs.Prelude.{◌≡◌, ◌+◌, ◌<◌, ◌++◌, length, option_to_list, IfOk, IfErr};
+ghost use Rattle.std.specs.Prelude.{◌≡◌, ◌+◌, ◌<◌, ◌≤◌, ◌++◌, None, length, option_to_list, IsOk, IfOk, IfErr};
 ghost use Rattle.meet_book.specs.Booked.{Booked};
+ghost use Rattle.meet_book.specs.Booking.{book_refusal};
 ghost use Rattle.meet_place.specs.Seats.{SeatView, Adds};
 ghost use Rattle.meet_place.specs.Holds.{BookRefuses};
 
@@ -83,6 +84,8 @@ impl<O: Object, N: Ledger> Shared<O, N> {
         ensures step { IfOk result (λ answer. O.steps self.old.object seat.old.number call answer self.new.object) }
         ensures records { IfOk result (λ answer. self.new.records
             ≡ self.old.records ++ option_to_list (O.record_of seat.old.number call answer)) }
+        ensures admitted { IfOk result (λ _. book_refusal (O.refusal_of self.old.object seat.old.number call)
+            (O.owed_of self.old.object) (O.need_of call) self.old ≡ None) }
         ensures why { IfErr result (λ refused. BookRefuses (O.refusal_of self.old.object seat.old.number call)
             (O.owed_of self.old.object) (O.need_of call) self.old refused.why) }
         ensures back { IfErr result (λ refused. refused.back ≡ call) }
@@ -90,6 +93,10 @@ impl<O: Object, N: Ledger> Shared<O, N> {
         ensures same { IfErr result (λ _. seat.new ≡ seat.old) }
         ensures cap { self.new.cap ≡ self.old.cap }
         ensures base { self.new.base ≡ self.old.base }
+        ensures enough { O.owed_of self.old.object + O.need_of call ≤ self.old.room
+            → O.room_of call ≤ O.spare self.old.object
+            → book_refusal (O.refusal_of self.old.object seat.old.number call) (O.owed_of self.old.object)
+            (O.need_of call) self.old ≡ None → IsOk result }
     {
         let Seat {
             number,
