@@ -4,6 +4,8 @@
 #[cfg(test)]
 mod bell;
 #[cfg(test)]
+mod growth;
+#[cfg(test)]
 mod shared;
 #[cfg(test)]
 mod till;

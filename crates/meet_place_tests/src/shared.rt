@@ -18,7 +18,7 @@ use std::thread::Threads;
 use std::time::Clock;
 
 /// A till that threads share.
-type Shop<N> = Place<Till, Bell, N>;
+pub type Shop<N> = Place<Till, Bell, N>;
 
 /// Adds an amount: the sum, which is no less.
 fn add<N: Ledger, R: Wait>(
@@ -101,7 +101,7 @@ fn await_goal<N: Ledger, R: Wait + Clock>(
 }
 
 /// Keeps a value from being let go: what stands on a ledger of a generic function gets no proof of that.
-fn keep<X: Drop>(value: X) {
+pub fn keep<X: Drop>(value: X) {
     let _kept = ManuallyDrop::new(value);
 }
 
