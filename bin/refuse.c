@@ -83,3 +83,13 @@ __attribute__((destructor)) static void tell(void)
         close(file);
     }
 }
+
+/* A program that may start threads ends by this, and no destructor runs. */
+void _exit(int status)
+{
+    void (*next)(int) = (void (*)(int))dlsym(RTLD_NEXT, "_exit");
+
+    tell();
+    next(status);
+    __builtin_unreachable();
+}
