@@ -28,3 +28,8 @@ module _ {D : Type 0} where
   -- seats in the order of their numbers, from 0, without receipts
   abbrev pub AreFresh : List (SeatView D) → Type 0
   AreFresh seats = (i : ℕ) (seat : SeatView D) → slice_get seats i ≡ Some seat → (seat.number ≡ i) × (seat.list ≡ [])
+
+-- polls that do this were made, whose receipts came to the list's end, and whose answers are these, both in their order
+abbrev pub DrainedAs : {A D : Type 0} → (List (A × Received D) → Type 0) → (old new : List (Received D)) → List A → Type 0
+DrainedAs {A} {D} DoSo old new answers = (got : List (A × Received D)) × DoSo got
+    × (new ≡ old ++ map (λ one. one.1) got) × (answers ≡ map (λ one. one.0) got)

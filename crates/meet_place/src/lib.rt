@@ -4,12 +4,14 @@
 
 mod backs;
 mod close;
+mod draining;
 mod gates;
 mod place;
 mod seats;
 mod shared;
 
 pub use close::{CloseFault, Closed};
+pub use draining::DrainRoom;
 pub use gates::{Gate, Turn};
 pub use place::{NewPlace, Place};
 pub use seats::{Back, Pending, Seat};

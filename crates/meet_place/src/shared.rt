@@ -17,8 +17,8 @@ use std::sync::ledger::{Ledger, Share};
 /// contract sees it as the book.
 #[derive(Drop)]
 pub struct Shared<O: Object, N: Ledger> {
-    book: Book<O>,
-    total: ledger::Book<N>,
+    pub(crate) book: Book<O>,
+    pub(crate) total: ledger::Book<N>,
     rest: Share<N>,
 }
 

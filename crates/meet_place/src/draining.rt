@@ -1,0 +1,184 @@
+//! A drain at a place that threads share.
+
+ghost use Rattle.std.specs.Prelude.{◌≡◌, ◌⊎◌, ◌+◌, ◌≤◌, ◌++◌, ℕ, List, [], length, map, min, vec_len};
+ghost use Rattle.std.specs.Prelude.{IfOk, IfErr, IfSome};
+ghost use Rattle.std.specs.Vec.{vec_capacity};
+ghost use Rattle.meet_tickets.specs.Refusals.{IsWhy};
+ghost use Rattle.meet_tickets.specs.declared.refusals.Refusal.TheVariants.{Memory};
+ghost use Rattle.meet_book.specs.Booked.{Booked};
+ghost use Rattle.meet_book.specs.Draining.{TakingPolls, book_drain_refusal};
+ghost use Rattle.meet_book.specs.Received.{Received};
+ghost use Rattle.meet_place.specs.Seats.{SeatView, DrainedAs};
+
+use crate::place::Place;
+use crate::seats::Seat;
+use crate::shared::Shared;
+use meet_book::{Drains, Receipt};
+use meet_tickets::{Refusal, Refused};
+use std::alloc::Global;
+use std::sync::Wait;
+use std::sync::ledger::Ledger;
+
+/// Empty lists for what a drain takes: the polls with their receipts, and their answers.
+#[derive(Drop)]
+pub struct DrainRoom<O: Drains> {
+    pub polled: Vec<(O::Answer, Receipt<O::Deed>)>,
+    pub answers: Vec<O::Answer>,
+}
+
+/// Puts the receipts at the list's end, and the answers into their list, both in their order. Each list has room.
+fn hand_out<A, D: Copy>(
+    got: Vec<(A, Receipt<D>)>,
+    list: &mut Vec<Receipt<D>>,
+    empty: Vec<A>,
+) -> Vec<A>
+    requires empty { empty.items ≡ [] }
+    requires answers { vec_len got ≤ vec_capacity empty }
+    requires receipts { vec_len list.old + vec_len got ≤ vec_capacity list.old }
+    ensures answers { result.items ≡ map (λ one. one.0) got.items }
+    ensures receipts { list.new.items ≡ list.old.items ++ map (λ one. one.1) got.items }
+    ensures len { vec_len list.new ≡ vec_len list.old + vec_len got }
+    ensures capacity { vec_capacity list.new ≡ vec_capacity list.old }
+{
+    let mut answers = empty;
+    let mut left = got.into_iter();
+    while let Some(one) = left.next() {
+        let (answer, receipt) = one;
+        answers.push_reserved(answer);
+        list.push_reserved(receipt);
+    }
+    left.destroy_empty();
+    answers
+}
+
+impl<O: Drains, N: Ledger> Shared<O, N> {
+    /// `BlockingQueue.drainTo` of a seat under this hold: up to `max` items, and no more than both empty lists and the
+    /// seat's list have room for; one recorded poll after another. It answers the polls' answers in order, and the
+    /// receipts are at the end of the seat's list. It refuses what the book's `drain` does, for as many items; then
+    /// seat and lists are as they were.
+    pub fn drain(
+        &mut self,
+        seat: &mut Seat<O::Deed, N>,
+        max: u64,
+        empty: DrainRoom<O>,
+    ) -> Result<Vec<O::Answer>, Refused<DrainRoom<O>>>
+        requires empty { (empty.polled.items ≡ []) × (empty.answers.items ≡ []) }
+        requires answers { vec_capacity empty.polled ≤ vec_capacity empty.answers }
+        requires receipts { vec_capacity empty.polled ≤ seat.old.room }
+        ensures number { seat.new.number ≡ seat.old.number }
+        ensures room { length seat.new.list + seat.new.room ≡ length seat.old.list + seat.old.room }
+        ensures count { IfOk result (λ answers. length answers.items
+            ≡ min (min max (vec_capacity empty.polled)) (O.available_of self.old.object)) }
+        ensures polls { IfOk result (λ answers. DrainedAs (λ got. TakingPolls
+            (λ old answer new. O.steps old seat.old.number O.poll answer new) (O.record_of seat.old.number O.poll)
+            (λ o. O.refusal_of o seat.old.number O.poll) O.available_of O.left_of O.owed_of
+            self.old.object got self.new.object) seat.old.list seat.new.list answers.items) }
+        ensures why { IfErr result (λ refused. IsWhy (book_drain_refusal
+            (O.refusal_of self.old.object seat.old.number O.poll) (O.left_of self.old.object)
+            (O.owed_of self.old.object) self.old
+            (min (min max (vec_capacity empty.polled)) (O.available_of self.old.object))) refused.why) }
+        ensures back { IfErr result (λ refused. refused.back ≡ empty) }
+        ensures unchanged { IfErr result (λ _. self.new ≡ record self.old { room = self.new.room }) }
+        ensures same { IfErr result (λ _. seat.new ≡ seat.old) }
+        ensures cap { self.new.cap ≡ self.old.cap }
+        ensures base { self.new.base ≡ self.old.base }
+    {
+        let Seat {
+            number,
+            list,
+            share,
+        } = seat;
+        let Shared { book, total, .. } = self;
+        let DrainRoom { polled, answers } = empty;
+        let got = match book.drain_into(*number, max, polled) {
+            Ok(got) => got,
+            Err(refused) => {
+                let Refused { why, back } = refused;
+                return Err(Refused {
+                    why,
+                    back: DrainRoom {
+                        polled: back,
+                        answers,
+                    },
+                });
+            }
+        };
+        total.add(share, got.len() as u64);
+        Ok(hand_out(got, list, answers))
+    }
+}
+
+/// Room for a drain of so many items, or none where memory is short.
+fn room_for<O: Drains>(alloc: Global, items: usize) -> Option<DrainRoom<O>>
+    ensures empty { IfSome result (λ room. (room.polled.items ≡ []) × (room.answers.items ≡ [])) }
+    ensures answers { IfSome result (λ room. vec_capacity room.polled ≤ vec_capacity room.answers) }
+{
+    let polled = Vec::with_capacity(alloc, items).ok()?;
+    match Vec::with_capacity(alloc, polled.capacity()) {
+        Ok(answers) => Some(DrainRoom { polled, answers }),
+        Err(_) => {
+            polled.destroy_empty();
+            None
+        }
+    }
+}
+
+impl<O: Drains> DrainRoom<O> {
+    /// Lets the empty lists go.
+    fn destroy_empty(self)
+        requires { (self.polled.items ≡ []) × (self.answers.items ≡ []) }
+    {
+        let DrainRoom { polled, answers } = self;
+        polled.destroy_empty();
+        answers.destroy_empty();
+    }
+}
+
+impl<O: Drains, G, N: Ledger> Place<O, G, N> {
+    /// `BlockingQueue.drainTo` of a seat: up to `max` of the items that are there, one recorded poll after another, all
+    /// under one hold. It looks how many they are, makes room for as many, the lock being free, and then takes up to as
+    /// many: so items that come in between are left. It refuses Memory where that room isn't there, else what the
+    /// book's `drain` does; then the seat's list is as it was.
+    pub fn locked_drain<R: Wait>(
+        &self,
+        rt: &R,
+        alloc: Global,
+        seat: &mut Seat<O::Deed, N>,
+        max: u64,
+    ) -> Result<Vec<O::Answer>, Refusal>
+        ensures number { seat.new.number ≡ seat.old.number }
+        ensures few { IfOk result (λ answers. length answers.items ≤ max) }
+        ensures polls { IfOk result (λ answers. (old : O) × (new : O) × DrainedAs (λ got. TakingPolls
+            (λ before answer after. O.steps before seat.old.number O.poll answer after)
+            (O.record_of seat.old.number O.poll) (λ o. O.refusal_of o seat.old.number O.poll) O.available_of
+            O.left_of O.owed_of old got new) seat.old.list seat.new.list answers.items) }
+        ensures why { IfErr result (λ why. (why ≡ Memory) ⊎ ((book : Booked O O.Base O.Deed) × (k : ℕ) × (k ≤ max)
+            × IsWhy (book_drain_refusal (O.refusal_of book.object seat.old.number O.poll) (O.left_of book.object)
+            (O.owed_of book.object) book k) why)) }
+        ensures same { IfErr result (λ _. seat.new.list ≡ seat.old.list) }
+    {
+        let there = self.available(rt).min(max);
+        let Some(room) = room_for::<O>(alloc, there as usize) else {
+            return Err(Refusal::Memory);
+        };
+        if seat.reserve(room.polled.capacity()).is_err() {
+            room.destroy_empty();
+            return Err(Refusal::Memory);
+        }
+        let mut shared = self.hold(rt);
+        match shared.drain(seat, there, room) {
+            Ok(answers) => Ok(answers),
+            Err(refused) => {
+                let Refused { why, back } = refused;
+                back.destroy_empty();
+                Err(why)
+            }
+        }
+    }
+
+    /// How many items there are at some time.
+    fn available<R: Wait>(&self, rt: &R) -> u64 {
+        let shared = self.hold(rt);
+        shared.probe().available()
+    }
+}
