@@ -1,7 +1,9 @@
 //! A till, in which amounts are added up: an object with nothing of queues in it.
 
-ghost use Rattle.std.specs.Prelude.{◌≡◌, ◌+◌, ◌<◌, ◌≤◌, [], ◌∷◌, Some, None, ⊤, refl, nat_lt, length, if◌then◌else◌};
+ghost use Rattle.std.specs.Prelude.{◌≡◌, ◌+◌, ◌<◌, ◌≤◌, ℕ, List, [], Some, None, ⊤, refl, nat_lt, length, if◌then◌else◌};
 ghost use Rattle.std.specs.Vec.{vec_capacity};
+ghost use Rattle.meet_tickets.specs.declared.records.Record.{Record as Entered};
+ghost use Rattle.meet_place_tests.specs.declared.till.Amount.{Amount as Added};
 ghost use Rattle.meet_tickets.specs.declared.refusals.Refusal.TheVariants.{NoSuchSeat, TicketsSpent};
 
 use meet_book::{Leaves, Object, Same, Wakes};
@@ -167,7 +169,9 @@ impl Wakes for Till {
 impl Leaves for Till {
     type Left = u64;
 
-    ghost left_of = { λ till. till.sum ∷ [] };
+    ghost left_count = { λ till. 1 };
+
+    ghost are_left = { λ base records left. length left ≡ 1 };
 
     fn left(&self) -> u64 {
         1
@@ -175,8 +179,8 @@ impl Leaves for Till {
 
     fn leave(self, empty: Vec<u64>) -> Vec<u64>
         requires empty { empty.items ≡ [] }
-        requires room { length (self.sum ∷ []) ≤ vec_capacity empty }
-        ensures { result.items ≡ self.sum ∷ [] }
+        requires room { 1 ≤ vec_capacity empty }
+        ensures { (base : ℕ) (records : List (Entered Added)) → ⊤ → length result.items ≡ 1 }
     {
         let mut all = empty;
         all.push_reserved(self.sum);
