@@ -124,7 +124,6 @@ impl<O: Leaves, G: Drop, N: Ledger> Place<O, G, N>
 where
     O::Base: Drop,
     O::Deed: Same + Drop,
-    O::Left: Drop,
 {
     /// Ends the place: takes all seats back, in whatever order, compares the records with their receipts, and takes out
     /// what is left. It refuses SeatMissing exactly where fewer seats are given back than were made, then Memory, then
@@ -166,6 +165,7 @@ where
         let (gates, book, mut total, mut rest) = self.into_parts();
         let mut left = Vec::new(alloc);
         if left.reserve(book.probe().left() as usize).is_err() {
+            left.destroy_empty();
             let place = Place::of_parts(gates, book, total, rest);
             return Err(CloseFault::Memory { place, seats });
         }
@@ -175,6 +175,7 @@ where
         match compare(O::gone(book.base()), book.records(), bares.as_slice()) {
             None => {}
             Some((seat, index)) => {
+                left.destroy_empty();
                 return Err(CloseFault::Differs {
                     seat,
                     index,
