@@ -71,3 +71,11 @@ flag_at-more flags n = fun_ext (at flags n)
     at [] n k = ap (λ f. f k) (flag_at-replicate n)
     at (flag ∷ flags) n zero = refl
     at (flag ∷ flags) n (suc k) = at flags n k
+
+-- where no seat holds anything the first doesn't
+pub hold_at-none_first : {T : Type 0} (hold : Hold T) (holds : List (Hold T)) → hold_at (hold ∷ holds) ≡ (λ _. Free) → hold ≡ Free
+hold_at-none_first hold holds none = ap (λ held. held 0) none
+
+-- and no other does
+pub hold_at-none_later : {T : Type 0} (hold : Hold T) (holds : List (Hold T)) → hold_at (hold ∷ holds) ≡ (λ _. Free) → hold_at holds ≡ (λ _. Free)
+hold_at-none_later hold holds none = ap (λ held seat. held (suc seat)) none

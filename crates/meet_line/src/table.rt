@@ -6,7 +6,7 @@ ghost use Rattle.std.specs.Vec.{vec_capacity};
 ghost use Rattle.meet_tickets.specs.BySeat.{put_at, owed_of, settled_of};
 ghost use Rattle.meet_tickets.specs.Limits.{most_seats};
 ghost use Rattle.meet_tickets.specs.declared.lines.Hold.TheVariants.{Free};
-ghost use Rattle.meet_line.specs.Table.{grown};
+ghost use Rattle.meet_line.specs.Table.{grown, hold_at};
 ghost use Rattle.meet_line.specs.Left.{left_of_hold, left_at_seats};
 
 use crate::left::{Left, push_left};
@@ -43,7 +43,7 @@ impl<T> Model for SeatTable<T> {
 }
 
 impl<T> SeatTable<T> {
-    ghost use Rattle.meet_line.specs.Table.{hold_at, flag_at, HasNoItem};
+    ghost use Rattle.meet_line.specs.Table.{flag_at, HasNoItem};
 
     /// A table of this many seats, at most 65,536, none of which holds anything or is flagged. The only error is want
     /// of memory.
@@ -206,6 +206,35 @@ impl<T> SeatTable<T> {
         }
         holds.destroy_empty();
     }
+
+    /// Lets a table go whose seats hold nothing, also where items can't be dropped.
+    pub fn destroy_empty(self)
+        requires empty { hold_at self.holds ≡ (λ _. Free) }
+    {
+        let SeatTable {
+            holds,
+            flags,
+            owed: _,
+            settled: _,
+            changed: _,
+        } = self;
+        drop(flags);
+        destroy_holds(holds);
+    }
+}
+
+/// Lets go what seats hold, where it is nothing.
+fn destroy_holds<T>(holds: Vec<Hold<T>>)
+    requires empty { hold_at holds.items ≡ (λ _. Free) }
+{
+    let mut holds = holds.into_iter();
+    while let Some(hold) = holds.next() {
+        match hold {
+            Hold::Free | Hold::Waiting(_) | Hold::Handed(_, _, _) => {}
+            Hold::Served(_, _, _) | Hold::Cut(_, _) => unreachable!(),
+        }
+    }
+    holds.destroy_empty();
 }
 
 /// How many items there are in what seats hold.

@@ -1,8 +1,10 @@
-//! What is left in a queue, counted and taken out. Neither call takes memory.
+//! What is left in a queue, counted and taken out, and a queue in which nothing is. No call takes memory.
 
 ghost use Rattle.std.specs.Prelude.{◌≡◌, ◌≤◌, [], length};
 ghost use Rattle.std.specs.Vec.{vec_capacity};
+ghost use Rattle.meet_tickets.specs.BySeat.{nobody};
 ghost use Rattle.meet_line.specs.Left.{left_in};
+ghost use Rattle.meet_line.specs.Queue.{seats_of};
 
 use crate::dual::Dual;
 use meet_line::{Left, Line};
@@ -27,5 +29,12 @@ impl<T: Marked, L: Line<T>> Dual<T, L> {
         ensures { result.items ≡ left_in L.end self }
     {
         self.meetings.into_left(empty)
+    }
+
+    /// Lets a queue go in which nobody is there, also where its items can't be dropped.
+    pub fn destroy_empty(self)
+        requires empty { seats_of self ≡ nobody }
+    {
+        self.meetings.destroy_empty();
     }
 }

@@ -1,9 +1,11 @@
-//! What is left in a queue, counted and taken out. Neither call takes memory.
+//! What is left in a queue, counted and taken out, and a queue in which nothing is. No call takes memory.
 
 ghost use Rattle.std.specs.Prelude.{◌≡◌, ◌+◌, ◌≤◌, ◌++◌, [], length, vec_len, IsPermutation};
 ghost use Rattle.std.specs.List.Sorted.{IsNonDecreasingBy};
 ghost use Rattle.std.specs.Vec.{vec_capacity};
+ghost use Rattle.meet_tickets.specs.BySeat.{nobody};
 ghost use Rattle.meet_line.specs.Left.{left_in_line, left_in};
+ghost use Rattle.meet_line.specs.Queue.{seats_of};
 
 use crate::left::{Left, push_left};
 use crate::line::Line;
@@ -65,5 +67,20 @@ impl<T: Marked, L: Line<T>> Meetings<T, L> {
         let mut left = self.into_left(empty);
         left.sort_unstable_by_key(|left| left.ticket);
         left
+    }
+
+    /// Lets a queue go in which nobody is there, also where its items can't be dropped.
+    pub fn destroy_empty(self)
+        requires empty { seats_of self ≡ nobody }
+    {
+        let Meetings {
+            line,
+            seats,
+            last: _,
+            next: _,
+            kept: _,
+        } = self;
+        line.destroy_empty();
+        seats.destroy_empty();
     }
 }
