@@ -1,2 +1,3 @@
 pub mod Probes
 pub mod Queues
+pub mod Ready
