@@ -190,3 +190,16 @@ fn takers_leave_nothing(rt: HostRuntime) {
     leaves::<FairLine<Seal>>(&rt, rt.alloc(), &TAKERS, &[]);
     leaves::<StackLine<Seal>>(&rt, rt.alloc(), &TAKERS, &[]);
 }
+
+/// A queue in which nobody is there is let go.
+fn goes_empty<L: Line<Seal>>(rt: &impl Abort, alloc: Global) {
+    let mut queue: Meetings<Seal, L> = Meetings::new(alloc, 8, 1).expect(rt, "memory");
+    queue.reserve(8).expect(rt, "memory");
+    queue.destroy_empty();
+}
+
+#[test]
+fn nobody_is_there(rt: HostRuntime) {
+    goes_empty::<FairLine<Seal>>(&rt, rt.alloc());
+    goes_empty::<StackLine<Seal>>(&rt, rt.alloc());
+}
