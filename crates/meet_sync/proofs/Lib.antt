@@ -1,0 +1,2 @@
+pub mod SameSeat
+pub mod Wholes

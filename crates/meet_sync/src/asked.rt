@@ -1,0 +1,144 @@
+//! What a seat asks of a queue, and what it is answered. Each answer brings the seat back, free or with an open ticket.
+
+ghost use Rattle.std.specs.Prelude.{◌≡◌};
+ghost use Rattle.meet_sync.specs.Asking.{item_of};
+ghost use Rattle.meet_sync.specs.Ending.{end_of};
+
+use meet_place::{Pending, Seat};
+use meet_tickets::{Deed, Refusal, Ticket};
+use std::sync::ledger::Ledger;
+
+/// A request that a queue settles, or that waits.
+#[derive(Drop)]
+pub enum Request<T> {
+    /// A give that waits for a taker: `SynchronousQueue.put`, `LinkedTransferQueue.transfer`.
+    Give(T),
+    /// A give to a taker that waits: `SynchronousQueue.offer`, `LinkedTransferQueue.tryTransfer`.
+    Offer(T),
+    /// A take that waits for a giver: `take` of both.
+    Take,
+    /// A take from a giver that is there: `poll` of both.
+    Poll,
+}
+
+/// The answer to a request that was settled at once.
+#[derive(Drop)]
+pub enum Answer<T> {
+    /// The item went to the taker with this ticket.
+    Gave(Ticket),
+    /// The item came from the giver with this ticket.
+    Got(Ticket, T),
+    /// Nobody was there; a giver's item comes back.
+    Failed(Option<T>),
+    /// It would have waited, and its seat was flagged; a giver's item comes back.
+    EntryInterrupted(Option<T>),
+}
+
+/// A request that was made.
+#[derive(Drop)]
+pub enum Asked<T, N: Ledger> {
+    /// It was settled at once.
+    Settled(Seat<Deed, N>, Answer<T>),
+    /// It waits in the line: its ticket is open.
+    Parked(Pending<Deed, N>),
+}
+
+/// A call that was refused: nothing was written, and the seat and the item come back.
+#[derive(Drop)]
+pub struct SeatRefused<T, N: Ledger> {
+    /// Why.
+    pub why: Refusal,
+    /// The seat as it was, with room for more receipts perhaps.
+    pub seat: Seat<Deed, N>,
+    /// The item that the call brought.
+    pub item: Option<T>,
+}
+
+/// The answer to a follow-up.
+#[derive(Drop)]
+pub enum FollowedUp<T, N: Ledger> {
+    /// The giver was met.
+    Done(Seat<Deed, N>),
+    /// The taker was met: the item came from the giver with this ticket.
+    Got(Seat<Deed, N>, Ticket, T),
+    /// The ticket was cut; a giver's item comes back.
+    Interrupted(Seat<Deed, N>, Option<T>),
+    /// The ticket still stands in the line, and nothing was written.
+    NotYet(Pending<Deed, N>),
+}
+
+/// The answer to a cancel or an expiry.
+#[derive(Drop)]
+pub enum Withdrawn<T, N: Ledger> {
+    /// The ticket left the line; a giver's item comes back.
+    Back(Seat<Deed, N>, Option<T>),
+    /// The ticket was met or cut before, and nothing was written: a follow-up ends it.
+    Late(Pending<Deed, N>),
+}
+
+/// The answer to an interrupt.
+#[derive(Drop)]
+pub enum Struck<N: Ledger> {
+    /// This ticket of the target's was cut.
+    Cut(Seat<Deed, N>, Ticket),
+    /// The target doesn't stand in the line: it is flagged.
+    Flagged(Seat<Deed, N>),
+}
+
+/// How a whole call ended.
+#[derive(Drop)]
+pub enum End<T> {
+    /// The item went to the taker with this ticket.
+    Gave(Ticket),
+    /// The item came from the giver with this ticket.
+    Got(Ticket, T),
+    /// Nobody was there; a giver's item comes back.
+    Failed(Option<T>),
+    /// The item is kept in the line, and its giver goes on.
+    Kept,
+    /// It would have waited, and its seat was flagged; a giver's item comes back.
+    EntryInterrupted(Option<T>),
+    /// The giver waited, and was met.
+    Done,
+    /// The ticket waited, and was cut; a giver's item comes back.
+    Interrupted(Option<T>),
+    /// The ticket waited, and its time ran out; a giver's item comes back.
+    TimedOut(Option<T>),
+}
+
+/// A seat, and how its call ended.
+#[derive(Drop)]
+pub struct Ended<T, N: Ledger> {
+    /// The seat, with the call's receipts.
+    pub seat: Seat<Deed, N>,
+    /// How the call ended.
+    pub end: End<T>,
+}
+
+impl<T> Request<T> {
+    /// The item that it brings.
+    pub fn into_item(self) -> Option<T>
+        ensures { result ≡ item_of self }
+    {
+        match self {
+            Request::Give(item) => Some(item),
+            Request::Offer(item) => Some(item),
+            Request::Take => None,
+            Request::Poll => None,
+        }
+    }
+}
+
+impl<T> Answer<T> {
+    /// The end of a whole call that was settled so.
+    pub fn into_end(self) -> End<T>
+        ensures { result ≡ end_of self }
+    {
+        match self {
+            Answer::Gave(with) => End::Gave(with),
+            Answer::Got(with, item) => End::Got(with, item),
+            Answer::Failed(back) => End::Failed(back),
+            Answer::EntryInterrupted(back) => End::EntryInterrupted(back),
+        }
+    }
+}

@@ -1,0 +1,20 @@
+//! The queues of `java.util.concurrent` for threads: each is a queue of one thread under a lock, with a seat for each
+//! thread that calls it.
+#![tactic(auto)]
+
+mod asked;
+mod deadline;
+mod endings;
+mod putting;
+mod requests;
+mod steps;
+mod sync_queue;
+mod told;
+mod transfer_queue;
+mod whole;
+
+pub use asked::{Answer, Asked, End, Ended, FollowedUp, Request, SeatRefused, Struck, Withdrawn};
+pub use meet_line::{FairLine, Left, LeftStanding, StackLine};
+pub use meet_place::{Back, Gate, Pending, Seat, Turn};
+pub use sync_queue::SyncQueue;
+pub use transfer_queue::TransferQueue;

@@ -1,0 +1,202 @@
+//! The whole calls of a queue: a request, and where it waits, the wait for its ending.
+
+ghost use Rattle.std.specs.Prelude.{◌≡◌, ◌<◌, ⊤, IfOk, IfErr};
+ghost use Rattle.meet_sync.specs.Asking.{item_of};
+ghost use Rattle.meet_sync.specs.Ending.{EndedAs, OutcomeOf, NotExpired};
+ghost use Rattle.meet_sync.specs.Told.{IsRequestWhy};
+ghost use Rattle.meet_sync.specs.declared.asked.Request.TheVariants.{Give, Offer, Take, Poll};
+
+use crate::asked::{Asked, End, Ended, FollowedUp, Request, SeatRefused, Withdrawn};
+use crate::deadline::Deadline;
+use crate::steps::QueueRef;
+use meet_line::Line;
+use meet_place::{Gate, Pending, Seat, Turn};
+use meet_tickets::{Deed, Marked};
+use std::sync::Wait;
+use std::sync::ledger::Ledger;
+use std::time::Clock;
+
+impl<T: Marked, L: Line<T>, G: Gate, N: Ledger> QueueRef<'_, T, L, G, N> {
+    /// Follows an open ticket up: how it ended, or the ticket as it was.
+    fn look<R: Wait>(
+        &self,
+        rt: &R,
+        pending: Pending<Deed, N>,
+    ) -> Result<Ended<T, N>, Pending<Deed, N>>
+        ensures outcome { IfOk result (λ ended. OutcomeOf T.mark_of pending ended) }
+        ensures untimed { IfOk result (λ ended. NotExpired ended.end) }
+        ensures again { IfErr result (λ again. again ≡ pending) }
+    {
+        match self.follow_up(rt, pending) {
+            FollowedUp::Done(seat) => Ok(Ended {
+                seat,
+                end: End::Done,
+            }),
+            FollowedUp::Got(seat, with, item) => Ok(Ended {
+                seat,
+                end: End::Got(with, item),
+            }),
+            FollowedUp::Interrupted(seat, back) => Ok(Ended {
+                seat,
+                end: End::Interrupted(back),
+            }),
+            FollowedUp::NotYet(again) => Err(again),
+        }
+    }
+
+    /// Waits until an open ticket ends: it looks again each time it is woken.
+    fn await_end<R: Wait + Clock>(&self, rt: &R, first: Pending<Deed, N>) -> Ended<T, N>
+        ensures outcome { OutcomeOf T.mark_of first result }
+        ensures untimed { NotExpired result.end }
+    {
+        let mut pending = first;
+        for _ in rt.forever() {
+            let _ = self.wait(rt, &pending, None);
+            match self.look(rt, pending) {
+                Ok(ended) => return ended,
+                Err(again) => pending = again,
+            }
+        }
+        unreachable!()
+    }
+
+    /// Looks until an open ticket ends, which was met or cut.
+    fn collect<R: Wait>(&self, rt: &R, first: Pending<Deed, N>) -> Ended<T, N>
+        ensures outcome { OutcomeOf T.mark_of first result }
+    {
+        let mut pending = first;
+        for _ in rt.forever() {
+            match self.look(rt, pending) {
+                Ok(ended) => return ended,
+                Err(again) => pending = again,
+            }
+        }
+        unreachable!()
+    }
+
+    /// The time of an open ticket ran out: it is withdrawn, or ends as it was met or cut.
+    fn run_out<R: Wait>(&self, rt: &R, pending: Pending<Deed, N>) -> Ended<T, N>
+        ensures outcome { OutcomeOf T.mark_of pending result }
+    {
+        match self.expire(rt, pending) {
+            Withdrawn::Back(seat, back) => Ended {
+                seat,
+                end: End::TimedOut(back),
+            },
+            Withdrawn::Late(again) => self.collect(rt, again),
+        }
+    }
+
+    /// Waits until an open ticket ends, or its time runs out, however often it is woken in between.
+    fn await_for<R: Wait + Clock>(&self, rt: &R, first: Pending<Deed, N>, limit: u64) -> Ended<T, N>
+        ensures outcome { OutcomeOf T.mark_of first result }
+    {
+        let deadline = Deadline::after(rt, limit);
+        let mut pending = first;
+        for _ in rt.forever() {
+            let left = deadline.left(rt);
+            if left == 0 || self.wait(rt, &pending, Some(left)) == Turn::Elapsed {
+                return self.run_out(rt, pending);
+            }
+            match self.look(rt, pending) {
+                Ok(ended) => return ended,
+                Err(again) => pending = again,
+            }
+        }
+        unreachable!()
+    }
+
+    /// A request, and the wait for its ending.
+    pub(crate) fn ask<R: Wait + Clock>(
+        &self,
+        rt: &R,
+        seat: Seat<Deed, N>,
+        request: Request<T>,
+    ) -> Result<Ended<T, N>, SeatRefused<T, N>>
+        ensures ended { IfOk result (λ ended. EndedAs ⊥ T.mark_of seat request ended) }
+        ensures number { IfErr result (λ refused. refused.seat.number ≡ seat.number) }
+        ensures list { IfErr result (λ refused. refused.seat.list ≡ seat.list) }
+        ensures item { IfErr result (λ refused. refused.item ≡ item_of request) }
+        ensures why { IfErr result (λ refused. IsRequestWhy refused.why) }
+    {
+        let asked = match self.request(rt, seat, request) {
+            Ok(asked) => asked,
+            Err(refused) => return Err(refused),
+        };
+        match asked {
+            Asked::Settled(seat, answer) => Ok(Ended {
+                seat,
+                end: answer.into_end(),
+            }),
+            Asked::Parked(pending) => Ok(self.await_end(rt, pending)),
+        }
+    }
+
+    /// A request, and the wait for its ending, for so many milliseconds.
+    fn ask_for<R: Wait + Clock>(
+        &self,
+        rt: &R,
+        seat: Seat<Deed, N>,
+        request: Request<T>,
+        limit: u64,
+    ) -> Result<Ended<T, N>, SeatRefused<T, N>>
+        ensures ended { IfOk result (λ ended. EndedAs ⊤ T.mark_of seat request ended) }
+        ensures number { IfErr result (λ refused. refused.seat.number ≡ seat.number) }
+        ensures list { IfErr result (λ refused. refused.seat.list ≡ seat.list) }
+        ensures item { IfErr result (λ refused. refused.item ≡ item_of request) }
+        ensures why { IfErr result (λ refused. IsRequestWhy refused.why) }
+    {
+        let asked = match self.request(rt, seat, request) {
+            Ok(asked) => asked,
+            Err(refused) => return Err(refused),
+        };
+        match asked {
+            Asked::Settled(seat, answer) => Ok(Ended {
+                seat,
+                end: answer.into_end(),
+            }),
+            Asked::Parked(pending) => Ok(self.await_for(rt, pending, limit)),
+        }
+    }
+
+    /// A give that waits for so many milliseconds; with a limit of 0 it is an offer.
+    pub(crate) fn give_for<R: Wait + Clock>(
+        &self,
+        rt: &R,
+        seat: Seat<Deed, N>,
+        item: T,
+        limit: u64,
+    ) -> Result<Ended<T, N>, SeatRefused<T, N>>
+        ensures now { limit ≡ 0 → IfOk result (λ ended. EndedAs ⊥ T.mark_of seat (Offer item) ended) }
+        ensures timed { 0 < limit → IfOk result (λ ended. EndedAs ⊤ T.mark_of seat (Give item) ended) }
+        ensures number { IfErr result (λ refused. refused.seat.number ≡ seat.number) }
+        ensures list { IfErr result (λ refused. refused.seat.list ≡ seat.list) }
+        ensures item { IfErr result (λ refused. refused.item ≡ item_of (Give item)) }
+        ensures why { IfErr result (λ refused. IsRequestWhy refused.why) }
+    {
+        if limit == 0 {
+            return self.ask(rt, seat, Request::Offer(item));
+        }
+        self.ask_for(rt, seat, Request::Give(item), limit)
+    }
+
+    /// A take that waits for so many milliseconds; with a limit of 0 it is a poll.
+    pub(crate) fn take_for<R: Wait + Clock>(
+        &self,
+        rt: &R,
+        seat: Seat<Deed, N>,
+        limit: u64,
+    ) -> Result<Ended<T, N>, SeatRefused<T, N>>
+        ensures now { limit ≡ 0 → IfOk result (λ ended. EndedAs ⊥ T.mark_of seat Poll ended) }
+        ensures timed { 0 < limit → IfOk result (λ ended. EndedAs ⊤ T.mark_of seat Take ended) }
+        ensures number { IfErr result (λ refused. refused.seat.number ≡ seat.number) }
+        ensures list { IfErr result (λ refused. refused.seat.list ≡ seat.list) }
+        ensures item { IfErr result (λ refused. refused.item ≡ item_of Take) }
+        ensures why { IfErr result (λ refused. IsRequestWhy refused.why) }
+    {
+        if limit == 0 {
+            return self.ask(rt, seat, Request::Poll);
+        }
+        self.ask_for(rt, seat, Request::Take, limit)
+    }
+}
