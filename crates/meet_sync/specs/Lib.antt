@@ -1,3 +1,6 @@
 pub mod Asking
+pub mod Chronicles
 pub mod Ending
+pub mod Faults
+pub mod Making
 pub mod Told

@@ -3,8 +3,10 @@
 #![tactic(auto)]
 
 mod asked;
+mod closing;
 mod deadline;
 mod endings;
+mod making;
 mod putting;
 mod requests;
 mod steps;
@@ -14,6 +16,8 @@ mod transfer_queue;
 mod whole;
 
 pub use asked::{Answer, Asked, End, Ended, FollowedUp, Request, SeatRefused, Struck, Withdrawn};
+pub use closing::{Chronicle, QueueFault};
+pub use making::NewQueue;
 pub use meet_line::{FairLine, Left, LeftStanding, StackLine};
 pub use meet_place::{Back, Gate, Pending, Seat, Turn};
 pub use sync_queue::SyncQueue;

@@ -1,0 +1,232 @@
+//! The end of a queue for threads: its one history.
+
+ghost use Rattle.std.specs.Prelude.{◌≡◌, ℕ, Option, List, map, vec_len, IfOk, IfErr};
+ghost use Rattle.meet_calls.specs.DualSteps.{kind_of};
+ghost use Rattle.meet_calls.specs.QueueSteps.{bounded_kind};
+ghost use Rattle.meet_place.specs.Backs.{list_of, AreOrdered};
+ghost use Rattle.meet_place.specs.declared.seats.Back.{Back};
+ghost use Rattle.meet_sync.specs.Chronicles.{IsChronicle};
+ghost use Rattle.meet_sync.specs.Faults.{QueueFaultFits, why_of};
+
+use crate::sync_queue::SyncQueue;
+use crate::transfer_queue::TransferQueue;
+use meet_book::{Book, Receipt};
+use meet_core::Dual;
+use meet_line::{Left, Line};
+use meet_place::{Back, CloseFault, Closed};
+use meet_tickets::{Base, Deed, Marked, Record, Refusal, SeatNo};
+use meet_transfer::Transfer;
+use std::alloc::Global;
+use std::error::Error;
+use std::fmt;
+use std::fmt::{Debug, Display, Formatter, Write};
+use std::sync::ledger::Ledger;
+
+/// What a queue leaves once it is closed.
+#[derive(Drop)]
+pub struct Chronicle<T> {
+    /// What stands for the records that were folded away; of a queue for threads none were.
+    pub base: Base,
+    /// The records, in order: one legal history.
+    pub records: Vec<Record<Deed>>,
+    /// The receipts of each seat, in the order of their numbers.
+    pub lists: Vec<Vec<Receipt<Deed>>>,
+    /// The items that are left, by rising ticket of their givers.
+    pub left: Vec<Left<T>>,
+}
+
+/// Why a queue was not closed. As an error its text is the name of the refusal that it is.
+#[derive(Drop)]
+pub enum QueueFault<Q, B, N: Ledger> {
+    /// Fewer seats were given back than were made. The queue and the seats come back.
+    SeatMissing {
+        /// How many were given back.
+        have: usize,
+        /// How many were made.
+        made: usize,
+        queue: Q,
+        seats: Vec<Back<Deed, N>>,
+    },
+    /// Memory was wanted and not there. The queue and the seats come back.
+    Memory {
+        queue: Q,
+        seats: Vec<Back<Deed, N>>,
+    },
+    /// The records of a seat aren't those of its receipts. The book comes back, out of its lock, and the seats, in the
+    /// order of their numbers.
+    Differs {
+        /// The least such seat.
+        seat: SeatNo,
+        /// The first index at which they differ, counted from 0 among the seat's records.
+        index: u64,
+        book: B,
+        seats: Vec<Back<Deed, N>>,
+    },
+}
+
+impl<Q, B, N: Ledger> QueueFault<Q, B, N> {
+    /// The reason as a refusal: SeatMissing, Memory or Differs.
+    pub fn why(&self) -> Refusal
+        ensures { result ≡ why_of self.now }
+    {
+        match self {
+            QueueFault::SeatMissing { .. } => Refusal::SeatMissing,
+            QueueFault::Memory { .. } => Refusal::Memory,
+            QueueFault::Differs { .. } => Refusal::Differs,
+        }
+    }
+}
+
+/// The name of the reason.
+impl<Q, B, N: Ledger> Display for QueueFault<Q, B, N> {
+    ghost use Rattle.std.specs.Prelude.{Some};
+    ghost use Rattle.meet_tickets.specs.Refusals.{name_of};
+    ghost use Rattle.meet_sync.specs.Faults.{why_of};
+
+    ghost output = { λ fault. Some (name_of (why_of fault)) };
+
+    fn fmt<W: Write>(&self, f: &mut Formatter<W>) -> fmt::Result {
+        f.write_str(self.why().name())
+    }
+}
+
+/// The reason alone: what comes back need not be such as can be shown.
+impl<Q, B, N: Ledger> Debug for QueueFault<Q, B, N> {
+    fn fmt<W: Write>(&self, f: &mut Formatter<W>) -> fmt::Result {
+        write!(f, "QueueFault({})", self.why())
+    }
+}
+
+impl<Q: Drop, B: Drop, N: Ledger> Error for QueueFault<Q, B, N> {}
+
+impl<T: Marked, L: Line<T>, G: Drop, N: Ledger> SyncQueue<T, L, G, N> {
+    /// Ends the queue: takes all seats back, free or with an open ticket, in whatever order, compares the records with
+    /// the seats' receipts, and takes out what is left. So the threads' calls, however they interleaved, have one legal
+    /// history, in which each seat's calls stand once, in the seat's order, and no others. It refuses SeatMissing
+    /// exactly where fewer seats are given back than were made, then Memory, then Differs, which can't come unless a
+    /// seat was called at another queue.
+    pub fn close(
+        self,
+        alloc: Global,
+        seats: Vec<Back<Deed, N>>,
+    ) -> Result<Chronicle<T>, QueueFault<Self, Book<Dual<T, L>>, N>>
+        ensures history { IfOk result (λ c. IsChronicle T.mark_of (kind_of L.end) c.base c.records.items
+            (map (λ list. list.items) c.lists.items) c.left.items) }
+        ensures lists { IfOk result (λ c. (ordered : List (Back Deed N)) × AreOrdered seats.items ordered
+            × (map (λ list. list.items) c.lists.items ≡ map list_of ordered)) }
+        ensures count { IfOk result (λ c. vec_len c.lists ≡ self) }
+        ensures fault { IfErr result (λ fault. QueueFaultFits self seats.items fault) }
+    {
+        let SyncQueue { place } = self;
+        match place.close(alloc, seats) {
+            Ok(closed) => {
+                let Closed {
+                    base,
+                    records,
+                    lists,
+                    left,
+                } = closed;
+                Ok(Chronicle {
+                    base,
+                    records,
+                    lists,
+                    left,
+                })
+            }
+            Err(fault) => match fault {
+                CloseFault::SeatMissing {
+                    have,
+                    made,
+                    place,
+                    seats,
+                } => Err(QueueFault::SeatMissing {
+                    have,
+                    made,
+                    queue: SyncQueue { place },
+                    seats,
+                }),
+                CloseFault::Memory { place, seats } => Err(QueueFault::Memory {
+                    queue: SyncQueue { place },
+                    seats,
+                }),
+                CloseFault::Differs {
+                    seat,
+                    index,
+                    book,
+                    seats,
+                } => Err(QueueFault::Differs {
+                    seat,
+                    index,
+                    book,
+                    seats,
+                }),
+            },
+        }
+    }
+}
+
+impl<T: Marked, G: Drop, N: Ledger> TransferQueue<T, G, N> {
+    /// Ends the queue: takes all seats back, free or with an open ticket, in whatever order, compares the records with
+    /// the seats' receipts, and takes out what is left. So the threads' calls, however they interleaved, have one legal
+    /// history, in which each seat's calls stand once, in the seat's order, and no others. It refuses SeatMissing
+    /// exactly where fewer seats are given back than were made, then Memory, then Differs, which can't come unless a
+    /// seat was called at another queue.
+    pub fn close(
+        self,
+        alloc: Global,
+        seats: Vec<Back<Deed, N>>,
+    ) -> Result<Chronicle<T>, QueueFault<Self, Book<Transfer<T>>, N>>
+        ensures history { IfOk result (λ c. (bound : Option ℕ) × IsChronicle T.mark_of (bounded_kind bound) c.base c.records.items
+            (map (λ list. list.items) c.lists.items) c.left.items) }
+        ensures lists { IfOk result (λ c. (ordered : List (Back Deed N)) × AreOrdered seats.items ordered
+            × (map (λ list. list.items) c.lists.items ≡ map list_of ordered)) }
+        ensures count { IfOk result (λ c. vec_len c.lists ≡ self) }
+        ensures fault { IfErr result (λ fault. QueueFaultFits self seats.items fault) }
+    {
+        let TransferQueue { place } = self;
+        match place.close(alloc, seats) {
+            Ok(closed) => {
+                let Closed {
+                    base,
+                    records,
+                    lists,
+                    left,
+                } = closed;
+                Ok(Chronicle {
+                    base,
+                    records,
+                    lists,
+                    left,
+                })
+            }
+            Err(fault) => match fault {
+                CloseFault::SeatMissing {
+                    have,
+                    made,
+                    place,
+                    seats,
+                } => Err(QueueFault::SeatMissing {
+                    have,
+                    made,
+                    queue: TransferQueue { place },
+                    seats,
+                }),
+                CloseFault::Memory { place, seats } => Err(QueueFault::Memory {
+                    queue: TransferQueue { place },
+                    seats,
+                }),
+                CloseFault::Differs {
+                    seat,
+                    index,
+                    book,
+                    seats,
+                } => Err(QueueFault::Differs {
+                    seat,
+                    index,
+                    book,
+                    seats,
+                }),
+            },
+        }
+    }
+}

@@ -1,0 +1,163 @@
+//! New queues for threads.
+
+ghost use Rattle.std.specs.Prelude.{◌≡◌, Some, None, vec_len, IfOk, IfErr, if◌then◌else◌};
+ghost use Rattle.meet_tickets.specs.declared.refusals.Refusal.TheVariants.{BadSizes};
+ghost use Rattle.meet_tickets.specs.Limits.{most_records};
+ghost use Rattle.meet_tickets.specs.Refusals.{IsWhy};
+ghost use Rattle.meet_place.specs.Seats.{AreFresh};
+ghost use Rattle.meet_sync.specs.Making.{making_refusal};
+
+use crate::sync_queue::SyncQueue;
+use crate::transfer_queue::TransferQueue;
+use meet_line::Line;
+use meet_place::{NewPlace, Place, Seat};
+use meet_queues::{ready_queue_book, ready_transfer_book};
+use meet_tickets::{Deed, MOST_RECORDS, MOST_SEATS, Marked, Refusal, Refused};
+use std::alloc::Global;
+use std::sync::ledger::{Blank, Ledger};
+
+/// What a queue for threads is made of.
+#[derive(Drop)]
+pub struct NewQueue<G> {
+    /// A gate for each seat.
+    pub gates: Vec<G>,
+    /// A ledger with a part for each seat.
+    pub blank: Blank,
+}
+
+/// Whether so many gates and records are within the limits.
+fn fits(gates: usize, cap: u64) -> bool
+    ensures { making_refusal gates cap ≡ (if result then None else Some BadSizes) }
+{
+    gates != 0 && gates as u64 <= MOST_SEATS && cap != 0 && cap <= MOST_RECORDS
+}
+
+impl<T: Marked, L: Line<T>, G: Drop, N: Ledger> SyncQueue<T, L, G, N> {
+    /// A queue with a seat for each gate, numbered from 0, and at most so many records. It refuses BadSizes where there
+    /// is no gate or more than 65,536, or the records are none or more than 1,048,576; then Memory. All comes back.
+    pub fn with_cap(
+        alloc: Global,
+        parts: NewQueue<G>,
+        cap: u64,
+    ) -> Result<(Self, Vec<Seat<Deed, N>>), Refused<NewQueue<G>>>
+        requires name { parts.blank.name ≡ N.name }
+        requires parts { parts.blank.parts ≡ N.parts }
+        requires one_each { parts.blank.parts ≡ vec_len parts.gates }
+        ensures count { IfOk result (λ made. made.0 ≡ vec_len parts.gates) }
+        ensures seats { IfOk result (λ made. vec_len made.1 ≡ vec_len parts.gates) }
+        ensures numbers { IfOk result (λ made. AreFresh made.1.items) }
+        ensures sizes { IfOk result (λ _. making_refusal (vec_len parts.gates) cap ≡ None) }
+        ensures why { IfErr result (λ refused. IsWhy (making_refusal (vec_len parts.gates) cap) refused.why) }
+        ensures back { IfErr result (λ refused. refused.back ≡ parts) }
+    {
+        if !fits(parts.gates.len(), cap) {
+            return Err(Refused {
+                why: Refusal::BadSizes,
+                back: parts,
+            });
+        }
+        let book = match ready_queue_book(alloc, parts.gates.len() as u64, cap) {
+            Ok(book) => book,
+            Err(why) => return Err(Refused { why, back: parts }),
+        };
+        let NewQueue { gates, blank } = parts;
+        let whole = NewPlace { book, gates, blank };
+        match Place::new(alloc, whole) {
+            Ok((place, seats)) => Ok((SyncQueue { place }, seats)),
+            Err(refused) => {
+                let Refused { why, back } = refused;
+                let NewPlace { book, gates, blank } = back;
+                let (queue, _, _) = book.into_parts();
+                queue.destroy_empty();
+                Err(Refused {
+                    why,
+                    back: NewQueue { gates, blank },
+                })
+            }
+        }
+    }
+
+    /// A queue with a seat for each gate, numbered from 0, and at most 1,048,576 records: `new SynchronousQueue(fair)`.
+    /// It refuses BadSizes where there is no gate or more than 65,536; then Memory. All comes back.
+    pub fn new(
+        alloc: Global,
+        parts: NewQueue<G>,
+    ) -> Result<(Self, Vec<Seat<Deed, N>>), Refused<NewQueue<G>>>
+        requires name { parts.blank.name ≡ N.name }
+        requires parts { parts.blank.parts ≡ N.parts }
+        requires one_each { parts.blank.parts ≡ vec_len parts.gates }
+        ensures count { IfOk result (λ made. made.0 ≡ vec_len parts.gates) }
+        ensures seats { IfOk result (λ made. vec_len made.1 ≡ vec_len parts.gates) }
+        ensures numbers { IfOk result (λ made. AreFresh made.1.items) }
+        ensures sizes { IfOk result (λ _. making_refusal (vec_len parts.gates) most_records ≡ None) }
+        ensures why { IfErr result (λ refused. IsWhy (making_refusal (vec_len parts.gates) most_records) refused.why) }
+        ensures back { IfErr result (λ refused. refused.back ≡ parts) }
+    {
+        Self::with_cap(alloc, parts, MOST_RECORDS)
+    }
+}
+
+impl<T: Marked, G: Drop, N: Ledger> TransferQueue<T, G, N> {
+    /// A queue with a seat for each gate, numbered from 0, and at most so many records. It refuses BadSizes where there
+    /// is no gate or more than 65,536, or the records are none or more than 1,048,576; then Memory. All comes back.
+    pub fn with_cap(
+        alloc: Global,
+        parts: NewQueue<G>,
+        cap: u64,
+    ) -> Result<(Self, Vec<Seat<Deed, N>>), Refused<NewQueue<G>>>
+        requires name { parts.blank.name ≡ N.name }
+        requires parts { parts.blank.parts ≡ N.parts }
+        requires one_each { parts.blank.parts ≡ vec_len parts.gates }
+        ensures count { IfOk result (λ made. made.0 ≡ vec_len parts.gates) }
+        ensures seats { IfOk result (λ made. vec_len made.1 ≡ vec_len parts.gates) }
+        ensures numbers { IfOk result (λ made. AreFresh made.1.items) }
+        ensures sizes { IfOk result (λ _. making_refusal (vec_len parts.gates) cap ≡ None) }
+        ensures why { IfErr result (λ refused. IsWhy (making_refusal (vec_len parts.gates) cap) refused.why) }
+        ensures back { IfErr result (λ refused. refused.back ≡ parts) }
+    {
+        if !fits(parts.gates.len(), cap) {
+            return Err(Refused {
+                why: Refusal::BadSizes,
+                back: parts,
+            });
+        }
+        let book = match ready_transfer_book(alloc, parts.gates.len() as u64, cap) {
+            Ok(book) => book,
+            Err(why) => return Err(Refused { why, back: parts }),
+        };
+        let NewQueue { gates, blank } = parts;
+        let whole = NewPlace { book, gates, blank };
+        match Place::new(alloc, whole) {
+            Ok((place, seats)) => Ok((TransferQueue { place }, seats)),
+            Err(refused) => {
+                let Refused { why, back } = refused;
+                let NewPlace { book, gates, blank } = back;
+                let (queue, _, _) = book.into_parts();
+                queue.destroy_empty();
+                Err(Refused {
+                    why,
+                    back: NewQueue { gates, blank },
+                })
+            }
+        }
+    }
+
+    /// A queue with a seat for each gate, numbered from 0, and at most 1,048,576 records: `new LinkedTransferQueue()`.
+    /// It refuses BadSizes where there is no gate or more than 65,536; then Memory. All comes back.
+    pub fn new(
+        alloc: Global,
+        parts: NewQueue<G>,
+    ) -> Result<(Self, Vec<Seat<Deed, N>>), Refused<NewQueue<G>>>
+        requires name { parts.blank.name ≡ N.name }
+        requires parts { parts.blank.parts ≡ N.parts }
+        requires one_each { parts.blank.parts ≡ vec_len parts.gates }
+        ensures count { IfOk result (λ made. made.0 ≡ vec_len parts.gates) }
+        ensures seats { IfOk result (λ made. vec_len made.1 ≡ vec_len parts.gates) }
+        ensures numbers { IfOk result (λ made. AreFresh made.1.items) }
+        ensures sizes { IfOk result (λ _. making_refusal (vec_len parts.gates) most_records ≡ None) }
+        ensures why { IfErr result (λ refused. IsWhy (making_refusal (vec_len parts.gates) most_records) refused.why) }
+        ensures back { IfErr result (λ refused. refused.back ≡ parts) }
+    {
+        Self::with_cap(alloc, parts, MOST_RECORDS)
+    }
+}
