@@ -1,2 +1,3 @@
 pub mod SameSeat
+pub mod Takings
 pub mod Wholes

@@ -1,6 +1,6 @@
 -- A request that waits and its ending make a whole call.
-use Rattle.std.proofs.Common.{◌≡◌, ℕ, refl, sym, ap, ◌∙◌, Option, Some, None, List, [], ◌∷◌, ◌++◌, append_assoc}
-use Rattle.std.proofs.Common.{inl, inr, map}
+use Rattle.std.proofs.Common.{◌≡◌, ℕ, ap, ◌∙◌, Option, Some, List, [], ◌∷◌, ◌++◌, append_assoc}
+use Rattle.std.proofs.Common.{inr}
 use Rattle.std.specs.Prelude.{⊤}
 use Rattle.std.proofs.lemmas.List.{map-append}
 use Rattle.meet_tickets.specs.declared.records.Record.{Record}

@@ -1,8 +1,7 @@
 -- What a queue's split calls leave in a seat's list, and what they answer: the words of SynchronousQueue and
 -- LinkedTransferQueue, each call one record of its own form (our choice).
-use Rattle.std.specs.Prelude.{◌≡◌, ℕ, ⊤, Option, Some, None, option_map, List, [], ◌∷◌}
+use Rattle.std.specs.Prelude.{◌≡◌, ℕ, ⊤, Option, Some, None, option_map, [], ◌∷◌}
 use Rattle.meet_tickets.specs.declared.places.Side.TheVariants.{Giver, Taker}
-use Rattle.meet_tickets.specs.declared.records.Record.{Record}
 use Rattle.meet_tickets.specs.declared.records.Cause.{Cause}
 use Rattle.meet_tickets.specs.declared.records.Cause.TheVariants.{Interrupted as ByInterrupt}
 use Rattle.meet_tickets.specs.declared.records.Deed.{Deed}

@@ -1,5 +1,5 @@
 -- What one step under the lock tells of itself, where the queue's state at that time isn't known (our choice).
-use Rattle.std.specs.Prelude.{◌≡◌, ⊤, ℕ, Option, Some, Bool}
+use Rattle.std.specs.Prelude.{⊤, ℕ, Option, Bool}
 use Rattle.meet_tickets.specs.declared.places.End.{End}
 use Rattle.meet_tickets.specs.declared.refusals.Refusal.{Refusal}
 use Rattle.meet_tickets.specs.declared.refusals.Refusal.TheVariants.{Memory, HistoryFull, TicketsSpent, SeatOpen}

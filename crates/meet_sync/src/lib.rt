@@ -5,6 +5,7 @@
 mod asked;
 mod closing;
 mod deadline;
+mod draining;
 mod endings;
 mod making;
 mod putting;
@@ -17,6 +18,7 @@ mod whole;
 
 pub use asked::{Answer, Asked, End, Ended, FollowedUp, Request, SeatRefused, Struck, Withdrawn};
 pub use closing::{Chronicle, QueueFault};
+pub use draining::DrainedItems;
 pub use making::NewQueue;
 pub use meet_line::{FairLine, Left, LeftStanding, StackLine};
 pub use meet_place::{Back, Gate, Pending, Seat, Turn};

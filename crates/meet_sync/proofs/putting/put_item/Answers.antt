@@ -1,4 +1,4 @@
-use Rattle.std.proofs.Common.{◌≡◌, sym, ap, ◌∙◌, refl, Some}
+use Rattle.std.proofs.Common.{ap, ◌∙◌, refl, Some}
 use Rattle.meet_tickets.specs.declared.records.Deed.TheVariants.{GiveKept, GiveMeets, GiveFails}
 use Rattle.meet_sync.proofs.putting.put_item.Goals as goal
 

@@ -1,4 +1,3 @@
-use Rattle.std.proofs.Common.{◌≡◌, sym, ap, ◌∙◌, refl}
 use Rattle.meet_sync.proofs.Wholes.{waited}
 use Rattle.meet_sync.proofs.steps.QueueRef.ask.Goals as goal
 

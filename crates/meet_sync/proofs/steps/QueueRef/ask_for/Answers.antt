@@ -1,4 +1,3 @@
-use Rattle.std.proofs.Common.{◌≡◌, sym, ap, ◌∙◌, refl}
 use Rattle.meet_sync.proofs.Wholes.{waited_for}
 use Rattle.meet_sync.proofs.steps.QueueRef.ask_for.Goals as goal
 

@@ -1,4 +1,4 @@
-use Rattle.std.proofs.Common.{◌≡◌, sym, ap, ◌∙◌, refl, Some}
+use Rattle.std.proofs.Common.{ap, refl, Some}
 use Rattle.meet_tickets.specs.declared.places.Side.TheVariants.{Giver}
 use Rattle.meet_tickets.specs.declared.records.Deed.TheVariants.{GiveWaits, GiveMeets, EntryInterrupted}
 use Rattle.meet_sync.proofs.steps.QueueRef.give.Goals as goal

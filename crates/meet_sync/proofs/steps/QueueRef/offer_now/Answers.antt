@@ -1,4 +1,4 @@
-use Rattle.std.proofs.Common.{◌≡◌, sym, ap, ◌∙◌, refl, Some}
+use Rattle.std.proofs.Common.{ap, refl, Some}
 use Rattle.meet_tickets.specs.declared.records.Deed.TheVariants.{GiveMeets, GiveFails}
 use Rattle.meet_sync.proofs.steps.QueueRef.offer_now.Goals as goal
 

@@ -1,4 +1,3 @@
-use Rattle.std.proofs.Common.{◌≡◌, sym, ap, ◌∙◌, refl}
 use Rattle.meet_sync.specs.declared.asked.Request.TheVariants.{Give, Offer, Take, Poll}
 use Rattle.meet_sync.proofs.SameSeat.{same_seat}
 use Rattle.meet_sync.proofs.steps.QueueRef.request.Goals as goal

@@ -1,4 +1,4 @@
-use Rattle.std.proofs.Common.{◌≡◌, sym, ap, ◌∙◌, refl}
+use Rattle.std.proofs.Common.{refl}
 use Rattle.meet_tickets.specs.declared.records.Cause.TheVariants.{Expired}
 use Rattle.meet_tickets.specs.declared.records.Deed.TheVariants.{Withdrawn}
 use Rattle.meet_sync.proofs.steps.QueueRef.run_out.Goals as goal

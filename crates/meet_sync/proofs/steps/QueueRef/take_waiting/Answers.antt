@@ -1,4 +1,4 @@
-use Rattle.std.proofs.Common.{◌≡◌, sym, ap, ◌∙◌, refl, Some}
+use Rattle.std.proofs.Common.{refl}
 use Rattle.meet_tickets.specs.declared.places.Side.TheVariants.{Taker}
 use Rattle.meet_tickets.specs.declared.records.Deed.TheVariants.{TakeWaits, TakeMeets, EntryInterrupted}
 use Rattle.meet_sync.proofs.steps.QueueRef.take_waiting.Goals as goal

@@ -1,4 +1,3 @@
-use Rattle.std.proofs.Common.{◌≡◌}
 use Rattle.meet_sync.proofs.transfer_queue.TransferQueue.close.Goals as goal
 
 pub returns-in-Ok-clause-history : goal.returns-in-Ok-clause-history

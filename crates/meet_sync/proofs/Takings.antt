@@ -1,0 +1,147 @@
+-- What a drain's polls take.
+use Rattle.std.proofs.Common.{◌≡◌, ℕ, zero, suc, Bool, true, false, inl, inr, ◌⊎◌, ◌≤◌, ◌+◌, refl, sym, ap, ◌∙◌, Option, Some, None, List, [], ◌∷◌, map, arith}
+use Rattle.std.specs.Prelude.{IsSome, nat_le, nat_lt, if◌then◌else◌}
+use Rattle.meet_tickets.specs.declared.places.Side.TheVariants.{Giver}
+use Rattle.meet_tickets.specs.declared.places.End.{End}
+use Rattle.meet_tickets.specs.declared.places.End.TheVariants.{Front}
+use Rattle.meet_tickets.specs.declared.records.Record.{Record}
+use Rattle.meet_tickets.specs.declared.records.Deed.{Deed}
+use Rattle.meet_tickets.specs.declared.refusals.Refusal.{Refusal}
+use Rattle.meet_tickets.specs.declared.refusals.Refusal.TheVariants.{HistoryFull, TicketsSpent, SeatOpen}
+use Rattle.meet_tickets.specs.declared.refusals.Refusal.TheVariants.{NoSuchSeat, Memory}
+use Rattle.meet_tickets.specs.BySeat.{is_open}
+use Rattle.meet_tickets.specs.Limits.{last_ticket}
+use Rattle.meet_tickets.specs.Meeting.{count_on}
+use Rattle.meet_tickets.specs.Refusals.{IsWhy}
+use Rattle.meet_book.specs.Draining.{TakingPolls, drain_refusal_by, book_drain_refusal}
+use Rattle.meet_book.specs.Booked.{Booked}
+use Rattle.meet_book.specs.Booking.{is_book_full}
+use Rattle.meet_book.specs.Received.{Received}
+use Rattle.meet_line.specs.Queue.{Queue, count_of, seats_of}
+use Rattle.meet_line.specs.declared.answers.Polled.TheVariants.{Meets, Fails}
+use Rattle.meet_calls.specs.DualSteps.{DualStep, dual_available, dual_refusal}
+use Rattle.meet_calls.specs.DualRecords.{dual_record}
+use Rattle.meet_calls.specs.QueueSteps.{queue_record}
+use Rattle.meet_calls.specs.declared.queue_calls.DualCall.TheVariants.{Poll}
+use Rattle.meet_calls.specs.declared.queue_calls.DualAnswer.{DualAnswer}
+use Rattle.meet_calls.specs.declared.queue_calls.DualAnswer.TheVariants.{Gave, Offered, Took, Polled, Followed}
+use Rattle.meet_calls.specs.declared.queue_calls.DualAnswer.TheVariants.{TakenBack, Interrupted}
+use Rattle.meet_calls.specs.declared.queue_calls.QueueCall.TheVariants.{Dual as EachHas}
+use Rattle.meet_calls.specs.declared.queue_calls.QueueAnswer.{QueueAnswer}
+use Rattle.meet_calls.specs.declared.queue_calls.QueueAnswer.TheVariants.{Put, Dual}
+use Rattle.meet_transfer.specs.Bounded.{Bounded, BoundedStep}
+use Rattle.meet_place.specs.Seats.{SeatView, DrainedAs}
+use Rattle.meet_sync.specs.Told.{IsRequestWhy}
+use Rattle.meet_sync.specs.Drained.{Taken, taken_record, item_in, item_within, AllBring, AreItemsOf, DrainedTo}
+
+some_is : {A : Type 0} {a b : A} → Some a ≡ Some b → b ≡ a
+some_is e = cc
+
+brings : {A : Type 0} {item : Option A} {a : A} → item ≡ Some a → IsSome item
+brings e = rw e refl
+
+head_is : {A : Type 0} {x y : A} {xs ys : List A} → x ∷ xs ≡ y ∷ ys → x ≡ y
+head_is e = cc
+
+tail_is : {A : Type 0} {x y : A} {xs ys : List A} → x ∷ xs ≡ y ∷ ys → xs ≡ ys
+tail_is e = cc
+
+same_somes : {A : Type 0} (xs ys : List A) → map (λ x. Some x) xs ≡ map (λ x. Some x) ys → xs ≡ ys
+same_somes [] [] e = refl
+same_somes [] (y ∷ ys) e = absurd (cc)
+same_somes (x ∷ xs) [] e = absurd (cc)
+same_somes (x ∷ xs) (y ∷ ys) e = (λ j. some_is (sym (head_is e)) j ∷ same_somes xs ys (tail_is e) j)
+
+-- a poll that lowers the number of items takes one
+pub dual_takes : {T : Type 0} (mark : T → ℕ) (end : End) (i : ℕ) (old : Queue T) (answer : DualAnswer T)
+    (new : Queue T) (e : Record Deed) → DualStep mark end old i Poll answer new
+    → dual_available new + 1 ≡ dual_available old → dual_record mark i Poll answer ≡ Some e
+    → (t : Taken T) × (item_in answer ≡ Some t.item) × (e ≡ taken_record mark i t)
+dual_takes mark end i old (Polled (Meets t u item)) new e step fewer is =
+    (record { ticket = t; giver = u; item = item }, refl, some_is is)
+dual_takes mark end i old (Polled (Fails t)) new e step fewer is =
+    let same = ap (λ s. count_on Giver s.line) step.1.left in absurd (omega arith)
+dual_takes mark end i old (Gave a) new e step fewer is = absurd step
+dual_takes mark end i old (Offered a) new e step fewer is = absurd step
+dual_takes mark end i old (Took a) new e step fewer is = absurd step
+dual_takes mark end i old (Followed a) new e step fewer is = absurd step
+dual_takes mark end i old (TakenBack a) new e step fewer is = absurd step
+dual_takes mark end i old (Interrupted a) new e step fewer is = absurd step
+
+-- the same of a transfer queue
+pub transfer_takes : {T : Type 0} (mark : T → ℕ) (i : ℕ) (old : Bounded T) (answer : QueueAnswer T)
+    (new : Bounded T) (e : Record Deed) → BoundedStep mark old i (EachHas Poll) answer new
+    → dual_available new.queue + 1 ≡ dual_available old.queue → queue_record mark i (EachHas Poll) answer ≡ Some e
+    → (t : Taken T) × (item_within answer ≡ Some t.item) × (e ≡ taken_record mark i t)
+transfer_takes mark i old (Dual answer) new e step fewer is =
+    dual_takes mark Front i old.queue answer new.queue e step.1 fewer is
+transfer_takes mark i old (Put answer) new e step fewer is = absurd step.1
+
+module _ {O A T : Type 0} (item_of : A → Option T) (mark : T → ℕ) (i : ℕ) (steps : O → A → O → Type 0)
+    (record_of : A → Option (Record Deed)) (refusal_of : O → Option Refusal) (available_of left_of owed_of : O → ℕ)
+    (takes : (old : O) (answer : A) (new : O) (e : Record Deed) → steps old answer new
+    → available_of new + 1 ≡ available_of old → record_of answer ≡ Some e
+    → (t : Taken T) × (item_of answer ≡ Some t.item) × (e ≡ taken_record mark i t)) where
+  -- polls that take take items, each of its own record
+  all_taken : (old : O) (got : List (A × Received Deed)) (new : O)
+      → TakingPolls steps record_of refusal_of available_of left_of owed_of old got new
+      → (all : List (Taken T)) × (map item_of (map (λ one. one.0) got) ≡ map (λ item. Some item) (map (λ t. t.item) all))
+      × (map (λ r. r.entry) (map (λ one. one.1) got) ≡ map (taken_record mark i) all)
+      × AllBring item_of (map (λ one. one.0) got)
+  all_taken old [] new polls = ([], refl, refl, tt)
+  all_taken old (one ∷ got) new (mid, does, is, polls) =
+      let first = takes old one.0 mid one.1.entry does.0 does.1.available is in
+      let rest = all_taken mid got new polls in (
+        first.0 ∷ rest.0,
+        (λ j. first.1 j ∷ rest.1 j),
+        (λ j. first.2 j ∷ rest.2 j),
+        (brings first.1, rest.3),
+      )
+
+  -- so the answers bring items
+  pub all_bring : (old new : List (Received Deed)) (answers : List A)
+      → (before : O) × (after : O) × DrainedAs (λ got. TakingPolls steps record_of refusal_of available_of left_of owed_of
+      before got after) old new answers → AllBring item_of answers
+  all_bring old new answers (before, after, (got, polls, list, is)) =
+      rw is (all_taken before got after polls).3
+
+  -- and these are what was drained
+  pub all_drained : (old new : SeatView Deed) (answers : List A) (items : List T) → old.number ≡ i
+      → (before : O) × (after : O) × DrainedAs (λ got. TakingPolls steps record_of refusal_of available_of left_of owed_of
+      before got after) old.list new.list answers → AreItemsOf item_of answers items → DrainedTo mark old new items
+  all_drained old new answers items number (before, after, (got, polls, list, is)) are =
+      let h = all_taken before got after polls in (
+        h.0,
+        same_somes _ items (sym h.1 ∙ ap (map item_of) (sym is) ∙ are),
+        (map (λ one. one.1) got, list, h.2 ∙ ap (λ n. map (taken_record mark n) h.0) (sym number)),
+      )
+
+-- why a drain of a queue may be refused
+last_why : (spent full : Bool) (why : Refusal)
+    → IsWhy (if spent then Some TicketsSpent else (if full then Some HistoryFull else None)) why → IsRequestWhy why
+last_why true full why e = rw e tt
+last_why false true why e = rw e tt
+last_why false false why e = rw e tt
+
+drain_why_by : (absent taken spent : Bool) (left k : ℕ) (full : Bool) (why : Refusal)
+    → IsWhy (drain_refusal_by (if absent then Some NoSuchSeat
+    else (if taken then Some SeatOpen else (if spent then Some TicketsSpent else None))) left k full) why
+    → IsRequestWhy why
+drain_why_by true taken spent left zero full why e = rw e tt
+drain_why_by true taken spent left (suc k) full why e = rw e tt
+drain_why_by false true spent left zero full why e = rw e tt
+drain_why_by false true spent left (suc k) full why e = rw e tt
+drain_why_by false false true left zero full why e = rw e tt
+drain_why_by false false true left (suc k) full why e = last_why (nat_lt left (suc k)) full why e
+drain_why_by false false false left zero full why e = rw e tt
+drain_why_by false false false left (suc k) full why e = last_why (nat_lt left (suc k)) full why e
+
+pub drain_why : {O T B D : Type 0} (queue_of : O → Queue T) (left_of owed_of : O → ℕ) (i most : ℕ) (why : Refusal)
+    → (why ≡ Memory) ⊎ ((book : Booked O B D) × (k : ℕ) × (k ≤ most)
+    × IsWhy (book_drain_refusal (dual_refusal (queue_of book.object) i Poll) (left_of book.object) (owed_of book.object)
+    book k) why) → IsRequestWhy why
+drain_why queue_of left_of owed_of i most why (inl e) = rw e tt
+drain_why queue_of left_of owed_of i most why (inr (book, k, few, e)) =
+    let q = queue_of book.object in
+    drain_why_by (nat_le (count_of q) i) (is_open ((seats_of q).holds i)) (nat_lt last_ticket q.next)
+    (left_of book.object) k (is_book_full book (owed_of book.object) (k + 1)) why e

@@ -1,0 +1,47 @@
+-- What a drain leaves in its seat's list, and what it hands out (BlockingQueue.drainTo).
+use Rattle.std.specs.Prelude.{◌≡◌, ℕ, ⊤, Option, Some, None, IsSome, List, [], ◌∷◌, map}
+use Rattle.meet_tickets.specs.declared.records.Record.{Record}
+use Rattle.meet_tickets.specs.declared.records.Deed.{Deed}
+use Rattle.meet_tickets.specs.declared.records.Deed.TheVariants.{TakeMeets}
+use Rattle.meet_line.specs.declared.answers.Polled.TheVariants.{Meets}
+use Rattle.meet_calls.specs.declared.queue_calls.DualAnswer.{DualAnswer}
+use Rattle.meet_calls.specs.declared.queue_calls.DualAnswer.TheVariants.{Polled}
+use Rattle.meet_calls.specs.declared.queue_calls.QueueAnswer.{QueueAnswer}
+use Rattle.meet_calls.specs.declared.queue_calls.QueueAnswer.TheVariants.{Dual}
+use Rattle.meet_calls.specs.DualRecords.{made}
+use Rattle.meet_place.specs.Seats.{SeatView, Adds}
+
+-- an item that was taken: by the poll of this ticket, from this giver
+pub record Taken (T : Type 0) : Type 0 where
+  pub ticket : ℕ
+  pub giver : ℕ
+  pub item : T
+
+module _ {T : Type 0} where
+  -- the record of its poll
+  abbrev pub taken_record : (T → ℕ) → (seat : ℕ) → Taken T → Record Deed
+  taken_record mark seat taken = made seat taken.ticket (TakeMeets (mark taken.item) taken.giver)
+
+  -- one receipt for each item came to the list's end, of the poll that took it, in the items' order
+  abbrev pub DrainedTo : (T → ℕ) → (old new : SeatView Deed) → List T → Type 0
+  DrainedTo mark old new items = (all : List (Taken T)) × (map (λ taken. taken.item) all ≡ items)
+      × Adds old.list new.list (map (taken_record mark old.number) all)
+
+  -- the item that an answer brings, where it is to a poll that met
+  abbrev pub item_in : DualAnswer T → Option T
+  item_in (Polled (Meets t u item)) = Some item
+  item_in answer = None
+
+  -- the same of a transfer queue's answer
+  abbrev pub item_within : QueueAnswer T → Option T
+  item_within (Dual answer) = item_in answer
+  item_within answer = None
+
+  -- each of the answers brings an item
+  abbrev pub AllBring : {A : Type 0} → (A → Option T) → List A → Type 0
+  AllBring item_of [] = ⊤
+  AllBring item_of (answer ∷ answers) = IsSome (item_of answer) × AllBring item_of answers
+
+  -- these are the items that the answers bring, in order
+  abbrev pub AreItemsOf : {A : Type 0} → (A → Option T) → List A → List T → Type 0
+  AreItemsOf item_of answers items = map item_of answers ≡ map (λ item. Some item) items
