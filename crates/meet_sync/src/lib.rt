@@ -8,6 +8,7 @@ mod deadline;
 mod draining;
 mod endings;
 mod making;
+mod probes;
 mod putting;
 mod requests;
 mod steps;

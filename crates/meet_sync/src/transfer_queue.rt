@@ -125,7 +125,7 @@ impl<T: Marked, G: Gate, N: Ledger> TransferQueue<T, G, N> {
         ensures item { IfErr result (λ refused. refused.item ≡ Some item) }
         ensures why { IfErr result (λ refused. IsRequestWhy refused.why) }
     {
-        put_item(rt, &self.place, seat, item)
+        self.put(rt, seat, item)
     }
 
     /// `LinkedTransferQueue.offer` with a limit in milliseconds: the same as `put`, since it never waits.
@@ -142,7 +142,7 @@ impl<T: Marked, G: Gate, N: Ledger> TransferQueue<T, G, N> {
         ensures item { IfErr result (λ refused. refused.item ≡ Some item) }
         ensures why { IfErr result (λ refused. IsRequestWhy refused.why) }
     {
-        put_item(rt, &self.place, seat, item)
+        self.offer(rt, seat, item)
     }
 
     /// `LinkedTransferQueue.transfer`: gives an item, and waits until it is taken. Refuses as `request`.
