@@ -3,11 +3,11 @@
 
 use crate::drains::are_taken;
 use crate::parcels::{Ask, Parcel, Row, Told, seat};
-use crate::places::{Fair, Place, Shown, Unfair};
+use crate::places::{Fair, Place, Shown, Unfair, plays};
 use meet_book::Book;
 use meet_core::Dual;
 use meet_line::Line;
-use meet_queues::{queue_book, transfer_book};
+use meet_queues::{queue_book, ready_queue_book, ready_transfer_book, transfer_book};
 use meet_tickets::Refusal;
 use meet_transfer::Transfer;
 use std::alloc::Global;
@@ -51,6 +51,22 @@ fn book_of_transfer(alloc: Global) -> Result<Book<Transfer<Parcel>>, Fail> {
     match transfer_book(alloc, 6, 1, None, 40) {
         Ok(book) => Ok(book),
         Err(_) => Ok(transfer_book(alloc, 6, 1, None, 40).ok().ok_or("memory")?),
+    }
+}
+
+/// The same of a synchronous queue's book that is ready.
+fn ready_book_of_queue(alloc: Global) -> Result<Book<Fair>, Fail> {
+    match ready_queue_book(alloc, 6, 40) {
+        Ok(book) => Ok(book),
+        Err(_) => Ok(ready_queue_book(alloc, 6, 40).ok().ok_or("memory")?),
+    }
+}
+
+/// The same of a transfer queue's book that is ready.
+fn ready_book_of_transfer(alloc: Global) -> Result<Book<Transfer<Parcel>>, Fail> {
+    match ready_transfer_book(alloc, 6, 40) {
+        Ok(book) => Ok(book),
+        Err(_) => Ok(ready_transfer_book(alloc, 6, 40).ok().ok_or("memory")?),
     }
 }
 
@@ -161,4 +177,18 @@ fn a_book_of_givers_that_wait(rt: HostRuntime) -> Result<(), Fail> {
 fn a_book_of_items_that_are_kept(rt: HostRuntime) -> Result<(), Fail> {
     let mut book = book_of_transfer(rt.alloc())?;
     bears(&rt, &mut book, &KEPT)
+}
+
+/// Once it is made, nothing is refused.
+#[test]
+fn a_ready_book_of_givers_that_wait(rt: HostRuntime) -> Result<(), Fail> {
+    let mut book = ready_book_of_queue(rt.alloc())?;
+    plays(&rt, &mut book, &GIVEN)
+}
+
+/// Nor here.
+#[test]
+fn a_ready_book_of_items_that_are_kept(rt: HostRuntime) -> Result<(), Fail> {
+    let mut book = ready_book_of_transfer(rt.alloc())?;
+    plays(&rt, &mut book, &KEPT)
 }
