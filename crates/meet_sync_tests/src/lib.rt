@@ -1,0 +1,15 @@
+//! The queues for threads, as a library: split calls and whole ones, of one thread and of many, and how they end.
+#![tactic(auto)]
+
+#[cfg(test)]
+mod asks;
+#[cfg(test)]
+mod gates;
+#[cfg(test)]
+mod plays;
+#[cfg(test)]
+mod shops;
+#[cfg(test)]
+mod split;
+#[cfg(test)]
+mod told;

@@ -1,0 +1,194 @@
+//! Seats ask a queue, one after another, and then it is closed: its records are checked once more, and what is left.
+
+ghost use Rattle.std.specs.Prelude.{◌≡◌, vec_len};
+
+use crate::asks::{Ask, Row, Told};
+use crate::gates::Idle;
+use crate::shops::{Open, Shop, keep};
+use meet_history::{Kind, Order, Standing, check};
+use meet_sync::{Back, Chronicle, Gate, Left, LeftStanding, NewQueue, Seat};
+use meet_tickets::Deed;
+use std::alloc::Global;
+use std::marker::Brand;
+use std::process::Abort;
+use std::sync::Wait;
+use std::sync::ledger::{Blank, Ledger};
+use std::test::*;
+
+/// An item that is left: its giver's ticket, its number, and how it stood in the queue.
+pub type Found = (u64, u64, LeftStanding);
+
+/// The seats of a shop, in the order of their numbers.
+pub type Seats<N> = Vec<Option<Back<Deed, N>>>;
+
+/// What seats ask of a queue, and what it comes to.
+#[derive(Clone, Copy)]
+pub struct Story<'a> {
+    pub order: Order,
+    pub seats: u64,
+    pub cap: u64,
+    /// What is asked, and told.
+    pub rows: &'a [Row],
+    /// What the records leave.
+    pub standing: Standing,
+    /// What is left, by rising ticket.
+    pub left: &'a [Found],
+}
+
+/// Nothing stands there.
+pub const NOTHING: Standing = Standing {
+    waiting: 0,
+    uncollected: 0,
+    kept: 0,
+};
+
+/// So many gates at which nobody waits.
+pub fn idles(alloc: Global, count: u64) -> Result<Vec<Idle>, &'static str> {
+    let mut idles = Vec::new(alloc);
+    for _ in 0..count {
+        idles.push(Idle {}).map_err(|_| "memory")?;
+    }
+    Ok(idles)
+}
+
+/// The seats, each ready to ask.
+fn seated<N: Ledger>(alloc: Global, made: Vec<Seat<Deed, N>>) -> Result<Seats<N>, &'static str> {
+    let mut seats = Vec::new(alloc);
+    for seat in made {
+        seats.push(Some(Back::Free(seat))).map_err(|_| "memory")?;
+    }
+    Ok(seats)
+}
+
+/// All seats, to be given back.
+fn given<N: Ledger>(alloc: Global, seats: Seats<N>) -> Result<Vec<Back<Deed, N>>, &'static str> {
+    let mut backs = Vec::new(alloc);
+    for seat in seats {
+        if let Some(back) = seat {
+            backs.push(back).map_err(|_| "memory")?;
+        }
+    }
+    Ok(backs)
+}
+
+/// A seat asks: what it is told.
+fn asks<G: Gate + Drop, N: Ledger, R: Wait>(
+    rt: &R,
+    shop: &Shop<G, N>,
+    seat: &mut Option<Back<Deed, N>>,
+    ask: Ask,
+) -> Told {
+    match seat.take() {
+        Some(back) => {
+            let (back, told) = shop.answer(rt, back, ask);
+            *seat = Some(back);
+            told
+        }
+        None => Told::Unasked,
+    }
+}
+
+/// Seats ask, one after another, and are told this.
+fn ask_all<G: Gate + Drop, N: Ledger, R: Abort + Wait>(
+    rt: &R,
+    shop: &Shop<G, N>,
+    seats: &mut Seats<N>,
+    rows: &[Row],
+) {
+    for (number, ask, wanted) in rows {
+        let told = match seats.get_mut(*number as usize) {
+            Some(seat) => asks(rt, shop, seat, *ask),
+            None => Told::Unasked,
+        };
+        assert_eq!(rt; told, *wanted, "seat {number}");
+    }
+}
+
+/// The list has these items, in this order, and nothing else.
+pub fn has(rt: &impl Abort, list: Vec<Left<u64>>, wanted: &[Found]) {
+    assert_eq!(rt; list.len(), wanted.len());
+    for (left, found) in list.into_iter().zip(wanted) {
+        let seen = (left.ticket.number(), left.item, left.standing);
+        assert_eq!(rt; seen, *found);
+    }
+}
+
+/// The records are legal and leave this, and these items are left: how many records there are.
+pub fn tells(rt: &impl Abort, alloc: Global, chronicle: Chronicle<u64>, story: Story<'_>) -> usize {
+    let kind = Kind {
+        order: story.order,
+        bound: None,
+    };
+    let found = check(alloc, kind, chronicle.records.as_slice());
+    assert_eq!(rt; found, Ok(story.standing));
+    assert_eq!(rt; chronicle.lists.len() as u64, story.seats);
+    let count = chronicle.records.len();
+    has(rt, chronicle.left, story.left);
+    count
+}
+
+/// A shop is closed: what it leaves.
+pub fn closed<G: Gate + Drop, N: Ledger>(
+    alloc: Global,
+    shop: Shop<G, N>,
+    seats: Seats<N>,
+) -> Result<Chronicle<u64>, &'static str> {
+    let backs = match given(alloc, seats) {
+        Ok(backs) => backs,
+        Err(why) => {
+            keep(shop);
+            return Err(why);
+        }
+    };
+    match shop.close(alloc, backs) {
+        Ok(chronicle) => Ok(chronicle),
+        Err(open) => match open {
+            Open::Missing(_, _, shop, seats) => {
+                keep(shop);
+                keep(seats);
+                Err("a seat is missing")
+            }
+            Open::Other(why) => Err(why.name()),
+        },
+    }
+}
+
+/// A shop is made, its seats ask, and it is closed.
+fn playing<N: Ledger, R: Abort + Wait>(
+    rt: &R,
+    alloc: Global,
+    parts: NewQueue<Idle>,
+    story: Story<'_>,
+) -> Result<Chronicle<u64>, &'static str>
+    requires name { parts.blank.name ≡ N.name }
+    requires parts { parts.blank.parts ≡ N.parts }
+    requires one_each { parts.blank.parts ≡ vec_len parts.gates }
+{
+    let (shop, made) = match Shop::<Idle, N>::with_cap(alloc, story.order, parts, story.cap) {
+        Ok(made) => made,
+        Err(refused) => return Err(refused.why.name()),
+    };
+    match seated(alloc, made) {
+        Ok(mut seats) => {
+            ask_all(rt, &shop, &mut seats, story.rows);
+            closed(alloc, shop, seats)
+        }
+        Err(why) => {
+            keep(shop);
+            Err(why)
+        }
+    }
+}
+
+/// A story takes place: how many records it leaves.
+pub fn play<R: Abort + Wait>(
+    rt: &R,
+    alloc: Global,
+    story: Story<'_>,
+) -> Result<usize, &'static str> {
+    let gates = idles(alloc, story.seats)?;
+    let blank = Blank::new(gates.len() as u64);
+    let parts = NewQueue { gates, blank };
+    let chronicle = playing::<Brand, _>(rt, alloc, parts, story)?;
+    Ok(tells(rt, alloc, chronicle, story))
+}

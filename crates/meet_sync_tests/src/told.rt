@@ -1,0 +1,102 @@
+//! What an answer tells, and the seat that comes back with it.
+
+use crate::asks::Told;
+use meet_sync::{
+    Answer, Asked, Back, End, Ended, FollowedUp, Pending, Seat, SeatRefused, Struck, Withdrawn,
+};
+use meet_tickets::Deed;
+use std::sync::ledger::Ledger;
+
+/// A seat, and what it was told.
+pub type Came<N> = (Back<Deed, N>, Told);
+
+fn answered(answer: Answer<u64>) -> Told {
+    match answer {
+        Answer::Gave(with) => Told::Gave(with.number()),
+        Answer::Got(with, item) => Told::Got(with.number(), item),
+        Answer::Failed(back) => Told::Failed(back),
+        Answer::EntryInterrupted(back) => Told::Stopped(back),
+    }
+}
+
+fn refused<N: Ledger>(refused: SeatRefused<u64, N>) -> Came<N> {
+    let SeatRefused { why, seat, item } = refused;
+    (Back::Free(seat), Told::Refused(why, item))
+}
+
+fn parked<N: Ledger>(pending: Pending<Deed, N>) -> Came<N> {
+    let ticket = pending.ticket().number();
+    (Back::Held(pending), Told::Parks(ticket))
+}
+
+fn settled<N: Ledger>(asked: Asked<u64, N>) -> Came<N> {
+    match asked {
+        Asked::Settled(seat, answer) => (Back::Free(seat), answered(answer)),
+        Asked::Parked(pending) => parked(pending),
+    }
+}
+
+/// What came of a request.
+pub fn asked<N: Ledger>(asked: Result<Asked<u64, N>, SeatRefused<u64, N>>) -> Came<N> {
+    match asked {
+        Ok(asked) => settled(asked),
+        Err(why) => refused(why),
+    }
+}
+
+fn ended(end: End<u64>) -> Told {
+    match end {
+        End::Gave(with) => Told::Gave(with.number()),
+        End::Got(with, item) => Told::Got(with.number(), item),
+        End::Failed(back) => Told::Failed(back),
+        End::Kept => Told::Kept,
+        End::EntryInterrupted(back) => Told::Stopped(back),
+        End::Done => Told::Done,
+        End::Interrupted(back) => Told::WasCut(back),
+        End::TimedOut(back) => Told::TimedOut(back),
+    }
+}
+
+/// What came of a whole call.
+pub fn whole<N: Ledger>(whole: Result<Ended<u64, N>, SeatRefused<u64, N>>) -> Came<N> {
+    match whole {
+        Ok(whole) => {
+            let Ended { seat, end } = whole;
+            (Back::Free(seat), ended(end))
+        }
+        Err(why) => refused(why),
+    }
+}
+
+/// What came of a follow-up.
+pub fn followed<N: Ledger>(followed: FollowedUp<u64, N>) -> Came<N> {
+    match followed {
+        FollowedUp::Done(seat) => (Back::Free(seat), Told::Done),
+        FollowedUp::Got(seat, with, item) => (Back::Free(seat), Told::Got(with.number(), item)),
+        FollowedUp::Interrupted(seat, back) => (Back::Free(seat), Told::WasCut(back)),
+        FollowedUp::NotYet(pending) => (Back::Held(pending), Told::NotYet),
+    }
+}
+
+/// What came of a cancel or an expiry.
+pub fn withdrawn<N: Ledger>(withdrawn: Withdrawn<u64, N>) -> Came<N> {
+    match withdrawn {
+        Withdrawn::Back(seat, back) => (Back::Free(seat), Told::Back(back)),
+        Withdrawn::Late(pending) => (Back::Held(pending), Told::Late),
+    }
+}
+
+fn hit<N: Ledger>(struck: Struck<N>) -> Came<N> {
+    match struck {
+        Struck::Cut(seat, ticket) => (Back::Free(seat), Told::Cut(ticket.number())),
+        Struck::Flagged(seat) => (Back::Free(seat), Told::Flagged),
+    }
+}
+
+/// What came of an interrupt.
+pub fn struck<N: Ledger>(struck: Result<Struck<N>, SeatRefused<u64, N>>) -> Came<N> {
+    match struck {
+        Ok(struck) => hit(struck),
+        Err(why) => refused(why),
+    }
+}
