@@ -35,7 +35,7 @@ pub enum Told {
     Cut(u64),
     Flagged,
     Refused(Refusal, Option<u64>),
-    /// A seat without a ticket has none to end, and one that waits asks for nothing else.
+    /// There is no such seat, call or ticket.
     Unasked,
 }
 

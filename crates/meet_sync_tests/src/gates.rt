@@ -1,14 +1,36 @@
 //! Gates: two that never wait, and a bell that is heard once, by who waits or by the next that does.
 
 use meet_sync::{Gate, Turn};
+use std::alloc::Global;
 use std::sync::Wait;
 use std::sync::atomic::{AtomicBool, Ordering};
 use std::thread::Parker;
 use std::time::{Clock, Duration, Instant};
 
+/// A gate that can be made.
+pub trait Fresh: Gate + Drop {
+    /// A gate that nobody woke.
+    fn fresh() -> Self;
+}
+
+/// So many gates.
+pub fn gates<G: Fresh>(alloc: Global, count: u64) -> Result<Vec<G>, &'static str> {
+    let mut gates = Vec::new(alloc);
+    for _ in 0..count {
+        gates.push(G::fresh()).map_err(|_| "memory")?;
+    }
+    Ok(gates)
+}
+
 /// A gate at which each wait is over at once, as if its limit had passed.
 #[derive(Drop)]
 pub struct Idle {}
+
+impl Fresh for Idle {
+    fn fresh() -> Idle {
+        Idle {}
+    }
+}
 
 impl Gate for Idle {
     fn wait<R: Wait + Clock>(&self, _rt: &R, _limit: Option<u64>) -> Turn {
@@ -21,6 +43,12 @@ impl Gate for Idle {
 /// A gate at which each wait is over at once, as if somebody had woken it.
 #[derive(Drop)]
 pub struct Eager {}
+
+impl Fresh for Eager {
+    fn fresh() -> Eager {
+        Eager {}
+    }
+}
 
 impl Gate for Eager {
     fn wait<R: Wait + Clock>(&self, _rt: &R, _limit: Option<u64>) -> Turn {
@@ -38,14 +66,6 @@ pub struct Bell {
 }
 
 impl Bell {
-    /// A bell that wasn't rung.
-    pub fn new() -> Bell {
-        Bell {
-            parker: Parker::new(),
-            rung: AtomicBool::new(false),
-        }
-    }
-
     /// Waits until it is rung, or until the time is up; none where that is so, or where there is no clock.
     fn wait_until<R: Wait + Clock>(&self, rt: &R, limit: u64) -> Option<Turn> {
         let start = Instant::now(rt).ok()?;
@@ -61,6 +81,15 @@ impl Bell {
             self.parker.park_timeout(rt, left);
         }
         unreachable!()
+    }
+}
+
+impl Fresh for Bell {
+    fn fresh() -> Bell {
+        Bell {
+            parker: Parker::new(),
+            rung: AtomicBool::new(false),
+        }
     }
 }
 

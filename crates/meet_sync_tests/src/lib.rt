@@ -4,6 +4,12 @@
 #[cfg(test)]
 mod asks;
 #[cfg(test)]
+mod calls;
+#[cfg(test)]
+mod chance;
+#[cfg(test)]
+mod closing;
+#[cfg(test)]
 mod gates;
 #[cfg(test)]
 mod plays;
@@ -13,3 +19,5 @@ mod shops;
 mod split;
 #[cfg(test)]
 mod told;
+#[cfg(test)]
+mod whole;

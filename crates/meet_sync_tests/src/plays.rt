@@ -3,7 +3,7 @@
 ghost use Rattle.std.specs.Prelude.{◌≡◌, vec_len};
 
 use crate::asks::{Ask, Row, Told};
-use crate::gates::Idle;
+use crate::gates::{Idle, gates};
 use crate::shops::{Open, Shop, keep};
 use meet_history::{Kind, Order, Standing, check};
 use meet_sync::{Back, Chronicle, Gate, Left, LeftStanding, NewQueue, Seat};
@@ -42,17 +42,11 @@ pub const NOTHING: Standing = Standing {
     kept: 0,
 };
 
-/// So many gates at which nobody waits.
-pub fn idles(alloc: Global, count: u64) -> Result<Vec<Idle>, &'static str> {
-    let mut idles = Vec::new(alloc);
-    for _ in 0..count {
-        idles.push(Idle {}).map_err(|_| "memory")?;
-    }
-    Ok(idles)
-}
-
 /// The seats, each ready to ask.
-fn seated<N: Ledger>(alloc: Global, made: Vec<Seat<Deed, N>>) -> Result<Seats<N>, &'static str> {
+pub fn seated<N: Ledger>(
+    alloc: Global,
+    made: Vec<Seat<Deed, N>>,
+) -> Result<Seats<N>, &'static str> {
     let mut seats = Vec::new(alloc);
     for seat in made {
         seats.push(Some(Back::Free(seat))).map_err(|_| "memory")?;
@@ -60,11 +54,12 @@ fn seated<N: Ledger>(alloc: Global, made: Vec<Seat<Deed, N>>) -> Result<Seats<N>
     Ok(seats)
 }
 
-/// All seats, to be given back.
-fn given<N: Ledger>(alloc: Global, seats: Seats<N>) -> Result<Vec<Back<Deed, N>>, &'static str> {
+/// All seats, to be given back, the last first.
+pub fn given<N: Ledger>(alloc: Global, all: Seats<N>) -> Result<Vec<Back<Deed, N>>, &'static str> {
+    let mut seats = all;
     let mut backs = Vec::new(alloc);
-    for seat in seats {
-        if let Some(back) = seat {
+    for _ in 0..seats.len() {
+        if let Some(Some(back)) = seats.pop() {
             backs.push(back).map_err(|_| "memory")?;
         }
     }
@@ -89,7 +84,7 @@ fn asks<G: Gate + Drop, N: Ledger, R: Wait>(
 }
 
 /// Seats ask, one after another, and are told this.
-fn ask_all<G: Gate + Drop, N: Ledger, R: Abort + Wait>(
+pub fn ask_all<G: Gate + Drop, N: Ledger, R: Abort + Wait>(
     rt: &R,
     shop: &Shop<G, N>,
     seats: &mut Seats<N>,
@@ -113,6 +108,23 @@ pub fn has(rt: &impl Abort, list: Vec<Left<u64>>, wanted: &[Found]) {
     }
 }
 
+/// Each list is of one seat, in the order of their numbers, and has the receipts of its records, one after another.
+fn are_of_seats(rt: &impl Abort, chronicle: &Chronicle<u64>) {
+    let mut receipts = 0usize;
+    for (number, list) in chronicle.lists.iter().enumerate() {
+        receipts = receipts.saturating_add(list.len());
+        for receipt in list.iter() {
+            let place = (receipt.place() as usize).saturating_sub(1);
+            assert_eq!(rt; receipt.entry().seat.number() as usize, number);
+            assert_eq!(rt;
+                chronicle.records.get(place).copied(),
+                Some(receipt.entry())
+            );
+        }
+    }
+    assert_eq!(rt; receipts, chronicle.records.len());
+}
+
 /// The records are legal and leave this, and these items are left: how many records there are.
 pub fn tells(rt: &impl Abort, alloc: Global, chronicle: Chronicle<u64>, story: Story<'_>) -> usize {
     let kind = Kind {
@@ -122,24 +134,18 @@ pub fn tells(rt: &impl Abort, alloc: Global, chronicle: Chronicle<u64>, story: S
     let found = check(alloc, kind, chronicle.records.as_slice());
     assert_eq!(rt; found, Ok(story.standing));
     assert_eq!(rt; chronicle.lists.len() as u64, story.seats);
+    are_of_seats(rt, &chronicle);
     let count = chronicle.records.len();
     has(rt, chronicle.left, story.left);
     count
 }
 
-/// A shop is closed: what it leaves.
-pub fn closed<G: Gate + Drop, N: Ledger>(
+/// A shop is closed with these seats: what it leaves.
+pub fn ended<G: Gate + Drop, N: Ledger>(
     alloc: Global,
     shop: Shop<G, N>,
-    seats: Seats<N>,
+    backs: Vec<Back<Deed, N>>,
 ) -> Result<Chronicle<u64>, &'static str> {
-    let backs = match given(alloc, seats) {
-        Ok(backs) => backs,
-        Err(why) => {
-            keep(shop);
-            return Err(why);
-        }
-    };
     match shop.close(alloc, backs) {
         Ok(chronicle) => Ok(chronicle),
         Err(open) => match open {
@@ -150,6 +156,21 @@ pub fn closed<G: Gate + Drop, N: Ledger>(
             }
             Open::Other(why) => Err(why.name()),
         },
+    }
+}
+
+/// A shop is closed with all its seats.
+fn closed<G: Gate + Drop, N: Ledger>(
+    alloc: Global,
+    shop: Shop<G, N>,
+    seats: Seats<N>,
+) -> Result<Chronicle<u64>, &'static str> {
+    match given(alloc, seats) {
+        Ok(backs) => ended(alloc, shop, backs),
+        Err(why) => {
+            keep(shop);
+            Err(why)
+        }
     }
 }
 
@@ -186,7 +207,7 @@ pub fn play<R: Abort + Wait>(
     alloc: Global,
     story: Story<'_>,
 ) -> Result<usize, &'static str> {
-    let gates = idles(alloc, story.seats)?;
+    let gates = gates::<Idle>(alloc, story.seats)?;
     let blank = Blank::new(gates.len() as u64);
     let parts = NewQueue { gates, blank };
     let chronicle = playing::<Brand, _>(rt, alloc, parts, story)?;

@@ -9,7 +9,7 @@ use meet_sync::{
     Back, Chronicle, FairLine, Gate, NewQueue, Pending, QueueFault, Request, Seat, StackLine,
     SyncQueue, TransferQueue,
 };
-use meet_tickets::{Deed, Refusal, Refused, SeatNo};
+use meet_tickets::{Deed, Refusal, Refused, SeatNo, Ticket};
 use std::alloc::Global;
 use std::mem::ManuallyDrop;
 use std::sync::Wait;
@@ -63,6 +63,20 @@ fn missing<Q: Drop, B: Drop, N: Ledger>(
             keep(seats);
             Err(Refusal::Differs)
         }
+    }
+}
+
+/// A seat whose ticket is still open.
+fn reopened<N: Ledger>(
+    seat: Seat<Deed, N>,
+    ticket: Ticket,
+    mark: Option<u64>,
+    told: Told,
+) -> Came<N> {
+    let mut seat = seat;
+    match seat.reserve(1) {
+        Ok(()) => (Back::Held(Pending::new(seat, ticket, mark)), told),
+        Err(why) => (Back::Free(seat), Told::Refused(why, None)),
     }
 }
 
@@ -162,13 +176,23 @@ impl<G: Gate + Drop, N: Ledger> Shop<G, N> {
         }
     }
 
+    /// A seat whose ticket is open asks for something else than its end.
+    fn answer_parted<R: Wait>(&self, rt: &R, pending: Pending<Deed, N>, ask: Ask) -> Came<N> {
+        let (seat, ticket, mark) = pending.into_parts();
+        let (back, told) = self.answer_free(rt, seat, ask);
+        match back {
+            Back::Free(seat) => reopened(seat, ticket, mark, told),
+            Back::Held(pending) => (Back::Held(pending), told),
+        }
+    }
+
     /// A seat whose ticket is open asks.
     fn answer_held<R: Wait>(&self, rt: &R, pending: Pending<Deed, N>, ask: Ask) -> Came<N> {
         match ask {
             Ask::Follow => self.follow_up(rt, pending),
             Ask::Cancel => self.cancel(rt, pending),
             Ask::Expire => self.expire(rt, pending),
-            _ => (Back::Held(pending), Told::Unasked),
+            _ => self.answer_parted(rt, pending, ask),
         }
     }
 

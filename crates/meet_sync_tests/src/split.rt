@@ -161,6 +161,28 @@ fn a_put_is_kept(rt: HostRuntime) -> Result<(), Fail> {
     told(&rt, rt.alloc(), Order::Transfer, &KEPT, 9)
 }
 
+/// A seat has one open ticket at most, but may interrupt, also itself; and no target that isn't there.
+const OPEN: [Row; 7] = [
+    (0, Ask::Give(5), Told::Parks(1)),
+    (0, Ask::Give(6), Told::Refused(Refusal::SeatOpen, Some(6))),
+    (0, Ask::Offer(7), Told::Refused(Refusal::SeatOpen, Some(7))),
+    (0, Ask::Take, Told::Refused(Refusal::SeatOpen, None)),
+    (
+        0,
+        Ask::Interrupt(4),
+        Told::Refused(Refusal::NoSuchSeat, None),
+    ),
+    (0, Ask::Interrupt(0), Told::Cut(1)),
+    (0, Ask::Follow, Told::WasCut(Some(5))),
+];
+
+#[test]
+fn what_is_refused(rt: HostRuntime) -> Result<(), Fail> {
+    told(&rt, rt.alloc(), Order::Fair, &OPEN, 3)?;
+    told(&rt, rt.alloc(), Order::Unfair, &OPEN, 3)?;
+    told(&rt, rt.alloc(), Order::Transfer, &OPEN, 3)
+}
+
 /// There is room for what is owed, and for no request more.
 const FULL: [Row; 5] = [
     (0, Ask::Give(1), Told::Parks(1)),

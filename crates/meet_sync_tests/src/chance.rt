@@ -1,0 +1,230 @@
+//! Threads that make split calls of chance, all at one queue. Whatever their order, the queue is closed with one legal
+//! history, which has each recorded call of each thread once.
+
+ghost use Rattle.std.specs.Prelude.{◌≡◌, vec_len};
+
+use crate::asks::{Ask, Told};
+use crate::gates::{Idle, gates};
+use crate::plays::ended;
+use crate::shops::{Shop, keep};
+use meet_history::{Kind, Order, check};
+use meet_sync::{Back, Chronicle, NewQueue, Seat};
+use meet_tickets::Deed;
+use std::alloc::Global;
+use std::marker::Brand;
+use std::process::Abort;
+use std::sync::Wait;
+use std::sync::ledger::{Blank, Ledger};
+use std::test::*;
+use std::thread;
+use std::thread::Threads;
+
+/// How many calls are made in all.
+const STEPS: u64 = 20_000;
+
+/// Numbers of chance, the same in each run.
+#[derive(Drop)]
+struct Chance {
+    state: u64,
+}
+
+impl Chance {
+    /// The numbers of this seed.
+    fn new(seed: u64) -> Chance {
+        Chance {
+            state: seed.wrapping_mul(0x9E37_79B9_7F4A_7C15) | 1,
+        }
+    }
+
+    /// The next number.
+    fn next(&mut self) -> u64 {
+        self.state ^= self.state << 13;
+        self.state ^= self.state >> 7;
+        self.state ^= self.state << 17;
+        self.state
+    }
+
+    /// The next number below this.
+    fn below(&mut self, limit: u64) -> u64 {
+        self.next().checked_rem(limit).unwrap_or(0)
+    }
+
+    /// What a seat asks whose ticket is open.
+    fn ending(&mut self, seats: u64) -> Ask {
+        match self.below(9) {
+            0 => Ask::Interrupt(self.below(seats)),
+            1 => Ask::Cancel,
+            2 => Ask::Expire,
+            _ => Ask::Follow,
+        }
+    }
+
+    /// What a seat asks that has no ticket, with this item.
+    fn request(&mut self, seats: u64, item: u64) -> Ask {
+        match self.below(9) {
+            0 => Ask::Interrupt(self.below(seats)),
+            1 => Ask::Offer(item),
+            2 => Ask::Poll,
+            3 => Ask::Put(item),
+            4 => Ask::Give(item),
+            5 => Ask::Give(item),
+            6 => Ask::Poll,
+            _ => Ask::Take,
+        }
+    }
+}
+
+/// A seat makes so many calls of chance: how many were recorded.
+fn walk<N: Ledger, R: Wait>(
+    rt: &R,
+    shop: &Shop<Idle, N>,
+    first: Back<Deed, N>,
+    seats: u64,
+    steps: u64,
+) -> (Back<Deed, N>, u64) {
+    let number = first.number().number();
+    let mut chance = Chance::new(number.wrapping_add(seats));
+    let mut back = first;
+    let mut recorded = 0u64;
+    for step in 0..steps {
+        let item = number.wrapping_mul(STEPS).wrapping_add(step);
+        let ask = match &back {
+            Back::Free(_) => chance.request(seats, item),
+            Back::Held(_) => chance.ending(seats),
+        };
+        let (again, told) = shop.answer(rt, back, ask);
+        if told.is_recorded() {
+            recorded = recorded.saturating_add(1);
+        }
+        back = again;
+    }
+    (back, recorded)
+}
+
+/// The seats, and how many of their calls were recorded in all.
+fn summed<N: Ledger>(
+    alloc: Global,
+    walked: Vec<(Back<Deed, N>, u64)>,
+) -> Result<(Vec<Back<Deed, N>>, u64), &'static str> {
+    let mut backs = Vec::new(alloc);
+    let mut sum = 0u64;
+    for (back, recorded) in walked {
+        backs.push(back).map_err(|_| "memory")?;
+        sum = sum.saturating_add(recorded);
+    }
+    Ok((backs, sum))
+}
+
+/// Each seat makes its calls in a thread of its own.
+fn walk_all<N: Ledger + Send + Sync, R: Threads + Wait + Sync>(
+    rt: &R,
+    alloc: Global,
+    shop: &Shop<Idle, N>,
+    made: Vec<Seat<Deed, N>>,
+) -> Result<(Vec<Back<Deed, N>>, u64), &'static str> {
+    let seats = made.len() as u64;
+    let steps = STEPS.checked_div(seats).unwrap_or(0);
+    let walked = thread::map_vec(
+        rt,
+        made,
+        &|seat| walk(rt, shop, Back::Free(seat), seats, steps),
+    )
+    .map_err(|_| "memory")?;
+    summed(alloc, walked)
+}
+
+/// How many seats have an open ticket.
+fn held<N: Ledger>(backs: &[Back<Deed, N>]) -> u64 {
+    let mut held = 0u64;
+    for back in backs {
+        if let Back::Held(_) = back {
+            held = held.saturating_add(1);
+        }
+    }
+    held
+}
+
+/// What came of the calls: what the queue left, how many calls were recorded, and how many tickets stayed open.
+struct Walked {
+    chronicle: Chronicle<u64>,
+    recorded: u64,
+    open: u64,
+}
+
+/// A shop is made, its seats make their calls, and it is closed.
+fn walking<N: Ledger + Send + Sync, R: Threads + Wait + Sync>(
+    rt: &R,
+    alloc: Global,
+    order: Order,
+    parts: NewQueue<Idle>,
+) -> Result<Walked, &'static str>
+    requires name { parts.blank.name ≡ N.name }
+    requires parts { parts.blank.parts ≡ N.parts }
+    requires one_each { parts.blank.parts ≡ vec_len parts.gates }
+{
+    let (shop, made) = match Shop::<Idle, N>::with_cap(alloc, order, parts, 1_048_576) {
+        Ok(made) => made,
+        Err(refused) => return Err(refused.why.name()),
+    };
+    let (backs, recorded) = match walk_all(rt, alloc, &shop, made) {
+        Ok(walked) => walked,
+        Err(why) => {
+            keep(shop);
+            return Err(why);
+        }
+    };
+    let open = held(backs.as_slice());
+    let chronicle = ended(alloc, shop, backs)?;
+    Ok(Walked {
+        chronicle,
+        recorded,
+        open,
+    })
+}
+
+/// So many threads walk at a queue of this order. Its records are legal, as many as the threads were told of, and leave
+/// as many open tickets as the threads have.
+fn wanders<R: Abort + Threads + Wait + Sync>(
+    rt: &R,
+    alloc: Global,
+    order: Order,
+    threads: u64,
+) -> Result<(), Fail> {
+    let gates = gates::<Idle>(alloc, threads)?;
+    let blank = Blank::new(gates.len() as u64);
+    let parts = NewQueue { gates, blank };
+    let Walked {
+        chronicle,
+        recorded,
+        open,
+    } = walking::<Brand, _>(rt, alloc, order, parts)?;
+    let records = chronicle.records.as_slice();
+    assert_eq!(rt; records.len() as u64, recorded);
+    let standing = match check(alloc, Kind { order, bound: None }, records) {
+        Ok(standing) => standing,
+        Err(_) => return Err("the records aren't legal".into()),
+    };
+    assert_eq!(rt; standing.waiting.saturating_add(standing.uncollected), open);
+    Ok(())
+}
+
+#[test]
+fn two_threads(rt: HostRuntime) -> Result<(), Fail> {
+    wanders(&rt, rt.alloc(), Order::Fair, 2)?;
+    wanders(&rt, rt.alloc(), Order::Unfair, 2)?;
+    wanders(&rt, rt.alloc(), Order::Transfer, 2)
+}
+
+#[test]
+fn four_threads(rt: HostRuntime) -> Result<(), Fail> {
+    wanders(&rt, rt.alloc(), Order::Fair, 4)?;
+    wanders(&rt, rt.alloc(), Order::Unfair, 4)?;
+    wanders(&rt, rt.alloc(), Order::Transfer, 4)
+}
+
+#[test]
+fn eight_threads(rt: HostRuntime) -> Result<(), Fail> {
+    wanders(&rt, rt.alloc(), Order::Fair, 8)?;
+    wanders(&rt, rt.alloc(), Order::Unfair, 8)?;
+    wanders(&rt, rt.alloc(), Order::Transfer, 8)
+}

@@ -1,0 +1,367 @@
+//! Whole calls over each gate: of one thread, which find nobody; of two, which meet; and one that is cut.
+
+ghost use Rattle.std.specs.Prelude.{◌≡◌, vec_len};
+
+use crate::asks::{Ask, Told};
+use crate::calls::{Call, called};
+use crate::gates::{Bell, Eager, Fresh, Idle, gates};
+use crate::plays::{NOTHING, Story, ended, tells};
+use crate::shops::{Shop, keep};
+use meet_history::Order;
+use meet_sync::{Back, Chronicle, NewQueue, Seat};
+use meet_tickets::Deed;
+use std::alloc::Global;
+use std::marker::Brand;
+use std::process::Abort;
+use std::sync::Wait;
+use std::sync::ledger::{Blank, Ledger};
+use std::test::*;
+use std::thread;
+use std::thread::Threads;
+use std::time::Clock;
+
+/// What two seats do, or one of them.
+#[derive(Clone, Copy)]
+enum Deal<'a> {
+    /// One calls, one call after another, and is told this.
+    Calls(&'a [(Call, Told)]),
+    /// One thread gives 1 and so on up to this, and the other takes as many by this call.
+    Meets(u64, Call),
+    /// One thread takes, and the other interrupts it.
+    Cuts,
+}
+
+/// Two seats, with what they are given back.
+struct Both<N: Ledger> {
+    first: Back<Deed, N>,
+    second: Back<Deed, N>,
+    /// How often the first was told that its item was taken, or whether it was cut.
+    given: u64,
+    /// The sum of what the second took, or whether it was told so.
+    taken: u64,
+}
+
+/// A seat calls, one call after another, and is told this.
+fn calls<G: Fresh, N: Ledger, R: Abort + Wait + Clock>(
+    rt: &R,
+    shop: &Shop<G, N>,
+    first: Back<Deed, N>,
+    rows: &[(Call, Told)],
+) -> Back<Deed, N> {
+    let mut back = first;
+    for (call, wanted) in rows {
+        let (again, told) = called(rt, shop, back, *call);
+        assert_eq!(rt; told, *wanted);
+        back = again;
+    }
+    back
+}
+
+/// The give that waits, of each queue.
+fn giving<G, N: Ledger>(shop: &Shop<G, N>, item: u64) -> Call {
+    match shop {
+        Shop::Fair(_) => Call::Put(item),
+        Shop::Unfair(_) => Call::Put(item),
+        Shop::Transfer(_) => Call::Transfer(item),
+    }
+}
+
+/// Gives 1 and so on: how many were taken.
+fn give_all<G: Fresh, N: Ledger, R: Wait + Clock>(
+    rt: &R,
+    shop: &Shop<G, N>,
+    first: Back<Deed, N>,
+    most: u64,
+) -> (Back<Deed, N>, u64) {
+    let mut back = first;
+    let mut given = 0u64;
+    for item in 1..=most {
+        let (again, told) = called(rt, shop, back, giving(shop, item));
+        match told {
+            Told::Done => given = given.saturating_add(1),
+            Told::Gave(_) => given = given.saturating_add(1),
+            _ => {}
+        }
+        back = again;
+    }
+    (back, given)
+}
+
+/// Takes so often by this call: the sum of what it took.
+fn take_all<G: Fresh, N: Ledger, R: Wait + Clock>(
+    rt: &R,
+    shop: &Shop<G, N>,
+    first: Back<Deed, N>,
+    most: u64,
+    call: Call,
+) -> (Back<Deed, N>, u64) {
+    let mut back = first;
+    let mut sum = 0u64;
+    for _ in 0..most {
+        let (again, told) = called(rt, shop, back, call);
+        if let Told::Got(_, item) = told {
+            sum = sum.saturating_add(item);
+        }
+        back = again;
+    }
+    (back, sum)
+}
+
+/// One thread gives what the other takes.
+fn meet<G: Fresh + Sync, N: Ledger + Send + Sync, R: Threads + Wait + Clock + Sync>(
+    rt: &R,
+    shop: &Shop<G, N>,
+    giver: Back<Deed, N>,
+    taker: Back<Deed, N>,
+    most: u64,
+    call: Call,
+) -> Both<N> {
+    let (gave, took) = thread::join(
+        rt,
+        move || give_all(rt, shop, giver, most),
+        move || take_all(rt, shop, taker, most, call),
+    );
+    let (first, given) = gave;
+    let (second, taken) = took;
+    Both {
+        first,
+        second,
+        given,
+        taken,
+    }
+}
+
+/// One thread takes, and the other interrupts it: it is cut where it waits, or flagged before it does.
+fn cut<G: Fresh + Sync, N: Ledger + Send + Sync, R: Threads + Wait + Clock + Sync>(
+    rt: &R,
+    shop: &Shop<G, N>,
+    taker: Back<Deed, N>,
+    other: Back<Deed, N>,
+) -> Both<N> {
+    let (took, struck) = thread::join(
+        rt,
+        move || called(rt, shop, taker, Call::Take),
+        move || shop.answer(rt, other, Ask::Interrupt(0)),
+    );
+    let (first, told) = took;
+    let (second, why) = struck;
+    let given = match told {
+        Told::WasCut(None) => 1,
+        Told::Stopped(None) => 2,
+        _ => 0,
+    };
+    let taken = match why {
+        Told::Cut(1) => 1,
+        Told::Flagged => 2,
+        _ => 0,
+    };
+    Both {
+        first,
+        second,
+        given,
+        taken,
+    }
+}
+
+/// Two seats do this.
+fn strike_deal<G: Fresh + Sync, N: Ledger + Send + Sync, R: Abort + Threads + Wait + Clock + Sync>(
+    rt: &R,
+    shop: &Shop<G, N>,
+    first: Back<Deed, N>,
+    second: Back<Deed, N>,
+    dealt: Deal<'_>,
+) -> Both<N> {
+    match dealt {
+        Deal::Calls(rows) => Both {
+            first: calls(rt, shop, first, rows),
+            second,
+            given: 0,
+            taken: 0,
+        },
+        Deal::Meets(most, call) => meet(rt, shop, first, second, most, call),
+        Deal::Cuts => cut(rt, shop, first, second),
+    }
+}
+
+/// What came of it.
+struct Came {
+    given: u64,
+    taken: u64,
+    chronicle: Chronicle<u64>,
+}
+
+/// Two seats do this, and the shop is closed.
+fn dealt_by<G: Fresh + Sync, N: Ledger + Send + Sync, R: Abort + Threads + Wait + Clock + Sync>(
+    rt: &R,
+    alloc: Global,
+    shop: Shop<G, N>,
+    made: Vec<Seat<Deed, N>>,
+    dealt: Deal<'_>,
+) -> Result<Came, &'static str> {
+    let mut seats = made;
+    let (first, second) = match (seats.pop(), seats.pop()) {
+        (Some(second), Some(first)) => (Back::Free(first), Back::Free(second)),
+        _ => {
+            keep(shop);
+            return Err("seats");
+        }
+    };
+    let Both {
+        first,
+        second,
+        given,
+        taken,
+    } = strike_deal(rt, &shop, first, second, dealt);
+    let mut backs = Vec::new(alloc);
+    if backs.push(second).is_err() || backs.push(first).is_err() {
+        keep(shop);
+        return Err("memory");
+    }
+    let chronicle = ended(alloc, shop, backs)?;
+    Ok(Came {
+        given,
+        taken,
+        chronicle,
+    })
+}
+
+/// A shop of this order is made, and two seats do this.
+fn dealing<G: Fresh + Sync, N: Ledger + Send + Sync, R: Abort + Threads + Wait + Clock + Sync>(
+    rt: &R,
+    alloc: Global,
+    order: Order,
+    parts: NewQueue<G>,
+    dealt: Deal<'_>,
+) -> Result<Came, &'static str>
+    requires name { parts.blank.name ≡ N.name }
+    requires parts { parts.blank.parts ≡ N.parts }
+    requires one_each { parts.blank.parts ≡ vec_len parts.gates }
+{
+    match Shop::<G, N>::with_cap(alloc, order, parts, 1_048_576) {
+        Ok((shop, seats)) => dealt_by(rt, alloc, shop, seats, dealt),
+        Err(refused) => Err(refused.why.name()),
+    }
+}
+
+/// Two seats over gates of this kind do this: how many items were given, the sum of what was taken, and the records.
+fn trade<G: Fresh + Sync, R: Abort + Threads + Wait + Clock + Sync>(
+    rt: &R,
+    alloc: Global,
+    order: Order,
+    dealt: Deal<'_>,
+) -> Result<(u64, u64, usize), &'static str> {
+    let gates = gates::<G>(alloc, 2)?;
+    let blank = Blank::new(gates.len() as u64);
+    let parts = NewQueue { gates, blank };
+    let Came {
+        given,
+        taken,
+        chronicle,
+    } = dealing::<G, Brand, _>(rt, alloc, order, parts, dealt)?;
+    let story = Story {
+        order,
+        seats: 2,
+        cap: 1_048_576,
+        rows: &[],
+        standing: NOTHING,
+        left: &[],
+    };
+    Ok((given, taken, tells(rt, alloc, chronicle, story)))
+}
+
+/// Nobody is there: calls fail, or their time runs out.
+const ALONE: [(Call, Told); 6] = [
+    (Call::Offer(5), Told::Failed(Some(5))),
+    (Call::Poll, Told::Failed(None)),
+    (Call::OfferFor(6, 0), Told::Failed(Some(6))),
+    (Call::OfferFor(7, 1), Told::TimedOut(Some(7))),
+    (Call::PollFor(0), Told::Failed(None)),
+    (Call::PollFor(1), Told::TimedOut(None)),
+];
+
+/// The same of a transfer queue, in which an offer is kept.
+const KEPT: [(Call, Told); 12] = [
+    (Call::TryTransfer(5), Told::Failed(Some(5))),
+    (Call::Poll, Told::Failed(None)),
+    (Call::TransferFor(6, 0), Told::Failed(Some(6))),
+    (Call::TransferFor(7, 1), Told::TimedOut(Some(7))),
+    (Call::PollFor(0), Told::Failed(None)),
+    (Call::PollFor(1), Told::TimedOut(None)),
+    (Call::Put(10), Told::Kept),
+    (Call::Offer(20), Told::Kept),
+    (Call::OfferFor(30, 1), Told::Kept),
+    (Call::Take, Told::Got(7, 10)),
+    (Call::Poll, Told::Got(8, 20)),
+    (Call::PollFor(1), Told::Got(9, 30)),
+];
+
+/// Calls of one seat, over gates of this kind.
+fn alone<G: Fresh + Sync, R: Abort + Threads + Wait + Clock + Sync>(
+    rt: &R,
+    alloc: Global,
+) -> Result<(), Fail> {
+    let calls = Deal::Calls(&ALONE);
+    assert_eq!(rt; trade::<G, _>(rt, alloc, Order::Fair, calls)?, (0, 0, 8));
+    assert_eq!(rt; trade::<G, _>(rt, alloc, Order::Unfair, calls)?, (0, 0, 8));
+    let calls = Deal::Calls(&KEPT);
+    assert_eq!(rt;
+        trade::<G, _>(rt, alloc, Order::Transfer, calls)?,
+        (0, 0, 14)
+    );
+    Ok(())
+}
+
+#[test]
+fn nobody_is_there(rt: HostRuntime) -> Result<(), Fail> {
+    alone::<Idle, _>(&rt, rt.alloc())?;
+    alone::<Eager, _>(&rt, rt.alloc())?;
+    alone::<Bell, _>(&rt, rt.alloc())
+}
+
+/// So many are given and taken by this call, over gates of this kind: each once.
+fn meets<G: Fresh + Sync, R: Abort + Threads + Wait + Clock + Sync>(
+    rt: &R,
+    alloc: Global,
+    most: u64,
+    call: Call,
+    wanted: (u64, u64, usize),
+) -> Result<(), Fail> {
+    let dealt = Deal::Meets(most, call);
+    assert_eq!(rt; trade::<G, _>(rt, alloc, Order::Fair, dealt)?, wanted);
+    assert_eq!(rt; trade::<G, _>(rt, alloc, Order::Unfair, dealt)?, wanted);
+    assert_eq!(rt; trade::<G, _>(rt, alloc, Order::Transfer, dealt)?, wanted);
+    Ok(())
+}
+
+#[test]
+fn two_threads_meet(rt: HostRuntime) -> Result<(), Fail> {
+    let wanted = (2_000, 2_001_000, 6_000);
+    meets::<Bell, _>(&rt, rt.alloc(), 2_000, Call::Take, wanted)?;
+    meets::<Bell, _>(&rt, rt.alloc(), 2_000, Call::PollFor(60_000), wanted)
+}
+
+#[test]
+fn two_threads_that_never_wait_meet(rt: HostRuntime) -> Result<(), Fail> {
+    let wanted = (100, 5_050, 300);
+    meets::<Idle, _>(&rt, rt.alloc(), 100, Call::Take, wanted)?;
+    meets::<Eager, _>(&rt, rt.alloc(), 100, Call::PollFor(60_000), wanted)
+}
+
+/// A call that waits is cut, or its seat was flagged before: it is told the same as who interrupts it.
+fn is_cut<R: Abort + Threads + Wait + Clock + Sync>(
+    rt: &R,
+    alloc: Global,
+    order: Order,
+) -> Result<(), Fail> {
+    let (cut, told, records) = trade::<Bell, _>(rt, alloc, order, Deal::Cuts)?;
+    assert_eq!(rt; cut, told);
+    assert!(rt; cut == 1 && records == 3 || cut == 2 && records == 2);
+    Ok(())
+}
+
+#[test]
+fn a_call_is_cut(rt: HostRuntime) -> Result<(), Fail> {
+    is_cut(&rt, rt.alloc(), Order::Fair)?;
+    is_cut(&rt, rt.alloc(), Order::Unfair)?;
+    is_cut(&rt, rt.alloc(), Order::Transfer)
+}
