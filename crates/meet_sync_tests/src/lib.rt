@@ -10,6 +10,8 @@ mod chance;
 #[cfg(test)]
 mod closing;
 #[cfg(test)]
+mod drains;
+#[cfg(test)]
 mod gates;
 #[cfg(test)]
 mod plays;
