@@ -16,6 +16,8 @@ mod gates;
 #[cfg(test)]
 mod plays;
 #[cfg(test)]
+mod seals;
+#[cfg(test)]
 mod shops;
 #[cfg(test)]
 mod split;
