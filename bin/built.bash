@@ -54,14 +54,15 @@ prove() {
     fi
 }
 
-# Makes a crate's program. On an empty input, which is a fault of line 1, a program that was made ends with status 3.
+# Makes a crate's program, which ends with this status on an empty input.
 make_program() {
     local status=0
     rt run || status=$?
-    [ "$status" -eq 3 ] && [ -x "out/$1" ] && touch "out/$1"
+    [ "$status" -eq "$2" ] && [ -x "out/$1" ] && touch "out/$1"
 }
 
-# Proves a crate's program and all that it stands on, and builds it, where it isn't there or older than what it is made of.
+# Proves a crate's program and all that it stands on, and builds it, where it isn't there or older than what it is made of. On an
+# empty input it ends with the status behind its name; without one with 3, that of a fault of line 1.
 build() {
     local crate number=0 stack
     is_built "$1" && return
@@ -70,7 +71,7 @@ build() {
     for crate in "${stack[@]}"; do
         number=$((number + 1))
         if [ "$crate" = "$1" ]; then
-            prove "$crate" "$number of ${#stack[@]}" make_program "$1"
+            prove "$crate" "$number of ${#stack[@]}" make_program "$1" "${2:-3}"
         else
             prove "$crate" "$number of ${#stack[@]}" rt lib
         fi

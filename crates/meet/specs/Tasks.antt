@@ -1,5 +1,6 @@
 -- What comes of a task.
-use Rattle.std.specs.Prelude.{ℕ, Bool, Option, List, Result}
+use Rattle.std.specs.Prelude.{ℕ, ⊤, Bool, Option, List, Result}
+use Rattle.meet_drive.specs.Driven.{IsSized}
 use Rattle.meet_run.specs.declared.faults.RunFault.{RunFault}
 use Rattle.meet_run.specs.Reading.{lines_of}
 use Rattle.meet_run.specs.Running.{RunEnds}
@@ -7,9 +8,16 @@ use Rattle.meet_run.specs.Script.{fault_of, text_before, output_of}
 use Rattle.meet_run.specs.Traces.{trace_of, CheckEnds}
 use Rattle.meet.specs.declared.command_line.Task.{Task}
 use Rattle.meet.specs.declared.command_line.Task.TheVariants.{Run, Trace, Check}
+use Rattle.meet.specs.declared.command_line.Wanted.{Wanted}
+use Rattle.meet.specs.declared.command_line.Wanted.TheVariants.{Text, Drive}
 
 -- what came of a task with this input: of a script its replies, or its trace; of a trace what is found of it
 abbrev pub Performs : Task → (input : List ℕ) → Result Bool RunFault → (old new : Option (List ℕ)) → Type 0
 Performs Run input result old new = RunEnds (fault_of input) (text_before input) (output_of input) result old new
 Performs Trace input result old new = RunEnds (fault_of input) (trace_of input) (trace_of input) result old new
 Performs Check input result old new = CheckEnds (lines_of input) result old new
+
+-- the numbers of a drive are those that it can have
+abbrev pub IsWithin : Wanted → Type 0
+IsWithin (Text task) = ⊤
+IsWithin (Drive givers each) = IsSized givers each

@@ -1,6 +1,10 @@
 //! The words of the command line.
 
-use clap::{Arg, ArgAction, Command, Error};
+ghost use Rattle.std.specs.Prelude.{◌<◌, ◌≤◌, IfOk};
+ghost use Rattle.meet.specs.Tasks.{IsWithin};
+
+use clap::{Arg, ArgAction, ArgMatches, Command, Error, value_parser};
+use meet_run::{MOST_EACH, MOST_GIVERS};
 use std::alloc::Global;
 
 /// The version, and the toolchain with which the program is proved, as `rt version` names it.
@@ -15,15 +19,19 @@ Places: fair, unfair, transfer
 Verbs: put N, offer N, take, poll, follow, cancel, expire, interrupt SEAT, drain N, size, room, peek;
        of a transfer queue also transfer N, try N, consumers
 
+A drive is threads that pass items through a fair queue, closed and checked: how many items were taken, their sum, how
+many pairs met, and what its history leaves.
+  meet drive 4 100
+
 Exit status:
   0  all is well
   1  the trace isn't legal
   2  a bad command line, or a request for help or the version
   3  a line that can't be read
-  4  no memory
+  4  no memory, or a drive that was refused
   5  a failed read or write";
 
-/// What a command line asks for.
+/// What is done with a text on standard input.
 #[derive(Clone, Copy, PartialEq, Eq, Debug)]
 pub enum Task {
     /// A script on standard input, its replies on standard output.
@@ -34,9 +42,39 @@ pub enum Task {
     Check,
 }
 
-/// Reads the words of a command line, the program's name first: none, `run`, `run --trace` or `check`. The error has
-/// the text to show; a request for help or for the version is one.
-pub fn task_of(alloc: Global, words: &[String]) -> Result<Task, Error> {
+/// What a command line asks for.
+#[derive(Clone, Copy, PartialEq, Eq, Debug)]
+pub enum Wanted {
+    /// Something with a text.
+    Text(Task),
+    /// A drive with so many givers, 1 to 64, and so many items of each, 1 to 1,000.
+    Drive(u64, u64),
+}
+
+/// A number of a drive, 1 to the greatest.
+fn number<'a>(alloc: Global, name: &'a str, most: u64, help: &'a str) -> Arg<'a>
+    requires { most ≤ 1000 }
+{
+    Arg::new(alloc, name)
+        .required(true)
+        .help(help)
+        .value_parser(value_parser!(u64).range(1..=most as i64))
+}
+
+/// The number of a drive that was given, which the parser let pass, so that it is within 1 and the greatest.
+fn given(asked: &ArgMatches<'_>, name: &str, most: u64) -> u64
+    requires { 0 < most }
+    ensures from { 0 < result }
+    ensures to { result ≤ most }
+{
+    asked.get_one::<u64>(name).unwrap_or(1).clamp(1, most)
+}
+
+/// Reads the words of a command line, the program's name first: none, `run`, `run --trace`, `check` or `drive N M`. The
+/// error has the text to show; a request for help or for the version is one.
+pub fn wanted_of(alloc: Global, words: &[String]) -> Result<Wanted, Error>
+    ensures { IfOk result IsWithin }
+{
     let trace = Arg::new(alloc, "trace")
         .long("trace")
         .help("Writes the script's records as a trace, instead of its replies")
@@ -48,6 +86,21 @@ pub fn task_of(alloc: Global, words: &[String]) -> Result<Task, Error> {
     let check = Command::new(alloc, "check")
         .about("Checks the trace on standard input")
         .override_usage("meet check < TRACE");
+    let drive = Command::new(alloc, "drive")
+        .about("Drives N givers and N takers through a fair queue, M items each")
+        .override_usage("meet drive N M")
+        .arg(number(
+            alloc,
+            "N",
+            MOST_GIVERS,
+            "How many threads give, and how many take: 1 to 64",
+        ))?
+        .arg(number(
+            alloc,
+            "M",
+            MOST_EACH,
+            "How many items each gives and takes: 1 to 1000",
+        ))?;
     let command = Command::new(alloc, "meet")
         .version(VERSION)
         .about(
@@ -56,12 +109,16 @@ pub fn task_of(alloc: Global, words: &[String]) -> Result<Task, Error> {
         .override_usage("meet [COMMAND] < TEXT")
         .after_help(REST_OF_HELP)
         .subcommand(run)?
-        .subcommand(check)?;
+        .subcommand(check)?
+        .subcommand(drive)?;
     let matches = command.try_get_matches_from(words)?;
     match matches.subcommand() {
-        None => Ok(Task::Run),
-        Some((name, _)) if name == "check" => Ok(Task::Check),
-        Some((_, asked)) if asked.get_flag("trace") => Ok(Task::Trace),
-        Some(_) => Ok(Task::Run),
+        None => Ok(Wanted::Text(Task::Run)),
+        Some((name, _)) if name == "check" => Ok(Wanted::Text(Task::Check)),
+        Some((name, asked)) if name == "drive" => {
+            Ok(Wanted::Drive(given(asked, "N", MOST_GIVERS), given(asked, "M", MOST_EACH)))
+        }
+        Some((_, asked)) if asked.get_flag("trace") => Ok(Wanted::Text(Task::Trace)),
+        Some(_) => Ok(Wanted::Text(Task::Run)),
     }
 }

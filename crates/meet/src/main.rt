@@ -1,5 +1,5 @@
 //! The program `meet`: a script of calls on standard input, their replies or their trace on standard output; or a
-//! trace on standard input, what is found of it on standard output.
+//! trace on standard input, what is found of it on standard output; or threads at a queue, and what came of it.
 #![tactic(auto)]
 
 ghost use Rattle.std.specs.Prelude.{◌≡◌, IfSome};
@@ -10,8 +10,8 @@ ghost use Rattle.meet.specs.Tasks.{Performs};
 mod command_line;
 
 use clap::error::ErrorKind;
-use command_line::{Task, task_of};
-use meet_run::{RunFault, check_trace, report_of, run_script, run_trace};
+use command_line::{Task, Wanted, wanted_of};
+use meet_run::{RunFault, check_trace, report_of, run_drive, run_script, run_trace};
 use meet_tickets::Refusal;
 use std::alloc::{AllocError, Global};
 use std::io::{BufReader, Read, Write};
@@ -75,8 +75,14 @@ fn main(rt: HostRuntime) -> ExitCode {
             return ExitCode::from(2);
         }
     };
-    match task_of(rt.alloc(), words.as_slice()) {
-        Ok(task) => finish(&rt, &perform_here(&rt, task)),
+    match wanted_of(rt.alloc(), words.as_slice()) {
+        Ok(Wanted::Text(task)) => finish(&rt, &perform_here(&rt, task)),
+        Ok(Wanted::Drive(givers, each)) => {
+            finish(
+                &rt,
+                &run_drive(&rt, rt.alloc(), &mut rt.stdout(), givers, each),
+            )
+        }
         Err(error) if error.kind() == ErrorKind::OutOfMemory => finish(&rt, &Err(MEMORY)),
         Err(error) => {
             let _ = eprint!(rt; "{error}");

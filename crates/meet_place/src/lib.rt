@@ -5,14 +5,13 @@
 mod backs;
 mod close;
 mod draining;
-mod gates;
 mod place;
 mod seats;
 mod shared;
 
 pub use close::{CloseFault, Closed};
 pub use draining::DrainRoom;
-pub use gates::{Gate, Turn};
+pub use meet_cells::{Gate, Turn};
 pub use place::{NewPlace, Place};
 pub use seats::{Back, Pending, Seat};
 pub use shared::Shared;

@@ -10,11 +10,11 @@ ghost use Rattle.meet_book.specs.Booked.{Booked};
 ghost use Rattle.meet_place.specs.Seats.{Adds, AreFresh};
 ghost use Rattle.meet_place.specs.Holds.{BookRefuses, sizes_refusal};
 
-use crate::gates::{Gate, Turn};
 use crate::seats::{Pending, Seat};
 use crate::shared::Shared;
 use crossbeam_utils::CachePadded;
 use meet_book::{Book, Object, Wakes};
+use meet_cells::{Gate, Turn};
 use meet_tickets::{MOST_SEATS, Refusal, Refused, SeatNo};
 use std::alloc::Global;
 use std::marker::Model;

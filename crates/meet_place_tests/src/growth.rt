@@ -3,10 +3,10 @@
 
 ghost use Rattle.std.specs.Prelude.{◌≡◌, ◌<◌, [], IfOk, OnOk, vec_len};
 
-use crate::bell::Bell;
 use crate::shared::{Shop, keep};
 use crate::till::{Amount, Till};
 use meet_book::Book;
+use meet_cells::ParkGate;
 use meet_place::{Back, CloseFault, Closed, NewPlace, Seat};
 use meet_tickets::Refusal;
 use std::alloc::Global;
@@ -20,7 +20,7 @@ use std::test::*;
 fn made<N: Ledger>(
     rt: &impl Abort,
     alloc: Global,
-    parts: NewPlace<Till, Bell>,
+    parts: NewPlace<Till, ParkGate>,
 ) -> Result<(Shop<N>, Vec<Seat<Amount, N>>), &'static str>
     requires fresh { (parts.book.base ≡ 0) × (parts.book.records ≡ []) }
     requires name { parts.blank.name ≡ N.name }
@@ -120,7 +120,7 @@ fn uses<N: Ledger>(
 fn lives<N: Ledger, R: Abort + Wait>(
     rt: &R,
     alloc: Global,
-    parts: NewPlace<Till, Bell>,
+    parts: NewPlace<Till, ParkGate>,
 ) -> Result<(), &'static str>
     requires fresh { (parts.book.base ≡ 0) × (parts.book.records ≡ []) }
     requires name { parts.blank.name ≡ N.name }
@@ -148,7 +148,7 @@ fn lives<N: Ledger, R: Abort + Wait>(
 fn a_place_lives(rt: HostRuntime) -> Result<(), Fail> {
     let alloc = rt.alloc();
     let mut gates = list_for_one(alloc)?;
-    gates.push(Bell::new()).map_err(|_| "memory")?;
+    gates.push(ParkGate::new()).map_err(|_| "memory")?;
     let till = Till::new().ok_or("till")?;
     let parts = NewPlace {
         book: Book::new(alloc, till, 10),

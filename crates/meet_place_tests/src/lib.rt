@@ -2,8 +2,6 @@
 #![tactic(auto)]
 
 #[cfg(test)]
-mod bell;
-#[cfg(test)]
 mod growth;
 #[cfg(test)]
 mod shared;

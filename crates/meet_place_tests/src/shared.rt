@@ -2,9 +2,9 @@
 
 ghost use Rattle.std.specs.Prelude.{◌≡◌, ◌+◌, ◌≤◌, IfOk, IfSome, vec_len};
 
-use crate::bell::Bell;
 use crate::till::{Amount, GOAL, Till};
 use meet_book::Book;
+use meet_cells::ParkGate;
 use meet_place::{Back, CloseFault, Closed, NewPlace, Pending, Place, Seat};
 use meet_tickets::{Refusal, Refused, Ticket};
 use std::alloc::Global;
@@ -18,7 +18,7 @@ use std::thread::Threads;
 use std::time::Clock;
 
 /// A till that threads share.
-pub type Shop<N> = Place<Till, Bell, N>;
+pub type Shop<N> = Place<Till, ParkGate, N>;
 
 /// Adds an amount: the sum, which is no less.
 fn add<N: Ledger, R: Wait>(
@@ -147,19 +147,19 @@ fn closed<N: Ledger>(alloc: Global, shop: Shop<N>, backs: Vec<Back<Amount, N>>) 
     }
 }
 
-/// So many bells.
-fn bells(alloc: Global, count: usize) -> Result<Vec<Bell>, &'static str> {
-    let mut bells = Vec::new(alloc);
+/// So many gates.
+fn parking(alloc: Global, count: usize) -> Result<Vec<ParkGate>, &'static str> {
+    let mut gates = Vec::new(alloc);
     for _ in 0..count {
-        bells.push(Bell::new()).map_err(|_| "memory")?;
+        gates.push(ParkGate::new()).map_err(|_| "memory")?;
     }
-    Ok(bells)
+    Ok(gates)
 }
 
 /// Why a place with these gates isn't made, and how many of them come back.
 fn refusal<N: Ledger>(
     alloc: Global,
-    gates: Vec<Bell>,
+    gates: Vec<ParkGate>,
     blank: Blank,
 ) -> Result<Option<(Refusal, usize)>, Fail>
     requires name { blank.name ≡ N.name }
@@ -181,7 +181,7 @@ fn refusal<N: Ledger>(
 
 /// Why a place with so many gates isn't made, and how many of them come back.
 fn refusal_of(alloc: Global, count: usize) -> Result<Option<(Refusal, usize)>, Fail> {
-    let gates = bells(alloc, count)?;
+    let gates = parking(alloc, count)?;
     let blank = Blank::new(gates.len() as u64);
     refusal::<Brand>(alloc, gates, blank)
 }
@@ -248,8 +248,8 @@ fn meeting<N: Ledger + Send + Sync, R: Threads + Wait + Clock + Sync>(
     let ticket = Ticket::new(1).ok_or("no such ticket number")?;
     let till = Till::new().ok_or("till")?;
     let mut gates = Vec::new(alloc);
-    gates.push(Bell::new()).map_err(|_| "memory")?;
-    gates.push(Bell::new()).map_err(|_| "memory")?;
+    gates.push(ParkGate::new()).map_err(|_| "memory")?;
+    gates.push(ParkGate::new()).map_err(|_| "memory")?;
     let mut backs = Vec::new(alloc);
     if backs.reserve(2).is_err() {
         return Err("memory");

@@ -9,5 +9,5 @@ pub use any_queue::AnyQueue;
 pub use books::{queue_book, transfer_book};
 pub use meet_calls::{DualAnswer, DualCall, QueueAnswer, QueueCall};
 pub use meet_core::Dual;
-pub use meet_transfer::Transfer;
+pub use meet_transfer::{Transfer, Unbounded};
 pub use ready::{READY_RECORDS, ready_queue_book, ready_transfer_book};

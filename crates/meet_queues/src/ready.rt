@@ -1,6 +1,6 @@
 //! Books of new queues, with room for what is coming: so that no call, below a number of records, grows anything.
 
-ghost use Rattle.std.specs.Prelude.{◌≡◌, ◌<◌, ◌≤◌, None, [], IfOk, IfErr};
+ghost use Rattle.std.specs.Prelude.{◌≡◌, ◌<◌, ◌≤◌, [], IfOk, IfErr};
 ghost use Rattle.meet_tickets.specs.BySeat.{nobody};
 ghost use Rattle.meet_tickets.specs.Limits.{most_seats, most_records};
 ghost use Rattle.meet_tickets.specs.Bases.{no_base};
@@ -8,12 +8,12 @@ ghost use Rattle.meet_tickets.specs.declared.refusals.Refusal.TheVariants.{Memor
 ghost use Rattle.meet_line.specs.Queue.{seats_of, count_of};
 ghost use Rattle.meet_queues.specs.Ready.{ready_room};
 
-use crate::books::{queue_book, transfer_book};
+use crate::books::queue_book;
 use meet_book::Book;
 use meet_core::Dual;
 use meet_line::Line;
 use meet_tickets::{Marked, Refusal};
-use meet_transfer::Transfer;
+use meet_transfer::Unbounded;
 use std::alloc::Global;
 
 /// For how many records a ready book has room at first, where its cap isn't less.
@@ -54,30 +54,29 @@ pub fn ready_queue_book<T: Marked, L: Line<T>>(
     }
 }
 
-/// The book of a new transfer queue without a bound. Seats, cap, first ticket, room and refusal as of
+/// The book of a new transfer queue without a bound, which tells so. Seats, cap, first ticket, room and refusal as of
 /// `ready_queue_book`.
 pub fn ready_transfer_book<T: Marked>(
     alloc: Global,
     seats: u64,
     cap: u64,
-) -> Result<Book<Transfer<T>>, Refusal>
+) -> Result<Book<Unbounded<T>>, Refusal>
     requires seats { seats ≤ most_seats }
     requires cap_from { 0 < cap }
     requires cap_to { cap ≤ most_records }
-    ensures fresh { IfOk result (λ book. seats_of book.object.queue ≡ nobody) }
-    ensures seats { IfOk result (λ book. count_of book.object.queue ≡ seats) }
-    ensures unused { IfOk result (λ book. book.object.queue.last ≡ 0) }
-    ensures first { IfOk result (λ book. book.object.queue.next ≡ 1) }
-    ensures bound { IfOk result (λ book. book.object.bound ≡ None) }
+    ensures fresh { IfOk result (λ book. seats_of book.object ≡ nobody) }
+    ensures seats { IfOk result (λ book. count_of book.object ≡ seats) }
+    ensures unused { IfOk result (λ book. book.object.last ≡ 0) }
+    ensures first { IfOk result (λ book. book.object.next ≡ 1) }
     ensures base { IfOk result (λ book. book.base ≡ no_base) }
     ensures gone { IfOk result (λ book. book.base.gone ≡ 0) }
     ensures records { IfOk result (λ book. book.records ≡ []) }
     ensures cap { IfOk result (λ book. book.cap ≡ cap) }
     ensures room { IfOk result (λ book. ready_room cap ≤ book.room) }
-    ensures line { IfOk result (λ book. seats ≤ book.object.queue.room) }
+    ensures line { IfOk result (λ book. seats ≤ book.object.room) }
     ensures memory { IfErr result (λ why. why ≡ Memory) }
 {
-    let mut book = transfer_book(alloc, seats, 1, None, cap)?;
+    let mut book = Book::new(alloc, Unbounded::new(alloc, seats, 1)?, cap);
     match book.reserve(ready_room(cap), seats) {
         Ok(()) => Ok(book),
         Err(why) => {

@@ -8,7 +8,7 @@ use meet_core::Dual;
 use meet_line::Line;
 use meet_queues::{DualCall, QueueCall};
 use meet_tickets::{Deed, Record, SeatNo};
-use meet_transfer::Transfer;
+use meet_transfer::{Transfer, Unbounded};
 use std::process::Abort;
 use std::test::Fail;
 
@@ -110,16 +110,39 @@ impl Place for Book<Transfer<Parcel>> {
     }
 }
 
+impl Place for Book<Unbounded<Parcel>> {
+    fn answer<A: Abort>(&mut self, rt: &A, at: SeatNo, ask: Ask) -> Result<Told, Fail> {
+        let before = self.records().len();
+        match self.step(at, queue_call(ask)?) {
+            Ok((answer, receipt)) => {
+                is_written(rt, before, self.base().gone, self.records(), receipt);
+                Ok(queue(answer))
+            }
+            Err(refused) => Ok(Told::Refused(refused.why, in_queue_call(refused.back))),
+        }
+    }
+}
+
+/// What a book of a transfer queue shows, which has so many records.
+fn shown_of(records: usize, place: &Transfer<Parcel>) -> [u64; 6] {
+    [
+        records as u64,
+        place.room(),
+        place.waiting(),
+        place.uncollected(),
+        place.kept(),
+        place.tickets_left(),
+    ]
+}
+
 impl Shown for Book<Transfer<Parcel>> {
     fn shown(&self) -> [u64; 6] {
-        let place = self.probe();
-        [
-            self.records().len() as u64,
-            place.room(),
-            place.waiting(),
-            place.uncollected(),
-            place.kept(),
-            place.tickets_left(),
-        ]
+        shown_of(self.records().len(), self.probe())
+    }
+}
+
+impl Shown for Book<Unbounded<Parcel>> {
+    fn shown(&self) -> [u64; 6] {
+        shown_of(self.records().len(), self.probe().as_transfer())
     }
 }

@@ -9,7 +9,7 @@ use meet_core::Dual;
 use meet_line::Line;
 use meet_queues::{queue_book, ready_queue_book, ready_transfer_book, transfer_book};
 use meet_tickets::Refusal;
-use meet_transfer::Transfer;
+use meet_transfer::{Transfer, Unbounded};
 use std::alloc::Global;
 use std::process::Abort;
 use std::test::Fail;
@@ -63,7 +63,7 @@ fn ready_book_of_queue(alloc: Global) -> Result<Book<Fair>, Fail> {
 }
 
 /// The same of a transfer queue's book that is ready.
-fn ready_book_of_transfer(alloc: Global) -> Result<Book<Transfer<Parcel>>, Fail> {
+fn ready_book_of_transfer(alloc: Global) -> Result<Book<Unbounded<Parcel>>, Fail> {
     match ready_transfer_book(alloc, 6, 40) {
         Ok(book) => Ok(book),
         Err(_) => Ok(ready_transfer_book(alloc, 6, 40).ok().ok_or("memory")?),

@@ -1,3 +1,4 @@
+pub mod Driving
 pub mod Faults
 pub mod Grammar
 pub mod Reading

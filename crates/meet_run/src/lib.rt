@@ -1,7 +1,9 @@
-//! Scripts: one thread's calls on a meeting place, and their replies as text. Traces: a place's records as text.
+//! Scripts: one thread's calls on a meeting place, and their replies as text. Traces: a place's records as text. Drives:
+//! threads at a queue, and what came of it as text.
 #![tactic(auto)]
 
 pub mod check;
+pub mod driving;
 pub mod faults;
 pub mod first_line;
 pub mod grammar;
@@ -19,8 +21,10 @@ pub mod wording;
 pub mod words;
 
 pub use check::{check_trace, check_trace_within};
+pub use driving::{push_drive, run_drive};
 pub use faults::{Report, RunFault, report_of};
+pub use meet_drive::{Drive, MOST_EACH, MOST_GIVERS, drive, drive_within};
 pub use meet_history::{Answer, Call, Outcome, Reply, Setup, Stepper, Verb, run_all};
 pub use meet_tickets::{Deed, Kind, Record, Refusal, SeatNo, Ticket};
 pub use run::{MOST_READS, run_script, run_script_within};
-pub use trace::{run_trace, run_trace_within};
+pub use trace::{run_trace, run_trace_within, write_trace};

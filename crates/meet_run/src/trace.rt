@@ -52,8 +52,9 @@ fn write_records<W: Write>(
     write_whole(writer, out.as_slice())
 }
 
-/// Writes the trace of these records of a place.
-fn write_trace<W: Write>(
+/// Writes the trace of these records of a place of this kind, whole; it refuses Memory or WriteFault, and then a prefix of
+/// it is written.
+pub fn write_trace<W: Write>(
     alloc: Global,
     kind: Kind,
     records: &[Record<Deed>],

@@ -21,7 +21,7 @@ use Rattle.meet_line.specs.Queue.{Queue, count_of, seats_of}
 use Rattle.meet_line.specs.declared.answers.Polled.TheVariants.{Meets, Fails}
 use Rattle.meet_calls.specs.DualSteps.{DualStep, dual_available, dual_refusal}
 use Rattle.meet_calls.specs.DualRecords.{dual_record}
-use Rattle.meet_calls.specs.QueueSteps.{queue_record}
+use Rattle.meet_calls.specs.QueueSteps.{QueueStep, bounded_kind, queue_record}
 use Rattle.meet_calls.specs.declared.queue_calls.DualCall.TheVariants.{Poll}
 use Rattle.meet_calls.specs.declared.queue_calls.DualAnswer.{DualAnswer}
 use Rattle.meet_calls.specs.declared.queue_calls.DualAnswer.TheVariants.{Gave, Offered, Took, Polled, Followed}
@@ -29,7 +29,6 @@ use Rattle.meet_calls.specs.declared.queue_calls.DualAnswer.TheVariants.{TakenBa
 use Rattle.meet_calls.specs.declared.queue_calls.QueueCall.TheVariants.{Dual as EachHas}
 use Rattle.meet_calls.specs.declared.queue_calls.QueueAnswer.{QueueAnswer}
 use Rattle.meet_calls.specs.declared.queue_calls.QueueAnswer.TheVariants.{Put, Dual}
-use Rattle.meet_transfer.specs.Bounded.{Bounded, BoundedStep}
 use Rattle.meet_place.specs.Seats.{SeatView, DrainedAs}
 use Rattle.meet_sync.specs.Told.{IsRequestWhy}
 use Rattle.meet_sync.specs.Drained.{Taken, taken_record, item_in, item_within, AllBring, AreItemsOf, DrainedTo}
@@ -69,13 +68,12 @@ dual_takes mark end i old (TakenBack a) new e step fewer is = absurd step
 dual_takes mark end i old (Interrupted a) new e step fewer is = absurd step
 
 -- the same of a transfer queue
-pub transfer_takes : {T : Type 0} (mark : T → ℕ) (i : ℕ) (old : Bounded T) (answer : QueueAnswer T)
-    (new : Bounded T) (e : Record Deed) → BoundedStep mark old i (EachHas Poll) answer new
-    → dual_available new.queue + 1 ≡ dual_available old.queue → queue_record mark i (EachHas Poll) answer ≡ Some e
+pub transfer_takes : {T : Type 0} (mark : T → ℕ) (i : ℕ) (old : Queue T) (answer : QueueAnswer T)
+    (new : Queue T) (e : Record Deed) → QueueStep mark (bounded_kind None) old i (EachHas Poll) answer new
+    → dual_available new + 1 ≡ dual_available old → queue_record mark i (EachHas Poll) answer ≡ Some e
     → (t : Taken T) × (item_within answer ≡ Some t.item) × (e ≡ taken_record mark i t)
-transfer_takes mark i old (Dual answer) new e step fewer is =
-    dual_takes mark Front i old.queue answer new.queue e step.1 fewer is
-transfer_takes mark i old (Put answer) new e step fewer is = absurd step.1
+transfer_takes mark i old (Dual answer) new e step fewer is = dual_takes mark Front i old answer new e step fewer is
+transfer_takes mark i old (Put answer) new e step fewer is = absurd step
 
 module _ {O A T : Type 0} (item_of : A → Option T) (mark : T → ℕ) (i : ℕ) (steps : O → A → O → Type 0)
     (record_of : A → Option (Record Deed)) (refusal_of : O → Option Refusal) (available_of left_of owed_of : O → ℕ)

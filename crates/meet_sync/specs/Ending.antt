@@ -5,7 +5,7 @@ use Rattle.meet_tickets.specs.declared.records.Cause.TheVariants.{Interrupted as
 use Rattle.meet_tickets.specs.declared.records.Deed.{Deed}
 use Rattle.meet_tickets.specs.declared.records.Deed.TheVariants.{Done as DoneDeed, Got as GotDeed}
 use Rattle.meet_tickets.specs.declared.records.Deed.TheVariants.{Withdrawn as WithdrawnDeed}
-use Rattle.meet_tickets.specs.declared.records.Deed.TheVariants.{GiveMeets, GiveFails, GiveKept}
+use Rattle.meet_tickets.specs.declared.records.Deed.TheVariants.{GiveMeets, GiveKept}
 use Rattle.meet_calls.specs.DualRecords.{made}
 use Rattle.meet_place.specs.Seats.{SeatView, PendingView, Adds}
 use Rattle.meet_sync.specs.Asking.{waiting_deed, brought, SettledAs}
@@ -65,17 +65,12 @@ module _ {T : Type 0} where
   NotExpired (TimedOut back) = ⊥
   NotExpired end = ⊤
 
-  -- the deed of a put to a queue that keeps items (LinkedTransferQueue.put), by its end; none where it can't end so
+  -- the deed of a put to a queue that keeps items without a bound, by its end: it meets, or its item is kept
+  -- (LinkedTransferQueue.put); none where it can't end so
   abbrev pub put_deed : (T → ℕ) → (item : T) → End T → Option Deed
   put_deed mark item (Gave u) = Some (GiveMeets (mark item) u)
   put_deed mark item Kept = Some (GiveKept (mark item))
-  put_deed mark item (Failed back) = Some (GiveFails (mark item))
   put_deed mark item end = None
-
-  -- a put that fails hands back the item itself
-  abbrev pub PutBack : (item : T) → End T → Type 0
-  PutBack item (Failed back) = back ≡ Some item
-  PutBack item end = ⊤
 
 module _ {T N : Type 0} where
   -- a whole call of this request came to this end
@@ -91,6 +86,6 @@ module _ {T N : Type 0} where
 
   -- a put to a queue that keeps items came to this end, with one receipt
   abbrev pub PutAs : (T → ℕ) → SeatView Deed → (item : T) → Ended T N → Type 0
-  PutAs mark seat item ended = (ended.seat.number ≡ seat.number) × PutBack item ended.end
+  PutAs mark seat item ended = (ended.seat.number ≡ seat.number)
       × ((ticket : ℕ) × (deed : Deed) × (put_deed mark item ended.end ≡ Some deed)
       × Adds seat.list ended.seat.list (made seat.number ticket deed ∷ []))

@@ -1,6 +1,6 @@
 //! The end of a queue for threads: its one history.
 
-ghost use Rattle.std.specs.Prelude.{◌≡◌, ℕ, Option, List, map, vec_len, IfOk, IfErr};
+ghost use Rattle.std.specs.Prelude.{◌≡◌, None, List, map, vec_len, IfOk, IfErr};
 ghost use Rattle.meet_calls.specs.DualSteps.{kind_of};
 ghost use Rattle.meet_calls.specs.QueueSteps.{bounded_kind};
 ghost use Rattle.meet_place.specs.Backs.{list_of, AreOrdered};
@@ -15,7 +15,7 @@ use meet_core::Dual;
 use meet_line::{Left, Line};
 use meet_place::{Back, CloseFault, Closed};
 use meet_tickets::{Base, Deed, Marked, Record, Refusal, SeatNo};
-use meet_transfer::Transfer;
+use meet_transfer::Unbounded;
 use std::alloc::Global;
 use std::error::Error;
 use std::fmt;
@@ -175,8 +175,8 @@ impl<T: Marked, G: Drop, N: Ledger> TransferQueue<T, G, N> {
         self,
         alloc: Global,
         seats: Vec<Back<Deed, N>>,
-    ) -> Result<Chronicle<T>, QueueFault<Self, Book<Transfer<T>>, N>>
-        ensures history { IfOk result (λ c. (bound : Option ℕ) × IsChronicle T.mark_of (bounded_kind bound) c.base c.records.items
+    ) -> Result<Chronicle<T>, QueueFault<Self, Book<Unbounded<T>>, N>>
+        ensures history { IfOk result (λ c. IsChronicle T.mark_of (bounded_kind None) c.base c.records.items
             (map (λ list. list.items) c.lists.items) c.left.items) }
         ensures lists { IfOk result (λ c. (ordered : List (Back Deed N)) × AreOrdered seats.items ordered
             × (map (λ list. list.items) c.lists.items ≡ map list_of ordered)) }

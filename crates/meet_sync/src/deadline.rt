@@ -1,6 +1,6 @@
 //! When a timed call's wait is over.
 
-use std::time::{Clock, Duration, Instant};
+use std::time::{Clock, Instant};
 
 /// A time to wait for, from when it was made. It is a hint: no clause says when it is over.
 #[derive(Drop)]
@@ -26,10 +26,10 @@ impl Deadline {
 
     /// The same; none where there is no clock.
     fn until<R: Clock>(&self, rt: &R) -> Option<u64> {
-        let passed = self.start?.elapsed(rt).ok()?;
-        match Duration::from_millis(self.limit).checked_sub(passed) {
-            Some(left) => Some(left.as_millis() as u64),
-            None => Some(0),
-        }
+        let passed = self.start?.elapsed(rt).ok()?.as_millis();
+        Some(
+            self.limit
+                .saturating_sub(u64::try_from(passed).unwrap_or(u64::MAX)),
+        )
     }
 }

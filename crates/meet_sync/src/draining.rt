@@ -14,7 +14,7 @@ use meet_core::Dual;
 use meet_line::{Line, Polled};
 use meet_place::{Gate, Place, Seat};
 use meet_tickets::{Deed, Marked, Refusal};
-use meet_transfer::Transfer;
+use meet_transfer::Unbounded;
 use std::alloc::Global;
 use std::sync::Wait;
 use std::sync::ledger::Ledger;
@@ -110,7 +110,7 @@ fn drain_dual<T: Marked, L: Line<T>, G: Gate, N: Ledger, R: Wait>(
 fn drain_transfer<T: Marked, G: Gate, N: Ledger, R: Wait>(
     rt: &R,
     alloc: Global,
-    place: &Place<Transfer<T>, G, N>,
+    place: &Place<Unbounded<T>, G, N>,
     seat: &mut Seat<Deed, N>,
     max: u64,
 ) -> Result<Vec<T>, Refusal>

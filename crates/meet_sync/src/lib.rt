@@ -13,8 +13,10 @@ mod putting;
 mod requests;
 mod steps;
 mod sync_queue;
+mod tally;
 mod told;
 mod transfer_queue;
+mod waiting;
 mod whole;
 
 pub use asked::{Answer, Asked, End, Ended, FollowedUp, Request, SeatRefused, Struck, Withdrawn};
@@ -24,4 +26,5 @@ pub use making::NewQueue;
 pub use meet_line::{FairLine, Left, LeftStanding, StackLine};
 pub use meet_place::{Back, Gate, Pending, Seat, Turn};
 pub use sync_queue::SyncQueue;
+pub use tally::Tally;
 pub use transfer_queue::TransferQueue;

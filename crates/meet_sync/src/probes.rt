@@ -76,26 +76,34 @@ impl<T: Marked, G, N: Ledger> TransferQueue<T, G, N> {
 
     /// `LinkedTransferQueue.size`: how many givers there are in the line, kept or waiting.
     pub fn size<R: Wait>(&self, rt: &R) -> u64 {
-        self.place.hold(rt).probe().size()
+        self.place.hold(rt).probe().as_transfer().size()
     }
 
     /// `LinkedTransferQueue.isEmpty`: whether there is no giver in the line.
     pub fn is_empty<R: Wait>(&self, rt: &R) -> bool {
-        self.place.hold(rt).probe().is_empty()
+        self.place.hold(rt).probe().as_transfer().is_empty()
     }
 
     /// `LinkedTransferQueue.peek`: the mark of the first giver's item.
     pub fn peek_mark<R: Wait>(&self, rt: &R) -> Option<u64> {
-        self.place.hold(rt).probe().peek_mark()
+        self.place.hold(rt).probe().as_transfer().peek_mark()
     }
 
     /// `LinkedTransferQueue.getWaitingConsumerCount`: how many takers there are in the line.
     pub fn waiting_consumers<R: Wait>(&self, rt: &R) -> u64 {
-        self.place.hold(rt).probe().waiting_consumers()
+        self.place
+            .hold(rt)
+            .probe()
+            .as_transfer()
+            .waiting_consumers()
     }
 
     /// `LinkedTransferQueue.hasWaitingConsumer`: whether there is a taker in the line.
     pub fn has_waiting_consumer<R: Wait>(&self, rt: &R) -> bool {
-        self.place.hold(rt).probe().has_waiting_consumer()
+        self.place
+            .hold(rt)
+            .probe()
+            .as_transfer()
+            .has_waiting_consumer()
     }
 }

@@ -9,7 +9,7 @@ use meet_calls::{QueueAnswer, QueueCall};
 use meet_line::Put;
 use meet_place::{Gate, Place, Seat};
 use meet_tickets::{Deed, Marked, Refusal, Refused};
-use meet_transfer::Transfer;
+use meet_transfer::Unbounded;
 use std::sync::Wait;
 use std::sync::ledger::Ledger;
 
@@ -28,7 +28,7 @@ fn told_put<T>(answer: QueueAnswer<T>) -> Put<T>
 /// before every other refusal.
 pub(crate) fn put_item<T: Marked, G: Gate, N: Ledger, R: Wait>(
     rt: &R,
-    place: &Place<Transfer<T>, G, N>,
+    place: &Place<Unbounded<T>, G, N>,
     mut seat: Seat<Deed, N>,
     item: T,
 ) -> Result<Ended<T, N>, SeatRefused<T, N>>
@@ -73,9 +73,7 @@ pub(crate) fn put_item<T: Marked, G: Gate, N: Ledger, R: Wait>(
             seat,
             end: End::Gave(with),
         }),
-        Put::Fails(_, item) => Ok(Ended {
-            seat,
-            end: End::Failed(Some(item)),
-        }),
+        // Where nothing bounds the items that are kept, no put fails.
+        Put::Fails(_, _) => unreachable!(),
     }
 }

@@ -10,7 +10,7 @@ use meet_core::Dual;
 use meet_line::{FairLine, Line};
 use meet_place::{Gate, Pending, Place, Seat, Turn};
 use meet_tickets::{Deed, Marked, Refused, Ticket};
-use meet_transfer::Transfer;
+use meet_transfer::Unbounded;
 use std::sync::Wait;
 use std::sync::ledger::Ledger;
 use std::time::Clock;
@@ -19,7 +19,7 @@ use std::time::Clock;
 #[derive(Drop)]
 pub(crate) enum QueueRef<'a, T: Marked, L: Line<T>, G, N: Ledger> {
     Dual(&'a Place<Dual<T, L>, G, N>),
-    Transfer(&'a Place<Transfer<T>, G, N>),
+    Transfer(&'a Place<Unbounded<T>, G, N>),
 }
 
 /// How a ticket is ended.
@@ -94,7 +94,7 @@ fn step_dual<T: Marked, L: Line<T>, G: Gate, N: Ledger, R: Wait>(
 /// The same of a transfer queue.
 fn step_transfer<T: Marked, G: Gate, N: Ledger, R: Wait>(
     rt: &R,
-    place: &Place<Transfer<T>, G, N>,
+    place: &Place<Unbounded<T>, G, N>,
     seat: &mut Seat<Deed, N>,
     call: DualCall<T>,
 ) -> Result<DualAnswer<T>, Refused<DualCall<T>>>
@@ -154,7 +154,7 @@ fn end_dual<T: Marked, L: Line<T>, G: Gate, N: Ledger, R: Wait>(
 /// The same of a transfer queue.
 fn end_transfer<T: Marked, G: Gate, N: Ledger, R: Wait>(
     rt: &R,
-    place: &Place<Transfer<T>, G, N>,
+    place: &Place<Unbounded<T>, G, N>,
     seat: &mut Seat<Deed, N>,
     awaited: (Ticket, Option<u64>),
     ending: Ending,
@@ -170,7 +170,11 @@ fn end_transfer<T: Marked, G: Gate, N: Ledger, R: Wait>(
 {
     let (ticket, mark) = awaited;
     let mut shared = place.hold(rt);
-    if !shared.probe().awaits(seat.number(), ticket, mark) {
+    if !shared
+        .probe()
+        .as_transfer()
+        .awaits(seat.number(), ticket, mark)
+    {
         return None;
     }
     match shared.step(seat, QueueCall::Dual(ending.of(ticket))) {

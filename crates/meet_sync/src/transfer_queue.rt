@@ -13,7 +13,7 @@ use crate::steps::QueueRef;
 use meet_line::FairLine;
 use meet_place::{Gate, Pending, Place, Seat};
 use meet_tickets::{Deed, Marked, SeatNo};
-use meet_transfer::Transfer;
+use meet_transfer::Unbounded;
 use std::marker::Model;
 use std::sync::Wait;
 use std::sync::ledger::Ledger;
@@ -23,7 +23,7 @@ use std::time::Clock;
 /// back with the answer. A contract sees the number of its seats.
 #[derive(Drop)]
 pub struct TransferQueue<T: Marked, G, N: Ledger> {
-    pub(crate) place: Place<Transfer<T>, G, N>,
+    pub(crate) place: Place<Unbounded<T>, G, N>,
 }
 
 impl<T: Marked, G, N: Ledger> Model for TransferQueue<T, G, N> {
@@ -96,7 +96,7 @@ impl<T: Marked, G: Gate, N: Ledger> TransferQueue<T, G, N> {
     }
 
     /// `LinkedTransferQueue.put`: the item goes to a taker that waits, or is kept in the line, and its giver goes on; it
-    /// never waits. It fails where the queue has a bound and as many items are kept. Refuses as `request`.
+    /// never waits, and never fails. Refuses as `request`.
     pub fn put<R: Wait>(
         &self,
         rt: &R,

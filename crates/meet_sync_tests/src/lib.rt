@@ -14,6 +14,18 @@ mod drains;
 #[cfg(test)]
 mod gates;
 #[cfg(test)]
+mod growth;
+#[cfg(test)]
+mod java_steps;
+#[cfg(test)]
+mod java_synchronous;
+#[cfg(test)]
+mod java_synchronous_waits;
+#[cfg(test)]
+mod java_transfer;
+#[cfg(test)]
+mod java_transfer_waits;
+#[cfg(test)]
 mod plays;
 #[cfg(test)]
 mod seals;

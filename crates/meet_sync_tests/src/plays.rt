@@ -160,7 +160,7 @@ pub fn ended<G: Gate + Drop, N: Ledger>(
 }
 
 /// A shop is closed with all its seats.
-fn closed<G: Gate + Drop, N: Ledger>(
+pub fn closed<G: Gate + Drop, N: Ledger>(
     alloc: Global,
     shop: Shop<G, N>,
     seats: Seats<N>,

@@ -1,6 +1,6 @@
 //! The three queues for threads as one, through which numbers go.
 
-ghost use Rattle.std.specs.Prelude.{◌≡◌, vec_len, IfOk};
+ghost use Rattle.std.specs.Prelude.{◌≡◌, vec_len, IfOk, IfErr};
 
 use crate::asks::{Ask, Told};
 use crate::told::{Came, asked, followed, struck, whole, withdrawn};
@@ -92,6 +92,7 @@ impl<G: Gate + Drop, N: Ledger> Shop<G, N> {
         requires parts { parts.blank.parts ≡ N.parts }
         requires one_each { parts.blank.parts ≡ vec_len parts.gates }
         ensures seats { IfOk result (λ made. vec_len made.1 ≡ vec_len parts.gates) }
+        ensures back { IfErr result (λ refused. refused.back ≡ parts) }
     {
         match order {
             Order::Fair => match SyncQueue::with_cap(alloc, parts, cap) {

@@ -10,7 +10,7 @@ use std::sync::Wait;
 use std::test::*;
 
 /// These seats ask a queue of this order, which has so many records then, and nothing is left.
-fn told<R: Abort + Wait>(
+pub fn told<R: Abort + Wait>(
     rt: &R,
     alloc: Global,
     order: Order,

@@ -4,9 +4,10 @@ ghost use Rattle.std.specs.Prelude.{◌≡◌, vec_len};
 
 use crate::asks::{Ask, Told};
 use crate::calls::{Call, called};
-use crate::gates::{Bell, Eager, Fresh, Idle, gates};
+use crate::gates::{Eager, Fresh, Idle, gates};
 use crate::plays::{NOTHING, Story, ended, tells};
 use crate::shops::{Shop, keep};
+use meet_cells::ParkGate;
 use meet_history::Order;
 use meet_sync::{Back, Chronicle, NewQueue, Seat};
 use meet_tickets::Deed;
@@ -22,13 +23,15 @@ use std::time::Clock;
 
 /// What two seats do, or one of them.
 #[derive(Clone, Copy)]
-enum Deal<'a> {
+pub enum Deal<'a> {
     /// One calls, one call after another, and is told this.
     Calls(&'a [(Call, Told)]),
     /// One thread gives 1 and so on up to this, and the other takes as many by this call.
     Meets(u64, Call),
-    /// One thread takes, and the other interrupts it.
-    Cuts,
+    /// One thread makes this call, and the other that one.
+    Pair(Call, Call),
+    /// One thread makes this call, and the other interrupts it; this comes back.
+    Cuts(Call, Option<u64>),
 }
 
 /// Two seats, with what they are given back.
@@ -131,24 +134,61 @@ fn meet<G: Fresh + Sync, N: Ledger + Send + Sync, R: Threads + Wait + Clock + Sy
     }
 }
 
-/// One thread takes, and the other interrupts it: it is cut where it waits, or flagged before it does.
+/// One thread gives by a call, and the other takes by one.
+fn pair<G: Fresh + Sync, N: Ledger + Send + Sync, R: Threads + Wait + Clock + Sync>(
+    rt: &R,
+    shop: &Shop<G, N>,
+    giver: Back<Deed, N>,
+    taker: Back<Deed, N>,
+    give: Call,
+    take: Call,
+) -> Both<N> {
+    let (gave, took) = thread::join(
+        rt,
+        move || called(rt, shop, giver, give),
+        move || called(rt, shop, taker, take),
+    );
+    let (first, told) = gave;
+    let (second, item) = took;
+    let given = match told {
+        Told::Done => 1,
+        Told::Gave(_) => 1,
+        _ => 0,
+    };
+    let taken = match item {
+        Told::Got(_, item) => item,
+        _ => 0,
+    };
+    Both {
+        first,
+        second,
+        given,
+        taken,
+    }
+}
+
+/// One thread calls, and the other interrupts it: it is cut where it waits, or flagged before it does.
 fn cut<G: Fresh + Sync, N: Ledger + Send + Sync, R: Threads + Wait + Clock + Sync>(
     rt: &R,
     shop: &Shop<G, N>,
-    taker: Back<Deed, N>,
+    caller: Back<Deed, N>,
     other: Back<Deed, N>,
+    call: Call,
+    back: Option<u64>,
 ) -> Both<N> {
-    let (took, struck) = thread::join(
+    let (came, struck) = thread::join(
         rt,
-        move || called(rt, shop, taker, Call::Take),
+        move || called(rt, shop, caller, call),
         move || shop.answer(rt, other, Ask::Interrupt(0)),
     );
-    let (first, told) = took;
+    let (first, told) = came;
     let (second, why) = struck;
-    let given = match told {
-        Told::WasCut(None) => 1,
-        Told::Stopped(None) => 2,
-        _ => 0,
+    let given = if told == Told::WasCut(back) {
+        1
+    } else if told == Told::Stopped(back) {
+        2
+    } else {
+        0
     };
     let taken = match why {
         Told::Cut(1) => 1,
@@ -179,7 +219,8 @@ fn strike_deal<G: Fresh + Sync, N: Ledger + Send + Sync, R: Abort + Threads + Wa
             taken: 0,
         },
         Deal::Meets(most, call) => meet(rt, shop, first, second, most, call),
-        Deal::Cuts => cut(rt, shop, first, second),
+        Deal::Pair(give, take) => pair(rt, shop, first, second, give, take),
+        Deal::Cuts(call, back) => cut(rt, shop, first, second, call, back),
     }
 }
 
@@ -244,7 +285,7 @@ fn dealing<G: Fresh + Sync, N: Ledger + Send + Sync, R: Abort + Threads + Wait +
 }
 
 /// Two seats over gates of this kind do this: how many items were given, the sum of what was taken, and the records.
-fn trade<G: Fresh + Sync, R: Abort + Threads + Wait + Clock + Sync>(
+pub fn trade<G: Fresh + Sync, R: Abort + Threads + Wait + Clock + Sync>(
     rt: &R,
     alloc: Global,
     order: Order,
@@ -315,7 +356,7 @@ fn alone<G: Fresh + Sync, R: Abort + Threads + Wait + Clock + Sync>(
 fn nobody_is_there(rt: HostRuntime) -> Result<(), Fail> {
     alone::<Idle, _>(&rt, rt.alloc())?;
     alone::<Eager, _>(&rt, rt.alloc())?;
-    alone::<Bell, _>(&rt, rt.alloc())
+    alone::<ParkGate, _>(&rt, rt.alloc())
 }
 
 /// So many are given and taken by this call, over gates of this kind: each once.
@@ -336,8 +377,8 @@ fn meets<G: Fresh + Sync, R: Abort + Threads + Wait + Clock + Sync>(
 #[test]
 fn two_threads_meet(rt: HostRuntime) -> Result<(), Fail> {
     let wanted = (2_000, 2_001_000, 6_000);
-    meets::<Bell, _>(&rt, rt.alloc(), 2_000, Call::Take, wanted)?;
-    meets::<Bell, _>(&rt, rt.alloc(), 2_000, Call::PollFor(60_000), wanted)
+    meets::<ParkGate, _>(&rt, rt.alloc(), 2_000, Call::Take, wanted)?;
+    meets::<ParkGate, _>(&rt, rt.alloc(), 2_000, Call::PollFor(60_000), wanted)
 }
 
 #[test]
@@ -348,12 +389,14 @@ fn two_threads_that_never_wait_meet(rt: HostRuntime) -> Result<(), Fail> {
 }
 
 /// A call that waits is cut, or its seat was flagged before: it is told the same as who interrupts it.
-fn is_cut<R: Abort + Threads + Wait + Clock + Sync>(
+pub fn is_cut<R: Abort + Threads + Wait + Clock + Sync>(
     rt: &R,
     alloc: Global,
     order: Order,
+    call: Call,
+    back: Option<u64>,
 ) -> Result<(), Fail> {
-    let (cut, told, records) = trade::<Bell, _>(rt, alloc, order, Deal::Cuts)?;
+    let (cut, told, records) = trade::<ParkGate, _>(rt, alloc, order, Deal::Cuts(call, back))?;
     assert_eq!(rt; cut, told);
     assert!(rt; cut == 1 && records == 3 || cut == 2 && records == 2);
     Ok(())
@@ -361,7 +404,7 @@ fn is_cut<R: Abort + Threads + Wait + Clock + Sync>(
 
 #[test]
 fn a_call_is_cut(rt: HostRuntime) -> Result<(), Fail> {
-    is_cut(&rt, rt.alloc(), Order::Fair)?;
-    is_cut(&rt, rt.alloc(), Order::Unfair)?;
-    is_cut(&rt, rt.alloc(), Order::Transfer)
+    is_cut(&rt, rt.alloc(), Order::Fair, Call::Take, None)?;
+    is_cut(&rt, rt.alloc(), Order::Unfair, Call::Take, None)?;
+    is_cut(&rt, rt.alloc(), Order::Transfer, Call::Take, None)
 }

@@ -3,9 +3,11 @@
 #![tactic(auto)]
 
 mod transfer;
+mod unbounded;
 
 pub use meet_calls::{DualAnswer, DualCall, QueueAnswer, QueueCall};
 pub use meet_line::{
     Followed, Gave, Interrupted, Left, LeftStanding, Offered, Polled, Put, TakenBack, Took,
 };
 pub use transfer::Transfer;
+pub use unbounded::Unbounded;

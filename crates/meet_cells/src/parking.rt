@@ -1,0 +1,114 @@
+//! A gate at which a thread parks.
+
+ghost use Rattle.std.specs.Prelude.{◌≡◌, None, IfNone};
+ghost use Rattle.meet_cells.specs.declared.gates.Turn.TheVariants.{Woken};
+
+use crate::gates::{Gate, Turn};
+use std::sync::Wait;
+use std::sync::atomic::{AtomicBool, Ordering};
+use std::thread::Parker;
+use std::time::{Clock, Duration, Instant};
+
+/// When a wait is over: so long after it began, which isn't known where there is no clock.
+#[derive(Clone, Copy)]
+pub(crate) struct Deadline {
+    start: Option<Instant>,
+    whole: Duration,
+}
+
+impl Deadline {
+    /// So many milliseconds from now; none without a limit.
+    pub(crate) fn after<R: Clock>(rt: &R, limit: Option<u64>) -> Option<Deadline>
+        ensures { IfNone limit (result ≡ None) }
+    {
+        match limit {
+            None => None,
+            Some(milliseconds) => Some(Deadline {
+                start: Instant::now(rt).ok(),
+                whole: Duration::from_millis(milliseconds),
+            }),
+        }
+    }
+
+    /// How long it is until then; none where the time is up, or where there is no clock.
+    fn left<R: Clock>(&self, rt: &R) -> Option<Duration> {
+        let left = self.whole.checked_sub(self.start?.elapsed(rt).ok()?)?;
+        if left.is_zero() { None } else { Some(left) }
+    }
+}
+
+/// A gate at which one thread at a time parks, as by `LockSupport.park` and `parkNanos`, and is let go by a wake, as by
+/// `LockSupport.unpark`. One wake is kept for the next wait, and a wakeup for no reason doesn't end one. A limit is in
+/// milliseconds of the machine's clock; where there is no clock, a wait with a limit answers Elapsed at once, unless a
+/// wake was kept.
+#[derive(Drop)]
+pub struct ParkGate {
+    parker: Parker,
+    woken: AtomicBool,
+}
+
+impl ParkGate {
+    /// A gate that nobody woke.
+    pub fn new() -> ParkGate {
+        ParkGate {
+            parker: Parker::new(),
+            woken: AtomicBool::new(false),
+        }
+    }
+
+    /// Takes the wake that is kept: whether there was one.
+    pub(crate) fn take_wake(&self) -> bool {
+        self.woken.load(Ordering::SeqCst) && self.woken.swap(false, Ordering::SeqCst)
+    }
+
+    /// Parks until somebody wakes the gate.
+    fn park<R: Wait>(&self, rt: &R) {
+        for _ in rt.forever() {
+            if self.take_wake() {
+                return;
+            }
+            self.parker.park(rt);
+        }
+    }
+
+    /// Parks until somebody wakes the gate, or until the time is up.
+    fn park_until<R: Wait + Clock>(&self, rt: &R, deadline: Deadline) -> Turn {
+        for _ in rt.forever() {
+            if self.take_wake() {
+                return Turn::Woken;
+            }
+            match deadline.left(rt) {
+                None => return Turn::Elapsed,
+                Some(left) => self.parker.park_timeout(rt, left),
+            }
+        }
+        unreachable!()
+    }
+
+    /// Parks until somebody wakes the gate, or until the time is up where there is a deadline.
+    pub(crate) fn wait_until<R: Wait + Clock>(&self, rt: &R, deadline: Option<Deadline>) -> Turn
+        ensures { IfNone deadline (result ≡ Woken) }
+    {
+        match deadline {
+            None => {
+                self.park(rt);
+                Turn::Woken
+            }
+            Some(deadline) => self.park_until(rt, deadline),
+        }
+    }
+}
+
+impl Gate for ParkGate {
+    /// Parks until somebody wakes the gate, or until so many milliseconds passed. Without a limit only a wake ends it.
+    fn wait<R: Wait + Clock>(&self, rt: &R, limit: Option<u64>) -> Turn
+        ensures { IfNone limit (result ≡ Woken) }
+    {
+        self.wait_until(rt, Deadline::after(rt, limit))
+    }
+
+    fn wake(&self) {
+        self.woken.store(true, Ordering::SeqCst);
+        self.parker.unpark();
+    }
+}

@@ -1,0 +1,106 @@
+//! Gates that are woken, and gates at which the time runs out.
+
+use meet_cells::{Gate, ParkGate, SpinGate, Turn};
+use std::io::ErrorKind;
+use std::process::Abort;
+use std::sync::Wait;
+use std::test::*;
+use std::thread::Threads;
+use std::time::{Clock, Duration, Instant};
+use std::{io, thread};
+
+/// How long a limit lasts here, in milliseconds.
+const SHORT: u64 = 20;
+
+/// A limit that doesn't pass while a test runs, in milliseconds.
+const LONG: u64 = 60_000;
+
+/// A wake is kept for the next wait, with and without a limit, and two are kept as one.
+fn keeps_one_wake<G: Gate, R: Wait + Clock + Abort>(rt: &R, gate: &G) {
+    for limit in [None, Some(0), Some(SHORT), Some(u64::MAX)] {
+        gate.wake();
+        gate.wake();
+        assert_eq!(rt; gate.wait(rt, limit), Turn::Woken);
+        assert_eq!(rt; gate.wait(rt, Some(0)), Turn::Elapsed);
+    }
+}
+
+/// A limit passes, and not too soon. The wake before leaves the parker a wakeup for no reason.
+fn elapses<G: Gate, R: Wait + Clock + Abort>(rt: &R, gate: &G) -> Result<(), Fail> {
+    gate.wake();
+    assert_eq!(rt; gate.wait(rt, None), Turn::Woken);
+    let start = Instant::now(rt)?;
+    assert_eq!(rt; gate.wait(rt, Some(SHORT)), Turn::Elapsed);
+    assert!(rt; start.elapsed(rt)? >= Duration::from_millis(SHORT));
+    Ok(())
+}
+
+/// A wake from another thread ends a wait.
+fn is_woken<G: Gate + Sync, R: Threads + Wait + Clock + Sync>(
+    rt: &R,
+    gate: &G,
+    limit: Option<u64>,
+) -> Turn {
+    let (turn, _) = thread::join(
+        rt,
+        move || gate.wait(rt, limit),
+        move || {
+            thread::sleep(rt, Duration::from_millis(5));
+            gate.wake()
+        },
+    );
+    turn
+}
+
+/// A runtime without a clock.
+#[derive(Drop)]
+struct Clockless<'a, R: Wait> {
+    rt: &'a R,
+}
+
+impl<R: Wait> Wait for Clockless<'_, R> {}
+
+impl<R: Wait> Clock for Clockless<'_, R> {
+    fn monotonic(&self) -> io::Result<Duration> {
+        Err(ErrorKind::Unsupported.into())
+    }
+
+    fn since_1970(&self) -> io::Result<Duration> {
+        Err(ErrorKind::Unsupported.into())
+    }
+}
+
+/// What is asked of every gate.
+fn serves<G: Gate + Sync, R: Threads + Wait + Clock + Abort + Sync>(
+    rt: &R,
+    gate: &G,
+) -> Result<(), Fail> {
+    keeps_one_wake(rt, gate);
+    elapses(rt, gate)?;
+    for limit in [None, Some(LONG), Some(u64::MAX)] {
+        assert_eq!(rt; is_woken(rt, gate, limit), Turn::Woken);
+    }
+    Ok(())
+}
+
+#[test]
+fn a_park_gate_serves(rt: HostRuntime) -> Result<(), Fail> {
+    serves(&rt, &ParkGate::new())
+}
+
+#[test]
+fn spin_gates_serve(rt: HostRuntime) -> Result<(), Fail> {
+    serves(&rt, &SpinGate::new(0))?;
+    serves(&rt, &SpinGate::new(1_000))
+}
+
+#[test]
+fn without_a_clock_a_limit_is_over(rt: HostRuntime) {
+    let clockless = Clockless { rt: &rt };
+    let gate = SpinGate::new(1);
+    assert_eq!(rt; gate.wait(&clockless, Some(LONG)), Turn::Elapsed);
+    gate.wake();
+    assert_eq!(rt; gate.wait(&clockless, Some(LONG)), Turn::Woken);
+    gate.wake();
+    assert_eq!(rt; gate.wait(&clockless, None), Turn::Woken);
+}

@@ -1,0 +1,11 @@
+//! A drive: givers and takers, each a thread, pass items through one synchronous queue in fair mode. What came of it is
+//! counted by the takers and told by the queue's own history.
+#![tactic(auto)]
+
+mod course;
+mod outcome;
+mod threads;
+mod whole;
+
+pub use outcome::Drive;
+pub use whole::{MOST_EACH, MOST_GIVERS, drive, drive_within};

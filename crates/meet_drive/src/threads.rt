@@ -1,0 +1,161 @@
+//! The threads of a drive. Each works with a seat that it takes out of its slot, and puts it back there at its end: so a
+//! seat comes back whatever happens, also where its thread can't be started.
+
+use crate::course::{Course, Passed};
+use meet_cells::Gate;
+use meet_sync::{Request, Seat};
+use meet_tickets::{Deed, Refusal};
+use std::mem::ManuallyDrop;
+use std::sync::ledger::Ledger;
+use std::sync::{Mutex, Wait};
+use std::thread::Threads;
+use std::time::Clock;
+use std::{mem, thread};
+
+/// What a thread does in a drive.
+#[derive(Clone, Copy)]
+pub enum Task {
+    /// Gives the items from 1 up to this many, one after another.
+    Give(u64),
+    /// Takes so many items.
+    Take(u64),
+}
+
+/// What a thread counted: the items that it took, their sum, and why it ended early, where the queue refused it.
+#[derive(Clone, Copy, PartialEq, Eq, Debug)]
+pub struct Count {
+    pub items: u64,
+    pub sum: u64,
+    pub why: Option<Refusal>,
+}
+
+/// Nothing was taken.
+pub const NOTHING: Count = Count {
+    items: 0,
+    sum: 0,
+    why: None,
+};
+
+/// Where a seat lies before its thread starts and after it ended, and what the thread counted.
+#[derive(Drop)]
+pub struct Slot<N: Ledger> {
+    pub seat: Option<Seat<Deed, N>>,
+    pub count: Count,
+}
+
+impl Count {
+    /// The count after a call that ended so; and whether the thread goes on.
+    fn after(self, passed: Passed) -> (Count, bool) {
+        match passed {
+            Passed::Gave => (self, true),
+            Passed::Got(item) => (
+                Count {
+                    items: self.items.saturating_add(1),
+                    sum: self.sum.saturating_add(item),
+                    why: None,
+                },
+                true,
+            ),
+            Passed::Stopped => (self, false),
+            Passed::Refused(why) => (
+                Count {
+                    why: Some(why),
+                    ..self
+                },
+                false,
+            ),
+        }
+    }
+
+    /// Both counts together, and the first reason.
+    pub fn with(self, other: Count) -> Count {
+        Count {
+            items: self.items.saturating_add(other.items),
+            sum: self.sum.saturating_add(other.sum),
+            why: self.why.or(other.why),
+        }
+    }
+}
+
+impl Task {
+    /// How many calls it makes.
+    fn calls(self) -> u64 {
+        match self {
+            Task::Give(calls) => calls,
+            Task::Take(calls) => calls,
+        }
+    }
+
+    /// Its call of this number, from 1.
+    fn call(self, number: u64) -> Request<u64> {
+        match self {
+            Task::Give(_) => Request::Give(number),
+            Task::Take(_) => Request::Take,
+        }
+    }
+}
+
+/// Does a task with a seat, until it is done, or all are to stop, or a call is refused; then all are stopped.
+fn perform<G: Gate, N: Ledger, R: Wait + Clock>(
+    rt: &R,
+    course: &Course<G, N>,
+    first: Seat<Deed, N>,
+    task: Task,
+) -> (Seat<Deed, N>, Count) {
+    let mut seat = first;
+    let mut count = NOTHING;
+    for number in 1..=task.calls() {
+        let (after, passed) = course.pass(rt, seat, task.call(number));
+        seat = after;
+        let (counted, goes_on) = count.after(passed);
+        count = counted;
+        if !goes_on {
+            course.stop();
+            break;
+        }
+    }
+    (seat, count)
+}
+
+/// Does a task with the seat of this slot.
+fn work<G: Gate, N: Ledger, R: Wait + Clock>(
+    rt: &R,
+    course: &Course<G, N>,
+    slot: &Mutex<Slot<N>>,
+    task: Task,
+) {
+    let taken = slot.lock(rt).seat.take();
+    if let Some(seat) = taken {
+        let (seat, count) = perform(rt, course, seat, task);
+        let mut slot = slot.lock(rt);
+        slot.count = count;
+        let before = mem::replace(&mut slot.seat, Some(seat));
+        let _empty = ManuallyDrop::new(before);
+    }
+}
+
+/// Each of the first half of the slots gives so many items, each of the others takes as many, all at once; whether every
+/// thread could be started. Where one couldn't, all are stopped.
+pub fn run_all<G, N, R>(rt: &R, course: &Course<G, N>, slots: &[Mutex<Slot<N>>], each: u64) -> bool
+where
+    G: Gate + Send + Sync,
+    N: Ledger + Send + Sync,
+    R: Threads + Wait + Clock + Sync,
+{
+    let givers = slots.len() / 2;
+    thread::scope(thread::scope_env(), rt, |scope| {
+        let mut all_started = true;
+        for (number, slot) in slots.iter().enumerate() {
+            let task = if number < givers {
+                Task::Give(each)
+            } else {
+                Task::Take(each)
+            };
+            if all_started && scope.spawn(move || work(rt, course, slot, task)).is_err() {
+                all_started = false;
+                course.stop();
+            }
+        }
+        all_started
+    })
+}

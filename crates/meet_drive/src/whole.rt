@@ -1,0 +1,171 @@
+//! A drive from its start to its end.
+
+ghost use Rattle.std.specs.Prelude.{◌≡◌, ◌<◌, ◌≤◌, ◌*◌, [], IfOk, vec_len};
+ghost use Rattle.std.specs.Vec.{vec_capacity};
+ghost use Rattle.meet_drive.specs.Driven.{IsDriven, IsSized};
+
+use crate::course::Course;
+use crate::outcome::Drive;
+use crate::threads::{Count, NOTHING, Slot, run_all};
+use meet_cells::{Gate, ParkGate};
+use meet_history::{CheckFault, Kind, Order, check};
+use meet_sync::{Back, Chronicle, NewQueue, Seat, SyncQueue};
+use meet_tickets::{Deed, MOST_RECORDS, Refusal};
+use std::alloc::Global;
+use std::marker::Brand;
+use std::mem::ManuallyDrop;
+use std::sync::ledger::{Blank, Ledger};
+use std::sync::{Mutex, Wait};
+use std::thread::Threads;
+use std::time::Clock;
+
+/// How many threads of a drive give at most, and how many take.
+pub const MOST_GIVERS: u64 = 64;
+
+/// How many items each of them gives or takes at most.
+pub const MOST_EACH: u64 = 1000;
+
+/// The queue's kind.
+const FAIR: Kind = Kind {
+    order: Order::Fair,
+    bound: None,
+};
+
+/// Slots with these seats, in their order. The empty list has room for them.
+fn slots_of<N: Ledger>(seats: Vec<Seat<Deed, N>>, empty: Vec<Mutex<Slot<N>>>) -> Vec<Mutex<Slot<N>>>
+    requires empty { empty.items ≡ [] }
+    requires room { vec_len seats ≤ vec_capacity empty }
+    ensures count { vec_len result ≡ vec_len seats }
+{
+    let mut slots = empty;
+    for seat in seats {
+        slots.push_reserved(Mutex::new(Slot {
+            seat: Some(seat),
+            count: NOTHING,
+        }));
+    }
+    slots
+}
+
+/// The seats of these slots, to be given back, and what their threads counted together. The empty list has room for
+/// them.
+fn seats_of<N: Ledger>(
+    slots: Vec<Mutex<Slot<N>>>,
+    empty: Vec<Back<Deed, N>>,
+) -> (Vec<Back<Deed, N>>, Count)
+    requires empty { empty.items ≡ [] }
+    requires room { vec_len slots ≤ vec_capacity empty }
+{
+    let mut backs = empty;
+    let mut counted = NOTHING;
+    for slot in slots {
+        let Slot { seat, count } = slot.into_inner();
+        counted = counted.with(count);
+        if let Some(seat) = seat {
+            backs.push_reserved(Back::Free(seat));
+        }
+    }
+    (backs, counted)
+}
+
+/// What a chronicle tells of a drive whose takers counted so.
+fn told(alloc: Global, chronicle: &Chronicle<u64>, counted: Count) -> Result<Drive, Refusal>
+    ensures { IfOk result IsDriven }
+{
+    let records = chronicle.records.as_slice();
+    match check(alloc, FAIR, records) {
+        Ok(standing) => Ok(Drive {
+            items: counted.items,
+            sum: counted.sum,
+            pairs: chronicle.laws().delivered,
+            records: records.len() as u64,
+            standing,
+        }),
+        Err(CheckFault::Memory) => Err(Refusal::Memory),
+        // A queue that was closed has a legal history.
+        Err(CheckFault::Illegal { .. }) => Err(Refusal::Differs),
+    }
+}
+
+/// A drive with a queue of these parts and this cap: half of its seats give, the others take.
+fn driving<G, N, R>(
+    rt: &R,
+    alloc: Global,
+    parts: NewQueue<G>,
+    each: u64,
+    cap: u64,
+) -> Result<Drive, Refusal>
+where
+    G: Gate + Drop + Send + Sync,
+    N: Ledger + Send + Sync,
+    R: Threads + Wait + Clock + Sync,
+    requires name { parts.blank.name ≡ N.name }
+    requires parts { parts.blank.parts ≡ N.parts }
+    requires one_each { parts.blank.parts ≡ vec_len parts.gates }
+    ensures { IfOk result IsDriven }
+{
+    let count = parts.gates.len();
+    let slots = Vec::with_capacity(alloc, count).map_err(|_| Refusal::Memory)?;
+    let backs = Vec::with_capacity(alloc, count).map_err(|_| Refusal::Memory)?;
+    let (queue, seats) = match SyncQueue::with_cap(alloc, parts, cap) {
+        Ok(made) => made,
+        Err(refused) => return Err(refused.why),
+    };
+    let course = Course::new(queue);
+    let slots = slots_of::<N>(seats, slots);
+    let all_started = run_all(rt, &course, slots.as_slice(), each);
+    let (backs, counted) = seats_of(slots, backs);
+    let closed = course.into_queue().close(alloc, backs);
+    let chronicle = match closed {
+        Ok(chronicle) => chronicle,
+        Err(fault) => {
+            let why = fault.why();
+            let _kept = ManuallyDrop::new(fault);
+            return Err(why);
+        }
+    };
+    if !all_started {
+        return Err(Refusal::NoThread);
+    }
+    match counted.why {
+        Some(why) => Err(why),
+        None => told(alloc, &chronicle, counted),
+    }
+}
+
+/// So many givers, at most `MOST_GIVERS`, put the items from 1 up to `each`, at most `MOST_EACH`, into a synchronous queue
+/// in fair mode, as many takers take as many, each in a thread of its own; then the queue is closed, and its history is
+/// checked. It refuses NoThread where a thread can't be started, what the queue refuses, or Memory; then every thread has
+/// been stopped, and the queue closed all the same.
+pub fn drive<R>(rt: &R, alloc: Global, givers: u64, each: u64) -> Result<Drive, Refusal>
+where
+    R: Threads + Wait + Clock + Sync,
+    requires { IsSized givers each }
+    ensures { IfOk result IsDriven }
+{
+    drive_within(rt, alloc, givers, each, MOST_RECORDS)
+}
+
+/// The same with at most so many records: BadSizes where these are none or more than 1,048,576, and HistoryFull where the
+/// drive needs more.
+pub fn drive_within<R>(
+    rt: &R,
+    alloc: Global,
+    givers: u64,
+    each: u64,
+    cap: u64,
+) -> Result<Drive, Refusal>
+where
+    R: Threads + Wait + Clock + Sync,
+    requires { IsSized givers each }
+    ensures { IfOk result IsDriven }
+{
+    let mut gates = Vec::new(alloc);
+    for _ in 0..givers {
+        gates.push(ParkGate::new()).map_err(|_| Refusal::Memory)?;
+        gates.push(ParkGate::new()).map_err(|_| Refusal::Memory)?;
+    }
+    let blank = Blank::new(gates.len() as u64);
+    let parts = NewQueue { gates, blank };
+    driving::<ParkGate, Brand, R>(rt, alloc, parts, each, cap)
+}

@@ -1,0 +1,67 @@
+//! The transfer queue without a bound, as `LinkedTransferQueue` is: a put is never refused a place.
+
+ghost use Rattle.std.specs.Prelude.{◌≡◌, ◌≤◌, ◌<◌, None, IfOk, IfErr};
+ghost use Rattle.meet_tickets.specs.BySeat.{nobody};
+ghost use Rattle.meet_tickets.specs.Limits.{most_seats, last_ticket};
+
+use crate::transfer::Transfer;
+use meet_tickets::{Marked, Refusal};
+use std::alloc::Global;
+use std::marker::Model;
+
+mod place;
+
+/// A transfer queue of one thread that keeps any number of items. As a book's place it tells so: its history is that of
+/// a queue without a bound. Its calls are those of the book; what it shows is that of `as_transfer`.
+#[derive(Drop)]
+pub struct Unbounded<T: Marked> {
+    queue: Transfer<T>,
+}
+
+impl<T: Marked> Model for Unbounded<T> {
+    ghost use Rattle.std.specs.Prelude.{◌≡◌, None};
+    ghost use Rattle.meet_line.specs.Queue.{Queue};
+
+    ghost Value = { Queue T };
+
+    ghost view = { λ unbounded. unbounded.queue.queue };
+
+    ghost invariant = { λ unbounded. unbounded.queue.bound ≡ None };
+}
+
+impl<T: Marked> Unbounded<T> {
+    ghost use Rattle.meet_line.specs.Queue.{seats_of, count_of};
+    ghost use Rattle.meet_tickets.specs.declared.refusals.Refusal.TheVariants.{Memory};
+
+    /// `new LinkedTransferQueue()`, with no room yet, with this many seats, at most 65,536, and this first ticket, 1 to
+    /// 2^63 - 1. The only refusal is Memory.
+    pub fn new(alloc: Global, seats: u64, first: u64) -> Result<Self, Refusal>
+        requires seats { seats ≤ most_seats }
+        requires first_from { 0 < first }
+        requires first_to { first ≤ last_ticket }
+        ensures fresh { IfOk result (λ made. seats_of made ≡ nobody) }
+        ensures seats { IfOk result (λ made. count_of made ≡ seats) }
+        ensures unused { IfOk result (λ made. made.last ≡ 0) }
+        ensures first { IfOk result (λ made. made.next ≡ first) }
+        ensures room { IfOk result (λ made. made.room ≡ 0) }
+        ensures memory { IfErr result (λ why. why ≡ Memory) }
+    {
+        let queue = Transfer::new(alloc, seats, first)?;
+        Ok(Unbounded { queue })
+    }
+
+    /// The queue, as one that could have a bound, and has none: for what it shows of itself.
+    pub fn as_transfer(&self) -> &Transfer<T>
+        ensures queue { result.now.queue ≡ self.now }
+        ensures bound { result.now.bound ≡ None }
+    {
+        &self.queue
+    }
+
+    /// Lets a queue go in which nobody is there, also where its items can't be dropped.
+    pub fn destroy_empty(self)
+        requires empty { seats_of self ≡ nobody }
+    {
+        self.queue.destroy_empty();
+    }
+}

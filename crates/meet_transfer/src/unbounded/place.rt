@@ -1,0 +1,171 @@
+//! The transfer queue without a bound as a book's place. Each step is that of a transfer queue, whose bound stays none.
+
+ghost use Rattle.std.specs.Prelude.{◌≡◌, ◌≤◌, None, [], List, length, refl};
+ghost use Rattle.std.specs.Vec.{vec_capacity};
+ghost use Rattle.meet_tickets.specs.declared.places.End.TheVariants.{Front};
+ghost use Rattle.meet_tickets.specs.declared.records.Deed.{Deed as Told};
+ghost use Rattle.meet_tickets.specs.declared.records.Record.{Record as Entered};
+ghost use Rattle.meet_tickets.specs.Bases.{Based, no_base, IsBaseOf};
+ghost use Rattle.meet_line.specs.Left.{left_in};
+ghost use Rattle.meet_line.specs.LeftTold.{AreLeftOn};
+ghost use Rattle.meet_line.specs.Seen.{moment_of_queue};
+ghost use Rattle.meet_calls.specs.DualSteps.{LeadsTo, dual_owed, dual_available, dual_left};
+ghost use Rattle.meet_calls.specs.DualRoom.{roomy, roomy-leads, roomless, roomy-fresh};
+ghost use Rattle.meet_calls.specs.QueueRoom.{roomy-queue-refusal, roomy-queue-steps, own-queue-record};
+ghost use Rattle.meet_calls.specs.QueueSteps.{QueueStep, bounded_kind, dual_call, queue_refusal, queue_need};
+ghost use Rattle.meet_calls.specs.QueueSteps.{queue_room, queue_record};
+ghost use Rattle.meet_calls.specs.declared.queue_calls.DualCall.TheVariants.{Poll};
+ghost use Rattle.meet_calls.specs.declared.queue_calls.QueueCall.TheVariants.{Dual as EachHas};
+
+use super::Unbounded;
+use crate::transfer::Transfer;
+use meet_book::{Bases, Drains, Leaves, Object, Wakes};
+use meet_calls::{DualCall, QueueAnswer, QueueCall};
+use meet_line::Left;
+use meet_tickets::{Base, Deed, Marked, Record, Refusal, SeatNo};
+use std::alloc::Global;
+
+impl<T: Marked> Object for Unbounded<T> {
+    type Call = QueueCall<T>;
+
+    type Answer = QueueAnswer<T>;
+
+    type Deed = Deed;
+
+    type Base = Base;
+
+    ghost no_base = { no_base };
+
+    ghost gone_of = { λ base. base.gone };
+
+    ghost leads = { λ base records q. LeadsTo T.mark_of (bounded_kind None) base records q };
+
+    ghost steps = { λ old seat call answer new. QueueStep T.mark_of (bounded_kind None) old seat call answer new };
+
+    ghost record_of = { λ seat call answer. queue_record T.mark_of seat call answer };
+
+    ghost refusal_of = { λ q seat call. queue_refusal q seat call };
+
+    ghost owed_of = { λ q. dual_owed q };
+
+    ghost need_of = { λ call. queue_need call };
+
+    ghost room_of = { λ call. queue_room call };
+
+    ghost spare = { λ q. q.room };
+
+    ghost with_room = { λ q room. roomy q room };
+
+    ghost own_record = { λ seat call answer. own-queue-record T.mark_of seat call answer };
+
+    ghost same_place = { λ q. refl };
+
+    ghost same_refusal = { λ q room seat call. roomy-queue-refusal q room seat call };
+
+    ghost same_owed = { λ q room. refl };
+
+    ghost same_leads = { λ q room base records leads. roomy-leads T.mark_of (bounded_kind None) q room base records leads };
+
+    ghost same_steps = { λ q room seat call answer new need step.
+        roomy-queue-steps T.mark_of (bounded_kind None) q room seat call answer new need step };
+
+    ghost roomless = { λ call none. roomless (dual_call call) none };
+
+    ghost fresh_owes = { λ q leads. roomy-fresh T.mark_of (bounded_kind None) q leads };
+
+    ghost none_gone = { refl };
+
+    fn empty_base(alloc: Global) -> Base {
+        Base::empty(alloc)
+    }
+
+    fn gone(base: &Base) -> u64 {
+        base.gone
+    }
+
+    fn admit(&self, seat: SeatNo, call: &QueueCall<T>) -> Result<(), Refusal> {
+        Object::admit(&self.queue, seat, call)
+    }
+
+    fn need(call: &QueueCall<T>) -> u64 {
+        call.need()
+    }
+
+    fn room(call: &QueueCall<T>) -> u64 {
+        call.room()
+    }
+
+    fn owed(&self) -> u64 {
+        Transfer::owed(&self.queue)
+    }
+
+    fn reserve(&mut self, room: u64) -> Result<(), Refusal> {
+        Transfer::reserve(&mut self.queue, room)
+    }
+
+    fn step(&mut self, seat: SeatNo, call: QueueCall<T>) -> (QueueAnswer<T>, Option<Record<Deed>>) {
+        self.queue.step(seat, call)
+    }
+}
+
+impl<T: Marked> Bases for Unbounded<T> {
+    ghost is_base = { λ q gone base. IsBaseOf (moment_of_queue T.mark_of q) gone base };
+
+    fn base(&self, alloc: Global, gone: u64) -> Result<Base, Refusal> {
+        Bases::base(&self.queue, alloc, gone)
+    }
+}
+
+impl<T: Marked> Drains for Unbounded<T> {
+    ghost poll = { EachHas Poll };
+
+    ghost available_of = { λ q. dual_available q };
+
+    ghost left_of = { λ q. dual_left q };
+
+    ghost poll_fits = { refl };
+
+    fn available(&self) -> u64 {
+        self.queue.available()
+    }
+
+    fn tickets_left(&self) -> u64 {
+        Drains::tickets_left(&self.queue)
+    }
+
+    fn admit_poll(&self, seat: SeatNo) -> Result<(), Refusal> {
+        self.queue.admit_poll(seat)
+    }
+
+    fn poll_call(&self) -> QueueCall<T> {
+        self.queue.stays_sound();
+        QueueCall::Dual(DualCall::Poll)
+    }
+}
+
+impl<T: Marked> Wakes for Unbounded<T> {
+    fn wakes(&self, answer: &QueueAnswer<T>) -> Option<SeatNo> {
+        self.queue.wakes(answer)
+    }
+}
+
+impl<T: Marked> Leaves for Unbounded<T> {
+    type Left = Left<T>;
+
+    ghost left_count = { λ q. length (left_in Front q) };
+
+    ghost are_left = { λ base records left. AreLeftOn T.mark_of base records left };
+
+    fn left(&self) -> u64 {
+        Transfer::left(&self.queue)
+    }
+
+    fn leave(self, empty: Vec<Left<T>>) -> Vec<Left<T>>
+        requires empty { empty.items ≡ [] }
+        requires room { length (left_in Front self) ≤ vec_capacity empty }
+        ensures { (base : Based) (records : List (Entered Told)) → LeadsTo T.mark_of (bounded_kind None) base records self
+            → AreLeftOn T.mark_of base records result.items }
+    {
+        self.queue.leave(empty)
+    }
+}
