@@ -39,7 +39,7 @@ where
 
 /// Whether the trace is asked for, which any word of the command line does.
 fn is_trace_wanted(rt: &HostRuntime) -> io::Result<bool> {
-    let words = env::args(rt)?.collect(rt.alloc())?;
+    let words: Vec<String> = env::args(rt)?.collect(rt.alloc())?;
     Ok(words.len() > 1) // the first is the program's name
 }
 
