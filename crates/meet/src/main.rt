@@ -11,10 +11,10 @@ mod command_line;
 
 use clap::error::ErrorKind;
 use command_line::{Task, Wanted, wanted_of};
-use meet_run::{RunFault, check_trace, report_of, run_drive, run_script, run_trace};
+use meet_run::{Progress, RunFault, check_trace, report_of, run_drive, run_script, run_trace};
 use meet_tickets::Refusal;
 use std::alloc::{AllocError, Global};
-use std::io::{BufReader, Read, Write};
+use std::io::{BufReader, IsTerminal, Read, Write};
 use std::process::ExitCode;
 use std::{env, io};
 
@@ -55,6 +55,20 @@ fn perform_here(rt: &HostRuntime, task: Task) -> Result<bool, RunFault> {
     perform(rt.alloc(), &mut reader, &mut rt.stdout(), task)
 }
 
+/// Tells on standard error how far a drive is, where that is a terminal.
+#[derive(Drop)]
+struct Teller<'a> {
+    rt: &'a HostRuntime,
+}
+
+impl Progress for Teller<'_> {
+    fn tell(&self, taken: u64, all: u64) {
+        if self.rt.stderr().is_terminal() {
+            let _ = eprintln!(self.rt; "meet: {taken} of {all} items");
+        }
+    }
+}
+
 /// Says on standard error how a run failed, if it did, and gives the exit status.
 fn finish(rt: &HostRuntime, outcome: &Result<bool, RunFault>) -> ExitCode
     ensures { exit_status result ≡ status_of outcome.now }
@@ -80,7 +94,14 @@ fn main(rt: HostRuntime) -> ExitCode {
         Ok(Wanted::Drive(givers, each)) => {
             finish(
                 &rt,
-                &run_drive(&rt, rt.alloc(), &mut rt.stdout(), givers, each),
+                &run_drive(
+                    &rt,
+                    rt.alloc(),
+                    &mut rt.stdout(),
+                    givers,
+                    each,
+                    &Teller { rt: &rt },
+                ),
             )
         }
         Err(error) if error.kind() == ErrorKind::OutOfMemory => finish(&rt, &Err(MEMORY)),

@@ -8,5 +8,5 @@ mod receipt;
 
 pub use book::Book;
 pub use comparing::{Holds, Same, compare};
-pub use object::{Bases, Drains, Leaves, Object, Wakes};
+pub use object::{Bases, Drains, Leaves, Object, Unwatched, Wakes, Watch};
 pub use receipt::Receipt;

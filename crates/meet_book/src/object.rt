@@ -187,8 +187,25 @@ pub trait Drains: Object {
             → TakesOne available_of left_of Self.owed_of (λ o. Self.refusal_of o seat poll)
             (Self.record_of seat poll answer) self.now new };
 
+    /// The seat that may go on, now that a poll has taken its item. It is a hint: nothing is promised of it.
+    fn met(&self) -> Option<SeatNo>;
+
     /// A poll uses no room.
     ghost poll_fits: { Self.room_of poll ≡ 0 };
+}
+
+/// Who is told of the seats that may go on after the polls of a drain. What it is told is a hint.
+pub trait Watch {
+    /// A poll was made, and this seat may go on.
+    fn tell(&mut self, seat: Option<SeatNo>);
+}
+
+/// Nobody, who is told nothing.
+#[derive(Drop)]
+pub struct Unwatched {}
+
+impl Watch for Unwatched {
+    fn tell(&mut self, _seat: Option<SeatNo>) {}
 }
 
 /// A place whose answers tell whom a call should wake.

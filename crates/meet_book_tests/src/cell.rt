@@ -364,4 +364,8 @@ impl Drains for Cell {
     fn poll_call(&self) -> Call {
         Call::Take
     }
+
+    fn met(&self) -> Option<SeatNo> {
+        None
+    }
 }

@@ -1,20 +1,30 @@
 //! Calls of a drive: each split, so that a thread that waits can be stopped.
 
-use meet_cells::Gate;
+use crate::progress::Progress;
+use meet_cells::{Gate, ParkGate, Turn};
 use meet_sync::{
     Answer, Asked, FairLine, FollowedUp, Pending, Request, Seat, SyncQueue, Withdrawn,
 };
 use meet_tickets::{Deed, Refusal, SeatNo};
 use std::sync::Wait;
-use std::sync::atomic::{AtomicBool, Ordering};
+use std::sync::atomic::{AtomicBool, AtomicU64, Ordering};
 use std::sync::ledger::Ledger;
 use std::time::Clock;
 
-/// What the threads of a drive share: the queue, and whether all are to stop.
+/// A second, in milliseconds.
+const SECOND: u64 = 1_000;
+
+/// What the threads of a drive share: the queue, whether all are to stop, and how far they are.
 #[derive(Drop)]
 pub struct Course<G, N: Ledger> {
     queue: SyncQueue<u64, FairLine<u64>, G, N>,
     stopped: AtomicBool,
+    /// How many items were taken so far.
+    taken: AtomicU64,
+    /// How many threads are at work, who starts them included while it does.
+    busy: AtomicU64,
+    /// Woken once none is.
+    ended: ParkGate,
 }
 
 /// How a call of a drive ended.
@@ -36,13 +46,46 @@ impl<G, N: Ledger> Course<G, N> {
         Course {
             queue,
             stopped: AtomicBool::new(false),
+            taken: AtomicU64::new(0),
+            busy: AtomicU64::new(1),
+            ended: ParkGate::new(),
         }
     }
 
     /// The queue.
     pub fn into_queue(self) -> SyncQueue<u64, FairLine<u64>, G, N> {
-        let Course { queue, stopped: _ } = self;
+        let Course { queue, .. } = self;
         queue
+    }
+
+    /// One more thread is at work.
+    pub fn begin(&self) {
+        self.busy.fetch_add(1, Ordering::SeqCst);
+    }
+
+    /// One thread less is at work.
+    pub fn end(&self) {
+        if self.busy.fetch_sub(1, Ordering::SeqCst) == 1 {
+            self.ended.wake();
+        }
+    }
+
+    /// One more item was taken.
+    pub fn count_taken(&self) {
+        self.taken.fetch_add(1, Ordering::Relaxed);
+    }
+
+    /// Waits until no thread is at work; each second it tells how many of all items were taken so far.
+    pub fn watch<R: Wait + Clock, P: Progress>(&self, rt: &R, progress: &P, all: u64) {
+        for _ in rt.forever() {
+            if self.ended.wait(rt, Some(SECOND)) == Turn::Woken {
+                return;
+            }
+            if self.busy.load(Ordering::SeqCst) == 0 {
+                return;
+            }
+            progress.tell(self.taken.load(Ordering::Relaxed), all);
+        }
     }
 
     /// Whether all are to stop.

@@ -4,8 +4,10 @@
 
 mod course;
 mod outcome;
+mod progress;
 mod threads;
 mod whole;
 
 pub use outcome::Drive;
-pub use whole::{MOST_EACH, MOST_GIVERS, drive, drive_within};
+pub use progress::{Progress, Silent};
+pub use whole::{MOST_EACH, MOST_GIVERS, drive, drive_told, drive_within};

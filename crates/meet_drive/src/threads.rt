@@ -2,6 +2,7 @@
 //! seat comes back whatever happens, also where its thread can't be started.
 
 use crate::course::{Course, Passed};
+use crate::progress::Progress;
 use meet_cells::Gate;
 use meet_sync::{Request, Seat};
 use meet_tickets::{Deed, Refusal};
@@ -107,6 +108,9 @@ fn perform<G: Gate, N: Ledger, R: Wait + Clock>(
     for number in 1..=task.calls() {
         let (after, passed) = course.pass(rt, seat, task.call(number));
         seat = after;
+        if let Passed::Got(_) = passed {
+            course.count_taken();
+        }
         let (counted, goes_on) = count.after(passed);
         count = counted;
         if !goes_on {
@@ -132,13 +136,21 @@ fn work<G: Gate, N: Ledger, R: Wait + Clock>(
         let before = mem::replace(&mut slot.seat, Some(seat));
         let _empty = ManuallyDrop::new(before);
     }
+    course.end();
 }
 
-/// Each of the first half of the slots gives so many items, each of the others takes as many, all at once; whether every
-/// thread could be started. Where one couldn't, all are stopped.
-pub fn run_all<G, N, R>(rt: &R, course: &Course<G, N>, slots: &[Mutex<Slot<N>>], each: u64) -> bool
+/// Each of the first half of the slots gives so many items, each of the others takes as many, all at once, and progress is
+/// told; whether every thread could be started. Where one couldn't, all are stopped.
+pub fn run_all<G, N, R, P>(
+    rt: &R,
+    course: &Course<G, N>,
+    slots: &[Mutex<Slot<N>>],
+    each: u64,
+    progress: &P,
+) -> bool
 where
     G: Gate + Send + Sync,
+    P: Progress,
     N: Ledger + Send + Sync,
     R: Threads + Wait + Clock + Sync,
 {
@@ -151,11 +163,16 @@ where
             } else {
                 Task::Take(each)
             };
-            if all_started && scope.spawn(move || work(rt, course, slot, task)).is_err() {
-                all_started = false;
+            course.begin();
+            if scope.spawn(move || work(rt, course, slot, task)).is_err() {
+                course.end();
                 course.stop();
+                all_started = false;
+                break;
             }
         }
+        course.end();
+        course.watch(rt, progress, each.saturating_mul(givers as u64));
         all_started
     })
 }

@@ -6,6 +6,7 @@ ghost use Rattle.meet_drive.specs.Driven.{IsDriven, IsSized};
 
 use crate::course::Course;
 use crate::outcome::Drive;
+use crate::progress::{Progress, Silent};
 use crate::threads::{Count, NOTHING, Slot, run_all};
 use meet_cells::{Gate, ParkGate};
 use meet_history::{CheckFault, Kind, Order, check};
@@ -88,14 +89,16 @@ fn told(alloc: Global, chronicle: &Chronicle<u64>, counted: Count) -> Result<Dri
 }
 
 /// A drive with a queue of these parts and this cap: half of its seats give, the others take.
-fn driving<G, N, R>(
+fn driving<G, N, R, P>(
     rt: &R,
     alloc: Global,
     parts: NewQueue<G>,
     each: u64,
     cap: u64,
+    progress: &P,
 ) -> Result<Drive, Refusal>
 where
+    P: Progress,
     G: Gate + Drop + Send + Sync,
     N: Ledger + Send + Sync,
     R: Threads + Wait + Clock + Sync,
@@ -113,7 +116,7 @@ where
     };
     let course = Course::new(queue);
     let slots = slots_of::<N>(seats, slots);
-    let all_started = run_all(rt, &course, slots.as_slice(), each);
+    let all_started = run_all(rt, &course, slots.as_slice(), each, progress);
     let (backs, counted) = seats_of(slots, backs);
     let closed = course.into_queue().close(alloc, backs);
     let chronicle = match closed {
@@ -146,6 +149,23 @@ where
     drive_within(rt, alloc, givers, each, MOST_RECORDS)
 }
 
+/// The same, and each second that it lasts progress is told.
+pub fn drive_told<R, P>(
+    rt: &R,
+    alloc: Global,
+    givers: u64,
+    each: u64,
+    progress: &P,
+) -> Result<Drive, Refusal>
+where
+    R: Threads + Wait + Clock + Sync,
+    P: Progress,
+    requires { IsSized givers each }
+    ensures { IfOk result IsDriven }
+{
+    drive_with(rt, alloc, givers, each, MOST_RECORDS, progress)
+}
+
 /// The same with at most so many records: BadSizes where these are none or more than 1,048,576, and HistoryFull where the
 /// drive needs more.
 pub fn drive_within<R>(
@@ -160,6 +180,24 @@ where
     requires { IsSized givers each }
     ensures { IfOk result IsDriven }
 {
+    drive_with(rt, alloc, givers, each, cap, &Silent {})
+}
+
+/// A drive with at most so many records, of which progress is told.
+fn drive_with<R, P>(
+    rt: &R,
+    alloc: Global,
+    givers: u64,
+    each: u64,
+    cap: u64,
+    progress: &P,
+) -> Result<Drive, Refusal>
+where
+    R: Threads + Wait + Clock + Sync,
+    P: Progress,
+    requires { IsSized givers each }
+    ensures { IfOk result IsDriven }
+{
     let mut gates = Vec::new(alloc);
     for _ in 0..givers {
         gates.push(ParkGate::new()).map_err(|_| Refusal::Memory)?;
@@ -167,5 +205,5 @@ where
     }
     let blank = Blank::new(gates.len() as u64);
     let parts = NewQueue { gates, blank };
-    driving::<ParkGate, Brand, R>(rt, alloc, parts, each, cap)
+    driving::<ParkGate, Brand, R, P>(rt, alloc, parts, each, cap, progress)
 }

@@ -13,8 +13,9 @@ ghost use Rattle.meet_place.specs.Seats.{SeatView, DrainedAs};
 use crate::place::Place;
 use crate::seats::Seat;
 use crate::shared::Shared;
-use meet_book::{Drains, Receipt};
-use meet_tickets::{Refusal, Refused};
+use meet_book::{Drains, Receipt, Watch};
+use meet_cells::Gate;
+use meet_tickets::{Refusal, Refused, SeatNo};
 use std::alloc::Global;
 use std::sync::Wait;
 use std::sync::ledger::Ledger;
@@ -54,13 +55,14 @@ fn hand_out<A, D: Copy>(
 impl<O: Drains, N: Ledger> Shared<O, N> {
     /// `BlockingQueue.drainTo` of a seat under this hold: up to `max` items, and no more than both empty lists and the
     /// seat's list have room for; one recorded poll after another. It answers the polls' answers in order, and the
-    /// receipts are at the end of the seat's list. It refuses what the book's `drain` does, for as many items; then
-    /// seat and lists are as they were.
-    pub fn drain(
+    /// receipts are at the end of the seat's list; the watch is told of each seat that may go on. It refuses what the
+    /// book's `drain` does, for as many items; then seat and lists are as they were.
+    pub fn drain<W: Watch>(
         &mut self,
         seat: &mut Seat<O::Deed, N>,
         max: u64,
         empty: DrainRoom<O>,
+        watch: &mut W,
     ) -> Result<Vec<O::Answer>, Refused<DrainRoom<O>>>
         requires empty { (empty.polled.items ≡ []) × (empty.answers.items ≡ []) }
         requires answers { vec_capacity empty.polled ≤ vec_capacity empty.answers }
@@ -90,7 +92,7 @@ impl<O: Drains, N: Ledger> Shared<O, N> {
         } = seat;
         let Shared { book, total, .. } = self;
         let DrainRoom { polled, answers } = empty;
-        let got = match book.drain_into(*number, max, polled) {
+        let got = match book.drain_into(*number, max, polled, watch) {
             Ok(got) => got,
             Err(refused) => {
                 let Refused { why, back } = refused;
@@ -134,11 +136,27 @@ impl<O: Drains> DrainRoom<O> {
     }
 }
 
-impl<O: Drains, G, N: Ledger> Place<O, G, N> {
+/// Seats to be woken once the lock is free: as many as there is room for.
+#[derive(Drop)]
+struct Woken {
+    seats: Vec<SeatNo>,
+}
+
+impl Watch for Woken {
+    fn tell(&mut self, seat: Option<SeatNo>) {
+        if let Some(seat) = seat {
+            if self.seats.len() < self.seats.capacity() {
+                self.seats.push_reserved(seat);
+            }
+        }
+    }
+}
+
+impl<O: Drains, G: Gate, N: Ledger> Place<O, G, N> {
     /// `BlockingQueue.drainTo` of a seat: up to `max` of the items that are there, one recorded poll after another, all
     /// under one hold. It looks how many they are, makes room for as many, the lock being free, and then takes up to as
-    /// many: so items that come in between are left. It refuses Memory where that room isn't there, else what the
-    /// book's `drain` does; then the seat's list is as it was.
+    /// many: so items that come in between are left. The givers are woken once the lock is free again. It refuses Memory
+    /// where that room isn't there, else what the book's `drain` does; then the seat's list is as it was.
     pub fn locked_drain<R: Wait>(
         &self,
         rt: &R,
@@ -158,7 +176,43 @@ impl<O: Drains, G, N: Ledger> Place<O, G, N> {
         ensures same { IfErr result (λ _. seat.new.list ≡ seat.old.list) }
     {
         let there = self.available(rt).min(max);
-        let Some(room) = room_for::<O>(alloc, there as usize) else {
+        let Ok(seats) = Vec::with_capacity(alloc, there as usize) else {
+            return Err(Refusal::Memory);
+        };
+        let mut woken = Woken { seats };
+        let drained = self.drain_watched(rt, alloc, seat, there, &mut woken);
+        self.wake_all(woken.seats);
+        drained
+    }
+
+    /// Wakes the gates of these seats.
+    fn wake_all(&self, seats: Vec<SeatNo>) {
+        for seat in seats {
+            self.wake(Some(seat));
+        }
+    }
+
+    /// The same of up to `max` items, for which it makes room; nobody is woken, but the watch is told of whom to wake.
+    fn drain_watched<R: Wait, W: Watch>(
+        &self,
+        rt: &R,
+        alloc: Global,
+        seat: &mut Seat<O::Deed, N>,
+        max: u64,
+        watch: &mut W,
+    ) -> Result<Vec<O::Answer>, Refusal>
+        ensures number { seat.new.number ≡ seat.old.number }
+        ensures few { IfOk result (λ answers. length answers.items ≤ max) }
+        ensures polls { IfOk result (λ answers. (old : O) × (new : O) × DrainedAs (λ got. TakingPolls
+            (λ before answer after. O.steps before seat.old.number O.poll answer after)
+            (O.record_of seat.old.number O.poll) (λ o. O.refusal_of o seat.old.number O.poll) O.available_of
+            O.left_of O.owed_of old got new) seat.old.list seat.new.list answers.items) }
+        ensures why { IfErr result (λ why. (why ≡ Memory) ⊎ ((book : Booked O O.Base O.Deed) × (k : ℕ) × (k ≤ max)
+            × IsWhy (book_drain_refusal (O.refusal_of book.object seat.old.number O.poll) (O.left_of book.object)
+            (O.owed_of book.object) book k) why)) }
+        ensures same { IfErr result (λ _. seat.new.list ≡ seat.old.list) }
+    {
+        let Some(room) = room_for::<O>(alloc, max as usize) else {
             return Err(Refusal::Memory);
         };
         if seat.reserve(room.polled.capacity()).is_err() {
@@ -166,7 +220,7 @@ impl<O: Drains, G, N: Ledger> Place<O, G, N> {
             return Err(Refusal::Memory);
         }
         let mut shared = self.hold(rt);
-        match shared.drain(seat, there, room) {
+        match shared.drain(seat, max, room, watch) {
             Ok(answers) => Ok(answers),
             Err(refused) => {
                 let Refused { why, back } = refused;

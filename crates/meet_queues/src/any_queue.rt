@@ -331,4 +331,12 @@ impl Drains for AnyQueue {
             ByKind::Transfer(queue) => queue.poll_call(),
         }
     }
+
+    fn met(&self) -> Option<SeatNo> {
+        match &self.queue {
+            ByKind::Fair(queue) => queue.met(),
+            ByKind::Unfair(queue) => queue.met(),
+            ByKind::Transfer(queue) => queue.met(),
+        }
+    }
 }

@@ -3,7 +3,7 @@
 use crate::answers::{dual, queue};
 use crate::parcels::{Ask, Parcel, Row, Told, seat, ticket};
 use crate::places::plays;
-use meet_book::{Book, Receipt};
+use meet_book::{Book, Receipt, Unwatched};
 use meet_core::Dual;
 use meet_line::{FairLine, Line, StackLine};
 use meet_queues::{DualAnswer, queue_book, transfer_book};
@@ -133,13 +133,13 @@ fn into_a_lent_list(rt: HostRuntime) -> Result<(), Fail> {
     plays(&rt, &mut book, &THREE)?;
     let room_for_two = Vec::with_capacity(rt.alloc(), 2).ok().ok_or("memory")?;
     let got = book
-        .drain_into(seat(3)?, 9, room_for_two)
+        .drain_into(seat(3)?, 9, room_for_two, &mut Unwatched {})
         .ok()
         .ok_or("refused")?;
     are_taken(&rt, got, &[(4, 1, 10), (5, 2, 20)])?;
     let room_for_nine = Vec::with_capacity(rt.alloc(), 9).ok().ok_or("memory")?;
     let got = book
-        .drain_into(seat(3)?, 9, room_for_nine)
+        .drain_into(seat(3)?, 9, room_for_nine, &mut Unwatched {})
         .ok()
         .ok_or("refused")?;
     are_taken(&rt, got, &[(6, 3, 30)])

@@ -7,7 +7,7 @@ ghost use Rattle.meet_run.specs.Driving.{drive_text, DriveEnds};
 use crate::faults::{RunFault, cut_short};
 use crate::output::write_whole;
 use crate::wording::{push_last_line, push_numbered, push_pair};
-use meet_drive::{Drive, drive};
+use meet_drive::{Drive, Progress, drive_told};
 use meet_tickets::Refusal;
 use std::alloc::{AllocError, Global};
 use std::io::Write;
@@ -28,23 +28,24 @@ pub fn push_drive(out: &mut Vec<u8>, drive: Drive) -> Result<(), AllocError>
 }
 
 /// So many givers put the items from 1 up to `each` into a synchronous queue in fair mode, as many takers take as many, as
-/// in `drive`; then what came of it is written, and the answer is true.
+/// in `drive`, and each second progress is told; then what came of it is written, and the answer is true.
 ///
 /// What `drive` refuses is a fault in no line, and nothing is written; where memory is wanted for the text and not there,
 /// it is Memory. A write that fails or takes no byte is WriteFault, and a prefix of the text is written.
-pub fn run_drive<R, W: Write>(
+pub fn run_drive<R, W: Write, P: Progress>(
     rt: &R,
     alloc: Global,
     writer: &mut W,
     givers: u64,
     each: u64,
+    progress: &P,
 ) -> Result<bool, RunFault>
 where
     R: Threads + Wait + Clock + Sync,
     requires { IsSized givers each }
     ensures { DriveEnds result (W.contents writer.old) (W.contents writer.new) }
 {
-    let drive = match drive(rt, alloc, givers, each) {
+    let drive = match drive_told(rt, alloc, givers, each, progress) {
         Ok(drive) => drive,
         Err(why) => return Err(cut_short(why)),
     };

@@ -23,7 +23,9 @@ pub mod words;
 pub use check::{check_trace, check_trace_within};
 pub use driving::{push_drive, run_drive};
 pub use faults::{Report, RunFault, report_of};
-pub use meet_drive::{Drive, MOST_EACH, MOST_GIVERS, drive, drive_within};
+pub use meet_drive::{
+    Drive, MOST_EACH, MOST_GIVERS, Progress, Silent, drive, drive_told, drive_within,
+};
 pub use meet_history::{Answer, Call, Outcome, Reply, Setup, Stepper, Verb, run_all};
 pub use meet_tickets::{Deed, Kind, Record, Refusal, SeatNo, Ticket};
 pub use run::{MOST_READS, run_script, run_script_within};

@@ -92,9 +92,9 @@ impl<T: Marked, L: Line<T>, G: Gate, N: Ledger> QueueRef<'_, T, L, G, N> {
         ensures outcome { OutcomeOf T.mark_of first result }
     {
         let deadline = Deadline::after(rt, limit);
+        let mut left = limit;
         let mut pending = first;
         for _ in rt.forever() {
-            let left = deadline.left(rt);
             if left == 0 || self.wait(rt, &pending, Some(left)) == Turn::Elapsed {
                 return self.run_out(rt, pending);
             }
@@ -102,6 +102,7 @@ impl<T: Marked, L: Line<T>, G: Gate, N: Ledger> QueueRef<'_, T, L, G, N> {
                 Ok(ended) => return ended,
                 Err(again) => pending = again,
             }
+            left = deadline.left(rt);
         }
         unreachable!()
     }

@@ -3,11 +3,9 @@
 
 ghost use Rattle.std.specs.Prelude.{◌≡◌, vec_len};
 
-use crate::asks::{Ask, Told};
-use crate::gates::{Idle, gates};
 use crate::plays::ended;
-use crate::shops::{Shop, keep};
 use meet_history::{Kind, Order, check};
+use meet_shop::{Ask, Chance, Idle, Shop, Told, gates, keep};
 use meet_sync::{Back, Chronicle, NewQueue, Seat};
 use meet_tickets::Deed;
 use std::alloc::Global;
@@ -22,55 +20,27 @@ use std::thread::Threads;
 /// How many calls are made in all.
 const STEPS: u64 = 20_000;
 
-/// Numbers of chance, the same in each run.
-#[derive(Drop)]
-struct Chance {
-    state: u64,
+/// What a seat asks whose ticket is open.
+fn ending(chance: &mut Chance, seats: u64) -> Ask {
+    match chance.below(9) {
+        0 => Ask::Interrupt(chance.below(seats)),
+        1 => Ask::Cancel,
+        2 => Ask::Expire,
+        _ => Ask::Follow,
+    }
 }
 
-impl Chance {
-    /// The numbers of this seed.
-    fn new(seed: u64) -> Chance {
-        Chance {
-            state: seed.wrapping_mul(0x9E37_79B9_7F4A_7C15) | 1,
-        }
-    }
-
-    /// The next number.
-    fn next(&mut self) -> u64 {
-        self.state ^= self.state << 13;
-        self.state ^= self.state >> 7;
-        self.state ^= self.state << 17;
-        self.state
-    }
-
-    /// The next number below this.
-    fn below(&mut self, limit: u64) -> u64 {
-        self.next().checked_rem(limit).unwrap_or(0)
-    }
-
-    /// What a seat asks whose ticket is open.
-    fn ending(&mut self, seats: u64) -> Ask {
-        match self.below(9) {
-            0 => Ask::Interrupt(self.below(seats)),
-            1 => Ask::Cancel,
-            2 => Ask::Expire,
-            _ => Ask::Follow,
-        }
-    }
-
-    /// What a seat asks that has no ticket, with this item.
-    fn request(&mut self, seats: u64, item: u64) -> Ask {
-        match self.below(9) {
-            0 => Ask::Interrupt(self.below(seats)),
-            1 => Ask::Offer(item),
-            2 => Ask::Poll,
-            3 => Ask::Put(item),
-            4 => Ask::Give(item),
-            5 => Ask::Give(item),
-            6 => Ask::Poll,
-            _ => Ask::Take,
-        }
+/// What a seat asks that has no ticket, with this item.
+fn request(chance: &mut Chance, seats: u64, item: u64) -> Ask {
+    match chance.below(9) {
+        0 => Ask::Interrupt(chance.below(seats)),
+        1 => Ask::Offer(item),
+        2 => Ask::Poll,
+        3 => Ask::Put(item),
+        4 => Ask::Give(item),
+        5 => Ask::Give(item),
+        6 => Ask::Poll,
+        _ => Ask::Take,
     }
 }
 
@@ -89,8 +59,8 @@ fn walk<N: Ledger, R: Wait>(
     for step in 0..steps {
         let item = number.wrapping_mul(STEPS).wrapping_add(step);
         let ask = match &back {
-            Back::Free(_) => chance.request(seats, item),
-            Back::Held(_) => chance.ending(seats),
+            Back::Free(_) => request(&mut chance, seats, item),
+            Back::Held(_) => ending(&mut chance, seats),
         };
         let (again, told) = shop.answer(rt, back, ask);
         if told.is_recorded() {

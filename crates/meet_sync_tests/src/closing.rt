@@ -2,11 +2,9 @@
 
 ghost use Rattle.std.specs.Prelude.{◌≡◌, vec_len};
 
-use crate::asks::{Ask, Row, Told};
-use crate::gates::{Idle, gates};
 use crate::plays::{Found, Seats, Story, ask_all, ended, given, play, seated, tells};
-use crate::shops::{Open, Shop, keep};
 use meet_history::{Order, Standing};
+use meet_shop::{Ask, Idle, Open, Row, Shop, Told, gates, keep};
 use meet_sync::{Back, Chronicle, LeftStanding, NewQueue};
 use meet_tickets::Deed;
 use std::alloc::Global;

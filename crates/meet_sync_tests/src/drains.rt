@@ -2,8 +2,7 @@
 
 ghost use Rattle.std.specs.Prelude.{◌≡◌, vec_len};
 
-use crate::gates::{Idle, gates};
-use crate::shops::keep;
+use meet_shop::{Idle, gates, keep};
 use meet_sync::{
     Asked, Back, DrainedItems, Ended, NewQueue, QueueFault, Request, Seat, TransferQueue,
 };

@@ -3,13 +3,10 @@
 
 ghost use Rattle.std.specs.Prelude.{◌≡◌, vec_len, IfErr};
 
-use crate::asks::{Ask, Told};
-use crate::gates::gates;
 use crate::plays::{Found, ended, has};
-use crate::shops::Shop;
-use crate::told::Came;
 use meet_cells::ParkGate;
 use meet_history::{Kind, Order, check};
+use meet_shop::{Ask, Came, Shop, Told, gates};
 use meet_sync::{
     Back, Chronicle, DrainedItems, LeftStanding, NewQueue, QueueFault, Seat, SeatRefused,
     SyncQueue, TransferQueue,

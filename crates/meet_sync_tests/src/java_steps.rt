@@ -2,16 +2,11 @@
 
 ghost use Rattle.std.specs.Prelude.{◌≡◌, vec_len};
 
-use crate::asks::{Ask, Told};
-use crate::calls::{Call, called};
-use crate::gates::{Idle, gates};
 use crate::plays::{NOTHING, Seats, Story, ask_all, closed, seated, tells};
-use crate::shops::{Shop, keep};
 use meet_history::Order;
 use meet_line::Line;
-use meet_sync::{
-    Back, Chronicle, DrainedItems, Gate, NewQueue, Seat, SeatRefused, SyncQueue, TransferQueue,
-};
+use meet_shop::{Ask, Call, Idle, Shop, Told, called, gates, keep};
+use meet_sync::{Back, Chronicle, Gate, NewQueue, Seat, SyncQueue, TransferQueue};
 use meet_tickets::Deed;
 use std::alloc::Global;
 use std::marker::Brand;
@@ -89,43 +84,8 @@ fn shown<G, N: Ledger, R: Wait>(rt: &R, shop: &Shop<G, N>, probe: Probe) -> Prob
     }
 }
 
-/// A seat, and the items of its drain, where it wasn't refused.
-type Drained<N> = (Back<Deed, N>, Option<Vec<u64>>);
-
-fn drained<N: Ledger>(drained: Result<DrainedItems<u64, N>, SeatRefused<u64, N>>) -> Drained<N> {
-    match drained {
-        Ok(drained) => {
-            let DrainedItems { seat, items } = drained;
-            (Back::Free(seat), Some(items))
-        }
-        Err(refused) => {
-            let SeatRefused {
-                why: _,
-                seat,
-                item: _,
-            } = refused;
-            (Back::Free(seat), None)
-        }
-    }
-}
-
-/// A seat without a ticket drains up to so many items.
-fn drained_by<G: Gate, N: Ledger, R: Wait>(
-    rt: &R,
-    alloc: Global,
-    shop: &Shop<G, N>,
-    seat: Seat<Deed, N>,
-    max: u64,
-) -> Drained<N> {
-    match shop {
-        Shop::Fair(queue) => drained(queue.drain(rt, alloc, seat, max)),
-        Shop::Unfair(queue) => drained(queue.drain(rt, alloc, seat, max)),
-        Shop::Transfer(queue) => drained(queue.drain(rt, alloc, seat, max)),
-    }
-}
-
 /// A seat drains up to so many items: those that it took.
-fn drains<G: Gate, N: Ledger, R: Wait>(
+pub fn drains<G: Gate, N: Ledger, R: Wait>(
     rt: &R,
     alloc: Global,
     shop: &Shop<G, N>,
@@ -134,7 +94,7 @@ fn drains<G: Gate, N: Ledger, R: Wait>(
 ) -> Option<Vec<u64>> {
     match place.take() {
         Some(Back::Free(seat)) => {
-            let (back, items) = drained_by(rt, alloc, shop, seat, max);
+            let (back, items) = shop.drain(rt, alloc, seat, max);
             *place = Some(back);
             items
         }

@@ -1,10 +1,9 @@
 //! What the documentation of `SynchronousQueue` says of each call, shown at queues for threads of both modes.
 
-use crate::asks::{Ask, Row, Told};
-use crate::calls::Call;
 use crate::java_steps::{Probe, Step, happens};
 use crate::split::told;
 use meet_history::Order;
+use meet_shop::{Ask, Call, Row, Told};
 use std::alloc::Global;
 use std::process::Abort;
 use std::sync::Wait;

@@ -1,14 +1,13 @@
 //! What the documentation of `SynchronousQueue` says of those who wait, one or several: whom they meet, in which order,
 //! and how they time out and are interrupted.
 
-use crate::asks::{Ask, Row, Told};
-use crate::calls::Call;
 use crate::java_steps::Step;
 use crate::java_synchronous::{both, in_both};
 use crate::split::told;
 use crate::whole::{Deal, is_cut, trade};
 use meet_cells::ParkGate;
 use meet_history::Order;
+use meet_shop::{Ask, Call, Row, Told};
 use std::test::*;
 
 /// There is no time to wait, and nobody is there; then a taker is.

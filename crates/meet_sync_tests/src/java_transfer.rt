@@ -1,11 +1,10 @@
 //! What the documentation of `LinkedTransferQueue` says of calls that never wait, of drains and of probes.
 
-use crate::asks::{Ask, Row, Told};
-use crate::calls::Call;
 use crate::java_steps::{Probe, Step, happens};
 use crate::java_synchronous::DRAINS_NOTHING;
 use crate::split::told;
 use meet_history::Order;
+use meet_shop::{Ask, Call, Row, Told};
 use std::alloc::Global;
 use std::process::Abort;
 use std::sync::Wait;

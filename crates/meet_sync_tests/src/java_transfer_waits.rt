@@ -1,7 +1,5 @@
 //! What the documentation of `LinkedTransferQueue` says of calls that wait, that time out, and that are interrupted.
 
-use crate::asks::{Ask, Row, Told};
-use crate::calls::Call;
 use crate::java_steps::{Probe, Step};
 use crate::java_synchronous::PUT_WAITS;
 use crate::java_synchronous_waits::{PUT_IS_STOPPED, TAKE_IS_STOPPED};
@@ -9,6 +7,7 @@ use crate::java_transfer::{asked, done};
 use crate::whole::{Deal, is_cut, trade};
 use meet_cells::ParkGate;
 use meet_history::Order;
+use meet_shop::{Ask, Call, Row, Told};
 use std::test::*;
 
 /// A taker waits for what is put.

@@ -2,17 +2,13 @@
 #![tactic(auto)]
 
 #[cfg(test)]
-mod asks;
-#[cfg(test)]
-mod calls;
-#[cfg(test)]
 mod chance;
 #[cfg(test)]
 mod closing;
 #[cfg(test)]
 mod drains;
 #[cfg(test)]
-mod gates;
+mod flags;
 #[cfg(test)]
 mod growth;
 #[cfg(test)]
@@ -30,10 +26,8 @@ mod plays;
 #[cfg(test)]
 mod seals;
 #[cfg(test)]
-mod shops;
-#[cfg(test)]
 mod split;
 #[cfg(test)]
-mod told;
+mod wakes;
 #[cfg(test)]
 mod whole;

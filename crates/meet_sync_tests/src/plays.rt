@@ -2,10 +2,8 @@
 
 ghost use Rattle.std.specs.Prelude.{◌≡◌, vec_len};
 
-use crate::asks::{Ask, Row, Told};
-use crate::gates::{Idle, gates};
-use crate::shops::{Open, Shop, keep};
 use meet_history::{Kind, Order, Standing, check};
+use meet_shop::{Ask, Idle, Open, Row, Shop, Told, gates, keep};
 use meet_sync::{Back, Chronicle, Gate, Left, LeftStanding, NewQueue, Seat};
 use meet_tickets::Deed;
 use std::alloc::Global;

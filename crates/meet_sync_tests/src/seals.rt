@@ -2,10 +2,9 @@
 
 ghost use Rattle.std.specs.Prelude.{◌≡◌, vec_len};
 
-use crate::asks::Ask;
-use crate::gates::{Idle, gates};
 use crate::plays::{Found, Seats, given, seated};
 use meet_line::Line;
+use meet_shop::{Ask, Idle, gates};
 use meet_sync::{
     Answer, Asked, Back, Chronicle, FairLine, FollowedUp, Left, LeftStanding, NewQueue, Pending,
     Request, Seat, SeatRefused, StackLine, Struck, SyncQueue,

@@ -1,8 +1,8 @@
 //! Split calls of one thread: what each seat is told, and what the queue's records leave.
 
-use crate::asks::{Ask, Row, Told};
 use crate::plays::{NOTHING, Story, play};
 use meet_history::Order;
+use meet_shop::{Ask, Row, Told};
 use meet_tickets::Refusal;
 use std::alloc::Global;
 use std::process::Abort;

@@ -2,13 +2,10 @@
 
 ghost use Rattle.std.specs.Prelude.{◌≡◌, vec_len};
 
-use crate::asks::{Ask, Told};
-use crate::calls::{Call, called};
-use crate::gates::{Eager, Fresh, Idle, gates};
 use crate::plays::{NOTHING, Story, ended, tells};
-use crate::shops::{Shop, keep};
 use meet_cells::ParkGate;
 use meet_history::Order;
+use meet_shop::{Ask, Call, Eager, Fresh, Idle, Shop, Told, called, gates, keep};
 use meet_sync::{Back, Chronicle, NewQueue, Seat};
 use meet_tickets::Deed;
 use std::alloc::Global;

@@ -8,7 +8,7 @@ ghost use Rattle.meet_tickets.specs.Refusals.{IsWhy};
 ghost use Rattle.meet_tickets.specs.declared.refusals.Refusal.TheVariants.{Memory};
 
 use super::{Book, write};
-use crate::object::Drains;
+use crate::object::{Drains, Unwatched, Watch};
 use crate::receipt::Receipt;
 use meet_tickets::{Record, Refusal, Refused, SeatNo};
 use std::alloc::Global;
@@ -84,7 +84,7 @@ impl<O: Drains> Book<O> {
         let Ok(got) = Vec::with_capacity(alloc, k as usize) else {
             return Err(Refusal::Memory);
         };
-        match self.drain_reserved(seat, k, got) {
+        match self.drain_reserved(seat, k, got, &mut Unwatched {}) {
             Ok(got) => Ok(got),
             Err(refused) => {
                 refused.back.destroy_empty();
@@ -95,12 +95,14 @@ impl<O: Drains> Book<O> {
 
     /// `drain` into an empty list that is lent, of no more items than the list has room for. It allocates nothing but the
     /// room that the book's records lack, so that it is never refused for memory where they have it. A refusal is one of
-    /// those of `drain`, for as many items; it hands the list back, and nothing but room has changed.
-    pub fn drain_into(
+    /// those of `drain`, for as many items; it hands the list back, and nothing but room has changed. The watch is told
+    /// of each seat that may go on.
+    pub fn drain_into<W: Watch>(
         &mut self,
         seat: SeatNo,
         max: u64,
         empty: Vec<(O::Answer, Receipt<O::Deed>)>,
+        watch: &mut W,
     ) -> Result<Vec<(O::Answer, Receipt<O::Deed>)>, Refused<Vec<(O::Answer, Receipt<O::Deed>)>>>
         requires empty { empty.items ≡ [] }
         ensures count { IfOk result (λ got. length got.items
@@ -140,15 +142,16 @@ impl<O: Drains> Book<O> {
         if k == 0 {
             return Ok(empty);
         }
-        self.drain_reserved(seat, k, empty)
+        self.drain_reserved(seat, k, empty, watch)
     }
 
     /// An admitted drain of k items into a list with room for them: its only refusal is Memory, for the book's records.
-    fn drain_reserved(
+    fn drain_reserved<W: Watch>(
         &mut self,
         seat: SeatNo,
         k: u64,
         empty: Vec<(O::Answer, Receipt<O::Deed>)>,
+        watch: &mut W,
     ) -> Result<Vec<(O::Answer, Receipt<O::Deed>)>, Refused<Vec<(O::Answer, Receipt<O::Deed>)>>>
         requires empty { empty.items ≡ [] }
         requires list { k ≤ vec_capacity empty }
@@ -181,18 +184,28 @@ impl<O: Drains> Book<O> {
             });
         }
         let gone = O::gone(&self.base);
-        Ok(poll_all(&mut self.object, &mut self.records, gone, seat, k, empty))
+        Ok(poll_all(
+            &mut self.object,
+            &mut self.records,
+            gone,
+            seat,
+            k,
+            empty,
+            watch,
+        ))
     }
 }
 
-/// Polls so many times, where so many items, tickets and places are there, and this empty list has room for what comes.
-fn poll_all<O: Drains>(
+/// Polls so many times, where so many items, tickets and places are there, and this empty list has room for what comes;
+/// the watch is told of each seat that may go on.
+fn poll_all<O: Drains, W: Watch>(
     object: &mut O,
     records: &mut Vec<Record<O::Deed>>,
     gone: u64,
     seat: SeatNo,
     count: u64,
     empty: Vec<(O::Answer, Receipt<O::Deed>)>,
+    watch: &mut W,
 ) -> Vec<(O::Answer, Receipt<O::Deed>)>
     requires empty { empty.items ≡ [] }
     requires room { count ≤ vec_capacity empty }
@@ -217,6 +230,7 @@ fn poll_all<O: Drains>(
     let mut got = empty;
     for _ in 0..count {
         got.push_reserved(poll_one(object, records, gone, seat));
+        watch.tell(object.met());
     }
     got
 }

@@ -140,6 +140,10 @@ impl<T: Marked, L: Line<T>> Drains for Dual<T, L> {
         self.stays_sound();
         DualCall::Poll
     }
+
+    fn met(&self) -> Option<SeatNo> {
+        self.meetings.changed()
+    }
 }
 
 impl<T: Marked, L: Line<T>> Wakes for Dual<T, L> {

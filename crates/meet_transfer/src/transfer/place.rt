@@ -151,6 +151,10 @@ impl<T: Marked> Drains for Transfer<T> {
         self.stays_sound();
         QueueCall::Dual(DualCall::Poll)
     }
+
+    fn met(&self) -> Option<SeatNo> {
+        self.meetings.changed()
+    }
 }
 
 impl<T: Marked> Wakes for Transfer<T> {

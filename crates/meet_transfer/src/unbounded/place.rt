@@ -141,6 +141,10 @@ impl<T: Marked> Drains for Unbounded<T> {
         self.queue.stays_sound();
         QueueCall::Dual(DualCall::Poll)
     }
+
+    fn met(&self) -> Option<SeatNo> {
+        self.queue.met()
+    }
 }
 
 impl<T: Marked> Wakes for Unbounded<T> {

@@ -1,25 +1,19 @@
-use Rattle.std.proofs.Common.{ap, subst, ◌∙◌, ◌++◌, ◌≤◌, map, min, vec_capacity, inr, arith}
-use Rattle.meet_tickets.specs.Refusals.{IsWhy}
-use Rattle.meet_book.specs.Draining.{TakingPolls, book_drain_refusal}
+use Rattle.std.proofs.Common.{◌≡◌, ◌⊎◌, inl, inr, ℕ, ◌≤◌, Ok, Err, arith}
+use Rattle.std.specs.Prelude.{Result, IfErr}
+use Rattle.meet_tickets.specs.declared.refusals.Refusal.{Refusal}
+use Rattle.meet_tickets.specs.declared.refusals.Refusal.TheVariants.{Memory}
 use Rattle.meet_place.proofs.place.Place.locked_drain.Goals as goal
 
-pub returns-in-Ok-clause-polls : goal.returns-in-Ok-clause-polls
-returns-in-Ok-clause-polls g c =
-    let o = g.O.Object in
-    let d = g.O.Drains in
-    let old = c.deref_mut.result.now.object in
-    let new = c.drain.new.self.object in
-    let drained = c.in-Ok.ensures.polls in
-    let polls = subst (λ n. TakingPolls (λ before answer after. o.steps before n d.poll answer after) (o.record_of n d.poll) (λ x. o.refusal_of x n d.poll) d.available_of d.left_of o.owed_of old drained.0 new) c.reserve.ensures.number drained.1 in
-    (old, new, (drained.0, polls, drained.2 ∙ ap (λ list. list ++ map (λ one. one.1) drained.0) c.reserve.ensures.list, drained.3))
+-- what is refused of some number up to a bound is refused of one up to a greater bound
+at-most-more : {T B : Type 0} (There : B → ℕ → Refusal → Type 0) (few many : ℕ) → few ≤ many → (r : Result T Refusal)
+    → IfErr r (λ why. (why ≡ Memory) ⊎ ((b : B) × (k : ℕ) × (k ≤ few) × There b k why))
+    → IfErr r (λ why. (why ≡ Memory) ⊎ ((b : B) × (k : ℕ) × (k ≤ many) × There b k why))
+at-most-more There few many less (Ok _) h = h
+at-most-more There few many less (Err _) (inl memory) = inl memory
+at-most-more There few many less (Err _) (inr (b, k, at, there)) = inr (b, k, omega (arith, at, less), there)
 
 pub returns-clause-why : goal.returns-clause-why
 returns-clause-why g c =
-    let o = g.O.Object in
-    let d = g.O.Drains in
-    let book = c.deref_mut.result.now in
-    let k = min (min c.min-there.result (vec_capacity c.in-Some.room.polled)) (d.available_of book.object) in
     let there = c.min-there.ensures in
-    let few : k ≤ c.args.max = grind (arith, there) in
-    let why = subst (λ n. IsWhy (book_drain_refusal (o.refusal_of book.object n d.poll) (d.left_of book.object) (o.owed_of book.object) book k) c.in-Err.refused.why) c.reserve.ensures.number c.in-Err.ensures.why in
-    inr (book, k, few, why)
+    let few : c.min-there.result ≤ c.args.max = grind (arith, there) in
+    at-most-more _ c.min-there.result c.args.max few c.drain_watched-drained.result c.drain_watched-drained.ensures.why

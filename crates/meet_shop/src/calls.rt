@@ -1,8 +1,8 @@
 //! Whole calls, by the names that they have in Java.
 
+use crate::answers::{Came, whole};
 use crate::asks::Told;
 use crate::shops::Shop;
-use crate::told::{Came, whole};
 use meet_line::Line;
 use meet_sync::{Back, Gate, Seat, SyncQueue, TransferQueue};
 use meet_tickets::Deed;

@@ -1,4 +1,4 @@
-use Rattle.meet_drive.proofs.whole.drive_within.Given as goal
+use Rattle.meet_drive.proofs.whole.drive_with.Given as goal
 
 -- the ledger of the queue that is made
 abbrev pub ghosts-driving : goal.ghosts-driving

@@ -1,6 +1,6 @@
-//! Gates: two that never wait, and those at which threads park.
+//! Gates: two that never wait, and those at which threads park or spin.
 
-use meet_cells::ParkGate;
+use meet_cells::{ParkGate, SpinGate};
 use meet_sync::{Gate, Turn};
 use std::alloc::Global;
 use std::sync::Wait;
@@ -60,5 +60,12 @@ impl Gate for Eager {
 impl Fresh for ParkGate {
     fn fresh() -> ParkGate {
         ParkGate::new()
+    }
+}
+
+/// It spins a hundred turns before it parks.
+impl Fresh for SpinGate {
+    fn fresh() -> SpinGate {
+        SpinGate::new(100)
     }
 }

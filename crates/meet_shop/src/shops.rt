@@ -2,14 +2,13 @@
 
 ghost use Rattle.std.specs.Prelude.{◌≡◌, vec_len, IfOk, IfErr};
 
+use crate::answers::{Came, asked, followed, struck, whole, withdrawn};
 use crate::asks::{Ask, Told};
-use crate::told::{Came, asked, followed, struck, whole, withdrawn};
-use meet_history::Order;
 use meet_sync::{
     Back, Chronicle, FairLine, Gate, NewQueue, Pending, QueueFault, Request, Seat, StackLine,
     SyncQueue, TransferQueue,
 };
-use meet_tickets::{Deed, Refusal, Refused, SeatNo, Ticket};
+use meet_tickets::{Deed, Order, Refusal, Refused, SeatNo, Ticket};
 use std::alloc::Global;
 use std::mem::ManuallyDrop;
 use std::sync::Wait;

@@ -1,0 +1,24 @@
+use Rattle.std.proofs.Common.{ap, subst, ◌∙◌, ◌++◌, ◌≤◌, map, min, vec_capacity, inr, arith}
+use Rattle.meet_tickets.specs.Refusals.{IsWhy}
+use Rattle.meet_book.specs.Draining.{TakingPolls, book_drain_refusal}
+use Rattle.meet_place.proofs.place.Place.drain_watched.Goals as goal
+
+pub returns-in-Ok-clause-polls : goal.returns-in-Ok-clause-polls
+returns-in-Ok-clause-polls g c =
+    let o = g.O.Object in
+    let d = g.O.Drains in
+    let old = c.deref_mut.result.now.object in
+    let new = c.drain.new.self.object in
+    let drained = c.in-Ok.ensures.polls in
+    let polls = subst (λ n. TakingPolls (λ before answer after. o.steps before n d.poll answer after) (o.record_of n d.poll) (λ x. o.refusal_of x n d.poll) d.available_of d.left_of o.owed_of old drained.0 new) c.reserve.ensures.number drained.1 in
+    (old, new, (drained.0, polls, drained.2 ∙ ap (λ list. list ++ map (λ one. one.1) drained.0) c.reserve.ensures.list, drained.3))
+
+pub returns-clause-why : goal.returns-clause-why
+returns-clause-why g c =
+    let o = g.O.Object in
+    let d = g.O.Drains in
+    let book = c.deref_mut.result.now in
+    let k = min (min c.args.max (vec_capacity c.in-Some.room.polled)) (d.available_of book.object) in
+    let few : k ≤ c.args.max = grind arith in
+    let why = subst (λ n. IsWhy (book_drain_refusal (o.refusal_of book.object n d.poll) (d.left_of book.object) (o.owed_of book.object) book k) c.in-Err.refused.why) c.reserve.ensures.number c.in-Err.ensures.why in
+    inr (book, k, few, why)

@@ -1,0 +1,45 @@
+//! Drains.
+
+use crate::shops::Shop;
+use meet_sync::{Back, DrainedItems, Gate, Seat, SeatRefused};
+use meet_tickets::Deed;
+use std::alloc::Global;
+use std::sync::Wait;
+use std::sync::ledger::Ledger;
+
+/// A seat, and the items of its drain, where it wasn't refused.
+type Drained<N> = (Back<Deed, N>, Option<Vec<u64>>);
+
+fn drained<N: Ledger>(drained: Result<DrainedItems<u64, N>, SeatRefused<u64, N>>) -> Drained<N> {
+    match drained {
+        Ok(drained) => {
+            let DrainedItems { seat, items } = drained;
+            (Back::Free(seat), Some(items))
+        }
+        Err(refused) => {
+            let SeatRefused {
+                why: _,
+                seat,
+                item: _,
+            } = refused;
+            (Back::Free(seat), None)
+        }
+    }
+}
+
+impl<G: Gate, N: Ledger> Shop<G, N> {
+    /// A seat without a ticket drains up to so many items: the seat, and the items where the drain wasn't refused.
+    pub fn drain<R: Wait>(
+        &self,
+        rt: &R,
+        alloc: Global,
+        seat: Seat<Deed, N>,
+        max: u64,
+    ) -> Drained<N> {
+        match self {
+            Shop::Fair(queue) => drained(queue.drain(rt, alloc, seat, max)),
+            Shop::Unfair(queue) => drained(queue.drain(rt, alloc, seat, max)),
+            Shop::Transfer(queue) => drained(queue.drain(rt, alloc, seat, max)),
+        }
+    }
+}

@@ -1,0 +1,230 @@
+//! A round: a queue, workers that make calls of chance, and one that interrupts them until they are done. Then the queue
+//! is closed, its records are checked once more, and every item is looked for.
+
+ghost use Rattle.std.specs.Prelude.{◌≡◌, vec_len};
+
+use crate::accounts::Account;
+use crate::work::{Done, Round, interrupts, works};
+use meet_history::{Kind, check};
+use meet_shop::{Fresh, Open, Shop, gates, keep};
+use meet_sync::{Back, Chronicle, NewQueue, Seat};
+use meet_tickets::{Deed, MOST_RECORDS, Order};
+use std::alloc::Global;
+use std::marker::Brand;
+use std::sync::atomic::{AtomicU64, Ordering};
+use std::sync::ledger::{Blank, Ledger};
+use std::sync::{Mutex, Wait};
+use std::thread::Threads;
+use std::time::Clock;
+use std::{mem, thread};
+
+/// Where a worker's seat lies before its thread starts and after it ended, and its account.
+#[derive(Drop)]
+struct Slot<N: Ledger> {
+    back: Option<Back<Deed, N>>,
+    account: Account,
+}
+
+/// Slots with these seats.
+fn slots_of<N: Ledger>(
+    alloc: Global,
+    seats: Vec<Seat<Deed, N>>,
+) -> Result<Vec<Mutex<Slot<N>>>, &'static str> {
+    let mut slots = Vec::new(alloc);
+    for seat in seats {
+        let slot = Slot {
+            back: Some(Back::Free(seat)),
+            account: Account::new(alloc),
+        };
+        slots.push(Mutex::new(slot)).map_err(|_| "memory")?;
+    }
+    Ok(slots)
+}
+
+/// The worker of a slot makes its calls.
+fn work<G: Fresh, N: Ledger, R: Wait + Clock>(
+    rt: &R,
+    alloc: Global,
+    shop: &Shop<G, N>,
+    slot: &Mutex<Slot<N>>,
+    round: Round,
+) {
+    let taken = slot.lock(rt).back.take();
+    if let Some(back) = taken {
+        let (back, account) = works(rt, alloc, shop, back, round);
+        let mut slot = slot.lock(rt);
+        slot.account = account;
+        let before = mem::replace(&mut slot.back, Some(back));
+        keep(before);
+    }
+}
+
+/// Each worker in a thread of its own, and this thread interrupts them: its seat, and whether each thread could be
+/// started.
+fn work_all<G: Fresh + Sync, N: Ledger + Send + Sync, R: Threads + Wait + Clock + Sync>(
+    rt: &R,
+    alloc: Global,
+    shop: &Shop<G, N>,
+    slots: &[Mutex<Slot<N>>],
+    last: Seat<Deed, N>,
+    round: Round,
+) -> (Done<N>, bool) {
+    let at_work = AtomicU64::new(slots.len() as u64);
+    let busy = &at_work;
+    thread::scope(thread::scope_env(), rt, |scope| {
+        let mut all_started = true;
+        for slot in slots {
+            let started = scope.spawn(move || {
+                work(rt, alloc, shop, slot, round);
+                busy.fetch_sub(1, Ordering::SeqCst);
+            });
+            if started.is_err() {
+                busy.fetch_sub(1, Ordering::SeqCst);
+                all_started = false;
+            }
+        }
+        (interrupts(rt, alloc, shop, last, round, busy), all_started)
+    })
+}
+
+/// The workers' seats and that of who interrupted them, and the account of all.
+fn summed<N: Ledger>(
+    alloc: Global,
+    slots: Vec<Mutex<Slot<N>>>,
+    last: Done<N>,
+) -> Result<(Vec<Back<Deed, N>>, Account), &'static str> {
+    let mut backs = Vec::new(alloc);
+    let (back, mut sum) = last;
+    backs.push(back).map_err(|_| "memory")?;
+    for slot in slots {
+        let Slot { back, account } = slot.into_inner();
+        sum.add(account);
+        if let Some(back) = back {
+            backs.push(back).map_err(|_| "memory")?;
+        }
+    }
+    Ok((backs, sum))
+}
+
+/// Whether these are the same items, in any order.
+fn are_same(one: Vec<u64>, other: Vec<u64>) -> Result<bool, &'static str> {
+    let mut one = one;
+    let mut other = other;
+    one.sort().map_err(|_| "memory")?;
+    other.sort().map_err(|_| "memory")?;
+    Ok(one.as_slice() == other.as_slice())
+}
+
+/// The records are legal, each stands in a list, and every item that was given is there once: it came to somebody, or is
+/// left.
+fn finds_all(
+    alloc: Global,
+    order: Order,
+    chronicle: Chronicle<u64>,
+    account: Account,
+) -> Result<(), &'static str> {
+    let Account { given, came, fault } = account;
+    if let Some(fault) = fault {
+        return Err(fault);
+    }
+    let records = chronicle.records.as_slice();
+    if check(alloc, Kind { order, bound: None }, records).is_err() {
+        return Err("the records aren't legal");
+    }
+    let mut listed = 0usize;
+    for list in chronicle.lists.iter() {
+        listed = listed.saturating_add(list.len());
+    }
+    if listed != records.len() {
+        return Err("a record stands in no list");
+    }
+    let mut found = came;
+    for left in chronicle.left {
+        found.push(left.item).map_err(|_| "memory")?;
+    }
+    match are_same(given, found) {
+        Ok(true) => Ok(()),
+        Ok(false) => Err("an item is lost or doubled"),
+        Err(why) => Err(why),
+    }
+}
+
+/// A shop is closed with all its seats.
+fn closed<G: Fresh, N: Ledger>(
+    alloc: Global,
+    shop: Shop<G, N>,
+    backs: Vec<Back<Deed, N>>,
+) -> Result<Chronicle<u64>, &'static str> {
+    match shop.close(alloc, backs) {
+        Ok(chronicle) => Ok(chronicle),
+        Err(open) => match open {
+            Open::Missing(_, _, shop, seats) => {
+                keep(shop);
+                keep(seats);
+                Err("a seat is missing")
+            }
+            Open::Other(why) => Err(why.name()),
+        },
+    }
+}
+
+/// The seats do what they do in a round: they and their account.
+fn worked<G: Fresh + Sync, N: Ledger + Send + Sync, R: Threads + Wait + Clock + Sync>(
+    rt: &R,
+    alloc: Global,
+    shop: &Shop<G, N>,
+    made: Vec<Seat<Deed, N>>,
+    round: Round,
+) -> Result<(Vec<Back<Deed, N>>, Account), &'static str> {
+    let mut seats = made;
+    let Some(last) = seats.pop() else {
+        return Err("no seat");
+    };
+    let slots = slots_of(alloc, seats)?;
+    let (done, all_started) = work_all(rt, alloc, shop, slots.as_slice(), last, round);
+    let summed = summed(alloc, slots, done);
+    if all_started {
+        summed
+    } else {
+        Err("a thread can't be started")
+    }
+}
+
+/// A round at a queue of these parts.
+fn held<G: Fresh + Sync, N: Ledger + Send + Sync, R: Threads + Wait + Clock + Sync>(
+    rt: &R,
+    alloc: Global,
+    parts: NewQueue<G>,
+    round: Round,
+) -> Result<(), &'static str>
+    requires name { parts.blank.name ≡ N.name }
+    requires parts { parts.blank.parts ≡ N.parts }
+    requires one_each { parts.blank.parts ≡ vec_len parts.gates }
+{
+    let (shop, made) = match Shop::<G, N>::with_cap(alloc, round.order, parts, MOST_RECORDS) {
+        Ok(made) => made,
+        Err(refused) => return Err(refused.why.name()),
+    };
+    match worked(rt, alloc, &shop, made, round) {
+        Ok((backs, account)) => {
+            let chronicle = closed(alloc, shop, backs)?;
+            finds_all(alloc, round.order, chronicle, account)
+        }
+        Err(why) => {
+            keep(shop);
+            Err(why)
+        }
+    }
+}
+
+/// Holds a round over gates of this kind: what went wrong, if anything did.
+pub fn hold<G: Fresh + Sync, R: Threads + Wait + Clock + Sync>(
+    rt: &R,
+    alloc: Global,
+    round: Round,
+) -> Result<(), &'static str> {
+    let gates = gates::<G>(alloc, round.seats)?;
+    let blank = Blank::new(gates.len() as u64);
+    let parts = NewQueue { gates, blank };
+    held::<G, Brand, R>(rt, alloc, parts, round)
+}
