@@ -1,0 +1,165 @@
+//! A synchronous queue of a lock and condition variables alone, written as one would by hand: it has no book, and its
+//! seats are numbers. Who comes first is met first. Each thread waits at a condition variable of its own, so whoever
+//! meets it wakes it and nobody else.
+
+use crate::command_line::Race;
+use crate::round::Finish;
+use crate::threads::{Call, Count, NOTHING, Passed, Slot, Track, run_timed};
+use crossbeam_utils::CachePadded;
+use meet_tickets::Refusal;
+use std::alloc::{AllocError, Global};
+use std::collections::VecDeque;
+use std::sync::{Condvar, Mutex, MutexGuard, Wait};
+use std::thread::Threads;
+use std::time::Clock;
+
+/// Who waits: givers with their items, or takers, never both.
+#[derive(Drop)]
+struct Line {
+    givers: VecDeque<(usize, u64)>,
+    takers: VecDeque<usize>,
+    /// For each seat, the item that went from it or to it while it waited, until it has seen that.
+    met: Vec<Option<u64>>,
+    is_stopped: bool,
+}
+
+/// The queue, for so many threads as it has condition variables.
+#[derive(Drop)]
+pub struct Bare {
+    line: Mutex<Line>,
+    bells: Vec<CachePadded<Condvar>>,
+}
+
+impl Line {
+    /// Whether this seat is still to wait.
+    fn is_waiting(&self, seat: usize) -> bool {
+        let unmet = matches!(self.met.get(seat), Some(None));
+        unmet && !self.is_stopped
+    }
+
+    /// Tells a seat that waits which item it was met for.
+    fn meet(&mut self, seat: usize, item: u64) {
+        if let Some(met) = self.met.get_mut(seat) {
+            *met = Some(item);
+        }
+    }
+
+    /// The item for which a seat was met, which has seen that now.
+    fn collect(&mut self, seat: usize) -> Option<u64> {
+        self.met.get_mut(seat)?.take()
+    }
+}
+
+impl Bare {
+    /// A queue for so many threads, at which nobody waits.
+    fn new(alloc: Global, threads: usize) -> Result<Bare, AllocError> {
+        let mut met = Vec::new(alloc);
+        let mut bells = Vec::new(alloc);
+        for _ in 0..threads {
+            met.push(None)?;
+            bells.push(CachePadded::new(Condvar::new()))?;
+        }
+        let line = Line {
+            givers: VecDeque::with_capacity(alloc, threads)?,
+            takers: VecDeque::with_capacity(alloc, threads)?,
+            met,
+            is_stopped: false,
+        };
+        Ok(Bare {
+            line: Mutex::new(line),
+            bells,
+        })
+    }
+
+    /// Wakes a seat.
+    fn wake(&self, seat: usize) {
+        if let Some(bell) = self.bells.get(seat) {
+            bell.notify_one();
+        }
+    }
+
+    /// Waits until this seat is met: the item for which it was; none where all are to stop.
+    fn await_item<R: Wait>(&self, rt: &R, line: MutexGuard<'_, Line>, seat: usize) -> Option<u64> {
+        let bell = self.bells.get(seat)?;
+        let mut line = bell.wait_while(rt, line, |line| line.is_waiting(seat));
+        line.collect(seat)
+    }
+
+    /// Puts an item, and waits until it is taken.
+    fn put<R: Wait>(&self, rt: &R, seat: usize, item: u64) -> Passed {
+        let mut line = self.line.lock(rt);
+        if let Some(taker) = line.takers.pop_front() {
+            line.meet(taker, item);
+            drop(line);
+            self.wake(taker);
+            return Passed::Gave;
+        }
+        if line.givers.push_back((seat, item)).is_err() {
+            return Passed::Refused(Refusal::Memory);
+        }
+        match self.await_item(rt, line, seat) {
+            Some(_) => Passed::Gave,
+            None => Passed::Stopped,
+        }
+    }
+
+    /// Takes an item, and waits until one is put.
+    fn take<R: Wait>(&self, rt: &R, seat: usize) -> Passed {
+        let mut line = self.line.lock(rt);
+        if let Some((giver, item)) = line.givers.pop_front() {
+            line.meet(giver, item);
+            drop(line);
+            self.wake(giver);
+            return Passed::Got(item);
+        }
+        if line.takers.push_back(seat).is_err() {
+            return Passed::Refused(Refusal::Memory);
+        }
+        match self.await_item(rt, line, seat) {
+            Some(item) => Passed::Got(item),
+            None => Passed::Stopped,
+        }
+    }
+}
+
+impl Track<usize> for Bare {
+    fn pass<R: Wait + Clock>(&self, rt: &R, seat: usize, call: Call) -> (usize, Passed) {
+        let passed = match call {
+            Call::Put(item) => self.put(rt, seat, item),
+            Call::Take => self.take(rt, seat),
+        };
+        (seat, passed)
+    }
+
+    fn stop<R: Wait>(&self, rt: &R, seat: usize) -> usize {
+        self.line.lock(rt).is_stopped = true;
+        for bell in &self.bells {
+            bell.notify_all();
+        }
+        seat
+    }
+}
+
+/// Runs a round over a bare queue. It refuses what one of its calls was refused, NoThread where a thread can't be
+/// started, or Memory.
+pub fn run_bare<R>(rt: &R, alloc: Global, race: Race) -> Result<Finish, Refusal>
+where
+    R: Threads + Wait + Clock + Sync,
+{
+    let mut slots = Vec::new(alloc);
+    for seat in 0..race.threads() as usize {
+        let slot = Slot {
+            seat: Some(seat),
+            count: NOTHING,
+        };
+        slots.push(Mutex::new(slot)).map_err(|_| Refusal::Memory)?;
+    }
+    let bare = Bare::new(alloc, slots.len()).map_err(|_| Refusal::Memory)?;
+    let nanoseconds = run_timed(rt, &bare, slots.as_slice(), race.each)?;
+    let mut counted = NOTHING;
+    for slot in slots {
+        let Slot { seat: _, count } = slot.into_inner();
+        counted = counted.with(count);
+    }
+    Finish::of(counted, nanoseconds)
+}

@@ -1,0 +1,176 @@
+//! A round over a synchronous queue in fair mode, with a book, and a seat for each thread.
+
+ghost use Rattle.std.specs.Prelude.{◌≡◌, ◌≤◌, [], vec_len};
+ghost use Rattle.std.specs.Vec.{vec_capacity};
+
+use crate::command_line::Race;
+use crate::round::Finish;
+use crate::threads::{Call, Count, NOTHING, Passed, Slot, Track, run_timed};
+use meet_cells::{Gate, ParkGate, SpinGate};
+use meet_sync::{Back, End, Ended, FairLine, NewQueue, Seat, SeatRefused, Struck, SyncQueue};
+use meet_tickets::{Deed, Refusal, SeatNo};
+use std::alloc::Global;
+use std::marker::Brand;
+use std::mem::ManuallyDrop;
+use std::sync::ledger::{Blank, Ledger};
+use std::sync::{Mutex, Wait};
+use std::thread::Threads;
+use std::time::Clock;
+
+/// How many turns a thread spins before it parks: for about as long as a park and its wake take, so that a wait costs
+/// at most about twice what it would have cost in the better way. On four processors that were busy otherwise a turn,
+/// which lets another thread run, took about half a microsecond, and a park with its wake 3 to 9; 16 to 1,024 turns did
+/// alike.
+const TURNS: u64 = 16;
+
+/// The queue of a round.
+type Fair<G, N> = SyncQueue<u64, FairLine<u64>, G, N>;
+
+/// How a call passed that ended so.
+fn passed_of(end: End<u64>) -> Passed {
+    match end {
+        End::Gave(_) => Passed::Gave,
+        End::Done => Passed::Gave,
+        End::Got(_, item) => Passed::Got(item),
+        // A put or a take ends in no other way but where somebody stops all.
+        _ => Passed::Stopped,
+    }
+}
+
+impl<G: Gate, N: Ledger> Track<Seat<Deed, N>> for Fair<G, N> {
+    fn pass<R: Wait + Clock>(
+        &self,
+        rt: &R,
+        seat: Seat<Deed, N>,
+        call: Call,
+    ) -> (Seat<Deed, N>, Passed) {
+        let called = match call {
+            Call::Put(item) => self.put(rt, seat, item),
+            Call::Take => self.take(rt, seat),
+        };
+        match called {
+            Ok(ended) => {
+                let Ended { seat, end } = ended;
+                (seat, passed_of(end))
+            }
+            Err(refused) => (refused.seat, Passed::Refused(refused.why)),
+        }
+    }
+
+    /// Interrupts every seat, which ends the call of one that waits, and else its next call that would wait.
+    fn stop<R: Wait>(&self, rt: &R, first: Seat<Deed, N>) -> Seat<Deed, N> {
+        let mut seat = first;
+        for number in 0..self.seats() as u64 {
+            if let Some(target) = SeatNo::new(number) {
+                seat = match self.interrupt(rt, seat, target) {
+                    Ok(Struck::Cut(seat, _)) => seat,
+                    Ok(Struck::Flagged(seat)) => seat,
+                    Err(refused) => refused.seat,
+                };
+            }
+        }
+        seat
+    }
+}
+
+/// Slots with these seats, in their order. The empty list has room for them.
+fn slots_of<N: Ledger>(
+    seats: Vec<Seat<Deed, N>>,
+    empty: Vec<Mutex<Slot<Seat<Deed, N>>>>,
+) -> Vec<Mutex<Slot<Seat<Deed, N>>>>
+    requires empty { empty.items ≡ [] }
+    requires room { vec_len seats ≤ vec_capacity empty }
+    ensures count { vec_len result ≡ vec_len seats }
+{
+    let mut slots = empty;
+    for seat in seats {
+        slots.push_reserved(Mutex::new(Slot {
+            seat: Some(seat),
+            count: NOTHING,
+        }));
+    }
+    slots
+}
+
+/// The seats of these slots, to be given back, and what their threads counted together. The empty list has room for
+/// them.
+fn seats_of<N: Ledger>(
+    slots: Vec<Mutex<Slot<Seat<Deed, N>>>>,
+    empty: Vec<Back<Deed, N>>,
+) -> (Vec<Back<Deed, N>>, Count)
+    requires empty { empty.items ≡ [] }
+    requires room { vec_len slots ≤ vec_capacity empty }
+{
+    let mut backs = empty;
+    let mut counted = NOTHING;
+    for slot in slots {
+        let Slot { seat, count } = slot.into_inner();
+        counted = counted.with(count);
+        if let Some(seat) = seat {
+            backs.push_reserved(Back::Free(seat));
+        }
+    }
+    (backs, counted)
+}
+
+/// Runs a round over a queue of these parts, which has a seat for each thread, and closes the queue.
+fn run_over<G, N, R>(
+    rt: &R,
+    alloc: Global,
+    parts: NewQueue<G>,
+    each: u64,
+) -> Result<Finish, Refusal>
+where
+    G: Gate + Drop + Send + Sync,
+    N: Ledger + Send + Sync,
+    R: Threads + Wait + Clock + Sync,
+    requires name { parts.blank.name ≡ N.name }
+    requires parts { parts.blank.parts ≡ N.parts }
+    requires one_each { parts.blank.parts ≡ vec_len parts.gates }
+{
+    let count = parts.gates.len();
+    let slots = Vec::with_capacity(alloc, count).map_err(|_| Refusal::Memory)?;
+    let backs = Vec::with_capacity(alloc, count).map_err(|_| Refusal::Memory)?;
+    let (queue, seats) = match Fair::<G, N>::new(alloc, parts) {
+        Ok(made) => made,
+        Err(refused) => return Err(refused.why),
+    };
+    let slots = slots_of::<N>(seats, slots);
+    let timed = run_timed(rt, &queue, slots.as_slice(), each);
+    let (backs, counted) = seats_of(slots, backs);
+    if let Err(fault) = queue.close(alloc, backs) {
+        let why = fault.why();
+        let _kept = ManuallyDrop::new(fault);
+        return Err(why);
+    }
+    Finish::of(counted, timed?)
+}
+
+/// Runs a round over a queue whose threads park. It refuses what one of its calls was refused, NoThread where a thread
+/// can't be started, what the close refuses, or Memory.
+pub fn run_parked<R>(rt: &R, alloc: Global, race: Race) -> Result<Finish, Refusal>
+where
+    R: Threads + Wait + Clock + Sync,
+{
+    let mut gates = Vec::new(alloc);
+    for _ in 0..race.threads() {
+        gates.push(ParkGate::new()).map_err(|_| Refusal::Memory)?;
+    }
+    let blank = Blank::new(gates.len() as u64);
+    run_over::<ParkGate, Brand, R>(rt, alloc, NewQueue { gates, blank }, race.each)
+}
+
+/// The same over a queue whose threads spin before they park.
+pub fn run_spinning<R>(rt: &R, alloc: Global, race: Race) -> Result<Finish, Refusal>
+where
+    R: Threads + Wait + Clock + Sync,
+{
+    let mut gates = Vec::new(alloc);
+    for _ in 0..race.threads() {
+        gates
+            .push(SpinGate::new(TURNS))
+            .map_err(|_| Refusal::Memory)?;
+    }
+    let blank = Blank::new(gates.len() as u64);
+    run_over::<SpinGate, Brand, R>(rt, alloc, NewQueue { gates, blank }, race.each)
+}
