@@ -8,7 +8,7 @@ use meet_run::{MOST_EACH, MOST_GIVERS};
 use std::alloc::Global;
 
 /// The version, and the toolchain with which the program is proved, as `rt version` names it.
-const VERSION: &str = "0.1.0 (proved with rattle-kit-13b logic dac8208d650f15bf)";
+const VERSION: &str = "0.1.0 (proved with rattle-kit-13f logic dac8208d650f15bf)";
 
 /// What stands at the end of the help.
 const REST_OF_HELP: &str = "\
