@@ -24,3 +24,11 @@ most_gone = 9223372036854775807
 -- what remaining_capacity says of every transfer queue (LinkedTransferQueue.remainingCapacity)
 abbrev pub told_capacity : ℕ
 told_capacity = 2147483647
+
+-- the most slots of an exchanger, which are numbered from 0 (our choice)
+abbrev pub most_slots : ℕ
+most_slots = 64
+
+-- the last round of an exchanger's slot, 2 ^ 44 - 1 (our choice)
+abbrev pub last_round : ℕ
+last_round = 17592186044415

@@ -24,7 +24,8 @@ pub use laws::{
     requests_are_remembered, tellings_agree, tellings_agree_on,
 };
 pub use limits::{
-    LAST_TICKET, MOST_GONE, MOST_KEPT, MOST_RECORDS, MOST_SEATS, TOLD_CAPACITY, limits_agree,
+    LAST_ROUND, LAST_TICKET, MOST_GONE, MOST_KEPT, MOST_RECORDS, MOST_SEATS, MOST_SLOTS,
+    TOLD_CAPACITY, limits_agree,
 };
 pub use lines::{Entry, Hold};
 pub use names::{SeatNo, Ticket};

@@ -2,6 +2,7 @@
 
 ghost use Rattle.std.specs.Prelude.{◌≡◌};
 ghost use Rattle.meet_tickets.specs.Limits.{most_seats, most_records, most_kept, last_ticket, most_gone, told_capacity};
+ghost use Rattle.meet_tickets.specs.Limits.{most_slots, last_round};
 
 /// The most seats of a place, which are numbered from 0.
 pub const MOST_SEATS: u64 = 65_536;
@@ -21,6 +22,12 @@ pub const MOST_GONE: u64 = 9_223_372_036_854_775_807;
 /// What `remaining_capacity` says of every transfer queue.
 pub const TOLD_CAPACITY: u64 = 2_147_483_647;
 
+/// The most slots of an exchanger, which are numbered from 0.
+pub const MOST_SLOTS: u64 = 64;
+
+/// The last round of an exchanger's slot.
+pub const LAST_ROUND: u64 = 17_592_186_044_415;
+
 /// The limits of the code are those of the rules. It does nothing.
 pub fn limits_agree()
     ensures seats { MOST_SEATS ≡ most_seats }
@@ -29,4 +36,6 @@ pub fn limits_agree()
     ensures ticket { LAST_TICKET ≡ last_ticket }
     ensures gone { MOST_GONE ≡ most_gone }
     ensures capacity { TOLD_CAPACITY ≡ told_capacity }
+    ensures slots { MOST_SLOTS ≡ most_slots }
+    ensures round { LAST_ROUND ≡ last_round }
 {}
