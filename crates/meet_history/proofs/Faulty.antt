@@ -1,13 +1,13 @@
 -- A record with a fault doesn't fit, and the prefix that it ends isn't legal.
-use Rattle.std.proofs.Common.{◌≡◌, ℕ, ◌+◌, ◌<◌, sym, ap, ◌∙◌, subst, true, false, Some, List, [], ◌∷◌, ◌++◌, length, take, drop, get_or, take-append-drop, length-take, arith}
-use Rattle.std.proofs.lemmas.List.{drop_more, take_more}
+use Rattle.std.proofs.Common.{◌≡◌, ℕ, ◌+◌, ◌<◌, sym, ap, ◌∙◌, true, false, Some, List, [], ◌∷◌, ◌++◌, length, append_assoc, refl, arith}
 use Rattle.meet_tickets.specs.declared.places.Kind.{Kind}
 use Rattle.meet_tickets.specs.declared.records.Record.{Record}
 use Rattle.meet_tickets.specs.declared.records.Cause.TheVariants.{Cancelled, Expired, Interrupted}
 use Rattle.meet_tickets.specs.declared.records.Deed.{Deed}
 use Rattle.meet_tickets.specs.declared.records.Deed.TheVariants.{GiveWaits, GiveMeets, GiveFails, GiveKept, TakeWaits, TakeMeets, TakeFails, EntryInterrupted, Done, Got, Withdrawn, Interrupt}
-use Rattle.meet_tickets.specs.BySeat.{Seats, Moment, beginning, moment_of, moment_after, open_ticket, is_open, IsFree, is_request, Allows, Fits, IsLegalBySeat, IsLegalBySeatFrom}
-use Rattle.meet_tickets.proofs.Continued.{legal-append, moment_of-append}
+use Rattle.meet_tickets.specs.BySeat.{Seats, Moment, beginning, moment_of, moment_after, open_ticket, is_open, IsFree, is_request, Allows, Fits, IsLegalBySeatFrom}
+use Rattle.meet_tickets.specs.ByLists.{IsLegal}
+use Rattle.meet_tickets.proofs.Continued.{legal-append}
 use Rattle.meet_tickets.proofs.Histories.{tellings_are_one}
 use Rattle.meet_history.specs.declared.checker.Why.{Why}
 use Rattle.meet_history.specs.declared.checker.Why.TheVariants.{SeatOpen, TicketOrder, NotOpen, WrongReply}
@@ -57,29 +57,33 @@ last-fits : (k : Kind) (m : Moment) (xs : List (Record Deed)) (r : Record Deed) 
 last-fits k m [] r legal = legal.0
 last-fits k m (x ∷ xs) r legal = last-fits k (moment_after k m x) xs r legal.1
 
--- so the record is the last of the shortest prefix that isn't legal
-pub illegal-at : (k : Kind) (records : List (Record Deed)) (n : ℕ) (r : Record Deed) (why : Why) → n < length records → r ≡ get_or records n r → IsLegalBySeat k (take n records) → IsFaulty k (moment_of k beginning (take n records)) r why → IsIllegalAt k records (n + 1) why
-illegal-at k records n r why there item legal faulty = record {
-  prefix = take n records;
+-- so behind legal records it is the last of the shortest prefix that isn't legal
+pub illegal-at : (k : Kind) (past : List (Record Deed)) (r : Record Deed) (why : Why) → IsLegal k past → IsFaulty k (moment_of k beginning past) r why → IsIllegalAt k (past ++ r ∷ []) (length past + 1) why
+illegal-at k past r why legal faulty = record {
+  prefix = past;
   bad = r;
-  rest = drop (n + 1) records;
-  parts = sym (take-append-drop n records) ∙ ap (λ xs. take n records ++ xs) (drop_more records n r there ∙ ap (λ x. x ∷ drop (n + 1) records) (sym item));
-  last = omega (arith, length-take n records);
-  legal = (tellings_are_one k (take n records)).legal.1 legal;
-  illegal = λ longer. unfit k (moment_of k beginning (take n records)) r why faulty (last-fits k beginning (take n records) r ((tellings_are_one k (take n records ++ r ∷ [])).legal.0 longer));
+  rest = [];
+  parts = refl;
+  last = refl;
+  legal = legal;
+  illegal = λ longer. unfit k (moment_of k beginning past) r why faulty (last-fits k beginning past r ((tellings_are_one k (past ++ r ∷ [])).legal.0 longer));
   faulty = faulty;
 }
 
--- a record that fits goes on a legal history
-pub record GoesOn (k : Kind) (records : List (Record Deed)) (n : ℕ) (new : Moment) : Type 0 where
-  pub moment : new ≡ moment_of k beginning (take (n + 1) records)
-  pub legal : IsLegalBySeat k (take (n + 1) records)
+-- whatever comes behind
+pub illegal-on : (k : Kind) (past more : List (Record Deed)) (n : ℕ) (why : Why) → IsIllegalAt k past n why → IsIllegalAt k (past ++ more) n why
+illegal-on k past more n why found = record {
+  prefix = found.prefix;
+  bad = found.bad;
+  rest = found.rest ++ more;
+  parts = ap (λ xs. xs ++ more) found.parts ∙ append_assoc found.prefix (found.bad ∷ found.rest) more;
+  last = found.last;
+  legal = found.legal;
+  illegal = found.illegal;
+  faulty = found.faulty;
+}
 
-pub goes-on : (k own : Kind) (records : List (Record Deed)) (n : ℕ) (r : Record Deed) (old new : Moment) → own ≡ k → n < length records → r ≡ get_or records n r → old ≡ moment_of k beginning (take n records) → IsLegalBySeat k (take n records) → Fits own old r → new ≡ moment_after own old r → GoesOn k records n new
-goes-on k own records n r old new same there item so_far legal fits after =
-    let more : take (n + 1) records ≡ take n records ++ r ∷ [] = take_more records n r there ∙ ap (λ x. take n records ++ x ∷ []) (sym item) in
-    let here : Fits k (moment_of k beginning (take n records)) r = subst (λ m. Fits k m r) so_far (subst (λ o. Fits o old r) same fits) in
-    record {
-      moment = after ∙ (λ i. moment_after (same i) (so_far i) r) ∙ sym (moment_of-append k beginning (take n records) (r ∷ [])) ∙ ap (moment_of k beginning) (sym more);
-      legal = subst (IsLegalBySeat k) (sym more) (legal-append k beginning (take n records) (r ∷ []) legal (here, tt));
-    }
+-- a record that fits goes on a legal history
+pub legal-on : (k : Kind) (past : List (Record Deed)) (r : Record Deed) → IsLegal k past → Fits k (moment_of k beginning past) r → IsLegal k (past ++ r ∷ [])
+legal-on k past r legal fits =
+    (tellings_are_one k (past ++ r ∷ [])).legal.1 (legal-append k beginning past (r ∷ []) ((tellings_are_one k past).legal.0 legal) (fits, tt))

@@ -4,6 +4,7 @@ pub mod Faulty
 pub mod Kept
 pub mod LegalTurns
 pub mod ManyTurns
+pub mod Pushed
 pub mod RecordCounts
 pub mod Recorded
 pub mod Seated

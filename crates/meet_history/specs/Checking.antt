@@ -78,3 +78,9 @@ moment_at c = record {
   last = c.last;
   seats = record { line = c.line; holds = hold_at c.table.holds; flags = flag_at c.table.flags };
 }
+
+-- there is room for this record without growth: in the line, and in the table for the seats that it names
+pub record HasRoom (c : Checked) (r : Record Deed) : Type 0 where
+  pub line : 0 < c.room
+  pub own : r.seat < length c.table.holds
+  pub subject : subject_of r.seat r.deed < length c.table.holds

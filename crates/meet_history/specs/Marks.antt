@@ -3,8 +3,8 @@ use Rattle.std.specs.Prelude.{ℕ, List, Option, Some, None, not, if◌then◌el
 use Rattle.meet_tickets.specs.declared.lines.Entry.{Entry}
 use Rattle.meet_tickets.specs.declared.places.End.{End}
 use Rattle.meet_tickets.specs.declared.places.End.TheVariants.{Front, Back}
-use Rattle.meet_history.specs.declared.checker.line.ByEnd.{ByEnd}
-use Rattle.meet_history.specs.declared.checker.line.ByEnd.TheVariants.{Front as AtFront, Back as AtBack}
+use Rattle.meet_history.specs.declared.checker.place.line.ByEnd.{ByEnd}
+use Rattle.meet_history.specs.declared.checker.place.line.ByEnd.TheVariants.{Front as AtFront, Back as AtBack}
 
 -- the end at which an entry is met, the entries that stand there, and room for more
 pub record MarkedLine : Type 0 where

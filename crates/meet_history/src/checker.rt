@@ -1,24 +1,18 @@
-//! The checker of histories: are these records legal?
+//! The checker of histories: are these records legal? It takes them one by one, or all at once.
 
-ghost use Rattle.std.specs.Prelude.{◌≡◌, ℕ, ◌<◌, ◌≤◌, ◌↔◌, length, None, IsTrue, IsOk, IfOk, IfErr, OnOk};
-ghost use Rattle.meet_tickets.specs.Meeting.{end_of, partner};
+ghost use Rattle.std.specs.Prelude.{◌≡◌, ◌≢◌, [], Some, None, Err, IfSome, IfOk, IfErr, OnOk};
 ghost use Rattle.meet_tickets.specs.ByLists.{IsLegal};
-ghost use Rattle.meet_tickets.specs.BySeat.{beginning, IsFree, Fits, moment_after};
-ghost use Rattle.meet_tickets.specs.Limits.{most_seats};
-ghost use Rattle.meet_tickets.specs.declared.refusals.Refusal.TheVariants.{Memory};
-ghost use Rattle.meet_history.specs.Checking.{IsFaulty, IsUntimely, IsCheckFault, subject_of, moment_at};
-ghost use Rattle.meet_history.specs.OneThread.{standing_at};
+ghost use Rattle.meet_history.specs.declared.checker.CheckFault.TheVariants.{Memory};
+ghost use Rattle.meet_history.specs.Checking.{IsCheckFault};
+ghost use Rattle.meet_history.specs.Pushing.{HasSeen, HasRoomFor, IsUnchanged, TakesIn, IsStandingOf};
 ghost use Rattle.meet_history.specs.Standings.{standing_in};
 
-use line::MarkLine;
-use meet_line::SeatTable;
-use meet_tickets::{Deed, Hold, Kind, Record, Refusal, SeatNo, Side, Ticket};
+use meet_tickets::{Deed, Kind, Record};
+use place::CheckedPlace;
 use std::alloc::Global;
 use std::marker::Model;
 
-mod endings;
-mod line;
-mod requests;
+mod place;
 
 /// Why a record can't come next: the first reason that applies.
 #[derive(Clone, Copy, PartialEq, Eq, Debug)]
@@ -53,179 +47,87 @@ pub struct Standing {
     pub kept: u64,
 }
 
-/// A place as its records leave it.
+/// Takes a place's records one by one, and tells of each whether those so far are a legal history. It keeps none of
+/// them: the memory that it takes is that of the place which they leave.
 #[derive(Drop)]
-pub(crate) struct Checker {
-    kind: Kind,
-    last: u64,
-    line: MarkLine,
-    seats: SeatTable<u64>,
+pub struct Checker {
+    place: CheckedPlace,
+    count: u64,
+    fault: Option<CheckFault>,
 }
 
 impl Model for Checker {
-    ghost use Rattle.std.specs.Prelude.{◌≡◌, ◌≤◌, length};
-    ghost use Rattle.meet_tickets.specs.Meeting.{end_of};
-    ghost use Rattle.meet_history.specs.Checking.{Checked, AreSeated};
+    ghost use Rattle.std.specs.Prelude.{◌≢◌, Some};
+    ghost use Rattle.meet_history.specs.declared.checker.CheckFault.TheVariants.{Memory};
+    ghost use Rattle.meet_history.specs.Pushing.{Progress};
 
-    ghost Value = { Checked };
+    ghost Value = { Progress };
 
-    ghost view = { λ c. record {
-      kind = c.kind;
-      last = c.last;
-      line = c.line.entries;
-      room = c.line.room;
-      table = c.seats;
-    } };
+    ghost view = { λ c. record { place = c.place; count = c.count; fault = c.fault } };
 
-    ghost invariant = { λ c. AreSeated (length c.seats.holds) c.line.entries × (c.line.end ≡ end_of c.kind.order)
-        × (c.line.newest ≤ c.last) };
+    ghost invariant = { λ c. c.fault ≢ Some Memory };
 }
 
 impl Checker {
-    /// An empty place of this kind. The only refusal is Memory.
-    fn new(alloc: Global, kind: Kind) -> Result<Self, Refusal>
-        ensures kind { IfOk result (λ checker. checker.kind ≡ kind) }
-        ensures moment { IfOk result (λ checker. moment_at checker ≡ beginning) }
-        ensures memory { IfErr result (λ why. why ≡ Memory) }
+    /// A checker of a place of this kind, which has seen no record. The only fault is Memory.
+    pub fn new(alloc: Global, kind: Kind) -> Result<Self, CheckFault>
+        ensures kind { IfOk result (λ checker. checker.place.kind ≡ kind) }
+        ensures seen { IfOk result (λ checker. HasSeen checker []) }
+        ensures sound { IfOk result (λ checker. checker.fault ≡ None) }
+        ensures memory { IfErr result (λ fault. fault ≡ Memory) }
     {
-        let seats = match SeatTable::new(alloc, 0) {
-            Ok(seats) => seats,
-            Err(_) => return Err(Refusal::Memory),
-        };
-        Ok(Checker {
-            kind,
-            last: 0,
-            line: MarkLine::new(alloc, kind.order.end()),
-            seats,
-        })
+        match CheckedPlace::new(alloc, kind) {
+            Ok(place) => Ok(Checker {
+                place,
+                count: 0,
+                fault: None,
+            }),
+            Err(_) => Err(CheckFault::Memory),
+        }
     }
 
-    /// Sees that the table has this seat. The only refusal is Memory.
-    #[inline(always)]
-    fn seat(&mut self, seat: SeatNo) -> Result<(), Refusal>
-        ensures kind { self.new.kind ≡ self.old.kind }
-        ensures moment { moment_at self.new ≡ moment_at self.old }
-        ensures room { self.new.room ≡ self.old.room }
-        ensures seat { OnOk result (seat < length self.new.table.holds) }
-        ensures more { length self.old.table.holds ≤ length self.new.table.holds }
-        ensures memory { IfErr result (λ why. why ≡ Memory) }
-        ensures enough { seat < length self.old.table.holds → IsOk result }
+    /// Takes the next record in: the records so far are legal. Else it is the first that can't stand, for the first
+    /// reason that applies, and each push behind it answers the same fault again. Where memory is wanted and not there,
+    /// or 2^64 - 1 records were pushed, it is Memory, and the checker is as it was.
+    pub fn push(&mut self, entry: Record<Deed>) -> Result<(), CheckFault>
+        ensures kind { self.new.place.kind ≡ self.old.place.kind }
+        ensures seen { result ≢ Err Memory → TakesIn self.old entry self.new }
+        ensures sound { OnOk result (self.new.fault ≡ None) }
+        ensures fault { IfErr result (λ fault. fault ≢ Memory → self.new.fault ≡ Some fault) }
+        ensures again { IfSome self.old.fault (λ fault. result ≡ Err fault) }
+        ensures unchanged { result ≡ Err Memory → IsUnchanged self.old self.new }
+        ensures enough { HasRoomFor self.old entry → result ≢ Err Memory }
     {
-        if seat.number() < self.seats.count() {
-            return Ok(());
+        if let Some(fault) = self.fault {
+            return Err(fault);
         }
-        match self.seats.grow(seat.number() + 1) {
+        if self.count == u64::MAX || self.place.reserve(&entry).is_err() {
+            return Err(CheckFault::Memory);
+        }
+        self.count += 1;
+        match self.place.next(entry) {
             Ok(()) => Ok(()),
-            Err(_) => Err(Refusal::Memory),
-        }
-    }
-
-    /// Makes room for one entry more, and in the table for the seats that this record names. The only refusal is
-    /// Memory.
-    fn reserve(&mut self, entry: &Record<Deed>) -> Result<(), Refusal>
-        ensures kind { self.new.kind ≡ self.old.kind }
-        ensures moment { moment_at self.new ≡ moment_at self.old }
-        ensures room { OnOk result (0 < self.new.room) }
-        ensures seat { OnOk result (subject_of entry.now.seat entry.now.deed < length self.new.table.holds) }
-        ensures memory { IfErr result (λ why. why ≡ Memory) }
-    {
-        self.seat(entry.seat)?;
-        if let Deed::Interrupt(target) = entry.deed {
-            self.seat(target)?;
-        }
-        self.line.reserve()
-    }
-
-    /// What the seat has open.
-    fn hold(&self, seat: SeatNo) -> &Hold<u64>
-        requires { seat < length self.now.table.holds }
-        ensures { result.now ≡ (moment_at self.now).seats.holds seat }
-    {
-        self.seats.hold(seat)
-    }
-
-    /// Whether a request of this side finds nobody.
-    fn is_alone(&self, side: Side) -> bool
-        ensures { IsTrue result ↔ (partner (end_of self.now.kind.order) (moment_at self.now).seats.line side ≡ None) }
-    {
-        match self.line.first() {
-            None => true,
-            Some(first) => first.is_on(side),
-        }
-    }
-
-    /// Whether a request of this seat with this ticket may come now.
-    fn requests(&self, seat: SeatNo, ticket: Ticket) -> Result<(), Why>
-        requires { seat < length self.now.table.holds }
-        ensures timely { IfOk result (λ _. IsFree (moment_at self.now).seats seat
-            × ((moment_at self.now).last < ticket)) }
-        ensures faulty { IfErr result (λ why. IsUntimely (moment_at self.now) seat ticket why) }
-    {
-        if self.hold(seat).is_open() {
-            return Err(Why::SeatOpen);
-        }
-        if ticket.number() <= self.last {
-            return Err(Why::TicketOrder);
-        }
-        Ok(())
-    }
-
-    /// Whether the seat is flagged.
-    fn is_flagged(&self, seat: SeatNo) -> bool
-        requires { seat < length self.now.table.holds }
-        ensures { result ≡ (moment_at self.now).seats.flags seat }
-    {
-        self.seats.is_flagged(seat)
-    }
-
-    /// Takes the next record in, or tells why it can't stand: the first reason that applies.
-    fn next(&mut self, entry: Record<Deed>) -> Result<(), Why>
-        requires room { 0 < self.old.room }
-        requires seat { subject_of entry.seat entry.deed < length self.old.table.holds }
-        ensures fits { IfOk result (λ _. Fits self.old.kind (moment_at self.old) entry) }
-        ensures after { IfOk result (λ _. moment_at self.new ≡ moment_after self.old.kind (moment_at self.old) entry) }
-        ensures kind { self.new.kind ≡ self.old.kind }
-        ensures faulty { IfErr result (λ why. IsFaulty self.old.kind (moment_at self.old) entry why) }
-    {
-        let Record { seat, ticket, deed } = entry;
-        match deed {
-            Deed::Interrupt(target) => {
-                if self.interrupts(target, ticket) {
-                    return Ok(());
-                }
-            }
-            Deed::Done | Deed::Got(_, _) | Deed::Withdrawn(_) => {
-                if self.hold(seat).open_ticket() != Some(ticket) {
-                    return Err(Why::NotOpen);
-                }
-                if self.takes_ending(seat, ticket, deed) {
-                    return Ok(());
-                }
-            }
-            _ => {
-                match self.requests(seat, ticket) {
-                    Ok(()) => {}
-                    Err(why) => return Err(why),
-                }
-                if self.takes_request(seat, ticket, deed) {
-                    return Ok(());
-                }
+            Err(why) => {
+                let fault = CheckFault::Illegal {
+                    place: self.count,
+                    why,
+                };
+                self.fault = Some(fault);
+                Err(fault)
             }
         }
-        Err(Why::WrongReply)
     }
 
-    /// Where the place's tickets and items are.
-    fn standing(&self) -> Standing
-        ensures standing { result ≡ standing_at most_seats (moment_at self.now).seats }
-        ensures beyond { (seat : ℕ) → most_seats ≤ seat → IsFree (moment_at self.now).seats seat }
+    /// Where the place's tickets and items are behind the records that were pushed; or the fault that was found. It
+    /// takes no memory.
+    pub fn standing(&self) -> Result<Standing, CheckFault>
+        ensures standing { IfOk result (IsStandingOf self.now) }
+        ensures sound { OnOk result (self.now.fault ≡ None) }
+        ensures fault { IfErr result (λ fault. self.now.fault ≡ Some fault) }
     {
-        let _seats = self.seats.count();
-        let kept = self.line.kept();
-        Standing {
-            waiting: self.line.len() - kept,
-            uncollected: self.seats.settled(),
-            kept,
+        match self.fault {
+            None => Ok(self.place.standing()),
+            Some(fault) => Err(fault),
         }
     }
 }
@@ -238,21 +140,12 @@ pub fn check(alloc: Global, kind: Kind, records: &[Record<Deed>]) -> Result<Stan
     ensures standing { IfOk result (λ standing. standing ≡ standing_in records.now) }
     ensures fault { IfErr result (λ fault. IsCheckFault kind records.now fault) }
 {
-    let mut checker = match Checker::new(alloc, kind) {
-        Ok(checker) => checker,
-        Err(_) => return Err(CheckFault::Memory),
-    };
-    let mut place = 0u64;
+    let mut checker = Checker::new(alloc, kind)?;
     for entry in records {
-        place += 1;
-        match checker.reserve(entry) {
+        match checker.push(*entry) {
             Ok(()) => {}
-            Err(_) => return Err(CheckFault::Memory),
-        }
-        match checker.next(*entry) {
-            Ok(()) => {}
-            Err(why) => return Err(CheckFault::Illegal { place, why }),
+            Err(fault) => return Err(fault),
         }
     }
-    Ok(checker.standing())
+    checker.standing()
 }

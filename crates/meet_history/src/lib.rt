@@ -4,7 +4,7 @@
 mod checker;
 mod one_thread;
 
-pub use checker::{CheckFault, Standing, Why, check};
+pub use checker::{CheckFault, Checker, Standing, Why, check};
 pub use meet_book::{Bases, Book, Drains, Holds, Object, Receipt, Same, compare};
 pub use meet_queues::{
     AnyQueue, DualAnswer, DualCall, QueueAnswer, QueueCall, queue_book, transfer_book,

@@ -2,7 +2,9 @@
 //! runs these tests with each allocation refused in turn.
 
 use crate::calls::{TRANSFER, record, reply, seat, ticket};
-use meet_history::{Answer, Call, CheckFault, Outcome, Reply, Standing, Verb, check, run_all};
+use meet_history::{
+    Answer, Call, CheckFault, Checker, Outcome, Reply, Standing, Verb, check, run_all,
+};
 use meet_tickets::{Deed, Kind, Order, Record, Refusal};
 use std::alloc::Global;
 use std::process::Abort;
@@ -56,6 +58,34 @@ fn a_check_of_items_that_are_kept(rt: HostRuntime) -> Result<(), Fail> {
         kept: 5,
     };
     is_legal(&rt, rt.alloc(), Order::Transfer, &records, standing);
+    Ok(())
+}
+
+#[test]
+fn records_that_are_pushed(rt: HostRuntime) -> Result<(), Fail> {
+    let kind = Kind {
+        order: Order::Unfair,
+        bound: None,
+    };
+    let mut checker = match Checker::new(rt.alloc(), kind) {
+        Ok(checker) => checker,
+        Err(_) => Checker::new(rt.alloc(), kind).ok().ok_or("memory")?,
+    };
+    for number in 0..9 {
+        let entry = record(number * 100, number + 1, Deed::GiveWaits(7))?;
+        let mut pushed = checker.push(entry);
+        if pushed == Err(CheckFault::Memory) {
+            // Nothing has changed: the same record may come again.
+            pushed = checker.push(entry);
+        }
+        assert_eq!(rt; pushed, Ok(()));
+    }
+    let standing = Standing {
+        waiting: 9,
+        uncollected: 0,
+        kept: 0,
+    };
+    assert_eq!(rt; checker.standing(), Ok(standing));
     Ok(())
 }
 

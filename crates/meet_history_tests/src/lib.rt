@@ -5,3 +5,5 @@
 mod calls;
 #[cfg(test)]
 mod growth;
+#[cfg(test)]
+mod pushes;

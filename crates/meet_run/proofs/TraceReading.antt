@@ -1,15 +1,16 @@
 -- How far the records of a trace were read.
-use Rattle.std.proofs.Common.{◌≡◌, inl, inr, ℕ, ◌+◌, Bool, List, [], ◌∷◌, ◌++◌, Option, Some, None, Ok, refl, sym, ap, ◌∙◌, subst, append_assoc, append-nil}
+use Rattle.std.proofs.Common.{◌≡◌, inl, inr, ℕ, ◌+◌, Bool, List, [], ◌∷◌, ◌++◌, length, Option, Some, None, Ok, refl, sym, ap, ◌∙◌, subst, append_assoc, append-nil}
 use Rattle.std.specs.Prelude.{IfSome}
 use Rattle.std.specs.Io.KnownBytes.{Appends}
 use Rattle.meet_tickets.specs.declared.places.Kind.{Kind}
 use Rattle.meet_tickets.specs.declared.records.Deed.{Deed}
 use Rattle.meet_tickets.specs.declared.records.Record.{Record}
 use Rattle.meet_tickets.specs.declared.refusals.Refusal.TheVariants.{BadTrace, WriteFault}
+use Rattle.meet_history.specs.Pushing.{Progress, HasSeen}
 use Rattle.meet_run.specs.declared.faults.RunFault.{RunFault}
 use Rattle.meet_run.specs.Reading.{lines_of, Listed, Both, listed, no_more, faulty_at, with_item}
 use Rattle.meet_run.specs.TraceGrammar.{head_of}
-use Rattle.meet_run.specs.Traces.{record_at, records_behind, trace_fault_in, IsTrace, NamesLine, IsVerdict, IsFound, CheckBreaks, CheckEnds, IsUnreadTrace, IsTraceFault}
+use Rattle.meet_run.specs.Traces.{record_at, records_behind, trace_fault_in, IsTrace, NamesLine, IsVerdict, IsFound, AreFound, ArePushed, IsVerdictOf, CheckBreaks, CheckEnds, IsUnreadTrace, IsTraceFault}
 use Rattle.meet_run.specs.Writing.{AppendsPrefix}
 use Rattle.meet_run.proofs.Ran.{appends-nothing}
 use Rattle.meet_run.proofs.ScriptLemmas.{listed-end, listed-more, listed-fault}
@@ -41,12 +42,15 @@ module _ (past : List (Record Deed)) (read : ℕ) where
       subst (λ q. records_behind (lines_of xs) ≡ after_records q left) (sym more) (was ∙ (ap (λ (c : Listed (Record Deed)). after_records past c) items ∙ joined))
 
   -- no line is left
-  pub read-end : (old mid : Option (List ℕ)) → WasRead old mid read past → IfSome mid (λ xs. lines_of xs ≡ []) → IfSome old (λ rest. records_behind (lines_of rest) ≡ record { items = past; fault = None })
-  read-end None mid was none = tt
-  read-end (Some xs) None was none = absurd was
-  read-end (Some xs) (Some ys) was none =
+  pub read-end : (old mid : Option (List ℕ)) (checker : Progress) (count : ℕ) → WasRead old mid read past → count ≡ length past → HasSeen checker past → IfSome mid (λ xs. lines_of xs ≡ []) → IfSome old (λ rest. ArePushed checker count (records_behind (lines_of rest)))
+  read-end None mid checker count was many seen none = tt
+  read-end (Some xs) None checker count was many seen none = absurd was
+  read-end (Some xs) (Some ys) checker count was many seen none =
       let items : listed record_at (read + 1) (lines_of ys) ≡ no_more = ap (λ (ls : List (List ℕ)). listed record_at (read + 1) ls) none ∙ listed-end record_at (read + 1) in
-      was ∙ (ap (λ (c : Listed (Record Deed)). after_records past c) items ∙ ap (λ (q : List (Record Deed)). let l : Listed (Record Deed) = record { items = q; fault = None } in l) (append-nil past))
+      let whole : Listed (Record Deed) = record { items = past; fault = None } in
+      let all : records_behind (lines_of xs) ≡ whole = was ∙ (ap (λ (c : Listed (Record Deed)). after_records past c) items ∙ ap (λ (q : List (Record Deed)). let l : Listed (Record Deed) = record { items = q; fault = None } in l) (append-nil past)) in
+      let pushed : ArePushed checker count whole = (refl, many, seen) in
+      subst (λ c. ArePushed checker count c) (sym all) pushed
 
   -- the next line is no record
   pub read-fault : (old mid : Option (List ℕ)) → WasRead old mid read past → IfSome mid (λ xs. (line : List ℕ) × (lines : List (List ℕ)) × (lines_of xs ≡ line ∷ lines) × (record_at (read + 1) line ≡ None)) → IfSome old (λ rest. (records_behind (lines_of rest)).fault ≡ Some (read + 1))
@@ -63,12 +67,15 @@ names-it (Some xs) fault f n is at = λ bad. ap (λ x. x.line) is ∙ sym at
 
 -- ---- a whole trace
 
--- behind its first line
-pub trace-behind : (old mid : Option (List ℕ)) (kind : Kind) (past : List (Record Deed)) → Both old mid (λ xs ys. (line : List ℕ) × (lines_of xs ≡ line ∷ lines_of ys) × (head_of line ≡ Some kind)) → IfSome mid (λ rest. records_behind (lines_of rest) ≡ record { items = past; fault = None }) → IfSome old (λ input. IsTrace (lines_of input) kind past)
-trace-behind None mid kind past first rest = tt
-trace-behind (Some xs) None kind past first rest = absurd first
-trace-behind (Some xs) (Some ys) kind past first rest =
-    record { first = first.0; rest = lines_of ys; parts = first.1; head = first.2; behind = rest }
+-- what is found of the records behind its first line is found of it
+pub found-behind : (old mid : Option (List ℕ)) (kind : Kind) (legal : Bool) (text : List ℕ) → Both old mid (λ xs ys. (line : List ℕ) × (lines_of xs ≡ line ∷ lines_of ys) × (head_of line ≡ Some kind)) → IfSome mid (λ rest. AreFound kind (records_behind (lines_of rest)) legal text) → IfSome old (λ input. IsFound (lines_of input) legal text)
+found-behind None mid kind legal text first rest = tt
+found-behind (Some xs) None kind legal text first rest = absurd first
+found-behind (Some xs) (Some ys) kind legal text first rest =
+    let lines : Listed (Record Deed) = records_behind (lines_of ys) in
+    let whole : lines ≡ record { items = lines.items; fault = None } = ap (λ (f : Option ℕ). let l : Listed (Record Deed) = record { items = lines.items; fault = f } in l) rest.0 in
+    let trace : IsTrace (lines_of xs) kind lines.items = record { first = first.0; rest = lines_of ys; parts = first.1; head = first.2; behind = whole } in
+    record { kind = kind; records = lines.items; trace = trace; verdict = rest.1 }
 
 -- its fault is behind its first line
 pub fault-behind : (old mid : Option (List ℕ)) (kind : Kind) (P : Option ℕ → Type 0) → Both old mid (λ xs ys. (line : List ℕ) × (lines_of xs ≡ line ∷ lines_of ys) × (head_of line ≡ Some kind)) → IfSome mid (λ rest. P (records_behind (lines_of rest)).fault) → IfSome old (λ input. P (trace_fault_in (lines_of input)))
@@ -109,10 +116,6 @@ unread-faults f (inr (inl memory)) = subst IsTraceFault (sym memory) tt
 unread-faults f (inr (inr read)) = subst IsTraceFault (sym read) tt
 
 -- a trace that was read, whose line is written whole, or but for a part
-pub check-found : (old : Option (List ℕ)) (kind : Kind) (records : List (Record Deed)) (legal : Bool) (text : List ℕ) → IfSome old (λ input. IsTrace (lines_of input) kind records) → IsVerdict kind records legal text → IfSome old (λ input. IsFound (lines_of input) legal text)
-check-found None kind records legal text trace verdict = tt
-check-found (Some xs) kind records legal text trace verdict = record { kind = kind; records = records; trace = trace; verdict = verdict }
-
 pub check-broken : (old before after : Option (List ℕ)) (f : RunFault) (legal : Bool) (text : List ℕ) → f ≡ record { why = WriteFault; line = None } → IfSome old (λ input. IsFound (lines_of input) legal text) → AppendsPrefix before after text → IfSome old (λ input. CheckBreaks (lines_of input) f.why f.line before after)
 check-broken None before after f legal text is found prefix = tt
 check-broken (Some xs) before after f legal text is found prefix =
@@ -121,3 +124,10 @@ check-broken (Some xs) before after f legal text is found prefix =
 pub check-done : (old before after : Option (List ℕ)) (legal : Bool) (text : List ℕ) → IfSome old (λ input. IsFound (lines_of input) legal text) → Appends before after text → IfSome old (λ input. CheckEnds (lines_of input) (Ok legal) before after)
 check-done None before after legal text found wrote = tt
 check-done (Some xs) before after legal text found wrote = (text, found, wrote)
+
+-- what was found of the records that were pushed is found of these lines
+pub found-pushed : (old : Option (List ℕ)) (kind : Kind) (checker : Progress) (count : ℕ) (legal : Bool) (text : List ℕ) → checker.place.kind ≡ kind → IfSome old (λ rest. ArePushed checker count (records_behind (lines_of rest))) → IsVerdictOf checker count legal text → IfSome old (λ rest. AreFound kind (records_behind (lines_of rest)) legal text)
+found-pushed None kind checker count legal text own pushed verdict = tt
+found-pushed (Some xs) kind checker count legal text own pushed verdict =
+    let found = verdict (records_behind (lines_of xs)).items pushed.2 pushed.1 in
+    (pushed.0, subst (λ k. IsVerdict k (records_behind (lines_of xs)).items legal text) own found)

@@ -1,20 +1,20 @@
 -- Words of a line, and numbers as words.
-use Rattle.std.proofs.Common.{◌≡◌, ℕ, suc, ◌+◌, ◌^◌, ◌<◌, ◌≤◌, Bool, true, false, not, cond, eqb, ltb, ◌&&◌, List, [], ◌∷◌, ◌++◌, length, take, drop, Option, Some, None, unwrap_or, Result, Ok, Err, refl, sym, ap, subst, ◌∙◌, arith, inl, inr}
-use Rattle.std.specs.Prelude.{decimal, ⊤}
+use Rattle.std.proofs.Common.{◌≡◌, ℕ, suc, ◌+◌, ◌^◌, ◌<◌, ◌≤◌, Bool, true, false, not, cond, eqb, ltb, ◌&&◌, List, [], ◌∷◌, ◌++◌, length, take, drop, Option, Some, None, unwrap_or, get_or, Result, Ok, Err, refl, sym, ap, subst, ◌∙◌, arith, inl, inr}
+use Rattle.std.specs.Prelude.{decimal, ⊤, slice_get}
 use Rattle.std.specs.Borrow.{Bor}
 use Rattle.std.specs.Option.{MatchOption, option_map}
 use Rattle.std.specs.Result.{MatchResult, result_ok}
 use Rattle.std.specs.Str.{bytes_eq, IsUtf8}
-use Rattle.std.specs.Str.Parse.{digits_value, ParsesUnsigned, AllDigits}
+use Rattle.std.specs.Str.Parse.{digits_value, ParsesUnsigned, AllDigits, without_leading_plus}
 use Rattle.std.specs.List.{position, position_or_len}
 use Rattle.std.proofs.lemmas.Bool.{cases_Bool, ltb-false, eqb-true, ne_eqb, and_parts, ltb-true, lt-ltb, cond-true, cond-false, false_from_ne_true}
-use Rattle.std.proofs.lemmas.Fmt.{decimal_is_IsNumeral, parse-decimal, IsAscii-decimal}
+use Rattle.std.proofs.lemmas.Fmt.{decimal_is_IsNumeral, decimal-digits_value, parse-decimal, IsAscii-decimal}
 use Rattle.std.proofs.lemmas.Str.{IsUtf8-from_ascii}
-use Rattle.std.proofs.lemmas.Str.Parse.{digit_from_value}
+use Rattle.std.proofs.lemmas.Str.Parse.{digit_from_value, numerals_by_value, tells_digits, without_leading_plus_none}
 use Rattle.std.proofs.lemmas.List.Sums.{prefix_len-le-length}
 use Rattle.std.proofs.lemmas.Option.{cond_some}
 use Rattle.std.proofs.lemmas.Slice.Eq.{bytes_eq-Decides}
-use Rattle.meet_run.specs.Words.{word_of, rest_of, behind, number_if, number_spelled}
+use Rattle.meet_run.specs.Words.{word_of, rest_of, behind, number_if, number_spelled, BeginsAsNumber}
 
 abbrev pub is_space : ℕ → Bool
 is_space b = eqb b 32
@@ -99,11 +99,6 @@ pub not-parsed : {E : Type 0} (word text : List ℕ) (r : Result ℕ E) → Pars
 not-parsed word text r h same fails =
     number_spelled-none word (λ n lt e. let p : r ≡ Ok n = parsed word text r h same n lt e in let q : result_ok r ≡ Some n = ap (λ x. result_ok x) p in absurd cc)
 
--- what parses as another number's spelling spells none
-pub not-spelled : {E : Type 0} (word text : List ℕ) (r : Result ℕ E) (m : ℕ) → ParsesUnsigned 64 10 text r → text ≡ word → result_ok r ≡ Some m → bytes_eq word (decimal m) ≡ false → number_spelled word ≡ None
-not-spelled word text r m h same read other =
-    number_spelled-none word (λ n lt e. let p : r ≡ Ok n = parsed word text r h same n lt e in let q : result_ok r ≡ Some n = ap (λ x. result_ok x) p in let eq : n ≡ m = cc in let yes-eq : bytes_eq word (decimal m) ≡ true = (bytes_eq-Decides word (decimal m)).1 (e ∙ ap (λ k. decimal k) eq) in absurd cc)
-
 -- ---- a prefix
 
 behind-at : (prefix text : List ℕ) → cond (bytes_eq (take (length prefix) text) prefix) (Some (drop (length prefix) text)) None ≡ behind prefix text
@@ -178,3 +173,74 @@ no_space-digits (d ∷ ds) h =
 
 pub no_space-decimal : (n : ℕ) → n < 2 ^ 64 → HasNoSpace (decimal n)
 no_space-decimal n lt = no_space-digits (decimal n) (decimal_is_IsNumeral n lt).0.1
+
+-- ---- a number's one spelling has no sign, and no 0 in front
+
+-- no more digits spell a number than its one spelling has
+short-spelling : (ds : List ℕ) → AllDigits 10 ds → 0 < length ds → digits_value 10 ds < 2 ^ 64 → length (decimal (digits_value 10 ds)) ≤ length ds
+short-spelling [] digits some small = absurd (omega arith)
+short-spelling (c ∷ []) digits some small =
+    omega (arith, ap (λ (xs : List ℕ). length xs) (decimal-digits_value (numerals_by_value _ tells_digits) (c ∷ []) digits some (λ z. refl) small))
+short-spelling (c ∷ e ∷ cs) digits some small = elim (cases_Bool (eqb c 48)) [
+  | inl zero ↦
+      let same : digits_value 10 (c ∷ e ∷ cs) ≡ digits_value 10 (e ∷ cs) = ap (λ d. digits_value 10 (d ∷ e ∷ cs)) (eqb-true c 48 zero) in
+      let rest : length (decimal (digits_value 10 (e ∷ cs))) ≤ length (e ∷ cs) = short-spelling (e ∷ cs) digits.1 (omega arith) (subst (λ n. n < 2 ^ 64) same small) in
+      omega (arith, rest, ap (λ n. length (decimal n)) same)
+  | inr other ↦
+      let not : c ≡ 48 → ⊥ = λ z. let yes : eqb c 48 ≡ true = ap (λ d. eqb d 48) z in cc in
+      omega (arith, ap (λ (xs : List ℕ). length xs) (decimal-digits_value (numerals_by_value _ tells_digits) (c ∷ e ∷ cs) digits some (λ z. absurd (not z)) small))
+]
+
+-- so a number's one spelling begins with 0 only where it is no longer
+no-zero-in-front : (n : ℕ) → n < 2 ^ 64 → (e : ℕ) (cs : List ℕ) → 48 ∷ e ∷ cs ≡ decimal n → ⊥
+no-zero-in-front n lt e cs same =
+    let is = decimal_is_IsNumeral n lt in
+    let digits : AllDigits 10 (48 ∷ e ∷ cs) = subst (AllDigits 10) (sym same) is.0.1 in
+    let value : digits_value 10 (e ∷ cs) ≡ n = ap (digits_value 10) same ∙ is.1 in
+    let short : length (decimal (digits_value 10 (e ∷ cs))) ≤ length (e ∷ cs) = short-spelling (e ∷ cs) digits.1 (omega arith) (subst (λ m. m < 2 ^ 64) (sym value) lt) in
+    omega (arith, short, ap (λ m. length (decimal m)) value, ap (λ (xs : List ℕ). length xs) same)
+
+-- what begins otherwise spells no number
+pub empty-word : number_spelled [] ≡ None
+empty-word = number_spelled-none [] (λ n lt same. omega (arith, (decimal_is_IsNumeral n lt).0.0, ap (λ (xs : List ℕ). length xs) same))
+
+pub signed-word : (word : List ℕ) → get_or word 0 0 ≡ 43 → number_spelled word ≡ None
+signed-word word sign = number_spelled-none word (λ n lt same. at word sign (subst IsNumeral10 (sym same) (decimal_is_IsNumeral n lt).0))
+  where
+    IsNumeral10 : List ℕ → Type 0
+    IsNumeral10 ds = (0 < length ds) × AllDigits 10 ds
+
+    at : (ds : List ℕ) → get_or ds 0 0 ≡ 43 → IsNumeral10 ds → ⊥
+    at [] sign is = omega (arith, is.0)
+    at (c ∷ cs) sign is = omega (arith, (digit_from_value c is.1.0).0, sign)
+
+pub long-zero : (word : List ℕ) → get_or word 0 0 ≡ 48 → 1 < length word → number_spelled word ≡ None
+long-zero word zero many = number_spelled-none word (λ n lt same. at word zero many n lt same)
+  where
+    at : (ds : List ℕ) → get_or ds 0 0 ≡ 48 → 1 < length ds → (n : ℕ) → n < 2 ^ 64 → ds ≡ decimal n → ⊥
+    at [] zero many n lt same = omega (arith, many)
+    at (c ∷ []) zero many n lt same = omega (arith, many)
+    at (c ∷ e ∷ cs) zero many n lt same = no-zero-in-front n lt e cs (ap (λ d. d ∷ e ∷ cs) (sym zero) ∙ same)
+
+-- what parses, and begins so, is a number's one spelling
+pub parsed-number : {E : Type 0} (word text : List ℕ) (r : Result ℕ E) → BeginsAsNumber word → ParsesUnsigned 64 10 text r → text ≡ word → result_ok r ≡ number_spelled word
+parsed-number word text (Err e) begins h same = sym (not-parsed word text (Err e) h same refl)
+parsed-number {E} word text (Ok n) begins h same =
+    let r : Result ℕ E = Ok n in
+    let own : ParsesUnsigned 64 10 word r = subst (λ (t : List ℕ). ParsesUnsigned 64 10 t r) same h in
+    let bare : without_leading_plus word ≡ word = without_leading_plus_none word begins.unsigned in
+    let digits : AllDigits 10 word = subst (AllDigits 10) bare own.0.0.1 in
+    let value : n ≡ digits_value 10 word = own.1 ∙ ap (digits_value 10) bare in
+    let small : digits_value 10 word < 2 ^ 64 = subst (λ (ds : List ℕ). digits_value 10 ds < 2 ^ 64) bare own.0.1 in
+    let spelled : decimal (digits_value 10 word) ≡ word = decimal-digits_value (numerals_by_value _ tells_digits) word digits begins.some begins.lead small in
+    let reads : number_spelled word ≡ Some (digits_value 10 word) = subst (λ (w : List ℕ). number_spelled w ≡ Some (digits_value 10 word)) spelled (number_spelled-decimal (digits_value 10 word) small) in
+    ap (λ m. Some m) value ∙ sym reads
+
+-- a word's first byte
+pub no-first : (word : List ℕ) → None ≡ slice_get word 0 → word ≡ []
+no-first [] e = refl
+no-first (c ∷ cs) e = absurd cc
+
+pub first-is : (word : List ℕ) (b : ℕ) → Some b ≡ slice_get word 0 → get_or word 0 0 ≡ b
+first-is [] b e = absurd cc
+first-is (c ∷ cs) b e = cc

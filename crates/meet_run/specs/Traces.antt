@@ -14,6 +14,7 @@ use Rattle.meet_history.specs.declared.checker.Why.{Why}
 use Rattle.meet_history.specs.declared.one_thread.setup.Setup.{Setup}
 use Rattle.meet_history.specs.Checking.{IsIllegalAt}
 use Rattle.meet_history.specs.OneThread.{records}
+use Rattle.meet_history.specs.Pushing.{Progress, HasSeen}
 use Rattle.meet_history.specs.Standings.{standing_in}
 use Rattle.meet_run.specs.declared.faults.RunFault.{RunFault}
 use Rattle.meet_run.specs.Grammar.{setup_of}
@@ -52,6 +53,19 @@ abbrev pub IsVerdict : Kind → List (Record Deed) → (legal : Bool) → (text 
 IsVerdict kind records true text = IsLegal kind records × (text ≡ last_line (length records) (standing_in records))
 IsVerdict kind records false text = (number : ℕ) × (why : Why) × IsIllegalAt kind records number why
     × (text ≡ illegal_line number why)
+
+-- these lines are records to their end, so many, and just they were pushed on the checker
+abbrev pub ArePushed : Progress → (count : ℕ) → Listed (Record Deed) → Type 0
+ArePushed checker count lines = (lines.fault ≡ None) × (count ≡ length lines.items) × HasSeen checker lines.items
+
+-- whatever so many records were pushed on the checker, this is found of them
+abbrev pub IsVerdictOf : Progress → (count : ℕ) → (legal : Bool) → (text : List ℕ) → Type 0
+IsVerdictOf checker count legal text = (records : List (Record Deed)) → HasSeen checker records → count ≡ length records
+    → IsVerdict checker.place.kind records legal text
+
+-- these lines are records to their end, of a place of this kind, of which this is found
+abbrev pub AreFound : Kind → Listed (Record Deed) → (legal : Bool) → (text : List ℕ) → Type 0
+AreFound kind lines legal text = (lines.fault ≡ None) × IsVerdict kind lines.items legal text
 
 -- the lines are a whole trace, of which this is found
 pub record IsFound (lines : List (List ℕ)) (legal : Bool) (text : List ℕ) : Type 0 where

@@ -1,5 +1,5 @@
 -- The words of a line, and numbers as words.
-use Rattle.std.specs.Prelude.{ℕ, ◌^◌, nat_lt, ◌&&◌, ◌==◌, Option, Some, None, List, [], ◌∷◌, if◌then◌else◌, decimal}
+use Rattle.std.specs.Prelude.{◌≡◌, ◌≢◌, ◌<◌, length, get_or, ℕ, ◌^◌, nat_lt, ◌&&◌, ◌==◌, Option, Some, None, List, [], ◌∷◌, if◌then◌else◌, decimal}
 use Rattle.std.specs.Str.{bytes_eq}
 use Rattle.std.specs.Str.Parse.{digits_value}
 
@@ -26,3 +26,9 @@ number_if word n = if nat_lt n (2 ^ 64) && bytes_eq word (decimal n) then Some n
 -- the number that a word spells
 unfoldable pub number_spelled : (word : List ℕ) → Option ℕ
 number_spelled word = number_if word (digits_value 10 word)
+
+-- a word with no sign, and no 0 in front
+pub record BeginsAsNumber (word : List ℕ) : Type 0 where
+  pub some : 0 < length word
+  pub unsigned : get_or word 0 0 ≢ 43
+  pub lead : get_or word 0 0 ≡ 48 → length word ≡ 1

@@ -1,12 +1,14 @@
 //! What is found of a trace.
 
-ghost use Rattle.std.specs.Prelude.{◌≡◌, ◌+◌, ◌^◌, ◌<◌, ◌≤◌, Some, None, IfSome, IfOk, IfErr, OnOk};
+ghost use Rattle.std.specs.Prelude.{◌≡◌, ◌+◌, ◌^◌, ◌<◌, ◌≤◌, ◌↔◌, [], Err, IsTrue, IfSome, IfOk, IfErr, OnOk};
 ghost use Rattle.std.specs.Vec.{vec_capacity};
 ghost use Rattle.meet_tickets.specs.declared.refusals.Refusal.TheVariants.{Memory};
+ghost use Rattle.meet_history.specs.declared.checker.CheckFault.TheVariants.{Memory as NoMemory};
+ghost use Rattle.meet_history.specs.Pushing.{HasSeen};
 ghost use Rattle.meet_run.specs.Reading.{UsesTurns, EndsInTurns, lines_of};
 ghost use Rattle.meet_run.specs.Running.{CannotRead};
-ghost use Rattle.meet_run.specs.Traces.{records_behind, trace_fault_in, IsTrace, NamesLine, IsVerdict, CheckEnds};
-ghost use Rattle.meet_run.specs.Traces.{IsUnreadTrace, IsTraceFault};
+ghost use Rattle.meet_run.specs.Traces.{records_behind, trace_fault_in, NamesLine, IsFound, AreFound, CheckEnds};
+ghost use Rattle.meet_run.specs.Traces.{ArePushed, IsVerdictOf, IsUnreadTrace, IsTraceFault};
 
 use crate::faults::{RunFault, at_line, cut_short};
 use crate::grammar::LONGEST_LINE;
@@ -15,23 +17,24 @@ use crate::output::write_whole;
 use crate::run::MOST_READS;
 use crate::trace_wording::push_illegal;
 use crate::wording::push_last_line;
-use meet_history::{CheckFault, check};
-use meet_tickets::{Deed, Kind, Record, Refusal};
+use meet_history::{CheckFault, Checker};
+use meet_tickets::{Kind, Refusal};
 use std::alloc::Global;
 use std::io::{Read, Write};
 
-/// Reads the records behind a trace's first line.
-fn read_records<R: Read>(
-    alloc: Global,
+/// Reads the records behind a trace's first line, and pushes each on the checker. The answer is how many they are.
+fn push_records<R: Read>(
     reader: &mut R,
     turns: &mut u64,
     line: &mut Vec<u8>,
-) -> Result<Vec<Record<Deed>>, RunFault>
+    checker: &mut Checker,
+) -> Result<u64, RunFault>
     requires room { LONGEST_LINE ≤ vec_capacity line.old }
     requires turns { turns.old + 1 < 2 ^ 64 }
-    ensures records { IfOk result (λ records.
-        IfSome (R.remaining reader.old) (λ rest. records_behind (lines_of rest)
-        ≡ record { items = records.items; fault = None })) }
+    requires fresh { HasSeen checker.old [] }
+    ensures pushed { IfOk result (λ count. IfSome (R.remaining reader.old) (λ rest.
+        ArePushed checker.new count (records_behind (lines_of rest)))) }
+    ensures kind { checker.new.place.kind ≡ checker.old.place.kind }
     ensures bad { IfErr result (λ fault. IfSome (R.remaining reader.old) (λ rest.
         NamesLine fault (records_behind (lines_of rest)).fault)) }
     ensures uses { UsesTurns (R.remaining reader.old) (R.remaining reader.new) turns.old turns.new }
@@ -39,30 +42,93 @@ fn read_records<R: Read>(
     ensures ends { OnOk result (EndsInTurns (R.remaining reader.old) turns.old) }
     ensures faults { IfErr result IsUnreadTrace }
 {
-    let mut records = Vec::new(alloc);
     // How many lines were read.
     let mut read = 1u64;
     loop {
         match next_record(reader, turns, line, read) {
-            Next::Read(entry) => match records.push(entry) {
-                Ok(()) => read += 1,
-                Err(_) => return Err(cut_short(Refusal::Memory)),
-            },
-            Next::Ended => return Ok(records),
+            Next::Read(entry) => {
+                if is_memory(checker.push(entry)) {
+                    return Err(cut_short(Refusal::Memory));
+                }
+                read += 1;
+            }
+            Next::Ended => return Ok(read - 1),
             Next::Faulty => return Err(at_line(Refusal::BadTrace, read + 1)),
             Next::Broken => return Err(cut_short(Refusal::ReadFault)),
         }
     }
 }
 
-/// Reads a whole trace: its kind of place, and its records.
-fn read_trace<R: Read>(
+/// Whether a push found no memory.
+fn is_memory(pushed: Result<(), CheckFault>) -> bool
+    ensures { IsTrue result ↔ (pushed ≡ Err NoMemory) }
+{
+    match pushed {
+        Err(CheckFault::Memory) => true,
+        Err(CheckFault::Illegal { place: _, why: _ }) => false,
+        Ok(()) => false,
+    }
+}
+
+/// What the checker found of so many records, and the line that says so. The only refusal is Memory.
+fn verdict(alloc: Global, checker: &Checker, count: u64) -> Result<(bool, Vec<u8>), Refusal>
+    ensures verdict { IfOk result (λ found. IsVerdictOf checker.now count found.0 found.1.items) }
+    ensures memory { IfErr result (λ why. why ≡ Memory) }
+{
+    let mut text = Vec::new(alloc);
+    match checker.standing() {
+        Ok(standing) => match push_last_line(&mut text, count, standing) {
+            Ok(()) => Ok((true, text)),
+            Err(_) => Err(Refusal::Memory),
+        },
+        Err(CheckFault::Illegal { place, why }) => match push_illegal(&mut text, place, why) {
+            Ok(()) => Ok((false, text)),
+            Err(_) => Err(Refusal::Memory),
+        },
+        Err(CheckFault::Memory) => Err(Refusal::Memory),
+    }
+}
+
+/// What is found of the records behind the first line of a trace of this kind of place, and the line that says so.
+fn find_records<R: Read>(
+    alloc: Global,
+    reader: &mut R,
+    turns: &mut u64,
+    line: &mut Vec<u8>,
+    kind: Kind,
+) -> Result<(bool, Vec<u8>), RunFault>
+    requires room { LONGEST_LINE ≤ vec_capacity line.old }
+    requires turns { turns.old + 1 < 2 ^ 64 }
+    ensures found { IfOk result (λ found. IfSome (R.remaining reader.old) (λ rest.
+        AreFound kind (records_behind (lines_of rest)) found.0 found.1.items)) }
+    ensures bad { IfErr result (λ fault. IfSome (R.remaining reader.old) (λ rest.
+        NamesLine fault (records_behind (lines_of rest)).fault)) }
+    ensures uses { UsesTurns (R.remaining reader.old) (R.remaining reader.new) turns.old turns.new }
+    ensures ends { OnOk result (EndsInTurns (R.remaining reader.old) turns.old) }
+    ensures faults { IfErr result IsUnreadTrace }
+{
+    let mut checker = match Checker::new(alloc, kind) {
+        Ok(checker) => checker,
+        Err(_) => return Err(cut_short(Refusal::Memory)),
+    };
+    let count = match push_records(reader, turns, line, &mut checker) {
+        Ok(count) => count,
+        Err(fault) => return Err(fault),
+    };
+    match verdict(alloc, &checker, count) {
+        Ok(found) => Ok(found),
+        Err(why) => Err(cut_short(why)),
+    }
+}
+
+/// Reads a whole trace, and says what is found of it, and the line that says so.
+fn find_trace<R: Read>(
     alloc: Global,
     reader: &mut R,
     turns: u64,
-) -> Result<(Kind, Vec<Record<Deed>>), RunFault>
-    ensures trace { IfOk result (λ trace. IfSome (R.remaining reader.old) (λ input.
-        IsTrace (lines_of input) trace.0 trace.1.items)) }
+) -> Result<(bool, Vec<u8>), RunFault>
+    ensures found { IfOk result (λ found. IfSome (R.remaining reader.old) (λ input.
+        IsFound (lines_of input) found.0 found.1.items)) }
     ensures bad { IfErr result (λ fault. IfSome (R.remaining reader.old) (λ input.
         NamesLine fault (trace_fault_in (lines_of input)))) }
     ensures uses { UsesTurns (R.remaining reader.old) (R.remaining reader.new) turns 0 }
@@ -79,8 +145,8 @@ fn read_trace<R: Read>(
         Err(_) => return Err(cut_short(Refusal::Memory)),
     };
     match next_head(reader, &mut left, &mut line) {
-        Next::Read(kind) => match read_records(alloc, reader, &mut left, &mut line) {
-            Ok(records) => Ok((kind, records)),
+        Next::Read(kind) => match find_records(alloc, reader, &mut left, &mut line, kind) {
+            Ok(found) => Ok(found),
             Err(fault) => Err(fault),
         },
         Next::Ended => Err(at_line(Refusal::BadTrace, 1)),
@@ -89,27 +155,8 @@ fn read_trace<R: Read>(
     }
 }
 
-/// Whether these records are legal, and the line that says so. The only refusal is Memory.
-fn verdict(alloc: Global, kind: Kind, records: &[Record<Deed>]) -> Result<(bool, Vec<u8>), Refusal>
-    ensures verdict { IfOk result (λ found. IsVerdict kind records.now found.0 found.1.items) }
-    ensures memory { IfErr result (λ why. why ≡ Memory) }
-{
-    let mut text = Vec::new(alloc);
-    match check(alloc, kind, records) {
-        Ok(standing) => match push_last_line(&mut text, records.len() as u64, standing) {
-            Ok(()) => Ok((true, text)),
-            Err(_) => Err(Refusal::Memory),
-        },
-        Err(CheckFault::Illegal { place, why }) => match push_illegal(&mut text, place, why) {
-            Ok(()) => Ok((false, text)),
-            Err(_) => Err(Refusal::Memory),
-        },
-        Err(CheckFault::Memory) => Err(Refusal::Memory),
-    }
-}
-
-/// Checks the trace that this reader gives. The whole of it is read before anything is written; a read of the reader
-/// takes one byte and costs a turn.
+/// Checks the trace that this reader gives. The whole of it is read before anything is written, and none of its records
+/// is kept: it takes the memory of the place that they leave. A read of the reader takes one byte and costs a turn.
 ///
 /// Where its records are legal it writes one line that counts them and says what stands at their end, and the answer is
 /// true. Else it writes one line that names the first record that can't stand, and why, and the answer is false.
@@ -132,13 +179,9 @@ pub fn check_trace_within<R: Read, W: Write>(
     ensures ends { OnOk result (EndsInTurns (R.remaining reader.old) turns) }
     ensures faults { IfErr result IsTraceFault }
 {
-    let (kind, records) = match read_trace(alloc, reader, turns) {
-        Ok(trace) => trace,
-        Err(fault) => return Err(fault),
-    };
-    let (legal, text) = match verdict(alloc, kind, records.as_slice()) {
+    let (legal, text) = match find_trace(alloc, reader, turns) {
         Ok(found) => found,
-        Err(why) => return Err(cut_short(why)),
+        Err(fault) => return Err(fault),
     };
     match write_whole(writer, text.as_slice()) {
         Ok(()) => Ok(legal),

@@ -1,9 +1,8 @@
 //! The words of a line, and numbers as words.
 
-ghost use Rattle.std.specs.Prelude.{◌≡◌};
-ghost use Rattle.meet_run.specs.Words.{word_of, rest_of, number_spelled};
+ghost use Rattle.std.specs.Prelude.{◌≡◌, true, false};
+ghost use Rattle.meet_run.specs.Words.{word_of, rest_of, number_spelled, BeginsAsNumber};
 
-use itoa::Buffer;
 use std::str;
 
 /// Cuts a text at its first space: what stands before it, and what is left from it on.
@@ -15,15 +14,24 @@ pub fn split_word(text: &[u8]) -> (&[u8], &[u8])
     text.split_at(end)
 }
 
+/// Whether a word can't be a number's one spelling by how it begins: it is empty, or has a sign, or a 0 in front.
+fn is_misspelled(word: &[u8]) -> bool
+    ensures wrong { result ≡ true → number_spelled word.now ≡ None }
+    ensures right { result ≡ false → BeginsAsNumber word.now }
+{
+    match word.first() {
+        None => true,
+        Some(b'0') => word.len() > 1,
+        Some(first) => *first == b'+',
+    }
+}
+
 /// The number below 2^64 of which this word is the one spelling, if there is one.
 pub(crate) fn read_number(word: &[u8]) -> Option<u64>
     ensures { result ≡ number_spelled word.now }
 {
-    let number = str::from_utf8(word).ok()?.parse::<u64>().ok()?;
-    let mut buffer = Buffer::new();
-    if word == buffer.format(number).as_bytes() {
-        Some(number)
-    } else {
-        None
+    if is_misspelled(word) {
+        return None;
     }
+    str::from_utf8(word).ok()?.parse::<u64>().ok()
 }

@@ -1,13 +1,11 @@
-use Rattle.std.proofs.Common.{◌≡◌, take}
-use Rattle.meet_tickets.specs.BySeat.{beginning, moment_of, IsLegalBySeat}
-use Rattle.meet_history.specs.Checking.{moment_at}
+use Rattle.std.proofs.Common.{◌≡◌, None, take}
+use Rattle.meet_history.specs.Pushing.{HasSeen}
 use Rattle.meet_history.proofs.checker.check.Given as goal
 
--- the records so far are legal, and leave the checker's moment
+-- the checker has seen the records so far
 abbrev pub invariant-loop-entry : goal.invariant-loop-entry
 invariant-loop-entry l = record {
-  kind : l.checker.kind ≡ l.fn.kind;
-  moment : moment_at l.checker ≡ moment_of l.fn.kind beginning (take l.entry-index l.records);
-  legal : IsLegalBySeat l.fn.kind (take l.entry-index l.records);
-  place : l.place ≡ l.entry-index;
+  kind : l.checker.place.kind ≡ l.fn.kind;
+  sound : l.checker.fault ≡ None;
+  seen : HasSeen l.checker (take l.entry-index l.records);
 }

@@ -2,7 +2,7 @@ use Rattle.std.proofs.Common.{◌∙◌, ap, sym, is_some, length, arith}
 use Rattle.std.proofs.lemmas.Bool.{false≢true}
 use Rattle.meet_tickets.specs.BySeat.{entry_of}
 use Rattle.meet_history.proofs.Seated.{seated-longer, seated-removed}
-use Rattle.meet_history.proofs.checker.Checker.withdraws.Goals as goal
+use Rattle.meet_history.proofs.checker.place.CheckedPlace.withdraws.Goals as goal
 
 pub returns-in-None-clause-allowed : goal.returns-in-None-clause-allowed
 returns-in-None-clause-allowed c =

@@ -8,10 +8,10 @@ ghost use Rattle.meet_tickets.specs.declared.lines.Hold.TheVariants.{Waiting, Ha
 ghost use Rattle.meet_tickets.specs.declared.records.Deed.TheVariants.{Withdrawn};
 ghost use Rattle.meet_history.specs.Checking.{is_ending, moment_at};
 
-use crate::checker::Checker;
+use crate::checker::place::CheckedPlace;
 use meet_tickets::{Cause, Deed, Entry, Hold, SeatNo, Ticket};
 
-impl Checker {
+impl CheckedPlace {
     /// Takes an ending's record in, if the rules give it.
     pub(super) fn takes_ending(&mut self, seat: SeatNo, ticket: Ticket, deed: Deed) -> bool
         requires seat { seat < length self.old.table.holds }

@@ -7,10 +7,10 @@ ghost use Rattle.meet_tickets.specs.BySeat.{seats_after};
 ghost use Rattle.meet_tickets.specs.declared.places.Side.TheVariants.{Giver};
 ghost use Rattle.meet_history.specs.Checking.{moment_at};
 
-use crate::checker::Checker;
+use crate::checker::place::CheckedPlace;
 use meet_tickets::{Deed, Entry, Hold, SeatNo, Side, Ticket};
 
-impl Checker {
+impl CheckedPlace {
     /// Takes a request's record in, if the rules give it, where its seat is free and its ticket is new.
     pub(super) fn takes_request(&mut self, seat: SeatNo, ticket: Ticket, deed: Deed) -> bool
         requires seat { seat < length self.old.table.holds }

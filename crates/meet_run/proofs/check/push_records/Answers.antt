@@ -1,0 +1,48 @@
+use Rattle.std.proofs.Common.{◌+◌, ◌-◌, ◌++◌, ◌∷◌, [], length-append, arith, refl, sym, ◌∙◌}
+use Rattle.std.proofs.lemmas.Bool.{false≢true}
+use Rattle.meet_run.specs.Reading.{lines_of}
+use Rattle.meet_run.specs.Traces.{records_behind}
+use Rattle.meet_run.proofs.LineLemmas.{uses-more}
+use Rattle.meet_run.proofs.TraceReading.{read-more, read-end, read-fault, names-it}
+use Rattle.meet_run.proofs.check.push_records.Goals as goal
+
+pub loop-entry-preserved : goal.loop-entry-preserved
+loop-entry-preserved g c =
+    let before = c.loop-entry.invariant in
+    let past = before.pushed.0 in
+    let all = past ++ c.in-Read.entry ∷ [] in
+    record {
+      pushed = (
+        all,
+        read-more past c.loop-entry.read (g.R.Read.remaining c.args.reader.now) (g.R.Read.remaining c.loop-entry.reader) (g.R.Read.remaining c.next_record.new.reader) c.in-Read.entry all before.pushed.1 c.in-Read.ensures.next.0 refl,
+        omega (arith, before.pushed.2, length-append past (c.in-Read.entry ∷ [])),
+        c.push.ensures.seen (λ is. false≢true (sym c.if-is_memory.false ∙ c.is_memory.ensures.1 is)) past before.pushed.3,
+      );
+      kind = c.push.ensures.kind ∙ before.kind;
+      uses = uses-more (g.R.Read.remaining c.args.reader.now) (g.R.Read.remaining c.loop-entry.reader) (g.R.Read.remaining c.next_record.new.reader) c.args.turns.now c.loop-entry.turns c.next_record.new.turns before.uses c.next_record.ensures.uses;
+      few = omega (arith, before.few, c.in-Read.ensures.next.1);
+      room = c.next_record.ensures.room;
+    }
+
+pub returns-then-is_memory-clause-uses : goal.returns-then-is_memory-clause-uses
+returns-then-is_memory-clause-uses g c =
+    uses-more (g.R.Read.remaining c.args.reader.now) (g.R.Read.remaining c.loop-entry.reader) (g.R.Read.remaining c.next_record.new.reader) c.args.turns.now c.loop-entry.turns c.next_record.new.turns c.loop-entry.invariant.uses c.next_record.ensures.uses
+
+pub returns-in-Ended-clause-pushed : goal.returns-in-Ended-clause-pushed
+returns-in-Ended-clause-pushed g c =
+    let before = c.loop-entry.invariant in
+    read-end before.pushed.0 c.loop-entry.read (g.R.Read.remaining c.args.reader.now) (g.R.Read.remaining c.loop-entry.reader) c.loop-entry.checker (c.loop-entry.read - 1) before.pushed.1 (omega (arith, before.pushed.2)) before.pushed.3 c.in-Ended.ensures.next.0
+
+pub returns-in-Faulty-clause-bad : goal.returns-in-Faulty-clause-bad
+returns-in-Faulty-clause-bad g c =
+    let before = c.loop-entry.invariant in
+    names-it (g.R.Read.remaining c.args.reader.now) (λ rest. (records_behind (lines_of rest)).fault) c.at_line.result (c.loop-entry.read + 1) c.at_line.ensures
+    (read-fault before.pushed.0 c.loop-entry.read (g.R.Read.remaining c.args.reader.now) (g.R.Read.remaining c.loop-entry.reader) before.pushed.1 c.in-Faulty.ensures.next.0)
+
+pub returns-in-Faulty-clause-uses : goal.returns-in-Faulty-clause-uses
+returns-in-Faulty-clause-uses g c =
+    uses-more (g.R.Read.remaining c.args.reader.now) (g.R.Read.remaining c.loop-entry.reader) (g.R.Read.remaining c.next_record.new.reader) c.args.turns.now c.loop-entry.turns c.next_record.new.turns c.loop-entry.invariant.uses c.next_record.ensures.uses
+
+pub returns-in-Broken-clause-uses : goal.returns-in-Broken-clause-uses
+returns-in-Broken-clause-uses g c =
+    uses-more (g.R.Read.remaining c.args.reader.now) (g.R.Read.remaining c.loop-entry.reader) (g.R.Read.remaining c.next_record.new.reader) c.args.turns.now c.loop-entry.turns c.next_record.new.turns c.loop-entry.invariant.uses c.next_record.ensures.uses
