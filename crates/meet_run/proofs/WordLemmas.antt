@@ -1,17 +1,18 @@
 -- Words of a line, and numbers as words.
-use Rattle.std.proofs.Common.{◌≡◌, ℕ, suc, ◌+◌, ◌^◌, ◌<◌, ◌≤◌, Bool, true, false, not, cond, eqb, ltb, ◌&&◌, List, [], ◌∷◌, ◌++◌, length, take, drop, Option, Some, None, unwrap_or, get_or, Result, Ok, Err, refl, sym, ap, subst, ◌∙◌, arith, inl, inr}
-use Rattle.std.specs.Prelude.{decimal, ⊤, slice_get}
+use Rattle.std.proofs.Common.{◌≡◌, ℕ, suc, ◌+◌, ◌-◌, ◌*◌, ◌^◌, ◌<◌, ◌≤◌, Bool, true, false, not, cond, eqb, ltb, ◌&&◌, List, [], ◌∷◌, ◌++◌, length, take, drop, Option, Some, None, unwrap_or, get_or, refl, sym, ap, subst, ◌∙◌, arith, inl, inr}
+use Rattle.std.specs.Prelude.{decimal, ⊤, slice_get, IfSome, IfNone}
 use Rattle.std.specs.Borrow.{Bor}
 use Rattle.std.specs.Option.{MatchOption, option_map}
-use Rattle.std.specs.Result.{MatchResult, result_ok}
-use Rattle.std.specs.Str.{bytes_eq, IsUtf8}
-use Rattle.std.specs.Str.Parse.{digits_value, ParsesUnsigned, AllDigits, without_leading_plus}
+use Rattle.std.specs.Char.{digit_value}
+use Rattle.std.specs.Str.{bytes_eq}
+use Rattle.std.specs.Str.Parse.{digits_value, digits_value_after, AllDigits}
 use Rattle.std.specs.List.{position, position_or_len}
 use Rattle.std.proofs.lemmas.Bool.{cases_Bool, ltb-false, eqb-true, ne_eqb, and_parts, ltb-true, lt-ltb, cond-true, cond-false, false_from_ne_true}
-use Rattle.std.proofs.lemmas.Fmt.{decimal_is_IsNumeral, decimal-digits_value, parse-decimal, IsAscii-decimal}
-use Rattle.std.proofs.lemmas.Str.{IsUtf8-from_ascii}
-use Rattle.std.proofs.lemmas.Str.Parse.{digit_from_value, numerals_by_value, tells_digits, without_leading_plus_none}
+use Rattle.std.proofs.lemmas.Fmt.{decimal_is_IsNumeral, decimal-digits_value}
+use Rattle.std.proofs.lemmas.Str.Parse.{digit_from_value, numerals_by_value, tells_digits}
 use Rattle.std.proofs.lemmas.List.Sums.{prefix_len-le-length}
+use Rattle.std.proofs.lemmas.List.{drop_more}
+use Rattle.std.proofs.lemmas.Str.{digit_value_digit}
 use Rattle.std.proofs.lemmas.Option.{cond_some}
 use Rattle.std.proofs.lemmas.Slice.Eq.{bytes_eq-Decides}
 use Rattle.meet_run.specs.Words.{word_of, rest_of, behind, number_if, number_spelled, BeginsAsNumber}
@@ -79,25 +80,6 @@ number_spelled-none word h =
     let fails : (ltb v (2 ^ 64) && bytes_eq word (decimal v)) ≡ false =
     false_from_ne_true _ (λ t. let q = and_parts (ltb v (2 ^ 64)) (bytes_eq word (decimal v)) t in h v (ltb-true v (2 ^ 64) q.0) ((bytes_eq-Decides word (decimal v)).0 q.1)) in
     cond-false _ (Some v) None fails
-
--- what isn't text spells no number
-pub not-text : {S E : Type 0} (word : List ℕ) (r : Result S E) (P : S → Type 0) (Q : E → Type 0) → MatchResult r P (λ e. (¬ (IsUtf8 word)) × Q e) → result_ok r ≡ None → number_spelled word ≡ None
-not-text word (Ok s) P Q h e = absurd cc
-not-text word (Err d) P Q h e =
-    number_spelled-none word (λ n lt same. h.0 (subst IsUtf8 (sym same) (IsUtf8-from_ascii (decimal n) (IsAscii-decimal n lt))))
-
--- what stands in a result that is there
-pub text-is : {S E : Type 0} (r : Result S E) (P : S → Type 0) (Q : E → Type 0) (s : S) → MatchResult r P Q → result_ok r ≡ Some s → P s
-text-is (Ok x) P Q s h e = let same : x ≡ s = cc in subst P same h
-text-is (Err d) P Q s h e = absurd cc
-
-parsed : {E : Type 0} (word text : List ℕ) (r : Result ℕ E) → ParsesUnsigned 64 10 text r → text ≡ word → (n : ℕ) → n < 2 ^ 64 → word ≡ decimal n → r ≡ Ok n
-parsed word text r h same n lt e = parse-decimal 64 n text r lt lt (same ∙ e) h
-
--- what doesn't parse spells no number
-pub not-parsed : {E : Type 0} (word text : List ℕ) (r : Result ℕ E) → ParsesUnsigned 64 10 text r → text ≡ word → result_ok r ≡ None → number_spelled word ≡ None
-not-parsed word text r h same fails =
-    number_spelled-none word (λ n lt e. let p : r ≡ Ok n = parsed word text r h same n lt e in let q : result_ok r ≡ Some n = ap (λ x. result_ok x) p in absurd cc)
 
 -- ---- a prefix
 
@@ -222,19 +204,38 @@ long-zero word zero many = number_spelled-none word (λ n lt same. at word zero 
     at (c ∷ []) zero many n lt same = omega (arith, many)
     at (c ∷ e ∷ cs) zero many n lt same = no-zero-in-front n lt e cs (ap (λ d. d ∷ e ∷ cs) (sym zero) ∙ same)
 
--- what parses, and begins so, is a number's one spelling
-pub parsed-number : {E : Type 0} (word text : List ℕ) (r : Result ℕ E) → BeginsAsNumber word → ParsesUnsigned 64 10 text r → text ≡ word → result_ok r ≡ number_spelled word
-parsed-number word text (Err e) begins h same = sym (not-parsed word text (Err e) h same refl)
-parsed-number {E} word text (Ok n) begins h same =
-    let r : Result ℕ E = Ok n in
-    let own : ParsesUnsigned 64 10 word r = subst (λ (t : List ℕ). ParsesUnsigned 64 10 t r) same h in
-    let bare : without_leading_plus word ≡ word = without_leading_plus_none word begins.unsigned in
-    let digits : AllDigits 10 word = subst (AllDigits 10) bare own.0.0.1 in
-    let value : n ≡ digits_value 10 word = own.1 ∙ ap (digits_value 10) bare in
-    let small : digits_value 10 word < 2 ^ 64 = subst (λ (ds : List ℕ). digits_value 10 ds < 2 ^ 64) bare own.0.1 in
-    let spelled : decimal (digits_value 10 word) ≡ word = decimal-digits_value (numerals_by_value _ tells_digits) word digits begins.some begins.lead small in
-    let reads : number_spelled word ≡ Some (digits_value 10 word) = subst (λ (w : List ℕ). number_spelled w ≡ Some (digits_value 10 word)) spelled (number_spelled-decimal (digits_value 10 word) small) in
-    ap (λ m. Some m) value ∙ sym reads
+-- digits that begin so are the one spelling of their value
+pub digits-number : (word : List ℕ) (n : ℕ) → BeginsAsNumber word → AllDigits 10 word → n ≡ digits_value 10 word → n < 2 ^ 64 → number_spelled word ≡ Some n
+digits-number word n begins digits value small =
+    let fits : digits_value 10 word < 2 ^ 64 = subst (λ m. m < 2 ^ 64) value small in
+    let spelled : decimal n ≡ word = ap decimal value ∙ decimal-digits_value (numerals_by_value _ tells_digits) word digits begins.some begins.lead fits in
+    subst (λ (w : List ℕ). number_spelled w ≡ Some n) spelled (number_spelled-decimal n small)
+
+-- and what isn't digits, or too great, spells none
+pub no-number : (word : List ℕ) → (AllDigits 10 word → 2 ^ 64 ≤ digits_value 10 word) → number_spelled word ≡ None
+no-number word great =
+    number_spelled-none word (λ n lt same. let is = decimal_is_IsNumeral n lt in omega (arith, great (subst (AllDigits 10) (sym same) is.0.1), ap (digits_value 10) same, is.1))
+
+-- so a word that begins so reads as its digits do
+pub read-number : (word : List ℕ) (r : Option ℕ) → BeginsAsNumber word → IfSome r (λ n. AllDigits 10 word × (n ≡ digits_value 10 word)) → IfNone r (AllDigits 10 word → 2 ^ 64 ≤ digits_value 10 word) → IfSome r (λ n. n < 2 ^ 64) → r ≡ number_spelled word
+read-number word None begins read none small = sym (no-number word none)
+read-number word (Some n) begins read none small = sym (digits-number word n begins read.0 read.1 small)
+
+-- more digits make no number less
+pub value-grows : (n : ℕ) (ds : List ℕ) → n ≤ digits_value_after 10 n ds
+value-grows n [] = omega arith
+value-grows n (d ∷ ds) = omega (arith, value-grows (n * 10 + digit_value d) ds)
+
+-- digits of which the next makes the number too great
+pub too-great : (word : List ℕ) (at n : ℕ) → at < length word → digits_value_after 10 n (drop at word) ≡ digits_value 10 word → AllDigits 10 (drop at word) → (n * 10 + (get_or word at 0 - 48) < 2 ^ 64 → ⊥) → 2 ^ 64 ≤ digits_value 10 word
+too-great word at n there value digits over =
+    let b : ℕ = get_or word at 0 in
+    let rest : List ℕ = drop (at + 1) word in
+    let step : drop at word ≡ b ∷ rest = drop_more word at 0 there in
+    let left : digits_value_after 10 n (b ∷ rest) ≡ digits_value 10 word = subst (λ (ds : List ℕ). digits_value_after 10 n ds ≡ digits_value 10 word) step value in
+    let all : AllDigits 10 (b ∷ rest) = subst (AllDigits 10) step digits in
+    let digit : digit_value b + 48 ≡ b = digit_value_digit b (digit_from_value b all.0) in
+    omega (arith, value-grows (n * 10 + digit_value b) rest, left, digit, over)
 
 -- a word's first byte
 pub no-first : (word : List ℕ) → None ≡ slice_get word 0 → word ≡ []

@@ -1,9 +1,8 @@
 //! The words of a line, and numbers as words.
 
-ghost use Rattle.std.specs.Prelude.{◌≡◌, true, false};
+ghost use Rattle.std.specs.Prelude.{◌≡◌, ◌^◌, ◌<◌, ◌≤◌, true, false, IfSome, IfNone};
+ghost use Rattle.std.specs.Str.Parse.{AllDigits, digits_value};
 ghost use Rattle.meet_run.specs.Words.{word_of, rest_of, number_spelled, BeginsAsNumber};
-
-use std::str;
 
 /// Cuts a text at its first space: what stands before it, and what is left from it on.
 pub fn split_word(text: &[u8]) -> (&[u8], &[u8])
@@ -26,6 +25,29 @@ fn is_misspelled(word: &[u8]) -> bool
     }
 }
 
+/// The number that digits write, where each byte is one and the number is below 2^64.
+fn read_digits(word: &[u8]) -> Option<u64>
+    ensures read { IfSome result (λ number. AllDigits 10 word.now × (number ≡ digits_value 10 word.now)) }
+    ensures small { IfSome result (λ number. number < 2 ^ 64) }
+    ensures none { IfNone result (AllDigits 10 word.now → 2 ^ 64 ≤ digits_value 10 word.now) }
+{
+    let mut number = 0u64;
+    for byte in word {
+        if !byte.is_ascii_digit() {
+            return None;
+        }
+        let digit = u64::from(*byte - b'0');
+        number = match number.checked_mul(10) {
+            Some(tens) => match tens.checked_add(digit) {
+                Some(more) => more,
+                None => return None,
+            },
+            None => return None,
+        };
+    }
+    Some(number)
+}
+
 /// The number below 2^64 of which this word is the one spelling, if there is one.
 pub(crate) fn read_number(word: &[u8]) -> Option<u64>
     ensures { result ≡ number_spelled word.now }
@@ -33,5 +55,5 @@ pub(crate) fn read_number(word: &[u8]) -> Option<u64>
     if is_misspelled(word) {
         return None;
     }
-    str::from_utf8(word).ok()?.parse::<u64>().ok()
+    read_digits(word)
 }
