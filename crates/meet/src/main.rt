@@ -11,10 +11,10 @@ mod command_line;
 
 use clap::error::ErrorKind;
 use command_line::{Task, Wanted, wanted_of};
-use meet_run::{Progress, RunFault, check_trace, report_of, run_drive, run_script, run_trace};
+use meet_run::{Blocks, Progress, RunFault, check_trace, report_of, run_drive, run_script, run_trace};
 use meet_tickets::Refusal;
 use std::alloc::{AllocError, Global};
-use std::io::{BufReader, IsTerminal, Read, Write};
+use std::io::{IsTerminal, Read, Write};
 use std::process::ExitCode;
 use std::{env, io};
 
@@ -49,7 +49,7 @@ fn perform<R: Read, W: Write>(
 
 /// Does what is asked with standard input and standard output.
 fn perform_here(rt: &HostRuntime, task: Task) -> Result<bool, RunFault> {
-    let Ok(mut reader) = BufReader::new(rt.alloc(), rt.stdin()) else {
+    let Ok(mut reader) = Blocks::new(rt.alloc(), rt.stdin()) else {
         return Err(MEMORY);
     };
     perform(rt.alloc(), &mut reader, &mut rt.stdout(), task)

@@ -1,3 +1,4 @@
+pub mod BlockLemmas
 pub mod CallLemmas
 pub mod HeadLemmas
 pub mod LineLemmas

@@ -1,3 +1,4 @@
+pub mod Blocks
 pub mod Driving
 pub mod Faults
 pub mod Grammar

@@ -2,6 +2,7 @@
 //! threads at a queue, and what came of it as text.
 #![tactic(auto)]
 
+pub mod blocks;
 pub mod check;
 pub mod driving;
 pub mod faults;
@@ -20,6 +21,7 @@ pub mod trace_wording;
 pub mod wording;
 pub mod words;
 
+pub use blocks::Blocks;
 pub use check::{check_trace, check_trace_within};
 pub use driving::{push_drive, run_drive};
 pub use faults::{Report, RunFault, report_of};
