@@ -1,32 +1,38 @@
 //! The line of a fair place: who came first is met first.
 
-ghost use Rattle.std.specs.Prelude.{◌≡◌, ◌≢◌, ◌+◌, ◌<◌, [], ◌∷◌, ◌++◌, All};
+ghost use Rattle.std.specs.Prelude.{◌≡◌, ◌≢◌, ℕ, ◌+◌, ◌%◌, ◌<◌, ◌≤◌, ◌==◌, [], ◌∷◌, ◌++◌, All, find, length, option_to_list};
+ghost use Rattle.meet_tickets.specs.BySeat.{without_first};
 ghost use Rattle.meet_tickets.specs.declared.places.End.TheVariants.{Front};
+ghost use Rattle.meet_line.specs.Stored.{fellows, IsLookedAt};
 
 use crate::line::Line;
+use crate::linked::Linked;
 use meet_tickets::{Entry, Refusal, Ticket};
 use std::alloc::Global;
-use std::collections::VecDeque;
 use std::marker::Model;
 
-/// A line whose first entry is met. Taking from the front moves nothing; a removal walks.
+/// A line whose first entry is met. Entries are found in buckets by their tickets, and leave without a walk.
 #[derive(Drop)]
 pub struct FairLine<T> {
-    entries: VecDeque<Entry<T>>,
-    room: usize,
+    line: Linked<T>,
 }
 
 impl<T> Model for FairLine<T> {
-    ghost use Rattle.std.specs.Prelude.{◌≡◌, ◌≢◌, ◌+◌, ◌≤◌, AllPairs};
-    ghost use Rattle.std.specs.VecDeque.{deque_len, deque_capacity};
-    ghost use Rattle.meet_line.specs.Lined.{Lined};
+    ghost use Rattle.meet_line.specs.Stored.{Bucketed};
 
-    ghost Value = { Lined T };
+    ghost Value = { Bucketed T };
 
-    ghost view = { λ line. record { entries = line.entries.items; room = line.room } };
+    ghost view = { λ line. line.line };
+}
 
-    ghost invariant = { λ line. (deque_len line.entries + line.room ≤ deque_capacity line.entries)
-        × AllPairs (λ e f. e.ticket ≢ f.ticket) line.entries.items };
+impl<T> FairLine<T> {
+    /// How many nodes the last removal looked at: the ticket's own, and those of its bucket that came later; all of its
+    /// bucket, where the ticket wasn't there; 0 before the first removal.
+    pub fn looks(&self) -> u64
+        ensures { result ≡ self.now.looked }
+    {
+        self.line.looks() as u64
+    }
 }
 
 impl<T> Line<T> for FairLine<T> {
@@ -36,22 +42,18 @@ impl<T> Line<T> for FairLine<T> {
 
     ghost end = { Front };
 
-    fn empty(alloc: Global) -> Self {
+    fn empty(alloc: Global) -> Self
+        ensures entries { result.entries ≡ [] }
+        ensures room { result.room ≡ 0 }
+        ensures looked { result.looked ≡ 0 }
+    {
         FairLine {
-            entries: VecDeque::new(alloc),
-            room: 0,
+            line: Linked::empty(alloc),
         }
     }
 
     fn reserve(&mut self, count: u64) -> Result<(), Refusal> {
-        let count = count as usize;
-        if count > self.room {
-            if self.entries.reserve(count).is_err() {
-                return Err(Refusal::Memory);
-            }
-            self.room = count;
-        }
-        Ok(())
+        self.line.reserve(count as usize)
     }
 
     fn push_back(&mut self, entry: Entry<T>)
@@ -60,51 +62,45 @@ impl<T> Line<T> for FairLine<T> {
         ensures entries { self.new.entries ≡ self.old.entries ++ entry ∷ [] }
         ensures room { self.new.room + 1 ≡ self.old.room }
     {
-        self.entries.push_back_reserved(entry);
-        self.room -= 1;
+        self.line.push_back(entry);
     }
 
     fn meet(&mut self) -> Option<Entry<T>> {
-        let met = self.entries.pop_front()?;
-        self.room += 1;
-        Some(met)
+        self.line.meet_first()
     }
 
-    fn remove(&mut self, ticket: Ticket) -> Option<Entry<T>> {
-        let index = self
-            .entries
-            .iter()
-            .position(|entry| entry.ticket == ticket)?;
-        let removed = self.entries.remove(index)?;
-        self.room += 1;
-        Some(removed)
+    fn remove(&mut self, ticket: Ticket) -> Option<Entry<T>>
+        ensures entry { result ≡ find (λ e. e.ticket == ticket) self.old.entries }
+        ensures entries { self.new.entries ≡ without_first (λ e. e.ticket == ticket) self.old.entries }
+        ensures room { self.new.room ≡ self.old.room + length (option_to_list result) }
+        ensures looked { IsLookedAt self.old.buckets ticket self.old.entries result self.new.looked }
+        ensures few { self.new.looked ≤ fellows self.old.buckets ticket self.old.entries }
+    {
+        self.line.remove(ticket)
     }
 
     fn first(&self) -> Option<&Entry<T>> {
-        self.entries.front()
+        self.line.first()
     }
 
     fn entry(&self, ticket: Ticket) -> Option<&Entry<T>> {
-        self.entries.iter().find(|entry| entry.ticket == ticket)
+        self.line.entry(ticket)
     }
 
     fn list(&self, alloc: Global) -> Result<Vec<&Entry<T>>, Refusal> {
-        match self.entries.iter().collect(alloc) {
-            Ok(list) => Ok(list),
-            Err(_) => Err(Refusal::Memory),
-        }
+        self.line.list(alloc)
     }
 
     fn len(&self) -> u64 {
-        self.entries.len() as u64
+        self.line.len() as u64
     }
 
     fn room(&self) -> u64 {
-        self.room as u64
+        self.line.room() as u64
     }
 
     fn destroy_empty(self) {
-        let FairLine { entries, room: _ } = self;
-        entries.destroy_empty();
+        let FairLine { line } = self;
+        line.destroy_empty();
     }
 }

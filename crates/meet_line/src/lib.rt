@@ -3,12 +3,18 @@
 #![tactic(auto)]
 
 mod answers;
+mod bucket_table;
 mod fair;
 mod left;
 mod line;
+mod linked;
+mod list_fair;
+mod list_stack;
 mod meeting;
 mod meetings;
+mod nodes;
 mod opened;
+mod roll;
 mod stack;
 mod table;
 
@@ -16,6 +22,8 @@ pub use answers::{Followed, Gave, Interrupted, Offered, Polled, Put, TakenBack, 
 pub use fair::FairLine;
 pub use left::{Left, LeftStanding};
 pub use line::Line;
+pub use list_fair::ListFair;
+pub use list_stack::ListStack;
 pub use meetings::Meetings;
 pub use stack::StackLine;
 pub use table::SeatTable;

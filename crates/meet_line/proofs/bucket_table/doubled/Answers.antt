@@ -1,0 +1,8 @@
+use Rattle.std.proofs.Common.{suc, arith}
+use Rattle.std.proofs.Math.Nat.{pow-suc}
+use Rattle.meet_line.proofs.bucket_table.doubled.Goals as goal
+
+pub loop-size-preserved : goal.loop-size-preserved
+loop-size-preserved c =
+    let power = c.loop-size.invariant.2 in
+    (omega (arith, c.loop-size.invariant.0), omega (arith, c.loop-size.invariant.1), (suc power.0, omega (arith, power.1, pow-suc 2 power.0)))

@@ -1,0 +1,31 @@
+use Rattle.std.proofs.Common.{◌≡◌, ◌≢◌, ◌∙◌, ◌<◌, ◌==◌, length, sym, rules, arith, tests}
+use Rattle.std.specs.List.{position}
+use Rattle.std.proofs.lemmas.Iterator.{YieldsList-from_slice}
+use Rattle.std.proofs.lemmas.Iterator.Search.{position_from_yields_List}
+use Rattle.std.proofs.lemmas.List.Quantifiers.{all_pairs_remove}
+use Rattle.meet_line.proofs.Removals.{removed_there, removed_nowhere}
+use Rattle.meet_line.proofs.list_stack.ListStackLine.remove.Given.{Over}
+use Rattle.meet_line.proofs.list_stack.ListStackLine.remove.Goals.{After-position}
+use Rattle.meet_line.proofs.list_stack.ListStackLine.remove.Goals as goal
+
+-- the walk stops at the first entry of the ticket
+stops : (g : Over) (c : After-position g) → c.position.result ≡ position (λ e. e.ticket == c.args.ticket) c.self.inside.entries.items
+stops g c =
+    position_from_yields_List (λ e. e.ticket == c.args.ticket) _ _ _ c.position.ensures.ran (YieldsList-from_slice c.self.inside.entries.items (cc)) (λ x b q k. search (rules, tests))
+
+pub returns-in_err-index : goal.returns-in_err-index
+returns-in_err-index g c =
+    let removed = removed_nowhere (λ e. e.ticket == c.args.ticket) c.self.inside.entries.items (sym (stops g (goal.at.returns-in_err-index g c).After-position) ∙ c.in_err-index.was) in
+    rw (← c.self.view_is) (record { entry = c.from_residual.ensures ∙ removed.0; entries = removed.1; room = search rules })
+
+pub invariant_of-self : goal.invariant_of-self
+invariant_of-self g c =
+    let there : c.in_ok-index.index < length c.self.inside.entries.items = search rules in (
+      omega (arith, c.self.invariant.0, c.remove-removed.ensures.len, c.remove-removed.ensures.capacity),
+      rw c.remove-removed.ensures.items (all_pairs_remove (λ e f. e.ticket ≢ f.ticket) c.self.inside.entries.items c.in_ok-index.index there c.self.invariant.1),
+    )
+
+pub returns : goal.returns
+returns g c =
+    let removed = removed_there (λ e. e.ticket == c.args.ticket) c.self.inside.entries.items c.remove-removed.new.self.items c.in_ok-index.index c.remove-removed.result (sym (stops g (goal.at.returns g c).After-position) ∙ c.in_ok-index.was) c.remove-removed.ensures.value c.remove-removed.ensures.items in
+    rw (← c.self.view_is) (record { entry = removed.0; entries = removed.1; room = search rules })

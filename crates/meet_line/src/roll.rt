@@ -1,0 +1,291 @@
+//! The tickets of a line in order of arrival, each under a key, and a table by which one is found.
+
+ghost use Rattle.std.specs.Prelude.{◌≡◌, ◌≢◌, ℕ, ◌+◌, ◌%◌, ◌<◌, ◌≤◌, [], ◌∷◌, ◌++◌, List, length, All, Some, None, OnOk, replicate, slice_index_or, slice_set};
+ghost use Rattle.slab.specs.Slab.{ContainsKey, slab_len};
+ghost use Rattle.meet_line.specs.Nodes.{field_at, ticket_at, with_node};
+ghost use Rattle.meet_line.specs.Rolled.{Placed, StandsAt, IsFound, IsLastKey, first_key, AreChained, IsLine, IsRechained, IsTableSize, keys_of};
+
+use crate::bucket_table::{bucket_of, doubled, empty_out};
+use crate::nodes::{Node, chain, link_after, link_before, link_newer, link_older};
+use slab::Slab;
+use std::alloc::{AllocError, Global};
+use std::marker::Model;
+
+/// The tickets of a line, each under a key. `reserve` alone takes memory.
+#[derive(Drop)]
+pub(crate) struct Roll {
+    nodes: Slab<Node>,
+    first: Option<usize>,
+    last: Option<usize>,
+    table: Vec<Option<usize>>,
+}
+
+impl Model for Roll {
+    ghost use Rattle.meet_line.specs.Rolled.{Rolled};
+
+    ghost Value = { Rolled };
+
+    ghost use Rattle.meet_line.specs.Rolled.{rolled, IsRoll, keys_of};
+
+    ghost view = { λ r. rolled r.nodes r.first r.table.items };
+
+    ghost invariant = { λ r. IsRoll r.nodes r.first r.last r.table.items (keys_of r.nodes r.first) };
+}
+
+/// What a look for a ticket came to.
+#[derive(Drop)]
+pub(crate) struct Found {
+    /// The key of its place, if it has one.
+    pub(crate) key: Option<usize>,
+    /// How many nodes were looked at.
+    pub(crate) looked: usize,
+}
+
+/// The node of this key joins its bucket's chain; the key after it in the line, if there is one.
+fn chain_next(nodes: &mut Slab<Node>, table: &mut Vec<Option<usize>>, key: usize) -> Option<usize>
+    requires there { ContainsKey nodes.old key }
+    requires some { 0 < length table.old.items }
+    ensures nodes { nodes.new ≡ with_node (with_node nodes.old (Some key)
+        (λ n. record n { older = slice_index_or table.old.items (ticket_at nodes.old key % length table.old.items) None; newer = None }))
+        (slice_index_or table.old.items (ticket_at nodes.old key % length table.old.items) None) (λ n. record n { newer = Some key }) }
+    ensures table { table.new.items ≡ slice_set table.old.items (ticket_at nodes.old key % length table.old.items) (Some key) }
+    ensures next { result ≡ field_at (λ n. n.after) None nodes.old key }
+{
+    let node = nodes[key];
+    let bucket = bucket_of(node.ticket, table.len());
+    chain(nodes, &mut table[bucket], key);
+    node.after
+}
+
+/// Slots for keys up to this number, the new ones empty.
+fn pad<X>(slots: &mut Vec<Option<X>>, width: usize) -> Result<(), AllocError>
+    ensures same { (k : ℕ) → slice_index_or slots.new.items k None ≡ slice_index_or slots.old.items k None }
+    ensures longer { length slots.old.items ≤ length slots.new.items }
+    ensures wide { OnOk result (width ≤ length slots.new.items) }
+{
+    let len = slots.len();
+    if len < width {
+        slots.reserve(width - len)?;
+        for _key in len..width {
+            slots.push_reserved(None);
+        }
+    }
+    Ok(())
+}
+
+/// Makes room for this many nodes more, and slots for their keys: in a copy of the nodes, so that all stays as it was
+/// where there is no memory for the slots.
+fn widen_nodes<X>(
+    nodes: &mut Slab<Node>,
+    slots: &mut Vec<Option<X>>,
+    count: usize,
+) -> Result<(), AllocError>
+    ensures nodes { nodes.new ≡ record nodes.old { capacity = nodes.new.capacity } }
+    ensures room { OnOk result (slab_len nodes.new + count ≤ nodes.new.capacity) }
+    ensures wider { nodes.old.capacity ≤ nodes.new.capacity }
+    ensures slots { (k : ℕ) → slice_index_or slots.new.items k None ≡ slice_index_or slots.old.items k None }
+    ensures fits { nodes.old.capacity ≤ length slots.old.items → nodes.new.capacity ≤ length slots.new.items }
+{
+    if nodes.capacity() - nodes.len() >= count {
+        return Ok(());
+    }
+    let mut wider = nodes.clone()?;
+    wider.reserve(count)?;
+    pad(slots, wider.capacity())?;
+    *nodes = wider;
+    Ok(())
+}
+
+/// The nodes of a line join the chains of a table that is empty, in order of arrival.
+fn rechain(nodes: &mut Slab<Node>, first: Option<usize>, table: &mut Vec<Option<usize>>)
+    requires line { IsLine nodes.old first (keys_of nodes.old first) }
+    requires empty { table.old.items ≡ replicate (length table.old.items) None }
+    requires some { 0 < length table.old.items }
+    ensures chained { AreChained nodes.new table.new.items (length table.old.items) (keys_of nodes.old first) }
+    ensures nodes { IsRechained nodes.old nodes.new }
+    ensures size { length table.new.items ≡ length table.old.items }
+{
+    let mut at = first;
+    for _step in 0..nodes.len() {
+        if let Some(key) = at {
+            at = chain_next(nodes, table, key);
+        }
+    }
+}
+
+impl Roll {
+    /// A roll without a ticket, a key or a bucket.
+    pub(crate) fn new(alloc: Global) -> Roll
+        ensures places { result.places ≡ [] }
+        ensures width { result.width ≡ 0 }
+        ensures buckets { result.buckets ≡ 0 }
+    {
+        Roll {
+            nodes: Slab::new(alloc),
+            first: None,
+            last: None,
+            table: Vec::new(alloc),
+        }
+    }
+
+    /// How many tickets there are.
+    pub(crate) fn len(&self) -> usize
+        ensures { result ≡ length self.now.places }
+    {
+        self.nodes.len()
+    }
+
+    /// How many buckets there are.
+    pub(crate) fn buckets(&self) -> usize
+        ensures count { result ≡ self.now.buckets }
+        ensures size { IsTableSize result }
+    {
+        self.table.len()
+    }
+
+    /// The number below which all keys are.
+    pub(crate) fn width(&self) -> usize
+        ensures { result ≡ self.now.width }
+    {
+        self.nodes.capacity()
+    }
+
+    /// The key of the first ticket, if there is one.
+    pub(crate) fn first(&self) -> Option<usize>
+        ensures { result ≡ first_key self.now.places }
+    {
+        let _ = &self.nodes;
+        self.first
+    }
+
+    /// The key of the last ticket, if there is one.
+    pub(crate) fn last(&self) -> Option<usize>
+        ensures { IsLastKey self.now.places result }
+    {
+        let _ = &self.nodes;
+        self.last
+    }
+
+    /// The key of the ticket behind the one under this key, if there is one.
+    pub(crate) fn after(&self, key: usize) -> Option<usize>
+        ensures { (front : List Placed) (place : Placed) (rest : List Placed) → self.now.places ≡ front ++ place ∷ rest
+            → place.key ≡ key → result ≡ first_key rest }
+    {
+        self.nodes.get(key)?.after
+    }
+
+    /// Looks for a ticket in its bucket, from the newest on.
+    pub(crate) fn find(&self, ticket: u64) -> Found
+        ensures { IsFound self.now.places self.now.buckets ticket result.key result.looked }
+    {
+        if self.table.is_empty() {
+            return Found {
+                key: None,
+                looked: 0,
+            };
+        }
+        let mut at = self.table[bucket_of(ticket, self.table.len())];
+        for looked in 0..self.nodes.len() {
+            let Some(key) = at else {
+                return Found { key: None, looked };
+            };
+            let node = &self.nodes[key];
+            if node.ticket == ticket {
+                return Found {
+                    key: at,
+                    looked: looked + 1,
+                };
+            }
+            at = node.older;
+        }
+        Found {
+            key: None,
+            looked: self.nodes.len(),
+        }
+    }
+
+    /// Makes room for this many tickets more, and as many buckets as there may then be tickets, at the least; and makes
+    /// the slots, which are given, as many as there may be keys, if they were.
+    pub(crate) fn reserve<X>(
+        &mut self,
+        slots: &mut Vec<Option<X>>,
+        count: usize,
+    ) -> Result<(), AllocError>
+        ensures places { self.new.places ≡ self.old.places }
+        ensures wider { self.old.width ≤ self.new.width }
+        ensures more { self.old.buckets ≤ self.new.buckets }
+        ensures keys { OnOk result (length self.old.places + count ≤ self.new.width) }
+        ensures table { OnOk result (length self.old.places + count ≤ self.new.buckets) }
+        ensures slots { (k : ℕ) → slice_index_or slots.new.items k None ≡ slice_index_or slots.old.items k None }
+        ensures fits { self.old.width ≤ length slots.old.items → self.new.width ≤ length slots.new.items }
+    {
+        widen_nodes(&mut self.nodes, slots, count)?;
+        let needed = self.nodes.len().checked_add(count).ok_or(AllocError)?;
+        if self.table.len() < needed {
+            self.widen(needed)?;
+        }
+        Ok(())
+    }
+
+    /// Makes a table of so many buckets or more, and chains all nodes anew.
+    fn widen(&mut self, needed: usize) -> Result<(), AllocError>
+        requires { self.old.buckets < needed }
+        ensures places { self.new.places ≡ self.old.places }
+        ensures width { self.new.width ≡ self.old.width }
+        ensures more { self.old.buckets ≤ self.new.buckets }
+        ensures enough { OnOk result (needed ≤ self.new.buckets) }
+    {
+        let size = doubled(self.table.len(), needed).ok_or(AllocError)?;
+        empty_out(&mut self.table, size)?;
+        rechain(&mut self.nodes, self.first, &mut self.table);
+        Ok(())
+    }
+
+    /// A ticket comes to the end; its key.
+    pub(crate) fn push_back(&mut self, ticket: u64) -> usize
+        requires key { length self.old.places < self.old.width }
+        requires bucket { 0 < self.old.buckets }
+        ensures places { self.new.places ≡ self.old.places ++ record { key = result; ticket = ticket } ∷ [] }
+        ensures fresh { All (λ p. p.key ≢ result) self.old.places }
+        ensures within { result < self.new.width }
+        ensures width { self.new.width ≡ self.old.width }
+        ensures buckets { self.new.buckets ≡ self.old.buckets }
+    {
+        let bucket = bucket_of(ticket, self.table.len());
+        let (last, newest) = (self.last, self.table[bucket]);
+        let key = self.nodes.insert_reserved(Node {
+            ticket,
+            before: last,
+            after: None,
+            older: newest,
+            newer: None,
+        });
+        link_after(&mut self.nodes, &mut self.first, last, Some(key));
+        self.last = Some(key);
+        link_newer(&mut self.nodes, newest, Some(key));
+        self.table[bucket] = Some(key);
+        key
+    }
+
+    /// The ticket under this key leaves.
+    pub(crate) fn remove(&mut self, key: usize)
+        requires { StandsAt self.old.places key }
+        ensures places { (front : List Placed) (place : Placed) (rest : List Placed) → self.old.places ≡ front ++ place ∷ rest
+            → place.key ≡ key → self.new.places ≡ front ++ rest }
+        ensures width { self.new.width ≡ self.old.width }
+        ensures buckets { self.new.buckets ≡ self.old.buckets }
+    {
+        let node = self.nodes[key];
+        let bucket = bucket_of(node.ticket, self.table.len());
+        link_after(&mut self.nodes, &mut self.first, node.before, node.after);
+        link_before(&mut self.nodes, &mut self.last, node.after, node.before);
+        link_newer(&mut self.nodes, node.older, node.newer);
+        link_older(
+            &mut self.nodes,
+            &mut self.table[bucket],
+            node.newer,
+            node.older,
+        );
+        self.nodes.remove(key);
+    }
+}
