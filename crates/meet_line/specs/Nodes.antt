@@ -22,6 +22,12 @@ abbrev pub with_node : Slab Node → Option ℕ → (Node → Node) → Slab Nod
 with_node nodes None f = nodes
 with_node nodes (Some k) f = record nodes { slots = slice_set nodes.slots k (option_map f (get nodes k)) }
 
+-- the nodes, once the one under this key is the newest of its bucket, where this was the newest
+abbrev pub with_newest : Slab Node → (older : Option ℕ) → (key : ℕ) → Slab Node
+with_newest nodes older key =
+    with_node (with_node nodes (Some key) (λ n. record n { older = older; newer = None })) older
+    (λ n. record n { newer = Some key })
+
 -- the first of links, where what stands at None of them is changed
 abbrev pub put_end : (old at to : Option ℕ) → Option ℕ
 put_end old None to = to

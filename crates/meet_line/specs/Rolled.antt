@@ -30,6 +30,10 @@ rolled nodes first table = record {
   buckets = length table;
 }
 
+-- the bucket of a key's ticket, of so many
+abbrev pub bucket_at : Slab Node → (count : ℕ) → (key : ℕ) → ℕ
+bucket_at nodes count key = ticket_at nodes key % count
+
 -- whether a key's ticket falls into this bucket, of so many
 abbrev pub falls : Slab Node → (count bucket : ℕ) → ℕ → Bool
 falls nodes count bucket k = ticket_at nodes k % count == bucket
@@ -75,12 +79,17 @@ pub record StandsAt (places : List Placed) (key : ℕ) : Type 0 where
   pub all : places ≡ front ++ place ∷ rest
   pub own : place.key ≡ key
 
+-- the place of this key leaves, and the others keep their order
+abbrev pub IsLeft : (old new : List Placed) → (key : ℕ) → Type 0
+IsLeft old new key = (front : List Placed) (place : Placed) (rest : List Placed)
+    → old ≡ front ++ place ∷ rest → place.key ≡ key → new ≡ front ++ rest
+
 -- how many of these places are in the bucket of this ticket
 abbrev pub bucket_count : (buckets ticket : ℕ) → List Placed → ℕ
 bucket_count buckets ticket places = count_by (λ p. p.ticket % buckets == ticket % buckets) places
 
--- what a look for a ticket finds: a place of it, once it looked at it and at those of its bucket that came later; or that
--- it has none, once it looked at all of its bucket
+-- what a look for a ticket finds: a place of it, once it looked at it and at those of its bucket that came later; or
+-- that it has none, once it looked at all of its bucket
 abbrev pub IsFound : List Placed → (buckets ticket : ℕ) → Option ℕ → (looked : ℕ) → Type 0
 IsFound places buckets ticket None looked =
     All (λ p. p.ticket ≢ ticket) places × (looked ≡ bucket_count buckets ticket places)

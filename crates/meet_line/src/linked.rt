@@ -1,13 +1,13 @@
 //! A line whose entries are linked to their neighbours, and found in buckets by their tickets.
 
-ghost use Rattle.std.specs.Prelude.{◌≡◌, ◌≢◌, ℕ, ◌+◌, ◌<◌, ◌≤◌, ◌==◌, List, [], ◌∷◌, ◌++◌, length, map, find, All, AllPairs};
-ghost use Rattle.std.specs.Prelude.{IsOk, IfOk, IfErr, OnOk, OnErr, None, option_map, option_to_list, slice_index_or, slice_set};
+ghost use Rattle.std.specs.Prelude.{◌≡◌, ◌≢◌, ◌+◌, ◌<◌, ◌≤◌, ◌==◌, [], ◌∷◌, ◌++◌, length, map, find, All, AllPairs};
+ghost use Rattle.std.specs.Prelude.{IsOk, IfOk, IfErr, OnOk, OnErr, None, option_map, option_to_list, slice_set};
 ghost use Rattle.std.specs.Slice.{IsItemAt};
 ghost use Rattle.meet_tickets.specs.Meeting.{met};
 ghost use Rattle.meet_tickets.specs.BySeat.{unmet, without_first};
 ghost use Rattle.meet_tickets.specs.declared.places.End.TheVariants.{Front, Back};
 ghost use Rattle.meet_tickets.specs.declared.refusals.Refusal.TheVariants.{Memory};
-ghost use Rattle.meet_line.specs.Rolled.{Placed, StandsAt, IsTableSize};
+ghost use Rattle.meet_line.specs.Rolled.{StandsAt, IsLeft, IsTableSize};
 ghost use Rattle.meet_line.specs.Stored.{slot_at, entries_of, keys_in, Holds, fellows, IsLookedAt};
 
 use crate::roll::Roll;
@@ -47,8 +47,7 @@ fn take_out<T>(roll: &mut Roll, slots: &mut Vec<Option<Entry<T>>>, key: usize) -
     requires holds { Holds slots.old.items roll.old.places }
     requires wide { key < length slots.old.items }
     ensures entry { result ≡ slot_at slots.old.items key }
-    ensures places { (front : List Placed) (place : Placed) (rest : List Placed) → roll.old.places ≡ front ++ place ∷ rest
-        → place.key ≡ key → roll.new.places ≡ front ++ rest }
+    ensures places { IsLeft roll.old.places roll.new.places key }
     ensures slots { slots.new.items ≡ slice_set slots.old.items key None }
     ensures width { roll.new.width ≡ roll.old.width }
     ensures buckets { roll.new.buckets ≡ roll.old.buckets }
@@ -92,6 +91,15 @@ impl<T> Linked<T> {
         ensures { result ≡ self.now.looked }
     {
         self.looked
+    }
+
+    /// How many buckets there are.
+    pub(crate) fn buckets(&self) -> usize
+        ensures count { result ≡ self.now.buckets }
+        ensures size { IsTableSize result }
+        ensures enough { length self.now.entries + self.now.room ≤ result }
+    {
+        self.roll.buckets()
     }
 
     /// Makes room for this many entries more.

@@ -1,7 +1,7 @@
 //! The nodes of a roll, and the links between them.
 
 ghost use Rattle.std.specs.Prelude.{◌≡◌, Option, Some, None};
-ghost use Rattle.meet_line.specs.Nodes.{with_node, put_end};
+ghost use Rattle.meet_line.specs.Nodes.{with_node, with_newest, put_end};
 
 use slab::Slab;
 
@@ -92,8 +92,7 @@ pub(crate) fn link_newer(nodes: &mut Slab<Node>, at: Option<usize>, to: Option<u
 
 /// The node under `key` is the newest of its bucket, behind the one that was.
 pub(crate) fn chain(nodes: &mut Slab<Node>, newest: &mut Option<usize>, key: usize)
-    ensures nodes { nodes.new ≡ with_node (with_node nodes.old (Some key) (λ n. record n { older = newest.old; newer = None }))
-        newest.old (λ n. record n { newer = Some key }) }
+    ensures nodes { nodes.new ≡ with_newest nodes.old newest.old key }
     ensures newest { newest.new ≡ Some key }
 {
     let older = *newest;

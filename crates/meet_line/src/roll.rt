@@ -1,9 +1,11 @@
 //! The tickets of a line in order of arrival, each under a key, and a table by which one is found.
 
-ghost use Rattle.std.specs.Prelude.{◌≡◌, ◌≢◌, ℕ, ◌+◌, ◌%◌, ◌<◌, ◌≤◌, [], ◌∷◌, ◌++◌, List, length, All, Some, None, OnOk, replicate, slice_index_or, slice_set};
+ghost use Rattle.std.specs.Prelude.{◌≡◌, ◌≢◌, ℕ, ◌+◌, ◌<◌, ◌≤◌, [], ◌∷◌, ◌++◌, List, length, All, Some, None, OnOk};
+ghost use Rattle.std.specs.Prelude.{replicate, slice_index_or, slice_set};
 ghost use Rattle.slab.specs.Slab.{ContainsKey, slab_len};
-ghost use Rattle.meet_line.specs.Nodes.{field_at, ticket_at, with_node};
-ghost use Rattle.meet_line.specs.Rolled.{Placed, StandsAt, IsFound, IsLastKey, first_key, AreChained, IsLine, IsRechained, IsTableSize, keys_of};
+ghost use Rattle.meet_line.specs.Nodes.{field_at, with_newest};
+ghost use Rattle.meet_line.specs.Rolled.{Placed, StandsAt, IsFound, IsLastKey, IsLeft, first_key, keys_of};
+ghost use Rattle.meet_line.specs.Rolled.{bucket_at, AreChained, IsLine, IsRechained, IsTableSize};
 
 use crate::bucket_table::{bucket_of, doubled, empty_out};
 use crate::nodes::{Node, chain, link_after, link_before, link_newer, link_older};
@@ -45,10 +47,10 @@ pub(crate) struct Found {
 fn chain_next(nodes: &mut Slab<Node>, table: &mut Vec<Option<usize>>, key: usize) -> Option<usize>
     requires there { ContainsKey nodes.old key }
     requires some { 0 < length table.old.items }
-    ensures nodes { nodes.new ≡ with_node (with_node nodes.old (Some key)
-        (λ n. record n { older = slice_index_or table.old.items (ticket_at nodes.old key % length table.old.items) None; newer = None }))
-        (slice_index_or table.old.items (ticket_at nodes.old key % length table.old.items) None) (λ n. record n { newer = Some key }) }
-    ensures table { table.new.items ≡ slice_set table.old.items (ticket_at nodes.old key % length table.old.items) (Some key) }
+    ensures nodes { let b = bucket_at nodes.old (length table.old.items) key in
+        nodes.new ≡ with_newest nodes.old (slice_index_or table.old.items b None) key }
+    ensures table { let b = bucket_at nodes.old (length table.old.items) key in
+        table.new.items ≡ slice_set table.old.items b (Some key) }
     ensures next { result ≡ field_at (λ n. n.after) None nodes.old key }
 {
     let node = nodes[key];
@@ -270,8 +272,7 @@ impl Roll {
     /// The ticket under this key leaves.
     pub(crate) fn remove(&mut self, key: usize)
         requires { StandsAt self.old.places key }
-        ensures places { (front : List Placed) (place : Placed) (rest : List Placed) → self.old.places ≡ front ++ place ∷ rest
-            → place.key ≡ key → self.new.places ≡ front ++ rest }
+        ensures places { IsLeft self.old.places self.new.places key }
         ensures width { self.new.width ≡ self.old.width }
         ensures buckets { self.new.buckets ≡ self.old.buckets }
     {

@@ -1,8 +1,9 @@
 //! The line of an unfair place: who came last is met first.
 
-ghost use Rattle.std.specs.Prelude.{◌≡◌, ◌≢◌, ℕ, ◌+◌, ◌%◌, ◌<◌, ◌≤◌, ◌==◌, [], ◌∷◌, ◌++◌, All, find, length, option_to_list};
+ghost use Rattle.std.specs.Prelude.{◌≡◌, ◌≢◌, ◌+◌, ◌<◌, ◌≤◌, ◌==◌, [], ◌∷◌, ◌++◌, All, find, length, option_to_list};
 ghost use Rattle.meet_tickets.specs.BySeat.{without_first};
 ghost use Rattle.meet_tickets.specs.declared.places.End.TheVariants.{Back};
+ghost use Rattle.meet_line.specs.Rolled.{IsTableSize};
 ghost use Rattle.meet_line.specs.Stored.{fellows, IsLookedAt};
 
 use crate::line::Line;
@@ -32,6 +33,16 @@ impl<T> StackLine<T> {
         ensures { result ≡ self.now.looked }
     {
         self.line.looks() as u64
+    }
+
+    /// How many buckets there are: none before room is first made, and then a power of two, not below the number of the
+    /// entries and those that may come without growth.
+    pub fn buckets(&self) -> u64
+        ensures count { result ≡ self.now.buckets }
+        ensures size { IsTableSize result }
+        ensures enough { length self.now.entries + self.now.room ≤ result }
+    {
+        self.line.buckets() as u64
     }
 }
 
