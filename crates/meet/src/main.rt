@@ -11,7 +11,9 @@ mod command_line;
 
 use clap::error::ErrorKind;
 use command_line::{Task, Wanted, wanted_of};
-use meet_run::{Blocks, Progress, RunFault, check_trace, report_of, run_drive, run_script, run_trace};
+use meet_run::{
+    Blocks, Progress, RunFault, check_trace, report_of, run_drive, run_script, run_trace,
+};
 use meet_tickets::Refusal;
 use std::alloc::{AllocError, Global};
 use std::io::{IsTerminal, Read, Write};
