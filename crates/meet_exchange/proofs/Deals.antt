@@ -10,3 +10,8 @@ new_snoc z i (x ∷ ss) s all t n l w = let e : i + suc (length ss) ≡ suc i + 
 
 pub fresh_more : (i n : ℕ) → i < n → fresh_from i (n - i) ≡ fresh i ∷ fresh_from (i + 1) (n - (i + 1))
 fresh_more i n l = let e : n - i ≡ suc (n - (i + 1)) = omega arith in let f : suc i ≡ i + 1 = omega arith in ap (fresh_from i) e ∙ ap (λ z. fresh i ∷ fresh_from z (n - (i + 1))) f
+
+-- the last of these seats, and those before it
+pub new_last : (z : TableId) (i : ℕ) (ss : List SeatView) (s : SeatView) → AreNew z i (ss ++ s ∷ []) → AreNew z i ss × (s.arena ≡ z)
+new_last z i [] s all = (tt, all.0)
+new_last z i (x ∷ ss) s all = let h = new_last z (suc i) ss s all.4 in ((all.0, all.1, all.2, all.3, h.0), h.1)

@@ -7,7 +7,7 @@ use Rattle.meet_exchange.specs.Rounds.{part}
 use Rattle.meet_exchange.specs.Seats.{SeatView, Went}
 use Rattle.meet_exchange.specs.declared.waiting.Exchanged.{Exchanged}
 use Rattle.meet_exchange.specs.declared.waiting.Exchanged.TheVariants.{Swapped as ExchangeSwapped, TimedOut, Worn, Memory}
-use Rattle.meet_exchange.specs.Waits.{AreTries, IsSwap, HasTried, EndsAs}
+use Rattle.meet_exchange.specs.Waits.{AreTries, IsSwap, HasTried, EndsAs, seat_after}
 
 -- a seat goes on from where it went
 pub then : (u v w : SeatView) (ps qs : List Part) (xs ys : List ℕ) → Went u v ps xs → Went v w qs ys → Went u w (ps ++ qs) (xs ++ ys)
@@ -61,3 +61,9 @@ module _ (v : SeatView) (a : ℕ) where
   ends_under mark left limit (TimedOut s x) f h = ((λ e. h.0 (f e)), h.1, h.2)
   ends_under mark left limit (Worn s x) f h = h
   ends_under mark left limit (Memory s x) f h = h
+
+  pub ends_place : {T : Type 0} (mark : T → ℕ) (limit : Option ℕ) (end : Exchanged T) → EndsAs mark v a limit end → (seat_after end).arena ≡ v.arena
+  ends_place mark limit (ExchangeSwapped s x) h = h.2.3.arena
+  ends_place mark limit (TimedOut s x) h = h.2.3.arena
+  ends_place mark limit (Worn s x) h = h.1.3.arena
+  ends_place mark limit (Memory s x) h = h.1.3.arena

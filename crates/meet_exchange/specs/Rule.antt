@@ -11,7 +11,8 @@ use Rattle.meet_exchange.specs.declared.views.Trail.{Trail}
 use Rattle.meet_exchange.specs.declared.views.Plan.{Plan}
 use Rattle.meet_exchange.specs.Words.{word_of}
 use Rattle.meet_exchange.specs.Rounds.{parts_of, in_slot}
-use Rattle.meet_exchange.specs.Stages.{Stage, Cell, cell_of, running, rounds, AllPlayed, AllEnded, code, owner, duties_in, with_round, in_hand}
+use Rattle.meet_exchange.specs.Stages.{Stage, Cell, cell_of, running, rounds, AllPlayed, AllEnded, code, owner}
+use Rattle.meet_exchange.specs.Stages.{duties_in, with_round, in_hand}
 use Rattle.meet_exchange.specs.Stages.Stage.{free, claimed, posted, taken, answered, collected, withdrawn}
 
 module _ {T : Type 0} (mark : T → ℕ) where

@@ -105,7 +105,8 @@ module _ {T : Type 0} (mark : T → ℕ) where
 
   abbrev pub HasCollected : Word T → Token T → Token T → Type 0
   HasCollected st m n = let v = top m.0 in let r = round_in v.hand in
-      (x : T) × (n ≡ (did v (part st.word r (Collected (mark x))) (At st.word r Gathered) ∷ [], (st.word, Some x) ∷ m.1))
+      (x : T)
+      × (n ≡ (did v (part st.word r (Collected (mark x))) (At st.word r Gathered) ∷ [], (st.word, Some x) ∷ m.1))
 
   -- where it fails the word that it found isn't answered; and where a withdrawal does, it isn't posted
   abbrev pub Collects : Told T

@@ -64,3 +64,10 @@ module _ {T : Type 0} (z : TableId) (slots : ℕ) where
   abbrev pub StaysIn : Next T → Type 0
   StaysIn (Goes going left) = IsIn going
   StaysIn (Ends end) = Unit {0}
+
+-- the seat that an exchange ends with
+abbrev pub seat_after : {T : Type 0} → Exchanged T → SeatView
+seat_after (Swapped s x) = s
+seat_after (TimedOut s x) = s
+seat_after (Worn s x) = s
+seat_after (Memory s x) = s

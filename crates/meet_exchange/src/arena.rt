@@ -135,8 +135,8 @@ impl<T: Marked> Arena<T> {
         Ok((arena, list))
     }
 
-    /// A glance at the word of a slot, of which nothing is promised: its code, 0 to 4, and 8 times the seat that claimed
-    /// the round, and 2^19 times the round.
+    /// A glance at the word of a slot, of which nothing is promised: its code, 0 to 4, and 8 times the seat that
+    /// claimed the round, and 2^19 times the round.
     pub fn word(&self, slot: usize) -> u64
         requires { slot < self.now.slots }
     {

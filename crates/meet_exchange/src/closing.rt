@@ -148,8 +148,8 @@ fn room_for<T>(alloc: Global, slots: usize, seats: u64, backs: &[Back<T>]) -> Op
 }
 
 impl<T: Marked> Arena<T> {
-    /// Ends the arena: takes all seats back, in whatever order, and answers the rounds of each slot, what each seat did,
-    /// and the items that no seat has. It refuses SeatMissing exactly where fewer seats are given back than were made,
+    /// Ends the arena: takes all seats back, in whatever order, and answers the rounds of each slot, what each seat
+    /// did, and the items that no seat has. It refuses SeatMissing exactly where fewer seats are given back than were made,
     /// then Memory; then all comes back, and it can be called again.
     pub fn close(self, alloc: Global, seats: Vec<Back<T>>) -> Result<Closed<T>, CloseFault<T>>
         requires place { AreOf self.id seats.items }

@@ -1,8 +1,8 @@
 //! The exchanger: an arena of slots, in each of which two seats at a time give each other their items. Its steps are
 //! single atomic steps on the slot's word, and no lock is taken.
 //!
-//! `specs/` has the rules: `Rounds` says what a slot's history is and what each seat's part in it, `Closed` what is known
-//! at the end, `Calls` what the calls answer, `Waits` how an exchange that waits ends. `Stages`, `Rule` and `Told` are
+//! `specs/` has the rules: `Rounds` says what a slot's history is and what each seat's part in it, `Closed` what is
+//! known at the end, `Calls` what the calls answer, `Waits` how an exchange that waits ends. `Stages`, `Rule` and `Told` are
 //! the rule that holds between any two steps, and what each step tells.
 #![tactic(auto)]
 

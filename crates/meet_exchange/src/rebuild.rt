@@ -5,7 +5,8 @@ ghost use Rattle.meet_tickets.specs.Limits.{most_seats};
 ghost use Rattle.meet_exchange.specs.declared.rebuild.Pass.TheVariants.{Posts, Ends, Collects};
 ghost use Rattle.meet_exchange.specs.Rounds.{in_slot};
 ghost use Rattle.meet_exchange.specs.Rebuild.{writer, written, all_written, swept, collected_end as after_collect};
-ghost use Rattle.meet_exchange.specs.Rebuild.{blank as nothing_known, posts_among, posts_of, rebuilt_from, is_post as posts_in_deed};
+ghost use Rattle.meet_exchange.specs.Rebuild.{blank as nothing_known, is_post as posts_in_deed};
+ghost use Rattle.meet_exchange.specs.Rebuild.{posts_among, posts_of, rebuilt_from};
 ghost use Rattle.meet_exchange.specs.Closed.{back_lists, entry_at, numbered};
 
 use crate::records::{Part, Round, RoundEnd, SlotDeed};

@@ -73,7 +73,7 @@ impl<T> Seat<T> {
 /// A seat whose item was posted. Its list has room for what ends the round.
 #[derive(Drop)]
 pub struct Pending<T> {
-    inner: Inner<T>,
+    seat: Inner<T>,
     slot: usize,
     round: u64,
     mark: u64,
@@ -87,15 +87,15 @@ impl<T> Model for Pending<T> {
     ghost Value = { PendingView };
 
     ghost view = { λ p. record {
-      seat = view_of p.inner.token.table_id p.inner.number p.inner.list.items
-          (vec_capacity p.inner.list - vec_len p.inner.list) p.inner.token.me;
+      seat = view_of p.seat.token.table_id p.seat.number p.seat.list.items
+          (vec_capacity p.seat.list - vec_len p.seat.list) p.seat.token.me;
       slot = p.slot;
       round = p.round;
       mark = p.mark;
     } };
 
-    ghost invariant = { λ p. HasOffer p.inner.number p.slot p.round p.mark p.inner.list.items p.inner.token.me
-        × (vec_len p.inner.list < vec_capacity p.inner.list) };
+    ghost invariant = { λ p. HasOffer p.seat.number p.slot p.round p.mark p.seat.list.items p.seat.token.me
+        × (vec_len p.seat.list < vec_capacity p.seat.list) };
 }
 
 /// A seat's offer, taken apart.
@@ -124,7 +124,7 @@ impl<T> Pending<T> {
             mark,
         } = offer;
         Pending {
-            inner,
+            seat: inner,
             slot,
             round,
             mark,
@@ -141,7 +141,7 @@ impl<T> Pending<T> {
         ensures room { vec_len result.inner.list < vec_capacity result.inner.list }
     {
         let Pending {
-            inner,
+            seat: inner,
             slot,
             round,
             mark,
@@ -158,7 +158,7 @@ impl<T> Pending<T> {
     pub fn number(&self) -> SeatNo
         ensures { result ≡ self.now.seat.number }
     {
-        self.inner.number
+        self.seat.number
     }
 
     /// The slot in which the item was posted.
@@ -186,7 +186,7 @@ impl<T> Pending<T> {
     pub fn parts(&self) -> &[Part]
         ensures { result.now ≡ self.now.seat.list }
     {
-        self.inner.list.as_slice()
+        self.seat.list.as_slice()
     }
 }
 

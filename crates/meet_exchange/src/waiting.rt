@@ -2,6 +2,7 @@
 
 ghost use Rattle.std.specs.Prelude.{◌≡◌, ◌<◌, ◌↔◌, ℕ, [], None};
 ghost use Rattle.meet_exchange.specs.Waits.{IsIn, StaysIn, IsGoing, HasTried, HasPosted, EndsAs, GoesOn};
+ghost use Rattle.meet_exchange.specs.Waits.{seat_after};
 ghost use Rattle.meet_exchange.specs.Seats.{SeatView};
 
 use crate::arena::Arena;
@@ -54,11 +55,11 @@ fn less(left: Option<u64>) -> Option<u64>
 }
 
 impl<T: Marked> Arena<T> {
-    /// Exchanges an item for another seat's, as `exchange` of Exchanger: offers it in this slot, and after Contended in
-    /// the next, the first after the last. Once it is posted there it waits for an answer; in a slot above 0 it takes it
-    /// back after 1,000 turns, and tries the slot of half the number. Its limit is in turns, a turn being one look for
-    /// the answer, or one Contended. At a limit of 0 it doesn't wait. Where the limit is reached it takes the item back;
-    /// where another seat has taken that, it stays until it has the other's.
+    /// Exchanges an item for another seat's, as `exchange` of Exchanger: offers it in this slot, and after Contended
+    /// in the next, the first after the last. Once it is posted there it waits for an answer; in a slot above 0 it
+    /// takes it back after 1,000 turns, and tries the slot of half the number. Its limit is in turns, a turn being one
+    /// look for the answer, or one Contended. At a limit of 0 it doesn't wait. Where the limit is reached it takes the
+    /// item back; where another seat has taken that, it stays until it has the other's.
     pub fn exchange<R: Wait>(
         &self,
         rt: &R,
@@ -69,7 +70,8 @@ impl<T: Marked> Arena<T> {
     ) -> Exchanged<T>
         requires place { seat.arena ≡ self.now.id }
         requires slot { first_slot < self.now.slots }
-        ensures { EndsAs T.mark_of seat (T.mark_of item) limit result }
+        ensures end { EndsAs T.mark_of seat (T.mark_of item) limit result }
+        ensures place { (seat_after result).arena ≡ self.now.id }
     {
         let mut left = limit;
         let mut going = Going::Tries(seat, item, first_slot);
