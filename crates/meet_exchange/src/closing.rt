@@ -164,7 +164,7 @@ impl<T: Marked> Arena<T> {
             (entry_at (map (λ rounds. rounds.items) c.slots.items)) self.slots c.left.items) }
         ensures missing { IfErr result (λ fault. fault.why ≡ SeatMissing ↔ (vec_len seats < self.seats)) }
         ensures memory { IfErr result (λ fault. (fault.why ≡ SeatMissing) ⊎ (fault.why ≡ Memory)) }
-        ensures enough { IfOk result (λ _. self.seats ≤ vec_len seats) }
+        ensures all { IfOk result (λ _. self.seats ≤ vec_len seats) }
         ensures back { IfErr result (λ fault. (fault.arena ≡ self) × (fault.seats ≡ seats)) }
     {
         if (seats.len() as u64) < self.seats {
