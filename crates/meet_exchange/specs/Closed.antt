@@ -1,5 +1,5 @@
 -- The end of an arena: its rounds, each seat's list, and what is left (our choice).
-use Rattle.std.specs.Prelude.{◌≡◌, ℕ, zero, suc, ◌+◌, ◌<◌, ◌==◌, Bool, true, false, List, [], ◌∷◌, ◌++◌, length}
+use Rattle.std.specs.Prelude.{◌≡◌, ℕ, zero, suc, ◌+◌, ◌==◌, Bool, true, false, List, [], ◌∷◌, ◌++◌, length}
 use Rattle.std.specs.Prelude.{Option, Some, None, slice_index_or, slice_index}
 use mathlib.Core.Option.{some}
 use lib.ListN.{get_elem?}
@@ -14,7 +14,7 @@ use Rattle.meet_exchange.specs.declared.left.LeftIn.{LeftIn}
 use Rattle.meet_exchange.specs.declared.left.Standing.{Standing}
 use Rattle.meet_exchange.specs.declared.left.Standing.TheVariants.{Offered, Ready}
 use Rattle.meet_exchange.specs.Words.{code_in, number_in}
-use Rattle.meet_exchange.specs.Rounds.{IsHistory, left_in, in_slot, parts_of}
+use Rattle.meet_exchange.specs.Rounds.{left_in}
 use Rattle.meet_exchange.specs.Rule.{top}
 use Rattle.meet_exchange.specs.Closing.{IsSettled}
 use Rattle.meet_exchange.specs.Seats.{SeatView}
@@ -81,17 +81,3 @@ module _ {T : Type 0} (mark : T → ℕ) (start : ℕ) (rounds : ℕ → List Ro
   abbrev pub IsLeft : (n : ℕ) → List (LeftIn T) → Type 0
   IsLeft zero left = left ≡ []
   IsLeft (suc k) left = (before : List (LeftIn T)) × IsLeft k before × AddsLeft k (left_in (rounds k)) before left
-
--- ## The end
-
--- an arena of so many slots and seats, whose rounds begin at `start`, came to these rounds, lists and items left
-pub record IsEnd {T : Type 0} (mark : T → ℕ) (slots seats start : ℕ) (rounds : List (List Round))
-    (lists : List (List Part)) (left : List (LeftIn T)) : Type 0 where
-  -- a list of rounds for each slot, each a history
-  pub slots_are : length rounds ≡ slots
-  pub history : (k : ℕ) → IsHistory seats (entry_at rounds k)
-  -- a list for each seat, which has in each slot its part in the rounds, in their order, each once
-  pub seats_are : length lists ≡ seats
-  pub parts : (x k : ℕ) → x < seats → in_slot k (entry_at lists x) ≡ parts_of x k start (entry_at rounds k)
-  -- what the last rounds leave is left
-  pub left_is : IsLeft mark start (entry_at rounds) slots left
