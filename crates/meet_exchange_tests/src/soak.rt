@@ -14,7 +14,7 @@ use std::thread::Threads;
 const EACH: u64 = 25_000;
 
 /// How long an exchange waits at most, in turns.
-const LIMIT: u64 = 200;
+const LIMIT: u64 = 2_000;
 
 /// What a thread has in the end: the item that it came to last of each of its own. One that timed out it keeps.
 fn brings<R: Wait>(
