@@ -1,0 +1,14 @@
+pub mod Turns
+pub mod Stages
+pub mod Keeping
+pub mod Holding
+pub mod Making
+pub mod Deals
+pub mod Pigeons
+pub mod Gathers
+pub mod Closings
+pub mod Rebuilding
+pub mod Counting
+pub mod Blanks
+pub mod Ends
+pub mod Tries

@@ -1,0 +1,11 @@
+pub mod Words
+pub mod Rounds
+pub mod Stages
+pub mod Rule
+pub mod Told
+pub mod Closing
+pub mod Rebuild
+pub mod Seats
+pub mod Calls
+pub mod Closed
+pub mod Waits

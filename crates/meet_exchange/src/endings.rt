@@ -1,0 +1,87 @@
+//! What ends an offer that stands: the other seat's item is collected, or its own is taken back.
+
+ghost use Rattle.std.specs.Prelude.{◌≡◌, ◌<◌};
+ghost use Rattle.meet_exchange.specs.Calls.{Collects, Withdraws};
+
+use crate::arena::Arena;
+use crate::records::{Part, SlotDeed};
+use crate::seats::{Offer, Pending, Seat};
+use crate::steps::{collect, withdraw};
+use meet_tickets::Marked;
+
+/// What a collecting came to.
+#[derive(Drop)]
+pub enum Gathered<T> {
+    /// The other seat's item.
+    Got(Seat<T>, T),
+    /// No other seat has answered yet.
+    NotYet(Pending<T>),
+}
+
+/// What a withdrawal came to.
+#[derive(Drop)]
+pub enum Returned<T> {
+    /// The seat's own item is back.
+    Back(Seat<T>, T),
+    /// Another seat has taken it, and its own can be collected, now or soon.
+    Late(Pending<T>),
+}
+
+impl<T: Marked> Arena<T> {
+    /// Collects the item that another seat gave for this one's, if it did. One step, and no memory.
+    pub fn collect(&self, pending: Pending<T>) -> Gathered<T>
+        requires place { pending.seat.arena ≡ self.now.id }
+        requires slot { pending.slot < self.now.slots }
+        ensures { Collects T.mark_of pending.seat pending.slot pending.round pending.mark result }
+    {
+        let Offer {
+            inner: mut seat,
+            slot,
+            round,
+            mark,
+        } = pending.open();
+        let board = &self.table.shared;
+        match collect(board, &mut seat.token, slot, seat.number, round, mark) {
+            Ok(item) => {
+                let got = item.mark();
+                let deed = SlotDeed::Collected { got };
+                seat.list.push_reserved(Part { slot, round, deed });
+                Gathered::Got(Seat::new(seat), item)
+            }
+            Err(_) => Gathered::NotYet(Pending::new(Offer {
+                inner: seat,
+                slot,
+                round,
+                mark,
+            })),
+        }
+    }
+
+    /// Takes this seat's item back, unless another seat has taken it. One step, and no memory.
+    pub fn withdraw(&self, pending: Pending<T>) -> Returned<T>
+        requires place { pending.seat.arena ≡ self.now.id }
+        requires slot { pending.slot < self.now.slots }
+        ensures { Withdraws T.mark_of pending.seat pending.slot pending.round pending.mark result }
+    {
+        let Offer {
+            inner: mut seat,
+            slot,
+            round,
+            mark,
+        } = pending.open();
+        let board = &self.table.shared;
+        match withdraw(board, &mut seat.token, slot, seat.number, round, mark) {
+            Ok(item) => {
+                let deed = SlotDeed::Withdrawn;
+                seat.list.push_reserved(Part { slot, round, deed });
+                Returned::Back(Seat::new(seat), item)
+            }
+            Err(_) => Returned::Late(Pending::new(Offer {
+                inner: seat,
+                slot,
+                round,
+                mark,
+            })),
+        }
+    }
+}

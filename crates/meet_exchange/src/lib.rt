@@ -1,0 +1,30 @@
+//! The exchanger: an arena of slots, in each of which two seats at a time give each other their items. Its steps are
+//! single atomic steps on the slot's word, and no lock is taken.
+//!
+//! `specs/` has the rules: `Rounds` says what a slot's history is and what each seat's part in it, `Closed` what is
+//! known at the end, `Calls` what the calls answer, `Waits` how an exchange that waits ends. `Stages`, `Rule` and `Told` are
+//! the rule that holds between any two steps, and what each step tells.
+#![tactic(auto)]
+
+mod arena;
+mod closing;
+mod endings;
+mod left;
+mod offers;
+mod plays;
+mod rebuild;
+mod records;
+mod seats;
+mod steps;
+mod views;
+mod waiting;
+mod words;
+
+pub use arena::Arena;
+pub use closing::{CloseFault, Closed};
+pub use endings::{Gathered, Returned};
+pub use left::{LeftIn, Standing};
+pub use offers::Offered;
+pub use records::{Part, Round, RoundEnd, SlotDeed};
+pub use seats::{Back, Pending, Seat};
+pub use waiting::Exchanged;

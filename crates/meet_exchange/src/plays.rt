@@ -1,0 +1,91 @@
+//! The rule of the table, and what each step tells.
+
+ghost use Rattle.std.specs.Prelude.{◌≡◌, [], ◌∷◌, ◌++◌};
+ghost use Rattle.meet_exchange.specs.Rule.{Kept, fresh_from, top, others};
+ghost use Rattle.meet_exchange.specs.Told.{Sees, Claims, Frees, Posts, Withdraws, Takes, Collects};
+
+use crate::views::{Plan, View};
+use atomic_table::{Join, Play, Split, TableRule};
+use meet_tickets::Marked;
+
+/// The rule.
+pub struct Exchanges;
+
+impl<T: Marked> TableRule<Option<T>, View, Plan> for Exchanges {
+    ghost holds = { Kept T.mark_of };
+
+    ghost first = { λ plan. fresh_from 0 plan.seats };
+}
+
+pub struct Look;
+
+impl<T: Marked> Play<Option<T>, View> for Look {
+    ghost then = { Sees };
+}
+
+pub struct Claim;
+
+impl<T: Marked> Play<Option<T>, View> for Claim {
+    ghost then = { Claims };
+}
+
+pub struct Post;
+
+impl<T: Marked> Play<Option<T>, View> for Post {
+    ghost then = { Posts T.mark_of };
+}
+
+pub struct Withdraw;
+
+impl<T: Marked> Play<Option<T>, View> for Withdraw {
+    ghost then = { Withdraws T.mark_of };
+}
+
+pub struct Clear;
+
+impl<T: Marked> Play<Option<T>, View> for Clear {
+    ghost then = { Frees };
+}
+
+pub struct Take;
+
+impl<T: Marked> Play<Option<T>, View> for Take {
+    ghost then = { Takes T.mark_of };
+}
+
+pub struct Answer;
+
+impl<T: Marked> Play<Option<T>, View> for Answer {
+    ghost then = { Frees };
+}
+
+pub struct Collect;
+
+impl<T: Marked> Play<Option<T>, View> for Collect {
+    ghost then = { Collects T.mark_of };
+}
+
+/// Cuts the first seat's trail off.
+pub struct Cut;
+
+impl Split<View> for Cut {
+    ghost left = { others };
+
+    ghost right = { λ v. top v ∷ [] };
+}
+
+/// Takes a seat's trail in.
+pub struct Glue;
+
+impl Join<View> for Glue {
+    ghost both = { λ v w. v ++ w };
+
+    ghost spent = { [] };
+}
+
+/// A token with no trail.
+pub struct Enter;
+
+impl<T> Play<Option<T>, View> for Enter {
+    ghost then = { λ st m found n. n ≡ ([], []) };
+}

@@ -1,0 +1,202 @@
+//! Calls at an arena of numbers, each with what it should answer.
+
+ghost use Rattle.std.specs.Prelude.{◌≡◌, ◌<◌};
+ghost use Rattle.meet_exchange.specs.Seats.{AreNew};
+
+use meet_exchange::{Arena, Gathered, Offered, Pending, Returned, Seat};
+use std::alloc::Global;
+use std::process::Abort;
+use std::test::*;
+
+/// An arena and three of its seats.
+pub type Opened = (Arena<u64>, Seat<u64>, Seat<u64>, Seat<u64>);
+
+/// Takes the last of an arena's new seats out.
+fn last_seat(rt: &impl Abort, arena: &Arena<u64>, seats: &mut Vec<Seat<u64>>) -> Seat<u64>
+    requires { AreNew arena.now.id 0 seats.old.items }
+    ensures seat { result.arena ≡ arena.now.id }
+    ensures rest { AreNew arena.now.id 0 seats.new.items }
+{
+    match seats.pop() {
+        Some(seat) => seat,
+        None => panic!(rt; "no seat"),
+    }
+}
+
+/// An arena of so many slots and seats, and the last three of these, from the last on.
+pub fn last_three(rt: &impl Abort, alloc: Global, slots: usize, seats: u64) -> Opened
+    ensures slots { result.0.slots ≡ slots }
+    ensures last { result.1.arena ≡ result.0.id }
+    ensures other { result.2.arena ≡ result.0.id }
+    ensures first { result.3.arena ≡ result.0.id }
+{
+    let Ok((arena, mut seats)) = Arena::<u64>::new(alloc, slots, seats) else {
+        panic!(rt; "no arena")
+    };
+    let last = last_seat(rt, &arena, &mut seats);
+    let other = last_seat(rt, &arena, &mut seats);
+    let first = last_seat(rt, &arena, &mut seats);
+    (arena, last, other, first)
+}
+
+/// An arena of so many slots, and its three seats, in the order of their numbers.
+pub fn opened(rt: &impl Abort, alloc: Global, slots: usize) -> Opened
+    ensures slots { result.0.slots ≡ slots }
+    ensures first { result.1.arena ≡ result.0.id }
+    ensures second { result.2.arena ≡ result.0.id }
+    ensures third { result.3.arena ≡ result.0.id }
+{
+    let (arena, third, second, first) = last_three(rt, alloc, slots, 3);
+    (arena, first, second, third)
+}
+
+/// Offers the item: posted, and then the slot's word is this.
+pub fn posts(
+    rt: &impl Abort,
+    arena: &Arena<u64>,
+    seat: Seat<u64>,
+    slot: usize,
+    item: u64,
+    word: u64,
+) -> Pending<u64>
+    requires { (seat.arena ≡ arena.now.id) × (slot < arena.now.slots) }
+    ensures place { result.seat.arena ≡ arena.now.id }
+    ensures slot { result.slot ≡ slot }
+{
+    match arena.offer(seat, slot, item) {
+        Offered::Posted(pending) => {
+            assert_eq!(rt; arena.word(slot), word);
+            assert_eq!(rt; pending.mark(), item);
+            pending
+        }
+        _ => panic!(rt; "not posted"),
+    }
+}
+
+/// Offers the item: swapped with this one, and then the slot's word is this.
+pub fn swaps(
+    rt: &impl Abort,
+    arena: &Arena<u64>,
+    seat: Seat<u64>,
+    slot: usize,
+    items: (u64, u64),
+    word: u64,
+) -> Seat<u64>
+    requires { (seat.arena ≡ arena.now.id) × (slot < arena.now.slots) }
+    ensures place { result.arena ≡ arena.now.id }
+{
+    match arena.offer(seat, slot, items.0) {
+        Offered::Swapped(seat, got) => {
+            assert_eq!(rt; (got, arena.word(slot)), (items.1, word));
+            seat
+        }
+        _ => panic!(rt; "not swapped"),
+    }
+}
+
+/// Offers the item: contended, and it is back, with this word.
+pub fn is_contended(
+    rt: &impl Abort,
+    arena: &Arena<u64>,
+    seat: Seat<u64>,
+    slot: usize,
+    item: u64,
+    word: u64,
+) -> Seat<u64>
+    requires { (seat.arena ≡ arena.now.id) × (slot < arena.now.slots) }
+    ensures place { result.arena ≡ arena.now.id }
+{
+    match arena.offer(seat, slot, item) {
+        Offered::Contended(seat, back, seen) => {
+            assert_eq!(rt; (back, seen), (item, word));
+            seat
+        }
+        _ => panic!(rt; "not contended"),
+    }
+}
+
+/// Withdraws, too late.
+pub fn is_late(rt: &impl Abort, arena: &Arena<u64>, pending: Pending<u64>) -> Pending<u64>
+    requires { (pending.seat.arena ≡ arena.now.id) × (pending.slot < arena.now.slots) }
+    ensures place { result.seat.arena ≡ arena.now.id }
+    ensures slot { result.slot ≡ pending.slot }
+{
+    match arena.withdraw(pending) {
+        Returned::Late(pending) => pending,
+        Returned::Back(_, _) => panic!(rt; "back"),
+    }
+}
+
+/// Collects, before there is an answer.
+pub fn is_early(rt: &impl Abort, arena: &Arena<u64>, pending: Pending<u64>) -> Pending<u64>
+    requires { (pending.seat.arena ≡ arena.now.id) × (pending.slot < arena.now.slots) }
+    ensures place { result.seat.arena ≡ arena.now.id }
+    ensures slot { result.slot ≡ pending.slot }
+{
+    match arena.collect(pending) {
+        Gathered::NotYet(pending) => pending,
+        Gathered::Got(_, _) => panic!(rt; "got"),
+    }
+}
+
+/// Collects this item, and then the slot's word is this.
+pub fn gets(
+    rt: &impl Abort,
+    arena: &Arena<u64>,
+    pending: Pending<u64>,
+    item: u64,
+    word: u64,
+) -> Seat<u64>
+    requires { (pending.seat.arena ≡ arena.now.id) × (pending.slot < arena.now.slots) }
+    ensures place { result.arena ≡ arena.now.id }
+{
+    let slot = pending.slot();
+    match arena.collect(pending) {
+        Gathered::Got(seat, got) => {
+            assert_eq!(rt; (got, arena.word(slot)), (item, word));
+            seat
+        }
+        Gathered::NotYet(_) => panic!(rt; "not yet"),
+    }
+}
+
+/// Withdraws: this item is back, and then the slot's word is this.
+pub fn withdraws(
+    rt: &impl Abort,
+    arena: &Arena<u64>,
+    pending: Pending<u64>,
+    item: u64,
+    word: u64,
+) -> Seat<u64>
+    requires { (pending.seat.arena ≡ arena.now.id) × (pending.slot < arena.now.slots) }
+    ensures place { result.arena ≡ arena.now.id }
+{
+    let slot = pending.slot();
+    match arena.withdraw(pending) {
+        Returned::Back(seat, back) => {
+            assert_eq!(rt; (back, arena.word(slot)), (item, word));
+            seat
+        }
+        Returned::Late(_) => panic!(rt; "late"),
+    }
+}
+
+/// An arena of so many slots, with four seats.
+pub fn four(
+    rt: &impl Abort,
+    alloc: Global,
+    slots: usize,
+) -> (Arena<u64>, Seat<u64>, Seat<u64>, Seat<u64>, Seat<u64>)
+    ensures slots { result.0.slots ≡ slots }
+    ensures first { (result.1.arena ≡ result.0.id) × (result.2.arena ≡ result.0.id) }
+    ensures last { (result.3.arena ≡ result.0.id) × (result.4.arena ≡ result.0.id) }
+{
+    let Ok((arena, mut seats)) = Arena::<u64>::new(alloc, slots, 4) else {
+        panic!(rt; "no arena")
+    };
+    let d = last_seat(rt, &arena, &mut seats);
+    let c = last_seat(rt, &arena, &mut seats);
+    let b = last_seat(rt, &arena, &mut seats);
+    let a = last_seat(rt, &arena, &mut seats);
+    (arena, a, b, c, d)
+}

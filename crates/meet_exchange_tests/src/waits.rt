@@ -1,0 +1,97 @@
+//! Exchanges that wait.
+
+ghost use Rattle.std.specs.Prelude.{◌≡◌, ◌<◌};
+
+use crate::shared::{opened, posts};
+use meet_exchange::{Arena, Exchanged, Part, Seat, SlotDeed};
+use std::process::Abort;
+use std::sync::Wait;
+use std::test::*;
+use std::thread;
+
+/// The other seat's item, without a limit.
+fn met<R: Wait>(rt: &R, arena: &Arena<u64>, seat: Seat<u64>, item: u64) -> Option<u64>
+    requires { (seat.arena ≡ arena.now.id) × (0 < arena.now.slots) }
+{
+    match arena.exchange(rt, seat, 0, item, None) {
+        Exchanged::Swapped(_, got) => Some(got),
+        _ => None,
+    }
+}
+
+#[test]
+fn two_threads_get_each_others_items(rt: HostRuntime) -> Result<(), Fail> {
+    let (arena, zero, one, _two) = opened(&rt, rt.alloc(), 1);
+    let (five, six) = thread::join(
+        &rt,
+        || met(&rt, &arena, zero, 5),
+        || met(&rt, &arena, one, 6),
+    );
+    assert_eq!(rt; (five, six), (Some(6), Some(5)));
+    Ok(())
+}
+
+/// An exchange of 5 that times out, with its item.
+fn times_out<R: Wait + Abort>(
+    rt: &R,
+    arena: &Arena<u64>,
+    seat: Seat<u64>,
+    slot: usize,
+    limit: u64,
+) -> Seat<u64>
+    requires { (seat.arena ≡ arena.now.id) × (slot < arena.now.slots) }
+    ensures { result.arena ≡ arena.now.id }
+{
+    match arena.exchange(rt, seat, slot, 5, Some(limit)) {
+        Exchanged::TimedOut(seat, item) => {
+            assert_eq!(rt; item, 5);
+            seat
+        }
+        _ => panic!(rt; "not timed out"),
+    }
+}
+
+/// It was posted and taken back in these slots, in turn.
+fn tried(rt: &impl Abort, list: &[Part], slots: &[usize]) {
+    assert_eq!(rt; list.len(), 2 * slots.len());
+    for (pair, slot) in list.chunks(2).zip(slots) {
+        assert!(rt; pair[0].slot == *slot && pair[0].deed == SlotDeed::Posted(5));
+        assert!(rt; pair[1].slot == *slot && pair[1].deed == SlotDeed::Withdrawn);
+    }
+}
+
+#[test]
+fn an_exchange_times_out_where_it_should(rt: HostRuntime) -> Result<(), Fail> {
+    let rows: [(u64, usize, &[usize]); 6] = [
+        (0, 3, &[3]),
+        (1, 3, &[3]),
+        (1_000, 3, &[3]),
+        (1_001, 3, &[3, 1]),
+        (2_000, 2, &[2, 1]),
+        (2_500, 3, &[3, 1, 0]),
+    ];
+    for (limit, slot, slots) in rows {
+        let (arena, seat, _one, _two) = opened(&rt, rt.alloc(), 4);
+        let seat = times_out(&rt, &arena, seat, slot, limit);
+        tried(&rt, seat.parts(), slots);
+    }
+    Ok(())
+}
+
+#[test]
+fn an_exchange_goes_on_from_a_busy_slot(rt: HostRuntime) -> Result<(), Fail> {
+    let (arena, zero, one, two) = opened(&rt, rt.alloc(), 2);
+    let _zero = posts(&rt, &arena, zero, 1, 8, 2);
+    let Exchanged::Swapped(_one, got) = arena.exchange(&rt, one, 1, 9, Some(0)) else {
+        panic!(rt; "not swapped")
+    };
+    assert_eq!(rt; got, 8);
+    // The slot waits for its poster, so it is contended.
+    let two = times_out(&rt, &arena, two, 1, 0);
+    tried(&rt, two.parts(), &[]);
+    let two = times_out(&rt, &arena, two, 1, 1);
+    tried(&rt, two.parts(), &[]);
+    let two = times_out(&rt, &arena, two, 1, 2);
+    tried(&rt, two.parts(), &[0]);
+    Ok(())
+}
