@@ -4,8 +4,8 @@
 ghost use Rattle.std.specs.Prelude.{◌≡◌, ◌≤◌, OnOk};
 ghost use Rattle.meet_tickets.specs.Limits.{most_seats};
 
-use crate::parcels::{Parcel, first_serial, join, meets_in_order, seat};
-use meet_line::{FairLine, Line, SeatTable, StackLine};
+use crate::parcels::{Parcel, first_serial, join, meets_in_order, seat, ticket};
+use meet_line::{FairLine, Line, ListFair, ListStack, SeatTable, StackLine};
 use meet_tickets::Refusal;
 use std::alloc::Global;
 use std::process::Abort;
@@ -25,7 +25,7 @@ fn reserves<L: Line<Parcel>>(rt: &impl Abort, line: &mut L, count: u64) -> Resul
     Ok(())
 }
 
-/// A line that grows three times, and meets in this order.
+/// A line that grows three times, each time while others stand in it but the first, and meets in this order.
 fn grows<L: Line<Parcel> + Drop>(
     rt: &impl Abort,
     alloc: Global,
@@ -40,6 +40,8 @@ fn grows<L: Line<Parcel> + Drop>(
     join(&mut line, 3, 30)?;
     assert_eq!(rt; line.len(), 3);
     assert_eq!(rt; first_serial(&line), Some(10));
+    assert!(rt; line.entry(ticket(2)?).is_some());
+    assert!(rt; line.entry(ticket(4)?).is_none());
     meets_in_order(rt, &mut line, serials);
     Ok(())
 }
@@ -52,6 +54,16 @@ fn a_fair_line_grows(rt: HostRuntime) -> Result<(), Fail> {
 #[test]
 fn a_stack_grows(rt: HostRuntime) -> Result<(), Fail> {
     grows::<StackLine<Parcel>>(&rt, rt.alloc(), &[30, 20, 10])
+}
+
+#[test]
+fn a_fair_list_grows(rt: HostRuntime) -> Result<(), Fail> {
+    grows::<ListFair<Parcel>>(&rt, rt.alloc(), &[10, 20, 30])
+}
+
+#[test]
+fn a_list_of_a_stack_grows(rt: HostRuntime) -> Result<(), Fail> {
+    grows::<ListStack<Parcel>>(&rt, rt.alloc(), &[30, 20, 10])
 }
 
 /// A table of so many seats, at the second try where there was no memory at first.

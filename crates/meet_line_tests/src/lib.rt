@@ -9,6 +9,10 @@ mod leavings;
 #[cfg(test)]
 mod lines;
 #[cfg(test)]
+mod looks;
+#[cfg(test)]
 mod parcels;
+#[cfg(test)]
+mod sealed;
 #[cfg(test)]
 mod tables;

@@ -1,7 +1,7 @@
 //! What every line does, in either order.
 
 use crate::parcels::{Parcel, first_serial, join, meets_in_order, serial, ticket};
-use meet_line::{FairLine, Line, StackLine};
+use meet_line::{FairLine, Line, ListFair, ListStack, StackLine};
 use meet_tickets::Entry;
 use std::alloc::Global;
 use std::process::Abort;
@@ -56,4 +56,14 @@ fn a_fair_line_meets_who_came_first(rt: HostRuntime) -> Result<(), Fail> {
 #[test]
 fn a_stack_meets_who_came_last(rt: HostRuntime) -> Result<(), Fail> {
     serves::<StackLine<Parcel>>(&rt, rt.alloc(), &[30, 20, 10], &[30, 10])
+}
+
+#[test]
+fn a_list_meets_who_came_first(rt: HostRuntime) -> Result<(), Fail> {
+    serves::<ListFair<Parcel>>(&rt, rt.alloc(), &[10, 20, 30], &[10, 30])
+}
+
+#[test]
+fn a_list_meets_who_came_last(rt: HostRuntime) -> Result<(), Fail> {
+    serves::<ListStack<Parcel>>(&rt, rt.alloc(), &[30, 20, 10], &[30, 10])
 }

@@ -1,0 +1,114 @@
+//! Lines that find tickets in buckets: how many nodes a removal looks at; and that all four lines do alike.
+
+ghost use Rattle.std.specs.Prelude.{◌≡◌, ◌≤◌, OnOk};
+
+use crate::parcels::{Parcel, join, meets_in_order, serial, ticket};
+use meet_line::{FairLine, Line, ListFair, ListStack, StackLine};
+use std::alloc::Global;
+use std::process::Abort;
+use std::test::Fail;
+
+/// The tickets 1 to 1,024, as many as there was room made for.
+fn crowd<L: Line<Parcel> + Drop>(alloc: Global) -> Result<L, Fail> {
+    let mut line = L::empty(alloc);
+    line.reserve(1024).ok().ok_or("memory")?;
+    for number in 1..1025 {
+        join(&mut line, number, number)?;
+    }
+    Ok(line)
+}
+
+#[test]
+fn a_fair_line_looks_at_one(rt: HostRuntime) -> Result<(), Fail> {
+    let mut line: FairLine<Parcel> = crowd(rt.alloc())?;
+    assert_eq!(rt; line.looks(), 0);
+    assert_eq!(rt; serial(line.remove(ticket(512)?)), Some(512));
+    assert_eq!(rt; line.looks(), 1);
+    assert_eq!(rt; line.len(), 1023);
+    Ok(())
+}
+
+#[test]
+fn a_stack_looks_at_one(rt: HostRuntime) -> Result<(), Fail> {
+    let mut line: StackLine<Parcel> = crowd(rt.alloc())?;
+    assert_eq!(rt; line.looks(), 0);
+    assert_eq!(rt; serial(line.remove(ticket(512)?)), Some(512));
+    assert_eq!(rt; line.looks(), 1);
+    assert_eq!(rt; line.len(), 1023);
+    Ok(())
+}
+
+/// Which ticket leaves, none for a meeting, and the serial of the item that it has.
+type Step = (Option<u64>, Option<u64>);
+
+/// These steps of a line of five tickets, of which three share a bucket, and five more in their places.
+fn plays<L: Line<Parcel> + Drop>(
+    rt: &impl Abort,
+    alloc: Global,
+    steps: &[Step],
+    rest: &[u64],
+) -> Result<(), Fail> {
+    let mut line = L::empty(alloc);
+    line.reserve(5).ok().ok_or("memory")?;
+    join(&mut line, 1, 10)?;
+    join(&mut line, 9, 90)?;
+    join(&mut line, 12, 120)?;
+    join(&mut line, 17, 170)?;
+    join(&mut line, 20, 200)?;
+    takes(rt, &mut line, steps)?;
+    assert_eq!(rt; line.len(), 0);
+    assert!(rt; line.room() >= 5);
+    join(&mut line, 25, 250)?;
+    join(&mut line, 33, 330)?;
+    join(&mut line, 34, 340)?;
+    meets_in_order(rt, &mut line, rest);
+    Ok(())
+}
+
+/// Each step takes the item that it should.
+fn takes<L: Line<Parcel>>(rt: &impl Abort, line: &mut L, steps: &[Step]) -> Result<(), Fail> {
+    for (leaves, wanted) in steps {
+        let taken = match leaves {
+            Some(number) => line.remove(ticket(*number)?),
+            None => line.meet(),
+        };
+        assert_eq!(rt; serial(taken), *wanted);
+    }
+    Ok(())
+}
+
+/// What leaves a line whose first is met.
+const FIRST: [Step; 8] = [
+    (Some(9), Some(90)),
+    (Some(25), None),
+    (None, Some(10)),
+    (Some(1), None),
+    (Some(20), Some(200)),
+    (None, Some(120)),
+    (Some(17), Some(170)),
+    (None, None),
+];
+
+/// What leaves a line whose last is met.
+const LAST: [Step; 8] = [
+    (Some(9), Some(90)),
+    (Some(25), None),
+    (None, Some(200)),
+    (Some(20), None),
+    (Some(1), Some(10)),
+    (None, Some(170)),
+    (Some(12), Some(120)),
+    (None, None),
+];
+
+#[test]
+fn fair_lines_do_alike(rt: HostRuntime) -> Result<(), Fail> {
+    plays::<FairLine<Parcel>>(&rt, rt.alloc(), &FIRST, &[250, 330, 340])?;
+    plays::<ListFair<Parcel>>(&rt, rt.alloc(), &FIRST, &[250, 330, 340])
+}
+
+#[test]
+fn stacks_do_alike(rt: HostRuntime) -> Result<(), Fail> {
+    plays::<StackLine<Parcel>>(&rt, rt.alloc(), &LAST, &[340, 330, 250])?;
+    plays::<ListStack<Parcel>>(&rt, rt.alloc(), &LAST, &[340, 330, 250])
+}
