@@ -5,7 +5,7 @@ use crate::parcels::{Ask, Parcel, Row, Told};
 use crate::places::{Place, plays};
 use meet_book::Book;
 use meet_core::Dual;
-use meet_line::{FairLine, Line, StackLine};
+use meet_line::{FairLine, Line, ListFair, ListStack, StackLine};
 use meet_queues::{queue_book, transfer_book};
 use meet_tickets::Refusal;
 use meet_transfer::Transfer;
@@ -180,6 +180,12 @@ fn an_unfair_queue(rt: HostRuntime) -> Result<(), Fail> {
     meets::<StackLine<Parcel>>(&rt, rt.alloc(), &LAST)?;
     meets_admitted::<StackLine<Parcel>>(&rt, rt.alloc(), &LAST)?;
     meets_in_a_book::<StackLine<Parcel>>(&rt, rt.alloc(), &LAST)
+}
+
+#[test]
+fn queues_over_a_list_that_is_walked(rt: HostRuntime) -> Result<(), Fail> {
+    meets_in_a_book::<ListFair<Parcel>>(&rt, rt.alloc(), &FIRST)?;
+    meets_in_a_book::<ListStack<Parcel>>(&rt, rt.alloc(), &LAST)
 }
 
 /// A transfer queue that keeps three parcels at most.
