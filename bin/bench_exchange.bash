@@ -3,11 +3,11 @@
 # runs of the program `meet_swaps`, which is built first where it isn't there or its sources are newer. With `quick`, a sixteenth of the
 # exchanges, and rough. Each run's items and their sum are compared with what they must be; where they differ the status is 1.
 #
-# A row is so many threads and slots, 400,000 exchanges in all, each counted at both of its threads. The time is that of the clock from
+# A row is so many threads and slots, 100,000 exchanges in all, each counted at both of its threads. The time is that of the clock from
 # before the first thread is started until all have ended. A number is the median of five rounds, each in new slots.
 set -euo pipefail
 . "$(dirname "$0")/built.bash"
-exchanges=400000
+exchanges=100000
 rounds=5
 [ "${1:-}" = quick ] && exchanges=$((exchanges / 16))
 
