@@ -1,22 +1,26 @@
 -- What came of an offer.
-use Rattle.std.specs.Prelude.{◌≡◌, ℕ, ◌⊎◌, ◌<◌, List, [], ◌∷◌, ◌++◌}
+use Rattle.std.specs.Prelude.{◌≡◌, ◌≢◌, ℕ, ◌⊎◌, ◌<◌, [], ◌∷◌}
 use Rattle.atomic_table.specs.Seated.{TableId}
 use Rattle.meet_exchange.specs.Rounds.{part}
-use Rattle.meet_exchange.specs.Seats.{PendingView}
-use Rattle.meet_exchange.specs.declared.records.Part.{Part}
+use Rattle.meet_exchange.specs.Seats.{SeatView, PendingView, Went}
+use Rattle.meet_exchange.specs.Words.{code_in}
+use Rattle.meet_exchange.specs.Calls.{StandsAt}
 use Rattle.meet_exchange.specs.declared.records.SlotDeed.TheVariants.{Collected, Withdrawn}
 use Rattle.meet_exchange.specs.declared.seats.Back.{Back}
 use Rattle.meet_exchange.specs.declared.seats.Back.TheVariants.{Free, Held}
 use Rattle.meet_swapped.specs.declared.parcels.Parcel.{Parcel}
 
--- the seat's list, with one part more, says that this parcel came: another's for its own, or its own was taken back
-abbrev pub Names : PendingView → (list : List Part) → Parcel → Type 0
-Names p list parcel = (list ≡ p.seat.list ++ part p.slot p.round (Collected parcel.mark) ∷ [])
-    ⊎ ((parcel.mark ≡ p.mark) × (list ≡ p.seat.list ++ part p.slot p.round Withdrawn ∷ []))
+-- the seat s is that of the offer p with one part more, which names the parcel that came: another's, or the own one, taken
+-- back after a look that saw no answer
+abbrev pub Came : PendingView → (s : SeatView) → Parcel → Type 0
+Came p s parcel = Went p.seat s (part p.slot p.round (Collected parcel.mark) ∷ []) []
+    ⊎ ((parcel.mark ≡ p.mark) × (w : ℕ) × (code_in w ≢ 4)
+    × Went p.seat s (part p.slot p.round Withdrawn ∷ []) (w ∷ []))
 
--- the offer q is the offer p, which stands
+-- the offer q is the offer p, which stands: one look saw no answer, and then its parcel was posted no more
 abbrev pub Stands : (p q : PendingView) → Type 0
-Stands p q = (q.seat.list ≡ p.seat.list) × (q.slot ≡ p.slot) × (q.round ≡ p.round) × (q.mark ≡ p.mark)
+Stands p q = StandsAt p.slot p.round p.mark q
+    × (w : ℕ) × (u : ℕ) × (code_in w ≢ 4) × (code_in u ≢ 2) × Went p.seat q.seat [] (w ∷ u ∷ [])
 
 -- a seat of this arena, which has so many slots
 abbrev pub IsOf : TableId → (slots : ℕ) → Back Parcel → Type 0

@@ -1,7 +1,7 @@
 //! How an offer is ended.
 
 ghost use Rattle.std.specs.Prelude.{◌≡◌, ◌<◌, IfOk, IfErr};
-ghost use Rattle.meet_swapped.specs.Came.{Names, Stands};
+ghost use Rattle.meet_swapped.specs.Came.{Came, Stands};
 
 use crate::parcels::Parcel;
 use meet_exchange::{Arena, Gathered, Pending, Returned, Seat};
@@ -14,7 +14,7 @@ pub fn end_offer(
 ) -> Result<(Seat<Parcel>, Parcel), Pending<Parcel>>
     requires place { pending.seat.arena ≡ arena.now.id }
     requires slot { pending.slot < arena.now.slots }
-    ensures came { IfOk result (λ it. Names pending it.0.list it.1) }
+    ensures came { IfOk result (λ it. Came pending it.0 it.1) }
     ensures place { IfOk result (λ it. it.0.arena ≡ arena.now.id) }
     ensures stands { IfErr result (λ it. Stands pending it) }
     ensures stays { IfErr result (λ it. it.seat.arena ≡ arena.now.id) }
