@@ -10,8 +10,8 @@ use Rattle.meet_exchange.specs.declared.seats.Back.{Back}
 use Rattle.meet_exchange.specs.declared.seats.Back.TheVariants.{Free, Held}
 use Rattle.meet_swapped.specs.declared.parcels.Parcel.{Parcel}
 
--- the seat s is that of the offer p with one part more, which names the parcel that came: another's, or the own one, taken
--- back after a look that saw no answer
+-- the seat s is that of the offer p with one part more, which names the parcel that came: another's, or the own one,
+-- taken back after a look that saw no answer
 abbrev pub Came : PendingView → (s : SeatView) → Parcel → Type 0
 Came p s parcel = Went p.seat s (part p.slot p.round (Collected parcel.mark) ∷ []) []
     ⊎ ((parcel.mark ≡ p.mark) × (w : ℕ) × (code_in w ≢ 4)

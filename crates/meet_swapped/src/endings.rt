@@ -6,8 +6,8 @@ ghost use Rattle.meet_swapped.specs.Came.{Came, Stands};
 use crate::parcels::Parcel;
 use meet_exchange::{Arena, Gathered, Pending, Returned, Seat};
 
-/// Ends an offer without waiting: the parcel of another seat that answered, or the own one back. Where another seat took
-/// that and its own isn't there yet, the offer stands.
+/// Ends an offer without waiting: the parcel of another seat that answered, or the own one back. Where another seat
+/// took that and its own isn't there yet, the offer stands.
 pub fn end_offer(
     arena: &Arena<Parcel>,
     pending: Pending<Parcel>,

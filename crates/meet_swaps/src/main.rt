@@ -2,13 +2,13 @@
 //!
 //!     meet_swaps arena|lock THREADS SLOTS EACH ROUNDS
 //!
-//! So many threads, each of which has an item, exchange what they have EACH times, ROUNDS times, each time in new slots.
-//! The item of a thread is its number, from 1. The two threads of a pair begin in one slot, the pairs one after another
-//! in the slots. A thread ends early where no other is still at work that could come.
+//! So many threads, each of which has an item, exchange what they have EACH times, ROUNDS times, each time in new
+//! slots. The item of a thread is its number, from 1. The two threads of a pair begin in one slot, the pairs one after
+//! another in the slots. A thread ends early where no other is still at work that could come.
 //!
 //! A line a round on standard output tells how many items the threads have in the end and their sum, whatever the
-//! threads' order; two on standard error how many exchanges there were, each counted at both of its threads, and how many
-//! nanoseconds they took.
+//! threads' order; two on standard error how many exchanges there were, each counted at both of its threads, and how
+//! many nanoseconds they took.
 #![tactic(auto)]
 
 ghost use Rattle.std.specs.Prelude.{◌<◌};

@@ -1,5 +1,5 @@
-//! Exchanges at places of a lock and condition variables, written as one would by hand. Each thread waits at a condition
-//! variable of its own, so whoever meets it wakes it and nobody else.
+//! Exchanges at places of a lock and condition variables, written as one would by hand. Each thread waits at a
+//! condition variable of its own, so whoever meets it wakes it and nobody else.
 
 ghost use Rattle.std.specs.Prelude.{◌<◌};
 
@@ -155,8 +155,8 @@ where
     )
 }
 
-/// Runs a round at places. It refuses NoThread where a thread can't be started, ReadFault where the clock can't be read, or
-/// Memory.
+/// Runs a round at places. It refuses NoThread where a thread can't be started, ReadFault where the clock can't be read,
+/// or Memory.
 pub fn run_places<R>(rt: &R, alloc: Global, race: Race) -> Result<Finish, Refusal>
 where
     R: Threads + Wait + Clock + Sync,

@@ -20,8 +20,8 @@ const BOUT: u64 = 4_000;
 /// How many bouts a thread takes at most, for some seconds: others at work that don't come then weren't started.
 const MOST_BOUTS: u64 = 2_000;
 
-/// Exchanges this seat's item for that of another, and waits for one while others are at work: at first in this slot, and
-/// where nobody came in slot 0, to which all come who wait for long.
+/// Exchanges this seat's item for that of another, and waits for one while others are at work: at first in this slot,
+/// and where nobody came in slot 0, to which all come who wait for long.
 fn exchange<R: Wait>(
     rt: &R,
     arena: &Arena<u64>,
@@ -124,8 +124,8 @@ fn work_all<R: Threads + Wait + Sync>(
     thread::map_vec(rt, seats, &job)
 }
 
-/// Runs a round in an arena, and closes it. It refuses what one of its exchanges was refused, NoThread where one waited in
-/// vain, ReadFault where the clock can't be read, or Memory.
+/// Runs a round in an arena, and closes it. It refuses what one of its exchanges was refused, NoThread where one waited
+/// in vain, ReadFault where the clock can't be read, or Memory.
 pub fn run_slots<R>(rt: &R, alloc: Global, race: Race) -> Result<Finish, Refusal>
 where
     R: Threads + Wait + Clock + Sync,

@@ -14,8 +14,8 @@ pub enum Came {
     Refused(Refusal),
 }
 
-/// What threads have and did: their items, the sum of these, their exchanges, and why one of them ended early, if one was
-/// refused.
+/// What threads have and did: their items, the sum of these, their exchanges, and why one of them ended early, if one
+/// was refused.
 #[derive(Clone, Copy, PartialEq, Eq, Debug)]
 pub struct Tally {
     pub items: u64,
