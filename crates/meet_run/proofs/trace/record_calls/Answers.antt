@@ -4,9 +4,18 @@ use Rattle.meet_history.specs.OneThread.{Turn, turn}
 use Rattle.meet_history.specs.Stepping.{place_of}
 use Rattle.meet_run.specs.Reading.{lines_of}
 use Rattle.meet_run.specs.Traces.{LeavesRecords}
-use Rattle.meet_run.proofs.LineLemmas.{uses-more}
-use Rattle.meet_run.proofs.Recorded.{recorded-more, recorded-end, recorded-fault}
+use Rattle.meet_run.proofs.LineLemmas.{uses-more, uses-none}
+use Rattle.meet_run.proofs.Recorded.{recorded-none, recorded-more, recorded-end, recorded-fault}
 use Rattle.meet_run.proofs.trace.record_calls.Goals as goal
+
+pub loop-call-init : goal.loop-call-init
+loop-call-init g c = record {
+  setup = c.in_ok-stepper.ensures.setup;
+  recorded = recorded-none c.args.setup (g.R.Read.remaining c.args.reader.now) (place_of c.in_ok-stepper.stepper) c.in_ok-stepper.stepper.records c.in_ok-stepper.ensures.place c.in_ok-stepper.ensures.records;
+  uses = uses-none (g.R.Read.remaining c.args.reader.now) c.args.turns.now c.args.turns.now (omega arith);
+  few = omega arith;
+  room = c.requires.room;
+}
 
 pub returns-in_err-answer-in-Read-clause-uses : goal.returns-in_err-answer-in-Read-clause-uses
 returns-in_err-answer-in-Read-clause-uses g c =
