@@ -61,6 +61,12 @@ fn a_check_of_items_that_are_kept(rt: HostRuntime) -> Result<(), Fail> {
     Ok(())
 }
 
+/// Pushes the record of a giver that waits.
+fn push_giver(checker: &mut Checker, seat: u64, own: u64) -> Result<Result<(), CheckFault>, Fail> {
+    let entry = record(seat, own, Deed::GiveWaits(7))?;
+    Ok(checker.push(entry))
+}
+
 #[test]
 fn records_that_are_pushed(rt: HostRuntime) -> Result<(), Fail> {
     let kind = Kind {
@@ -72,11 +78,10 @@ fn records_that_are_pushed(rt: HostRuntime) -> Result<(), Fail> {
         Err(_) => Checker::new(rt.alloc(), kind).ok().ok_or("memory")?,
     };
     for number in 0..9 {
-        let entry = record(number * 100, number + 1, Deed::GiveWaits(7))?;
-        let mut pushed = checker.push(entry);
+        let mut pushed = push_giver(&mut checker, number * 100, number + 1)?;
         if pushed == Err(CheckFault::Memory) {
             // Nothing has changed: the same record may come again.
-            pushed = checker.push(entry);
+            pushed = push_giver(&mut checker, number * 100, number + 1)?;
         }
         assert_eq!(rt; pushed, Ok(()));
     }
