@@ -4,7 +4,7 @@
 # on the same texts: `bin/bench texts PROGRAM..` compares an earlier build with this one.
 #
 # A time is processor time, the least of five runs, in nanoseconds a record. The last column is what a record costs of the large text
-# by what it costs of the small one: 1.00 where both cost the same.
+# by what it costs of the small one: 1.00 where both cost the same. A run is cut off after 20 seconds, and then shown with what it took.
 #
 #   handoffs     one gives and waits, one takes from it, and the giver is told; in a transfer queue the item was kept
 #   withdrawals  items are kept, half as many records as there are in all, and then transfers behind them are cancelled, one by one
@@ -49,10 +49,11 @@ text_of() {
 time_of() {
     local least='' spent TIMEFORMAT='%U %S'
     for _ in 1 2 3 4 5; do
-        spent=$({ time "$1" "$2" <"$3" >/dev/null; } 2>&1 | awk '{ printf "%d", ($1 + $2) * 1000 }')
+        spent=$({ time timeout 20 "$1" "$2" <"$3" >/dev/null; } 2>&1 | awk '{ printf "%d", ($1 + $2) * 1000 }')
         if [ -z "$least" ] || [ "$spent" -lt "$least" ]; then
             least=$spent
         fi
+        [ "$spent" -lt 19000 ] || break
     done
     echo "$least"
 }
