@@ -5,13 +5,14 @@ ghost use Rattle.meet_line.specs.Rolled.{IsTableSize};
 
 use std::alloc::AllocError;
 
-/// The bucket of a ticket, where there are so many.
+/// The bucket of a ticket, where there are so many: its lowest bits, as their number is a power of two.
 pub(crate) fn bucket_of(ticket: u64, count: usize) -> usize
-    requires { 0 < count }
+    requires some { 0 < count }
+    requires size { IsTableSize count }
     ensures is { result ≡ ticket % count }
     ensures within { result < count }
 {
-    (ticket % count as u64) as usize
+    ticket as usize & (count - 1)
 }
 
 /// A power of two, neither below `needed` nor below `count`, which is one or 0; none where that is too great.

@@ -47,6 +47,7 @@ pub(crate) struct Found {
 fn chain_next(nodes: &mut Slab<Node>, table: &mut Vec<Option<usize>>, key: usize) -> Option<usize>
     requires there { ContainsKey nodes.old key }
     requires some { 0 < length table.old.items }
+    requires size { IsTableSize (length table.old.items) }
     ensures nodes { let b = bucket_at nodes.old (length table.old.items) key in
         nodes.new ≡ with_newest nodes.old (slice_index_or table.old.items b None) key }
     ensures table { let b = bucket_at nodes.old (length table.old.items) key in
@@ -103,6 +104,7 @@ fn rechain(nodes: &mut Slab<Node>, first: Option<usize>, table: &mut Vec<Option<
     requires line { IsLine nodes.old first (keys_of nodes.old first) }
     requires empty { table.old.items ≡ replicate (length table.old.items) None }
     requires some { 0 < length table.old.items }
+    requires size { IsTableSize (length table.old.items) }
     ensures chained { AreChained nodes.new table.new.items (length table.old.items) (keys_of nodes.old first) }
     ensures nodes { IsRechained nodes.old nodes.new }
     ensures size { length table.new.items ≡ length table.old.items }
