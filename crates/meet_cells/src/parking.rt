@@ -6,19 +6,20 @@ ghost use Rattle.meet_cells.specs.declared.gates.Turn.TheVariants.{Woken};
 use crate::gates::{Gate, Turn};
 use std::sync::Wait;
 use std::sync::atomic::{AtomicBool, Ordering};
+use std::thread;
 use std::thread::Parker;
 use std::time::{Clock, Duration, Instant};
 
 /// When a wait is over: so long after it began, which isn't known where there is no clock.
 #[derive(Clone, Copy)]
-pub(crate) struct Deadline {
+struct Deadline {
     start: Option<Instant>,
     whole: Duration,
 }
 
 impl Deadline {
     /// So many milliseconds from now; none without a limit.
-    pub(crate) fn after<R: Clock>(rt: &R, limit: Option<u64>) -> Option<Deadline>
+    fn after<R: Clock>(rt: &R, limit: Option<u64>) -> Option<Deadline>
         ensures { IfNone limit (result ≡ None) }
     {
         match limit {
@@ -38,9 +39,10 @@ impl Deadline {
 }
 
 /// A gate at which one thread at a time parks, as by `LockSupport.park` and `parkNanos`, and is let go by a wake, as by
-/// `LockSupport.unpark`. One wake is kept for the next wait, and a wakeup for no reason doesn't end one. A limit is in
-/// milliseconds of the machine's clock; where there is no clock, a wait with a limit answers Elapsed at once, unless a
-/// wake was kept.
+/// `LockSupport.unpark`. Before it parks it lets another thread run once, as by `Thread.yield`: often that is who wakes
+/// it, and to park and be woken costs more than that. One wake is kept for the next wait, and a wakeup for no reason
+/// doesn't end one. A limit is in milliseconds of the machine's clock; where there is no clock, a wait with a limit
+/// answers Elapsed at once, unless a wake came by then.
 #[derive(Drop)]
 pub struct ParkGate {
     parker: Parker,
@@ -57,8 +59,19 @@ impl ParkGate {
     }
 
     /// Takes the wake that is kept: whether there was one.
-    pub(crate) fn take_wake(&self) -> bool {
+    fn take_wake(&self) -> bool {
         self.woken.load(Ordering::SeqCst) && self.woken.swap(false, Ordering::SeqCst)
+    }
+
+    /// Looks for a wake so many times, and lets another thread run after each: whether one came.
+    fn spin(&self, turns: u64) -> bool {
+        for _ in 0..turns {
+            if self.take_wake() {
+                return true;
+            }
+            thread::yield_now();
+        }
+        false
     }
 
     /// Parks until somebody wakes the gate.
@@ -85,11 +98,19 @@ impl ParkGate {
         unreachable!()
     }
 
-    /// Parks until somebody wakes the gate, or until the time is up where there is a deadline.
-    pub(crate) fn wait_until<R: Wait + Clock>(&self, rt: &R, deadline: Option<Deadline>) -> Turn
-        ensures { IfNone deadline (result ≡ Woken) }
+    /// Spins so many turns, and then parks until somebody wakes the gate, or until the time is up where there is a limit.
+    pub(crate) fn spin_and_park<R: Wait + Clock>(
+        &self,
+        rt: &R,
+        turns: u64,
+        limit: Option<u64>,
+    ) -> Turn
+        ensures { IfNone limit (result ≡ Woken) }
     {
+        let deadline = Deadline::after(rt, limit);
+        let woken = self.spin(turns);
         match deadline {
+            _ if woken => Turn::Woken,
             None => {
                 self.park(rt);
                 Turn::Woken
@@ -104,7 +125,7 @@ impl Gate for ParkGate {
     fn wait<R: Wait + Clock>(&self, rt: &R, limit: Option<u64>) -> Turn
         ensures { IfNone limit (result ≡ Woken) }
     {
-        self.wait_until(rt, Deadline::after(rt, limit))
+        self.spin_and_park(rt, 1, limit)
     }
 
     fn wake(&self) {

@@ -4,9 +4,8 @@ ghost use Rattle.std.specs.Prelude.{◌≡◌, IfNone};
 ghost use Rattle.meet_cells.specs.declared.gates.Turn.TheVariants.{Woken};
 
 use crate::gates::{Gate, Turn};
-use crate::parking::{Deadline, ParkGate};
+use crate::parking::ParkGate;
 use std::sync::Wait;
-use std::thread;
 use std::time::Clock;
 
 /// A gate at which a thread looks for a wake so many turns, as the transferers of `SynchronousQueue` spin before they
@@ -19,23 +18,12 @@ pub struct SpinGate {
 }
 
 impl SpinGate {
-    /// A gate that nobody woke, with so many turns before each wait parks; at 0 it is as a `ParkGate`.
+    /// A gate that nobody woke, with so many turns before each wait parks; at 0 it parks at once.
     pub fn new(turns: u64) -> SpinGate {
         SpinGate {
             gate: ParkGate::new(),
             turns,
         }
-    }
-
-    /// Looks for a wake, turn by turn: whether one came.
-    fn spin(&self) -> bool {
-        for _ in 0..self.turns {
-            if self.gate.take_wake() {
-                return true;
-            }
-            thread::yield_now();
-        }
-        false
     }
 }
 
@@ -45,12 +33,7 @@ impl Gate for SpinGate {
     fn wait<R: Wait + Clock>(&self, rt: &R, limit: Option<u64>) -> Turn
         ensures { IfNone limit (result ≡ Woken) }
     {
-        let deadline = Deadline::after(rt, limit);
-        if self.spin() {
-            Turn::Woken
-        } else {
-            self.gate.wait_until(rt, deadline)
-        }
+        self.gate.spin_and_park(rt, self.turns, limit)
     }
 
     fn wake(&self) {

@@ -42,6 +42,7 @@ impl<T> Model for Linked<T> {
 }
 
 /// The entry under this key leaves the roll and its slot.
+#[inline(always)]
 fn take_out<T>(roll: &mut Roll, slots: &mut Vec<Option<Entry<T>>>, key: usize) -> Option<Entry<T>>
     requires stands { StandsAt roll.old.places key }
     requires holds { Holds slots.old.items roll.old.places }
@@ -103,6 +104,7 @@ impl<T> Linked<T> {
     }
 
     /// Makes room for this many entries more.
+    #[inline(always)]
     pub(crate) fn reserve(&mut self, count: usize) -> Result<(), Refusal>
         ensures entries { self.new.entries ≡ self.old.entries }
         ensures room { OnOk result (count ≤ self.new.room) }
@@ -112,16 +114,31 @@ impl<T> Linked<T> {
         ensures enough { count ≤ self.old.room → IsOk result }
         ensures looked { self.new.looked ≡ self.old.looked }
     {
-        if count > self.room {
-            if self.roll.reserve(&mut self.slots, count).is_err() {
-                return Err(Refusal::Memory);
-            }
-            self.room = count;
+        if count <= self.room {
+            return Ok(());
         }
+        self.grow(count)
+    }
+
+    /// The same, where there isn't enough room yet.
+    #[inline(never)]
+    fn grow(&mut self, count: usize) -> Result<(), Refusal>
+        requires { self.old.room < count }
+        ensures entries { self.new.entries ≡ self.old.entries }
+        ensures room { OnOk result (self.new.room ≡ count) }
+        ensures unchanged { OnErr result (self.new.room ≡ self.old.room) }
+        ensures memory { IfErr result (λ why. why ≡ Memory) }
+        ensures looked { self.new.looked ≡ self.old.looked }
+    {
+        if self.roll.reserve(&mut self.slots, count).is_err() {
+            return Err(Refusal::Memory);
+        }
+        self.room = count;
         Ok(())
     }
 
     /// An entry comes to the end.
+    #[inline(always)]
     pub(crate) fn push_back(&mut self, entry: Entry<T>)
         requires room { 0 < self.old.room }
         requires fresh { All (λ e. e.ticket ≢ entry.ticket) self.old.entries }
@@ -138,6 +155,7 @@ impl<T> Linked<T> {
     }
 
     /// The first entry leaves, if there is one.
+    #[inline(always)]
     pub(crate) fn meet_first(&mut self) -> Option<Entry<T>>
         ensures entry { result ≡ met Front self.old.entries }
         ensures entries { self.new.entries ≡ unmet Front self.old.entries }
@@ -151,6 +169,7 @@ impl<T> Linked<T> {
     }
 
     /// The last entry leaves, if there is one.
+    #[inline(always)]
     pub(crate) fn meet_last(&mut self) -> Option<Entry<T>>
         ensures entry { result ≡ met Back self.old.entries }
         ensures entries { self.new.entries ≡ unmet Back self.old.entries }

@@ -20,7 +20,11 @@ use std::alloc::Global;
 use std::marker::Model;
 use std::sync::ledger::{Blank, Ledger, Share};
 use std::sync::{Mutex, MutexGuard, Wait, ledger};
+use std::thread;
 use std::time::Clock;
+
+/// How often a thread tries the lock before it sleeps: our choice, of which nothing is promised.
+const LOCK_TURNS: u64 = 4;
 
 /// What a place is made of.
 #[derive(Drop)]
@@ -140,8 +144,15 @@ impl<O: Object, G, N: Ledger> Place<O, G, N> {
         self.gates.len()
     }
 
-    /// Takes the lock, once no other thread has it, and holds it until the guard is let go.
+    /// Takes the lock, once no other thread has it, and holds it until the guard is let go. A step is short, so it first
+    /// lets another thread run a few times, and sleeps only where the lock is held even then.
     pub fn hold<R: Wait>(&self, rt: &R) -> MutexGuard<'_, Shared<O, N>> {
+        for _ in 0..LOCK_TURNS {
+            if let Some(guard) = self.shared.try_lock() {
+                return guard;
+            }
+            thread::yield_now();
+        }
         self.shared.lock(rt)
     }
 

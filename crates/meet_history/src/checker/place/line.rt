@@ -65,6 +65,7 @@ impl MarkLine {
     }
 
     /// Makes room for an entry more. The only refusal is Memory.
+    #[inline(always)]
     pub(crate) fn reserve(&mut self) -> Result<(), Refusal>
         ensures end { self.new.end ≡ self.old.end }
         ensures entries { self.new.entries ≡ self.old.entries }
@@ -80,6 +81,7 @@ impl MarkLine {
     }
 
     /// An entry comes to the line's end.
+    #[inline(always)]
     pub(crate) fn push_back(&mut self, entry: Entry<u64>)
         requires room { 0 < self.old.room }
         requires above { self.old.newest < entry.ticket }
@@ -96,6 +98,7 @@ impl MarkLine {
     }
 
     /// The entry that is met leaves the line, if anybody is there.
+    #[inline(always)]
     fn meet(&mut self) -> Option<Entry<u64>>
         ensures end { self.new.end ≡ self.old.end }
         ensures entry { result ≡ met self.old.end self.old.entries }
@@ -108,6 +111,7 @@ impl MarkLine {
     }
 
     /// The partner of a request of this side leaves the line, if it has one.
+    #[inline(always)]
     pub(crate) fn partner(&mut self, side: Side) -> Option<Entry<u64>>
         ensures end { self.new.end ≡ self.old.end }
         ensures partner { result ≡ partner self.old.end self.old.entries side }
@@ -170,6 +174,7 @@ fn len_of(line: &ByEnd) -> u64
 }
 
 /// An entry comes to a line's end.
+#[inline(always)]
 fn push_by(line: &mut ByEnd, entry: Entry<u64>)
     requires room { 0 < room_of line.old }
     requires fresh { All (λ e. e.ticket ≢ entry.ticket) (entries_of line.old) }
@@ -183,6 +188,7 @@ fn push_by(line: &mut ByEnd, entry: Entry<u64>)
 }
 
 /// The entry that is met leaves its line.
+#[inline(always)]
 fn meet_by(line: &mut ByEnd) -> Option<Entry<u64>>
     ensures end { met_end line.new ≡ met_end line.old }
     ensures entry { result ≡ met (met_end line.old) (entries_of line.old) }

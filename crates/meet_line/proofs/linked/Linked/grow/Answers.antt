@@ -1,6 +1,6 @@
 use Rattle.std.proofs.Common.{◌+◌, ◌≤◌, ◌∙◌, ap, arith, rules, length}
 use Rattle.meet_line.proofs.Stored.{widened}
-use Rattle.meet_line.proofs.linked.Linked.reserve.Goals as goal
+use Rattle.meet_line.proofs.linked.Linked.grow.Goals as goal
 
 pub invariant_of-self : goal.invariant_of-self
 invariant_of-self g c =
@@ -10,12 +10,12 @@ pub returns-then-is_err-clause-entries : goal.returns-then-is_err-clause-entries
 returns-then-is_err-clause-entries g c =
     (widened c.self.inside.roll c.reserve.new.self c.self.inside.slots.items c.reserve.new.slots.items c.self.inside.room c.self.inside.room c.reserve.ensures.places (c.reserve.ensures.fits c.self.invariant.wide) (omega (arith, c.self.invariant.keys, c.reserve.ensures.wider)) (omega (arith, c.self.invariant.table, c.reserve.ensures.more)) c.reserve.ensures.slots c.self.invariant).1 ∙ ap (λ v. v.entries) c.self.view_is
 
-pub invariant_of-self-then-count-self : goal.invariant_of-self-then-count-self
-invariant_of-self-then-count-self g c =
+pub invariant_of-self-2 : goal.invariant_of-self-2
+invariant_of-self-2 g c =
     let keys : length c.self.inside.roll.places + c.args.count ≤ c.reserve.new.self.width = search rules in
     let table : length c.self.inside.roll.places + c.args.count ≤ c.reserve.new.self.buckets = search rules in
     (widened c.self.inside.roll c.reserve.new.self c.self.inside.slots.items c.reserve.new.slots.items c.self.inside.room c.args.count c.reserve.ensures.places (c.reserve.ensures.fits c.self.invariant.wide) keys table c.reserve.ensures.slots c.self.invariant).0
 
-pub returns-else-is_err-clause-entries : goal.returns-else-is_err-clause-entries
-returns-else-is_err-clause-entries g c =
+pub returns-clause-entries : goal.returns-clause-entries
+returns-clause-entries g c =
     (widened c.self.inside.roll c.reserve.new.self c.self.inside.slots.items c.reserve.new.slots.items c.self.inside.room c.self.inside.room c.reserve.ensures.places (c.reserve.ensures.fits c.self.invariant.wide) (omega (arith, c.self.invariant.keys, c.reserve.ensures.wider)) (omega (arith, c.self.invariant.table, c.reserve.ensures.more)) c.reserve.ensures.slots c.self.invariant).1 ∙ ap (λ v. v.entries) c.self.view_is
