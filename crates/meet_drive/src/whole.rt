@@ -108,8 +108,12 @@ where
     ensures { IfOk result IsDriven }
 {
     let count = parts.gates.len();
-    let slots = Vec::with_capacity(alloc, count).map_err(|_| Refusal::Memory)?;
-    let backs = Vec::with_capacity(alloc, count).map_err(|_| Refusal::Memory)?;
+    let Ok(slots) = Vec::with_capacity(alloc, count) else {
+        return Err(Refusal::Memory);
+    };
+    let Ok(backs) = Vec::with_capacity(alloc, count) else {
+        return Err(Refusal::Memory);
+    };
     let (queue, seats) = match SyncQueue::with_cap(alloc, parts, cap) {
         Ok(made) => made,
         Err(refused) => return Err(refused.why),

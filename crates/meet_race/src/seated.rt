@@ -129,8 +129,12 @@ where
     requires one_each { parts.blank.parts ≡ vec_len parts.gates }
 {
     let count = parts.gates.len();
-    let slots = Vec::with_capacity(alloc, count).map_err(|_| Refusal::Memory)?;
-    let backs = Vec::with_capacity(alloc, count).map_err(|_| Refusal::Memory)?;
+    let Ok(slots) = Vec::with_capacity(alloc, count) else {
+        return Err(Refusal::Memory);
+    };
+    let Ok(backs) = Vec::with_capacity(alloc, count) else {
+        return Err(Refusal::Memory);
+    };
     let (queue, seats) = match Fair::<G, N>::new(alloc, parts) {
         Ok(made) => made,
         Err(refused) => return Err(refused.why),
