@@ -137,7 +137,7 @@ impl<T: Marked, L: Line<T>> Dual<T, L> {
     }
 
     /// Whether the seat's open ticket is this one; and while its item lies here, since it waits or was cut, whether the
-    /// item has this mark, or there is none where this is none. It walks the line where the ticket waits.
+    /// item has this mark, or there is none where this is none. Where the ticket waits it is looked for in the line.
     pub fn awaits(&self, seat: SeatNo, ticket: Ticket, mark: Option<u64>) -> bool
         ensures { IsTrue result ↔ AwaitsAs T.mark_of (seats_of self.now) seat ticket mark }
     {

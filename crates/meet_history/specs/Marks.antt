@@ -1,5 +1,5 @@
 -- What the line of a history's marks shows of itself.
-use Rattle.std.specs.Prelude.{ℕ, List, Option, Some, None, not, if◌then◌else◌}
+use Rattle.std.specs.Prelude.{ℕ, List, Option, Some, None, is_some, not, if◌then◌else◌}
 use Rattle.meet_tickets.specs.declared.lines.Entry.{Entry}
 use Rattle.meet_tickets.specs.declared.places.End.{End}
 use Rattle.meet_tickets.specs.declared.places.End.TheVariants.{Front, Back}
@@ -28,7 +28,19 @@ abbrev pub room_of : ByEnd → ℕ
 room_of (AtFront line) = line.room
 room_of (AtBack line) = line.room
 
+-- one for a giver, else 0
+abbrev pub one_if_gives : Entry ℕ → ℕ
+one_if_gives e = if is_some e.item then 1 else 0
+
 -- one for a kept entry, else 0
+abbrev pub one_if_kept : Entry ℕ → ℕ
+one_if_kept e = if not e.waits then 1 else 0
+
+-- the same of an entry that may be there
+abbrev pub count_if_gives : Option (Entry ℕ) → ℕ
+count_if_gives None = 0
+count_if_gives (Some e) = one_if_gives e
+
 abbrev pub count_if_kept : Option (Entry ℕ) → ℕ
 count_if_kept None = 0
-count_if_kept (Some e) = if not e.waits then 1 else 0
+count_if_kept (Some e) = one_if_kept e

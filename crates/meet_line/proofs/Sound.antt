@@ -1,6 +1,6 @@
 -- A queue stays sound.
 use Rattle.std.proofs.Common.{◌≤◌, ◌≡◌, ◌≢◌, ℕ, zero, suc, ◌+◌, ◌<◌, ◌==◌, refl, sym, ◌∙◌, ap, subst, List, [], ◌∷◌, ◌++◌, length, get_or, find, arith, Option, Some, None, Bool, true, false, is_some, is_none, cond, IsSome}
-use Rattle.std.specs.Prelude.{All, AllPairs, MatchOption}
+use Rattle.std.specs.Prelude.{All, AllPairs}
 use Rattle.std.proofs.lemmas.Bool.{cond_both, ne_eqb, eq-eqb}
 use Rattle.std.proofs.lemmas.List.Elements.{All-append, All-weaker}
 use Rattle.std.proofs.lemmas.List.Quantifiers.{all_pairs_push}
@@ -10,7 +10,7 @@ use Rattle.meet_tickets.specs.declared.lines.Hold.TheVariants.{Free, Waiting}
 use Rattle.meet_tickets.specs.declared.places.Side.{Side}
 use Rattle.meet_tickets.specs.declared.places.Side.TheVariants.{Giver, Taker}
 use Rattle.meet_tickets.specs.declared.places.End.{End}
-use Rattle.meet_tickets.specs.Meeting.{partner, kept_count}
+use Rattle.meet_tickets.specs.Meeting.{partner, kept_count, IsAlone}
 use Rattle.meet_tickets.specs.BySeat.{put_at, unmet, without_first, open_ticket}
 use Rattle.meet_tickets.specs.Limits.{last_ticket}
 use Rattle.meet_tickets.proofs.Keeping.{partner-waits}
@@ -202,11 +202,7 @@ All-one : {X : Type 0} (P : X → Type 0) (x : X) → P x → All P (x ∷ [])
 All-one P x holds zero d below = holds
 All-one P x holds (suc k) d below = absurd (omega arith)
 
--- a request finds nobody of the other side
-abbrev pub IsAlone : {T : Type 0} → End → List (Entry T) → Option T → Type 0
-IsAlone end line item = MatchOption item (partner end line Taker ≡ None) (λ _. partner end line Giver ≡ None)
-
--- it stands on the side of the line
+-- who finds nobody stands on the side of the line
 fellow-side : {T : Type 0} (end : End) (line : List (Entry T)) (e : Entry T) (own : Option T) → e.item ≡ own → HasOneSide line → IsAlone end line own → All (λ f. is_some f.item ≡ is_some e.item) line
 fellow-side end line e None is one alone = alone-same end line Taker e one alone (ap (λ o. is_none o) is)
 fellow-side end line e (Some x) is one alone = alone-same end line Giver e one alone (ap (λ o. is_some o) is)

@@ -24,6 +24,7 @@ pub use left::{Left, LeftStanding};
 pub use line::Line;
 pub use list_fair::ListFair;
 pub use list_stack::ListStack;
+pub use meeting::{is_alone, meet};
 pub use meetings::Meetings;
 pub use stack::StackLine;
 pub use table::SeatTable;

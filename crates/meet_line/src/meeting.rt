@@ -1,27 +1,45 @@
 //! How two tickets meet.
 
-ghost use Rattle.std.specs.Prelude.{◌≡◌, ◌+◌, ◌<◌, is_some, None, Some, IsSome, length, option_to_list, if◌then◌else◌};
-ghost use Rattle.meet_tickets.specs.Meeting.{partner};
+ghost use Rattle.std.specs.Prelude.{◌≡◌, ◌+◌, ◌<◌, ◌↔◌, IsTrue, false, is_some, None, Some, IsSome, AllPairs, length, option_to_list, if◌then◌else◌};
+ghost use Rattle.meet_tickets.specs.Meeting.{met, partner, count_on};
 ghost use Rattle.meet_tickets.specs.BySeat.{unmet, put_at};
 ghost use Rattle.meet_tickets.specs.declared.lines.Hold.TheVariants.{Handed, Served};
+ghost use Rattle.meet_tickets.specs.declared.places.Side.TheVariants.{Giver};
 ghost use Rattle.meet_line.specs.Table.{hold_at, HasNoItem};
 
 use crate::line::Line;
 use crate::table::SeatTable;
 use meet_tickets::{Entry, Hold, Marked, Side, Ticket};
 
-/// Takes the partner of a request of this side out of the line.
-pub(crate) fn meet<T, L: Line<T>>(line: &mut L, side: Side) -> Option<Entry<T>>
+/// Whether a request of this side finds nobody in a line of one side, in which so many givers stand: its own side
+/// stands there, or no side does.
+#[inline(always)]
+pub fn is_alone<T, L: Line<T>>(line: &L, givers: u64, side: Side) -> bool
+    requires givers { givers ≡ count_on Giver (L.entries line.now) }
+    requires side { AllPairs (λ e f. is_some e.item ≡ is_some f.item) (L.entries line.now) }
+    ensures alone { IsTrue result ↔ (partner L.end (L.entries line.now) side ≡ None) }
+    ensures finds { result ≡ false → partner L.end (L.entries line.now) side ≡ met L.end (L.entries line.now) }
+{
+    match side {
+        Side::Giver => line.len() == givers,
+        Side::Taker => givers == 0,
+    }
+}
+
+/// Takes the partner of a request of this side out of a line of one side, in which so many givers stand.
+#[inline(always)]
+pub fn meet<T, L: Line<T>>(line: &mut L, givers: u64, side: Side) -> Option<Entry<T>>
+    requires givers { givers ≡ count_on Giver (L.entries line.old) }
+    requires side { AllPairs (λ e f. is_some e.item ≡ is_some f.item) (L.entries line.old) }
     ensures partner { result ≡ partner L.end (L.entries line.old) side }
     ensures rest { L.entries line.new ≡ (if is_some result then unmet L.end (L.entries line.old)
         else L.entries line.old) }
     ensures room { L.spare line.new ≡ L.spare line.old + length (option_to_list result) }
 {
-    let own = match line.first() {
-        None => return None,
-        Some(first) => first.is_on(side),
-    };
-    if own { None } else { line.meet() }
+    if is_alone(line, givers, side) {
+        return None;
+    }
+    line.meet()
 }
 
 /// Leaves this giver's item with the seat of a taker that waited, and answers the taker's ticket.

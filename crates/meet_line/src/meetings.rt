@@ -20,10 +20,12 @@ mod leaving;
 mod moves;
 mod probes;
 
-/// The meetings of one thread's queue: its line, its seats, its last ticket and the next, and how many items are kept.
+/// The meetings of one thread's queue: its line, its seats, its last ticket and the next, and how many givers stand in
+/// the line and how many items are kept there.
 #[derive(Drop)]
 pub struct Meetings<T: Marked, L: Line<T>> {
     line: L,
+    givers: u64,
     seats: SeatTable<T>,
     last: Ticket,
     next: u64,
@@ -32,7 +34,8 @@ pub struct Meetings<T: Marked, L: Line<T>> {
 
 impl<T: Marked, L: Line<T>> Model for Meetings<T, L> {
     ghost use Rattle.std.specs.Prelude.{◌≡◌, ◌<◌};
-    ghost use Rattle.meet_tickets.specs.Meeting.{kept_count};
+    ghost use Rattle.meet_tickets.specs.Meeting.{kept_count, count_on};
+    ghost use Rattle.meet_tickets.specs.declared.places.Side.TheVariants.{Giver};
     ghost use Rattle.meet_line.specs.Table.{hold_at};
     ghost use Rattle.meet_line.specs.Queue.{Queue, IsSound};
 
@@ -49,7 +52,8 @@ impl<T: Marked, L: Line<T>> Model for Meetings<T, L> {
     ghost invariant = { λ meetings.
         IsSound (L.entries meetings.line) (hold_at meetings.seats.holds) meetings.next
         × (meetings.kept ≡ kept_count (L.entries meetings.line))
-        × (meetings.kept < meetings.next) };
+        × (meetings.kept < meetings.next)
+        × (meetings.givers ≡ count_on Giver (L.entries meetings.line)) };
 }
 
 impl<T: Marked, L: Line<T>> Meetings<T, L> {
@@ -80,6 +84,7 @@ impl<T: Marked, L: Line<T>> Meetings<T, L> {
             seats,
             last: Ticket::new(0).unwrap(),
             next: first,
+            givers: 0,
             kept: 0,
         })
     }

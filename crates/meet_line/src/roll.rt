@@ -246,6 +246,7 @@ impl Roll {
     }
 
     /// A ticket comes to the end; its key.
+    #[inline(always)]
     pub(crate) fn push_back(&mut self, ticket: u64) -> usize
         requires key { length self.old.places < self.old.width }
         requires bucket { 0 < self.old.buckets }
@@ -272,6 +273,7 @@ impl Roll {
     }
 
     /// The ticket under this key leaves.
+    #[inline(always)]
     pub(crate) fn remove(&mut self, key: usize)
         requires { StandsAt self.old.places key }
         ensures places { IsLeft self.old.places self.new.places key }

@@ -67,6 +67,7 @@ impl<T> Line<T> for StackLine<T> {
         self.line.reserve(count as usize)
     }
 
+    #[inline(always)]
     fn push_back(&mut self, entry: Entry<T>)
         requires room { 0 < self.old.room }
         requires fresh { All (λ e. e.ticket ≢ entry.ticket) self.old.entries }
@@ -76,6 +77,7 @@ impl<T> Line<T> for StackLine<T> {
         self.line.push_back(entry);
     }
 
+    #[inline(always)]
     fn meet(&mut self) -> Option<Entry<T>> {
         self.line.meet_last()
     }

@@ -69,6 +69,7 @@ impl<T> SeatTable<T> {
 
     /// Makes it so many seats at least, at most 65,536. The new ones hold nothing and aren't flagged. It grows by
     /// what it was, or more, so that a seat's share of all growth is a constant. The only error is want of memory.
+    #[inline(never)]
     pub fn grow(&mut self, count: u64) -> Result<(), AllocError>
         requires { count ≤ most_seats }
         ensures holds { hold_at self.new.holds ≡ hold_at self.old.holds }

@@ -1,15 +1,16 @@
 -- How many entries of a line are kept, as entries come and leave.
-use Rattle.std.proofs.Common.{◌≡◌, ℕ, zero, suc, ◌+◌, ◌-◌, ◌==◌, refl, sym, ap, ◌∙◌, Bool, true, false, not, cond, Some, List, [], ◌∷◌, ◌++◌, length, take, drop, slice_get, find, arith}
+use Rattle.std.proofs.Common.{◌≡◌, ℕ, ◌+◌, ◌==◌, refl, sym, ap, ◌∙◌, Bool, true, false, not, cond, Some, List, [], ◌∷◌, ◌++◌, length, find, arith}
 use Rattle.std.specs.Prelude.{All}
-use Rattle.std.proofs.lemmas.List.Sums.{sum_by-cons, sum_by_push}
+use Rattle.std.proofs.lemmas.List.Sums.{sum_by-cons}
 use Rattle.std.proofs.lemmas.List.Elements.{All-nil, All-cons}
 use Rattle.meet_tickets.specs.declared.lines.Entry.{Entry}
 use Rattle.meet_tickets.specs.declared.places.End.{End}
-use Rattle.meet_tickets.specs.declared.places.End.TheVariants.{Front, Back}
 use Rattle.meet_tickets.specs.declared.places.Side.{Side}
 use Rattle.meet_tickets.specs.Meeting.{met, partner, waiting_count, kept_count}
 use Rattle.meet_tickets.specs.BySeat.{unmet, without_first}
+use Rattle.meet_tickets.proofs.Changed.{count-push}
 use Rattle.meet_tickets.proofs.Sides.{partner-met, partner-there}
+use Rattle.meet_tickets.proofs.Tally.{count-met, count-found}
 
 -- what an entry counts for: one where it is kept
 abbrev pub kept_one : {X : Type 0} → Entry X → ℕ
@@ -20,7 +21,7 @@ kept-cons e line = sum_by-cons kept_one e line
 
 -- an entry comes to the line's end
 kept-push : {X : Type 0} (line : List (Entry X)) (e : Entry X) → kept_count (line ++ e ∷ []) ≡ kept_count line + kept_one e
-kept-push line e = sum_by_push kept_one line e
+kept-push line e = count-push (λ f. not f.waits) line e
 
 pub kept-kept : {X : Type 0} (line : List (Entry X)) (e : Entry X) → e.waits ≡ false → kept_count (line ++ e ∷ []) ≡ kept_count line + 1
 kept-kept line e kept = kept-push line e ∙ ap (λ b. kept_count line + cond (not b) 1 0) kept
@@ -28,47 +29,13 @@ kept-kept line e kept = kept-push line e ∙ ap (λ b. kept_count line + cond (n
 pub kept-queued : {X : Type 0} (line : List (Entry X)) (e : Entry X) → e.waits ≡ true → kept_count (line ++ e ∷ []) ≡ kept_count line
 kept-queued line e waits = let one : kept_one e ≡ 0 = ap (λ b. cond (not b) 1 0) waits in omega (arith, kept-push line e, one)
 
--- the first leaves
-kept-first : {X : Type 0} (line : List (Entry X)) (e : Entry X) → slice_get line 0 ≡ Some e → kept_count (drop 1 line) + kept_one e ≡ kept_count line
-kept-first [] e is = cc
-kept-first (x ∷ line) e is =
-    let same : x ≡ e = cc in
-    let own : kept_one x ≡ kept_one e = ap kept_one same in
-    omega (arith, kept-cons x line, own)
-
--- the last leaves
-kept-last : {X : Type 0} (n : ℕ) (line : List (Entry X)) (e : Entry X) → slice_get line n ≡ Some e → length line ≡ suc n → kept_count (take n line) + kept_one e ≡ kept_count line
-kept-last n [] e is long = cc
-kept-last zero (x ∷ []) e is long =
-    let same : x ≡ e = cc in
-    let own : kept_one x ≡ kept_one e = ap kept_one same in
-    omega (arith, kept-cons x [], own)
-kept-last zero (x ∷ y ∷ line) e is long = absurd (omega arith)
-kept-last (suc n) (x ∷ line) e is long =
-    let rest : kept_count (take n line) + kept_one e ≡ kept_count line = kept-last n line e is (omega arith) in
-    omega (arith, rest, kept-cons x line, kept-cons x (take n line))
-
 -- the one that is met leaves
 pub kept-met : {X : Type 0} (end : End) (line : List (Entry X)) (e : Entry X) → met end line ≡ Some e → kept_count (unmet end line) + kept_one e ≡ kept_count line
-kept-met Front line e is = kept-first line e is
-kept-met Back [] e is = cc
-kept-met Back (x ∷ line) e is =
-    let before : length (x ∷ line) - 1 ≡ length line = omega arith in
-    ap (λ n. kept_count (take n (x ∷ line)) + kept_one e) before ∙ kept-last (length line) (x ∷ line) e (ap (λ n. slice_get (x ∷ line) n) (sym before) ∙ is) refl
+kept-met end line e is = count-met (λ f. not f.waits) end line e is
 
 -- the one of a ticket leaves
 pub kept-found : {X : Type 0} (t : ℕ) (line : List (Entry X)) (e : Entry X) → find (λ f. f.ticket == t) line ≡ Some e → kept_count (without_first (λ f. f.ticket == t) line) + kept_one e ≡ kept_count line
-kept-found t [] e is = cc
-kept-found {X} t (x ∷ line) e is = by_test (x.ticket == t) (kept-found t line e) is
-  where
-    by_test : (b : Bool) → (find (λ f. f.ticket == t) line ≡ Some e → kept_count (without_first (λ f. f.ticket == t) line) + kept_one e ≡ kept_count line) → cond b (Some x) (find (λ f. f.ticket == t) line) ≡ Some e → kept_count (cond b line (x ∷ without_first (λ f. f.ticket == t) line)) + kept_one e ≡ kept_count (x ∷ line)
-    by_test true rest is =
-        let same : x ≡ e = cc in
-        let own : kept_one x ≡ kept_one e = ap kept_one same in
-        omega (arith, own, kept-cons x line)
-    by_test false rest is =
-        let more : kept_count (without_first (λ f. f.ticket == t) line) + kept_one e ≡ kept_count line = rest is in
-        omega (arith, more, kept-cons x line, kept-cons x (without_first (λ f. f.ticket == t) line))
+kept-found t line e is = count-found (λ f. not f.waits) t line e is
 
 -- an entry that waits counts for nothing: so much is kept as before
 one-waits : {X : Type 0} (e : Entry X) (rest whole : ℕ) → rest + kept_one e ≡ whole → e.waits ≡ true → rest ≡ whole
@@ -114,6 +81,9 @@ pub partner-waits : {X : Type 0} (end : End) (line : List (Entry X)) (side : Sid
 partner-waits end line side e none found = partner-there (λ f. f.waits ≡ true) end line side e (all-wait line none) found
 
 -- the same of a line that is told by an equation
+pub kept-joins : {X : Type 0} (line line' : List (Entry X)) (e : Entry X) → line' ≡ line ++ e ∷ [] → kept_count line' ≡ kept_count line + kept_one e
+kept-joins line line' e is = ap kept_count is ∙ kept-push line e
+
 pub kept-joined : {X : Type 0} (line line' : List (Entry X)) (e : Entry X) → line' ≡ line ++ e ∷ [] → e.waits ≡ true → kept_count line' ≡ kept_count line
 kept-joined line line' e is waits = ap kept_count is ∙ kept-queued line e waits
 

@@ -28,6 +28,7 @@ pub mod Sides
 pub mod Standings
 pub mod StandingsOn
 pub mod Steps
+pub mod Tally
 pub mod Turns
 pub mod Unique
 pub mod Whereabouts

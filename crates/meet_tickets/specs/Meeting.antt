@@ -45,6 +45,10 @@ partner end (e ∷ line) side = if is_on side e then None else met end (e ∷ li
 abbrev pub Alone : {X : Type 0} → Kind → List (Entry X) → Side → Type 0
 Alone k line side = partner (end_of k.order) line side ≡ None
 
+-- a giver of this item, or a taker where it is none, has no partner
+abbrev pub IsAlone : {X : Type 0} → End → List (Entry X) → Option X → Type 0
+IsAlone end line item = MatchOption item (partner end line Taker ≡ None) (λ _. partner end line Giver ≡ None)
+
 -- the partner has this ticket and presents this item
 abbrev pub Finds : {X : Type 0} → Kind → List (Entry X) → Side → ℕ → Option X → Type 0
 Finds {X} k line side ticket item = (e : Entry X) × (partner (end_of k.order) line side ≡ Some e)

@@ -115,10 +115,7 @@ impl CheckedPlace {
     fn is_alone(&self, side: Side) -> bool
         ensures { IsTrue result ↔ (partner (end_of self.now.kind.order) (moment_at self.now).seats.line side ≡ None) }
     {
-        match self.line.first() {
-            None => true,
-            Some(first) => first.is_on(side),
-        }
+        self.line.is_alone(side)
     }
 
     /// Whether a request of this seat with this ticket may come now.

@@ -49,6 +49,7 @@ impl<T: Marked, L: Line<T>> Meetings<T, L> {
             seats,
             last: _,
             next: _,
+            givers: _,
             kept: _,
         } = self;
         let mut left = empty;
@@ -78,6 +79,7 @@ impl<T: Marked, L: Line<T>> Meetings<T, L> {
             seats,
             last: _,
             next: _,
+            givers: _,
             kept: _,
         } = self;
         line.destroy_empty();

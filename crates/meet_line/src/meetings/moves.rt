@@ -1,8 +1,8 @@
 //! The moves that the steps of a queue are made of.
 
 ghost use Rattle.std.specs.Prelude.{◌≡◌, ◌≢◌, ℕ, ◌+◌, ◌<◌, ◌≤◌, ⊤, Some, None, IfOk, IfErr, IfSome, IfNone};
-ghost use Rattle.std.specs.Prelude.{MatchOption, All, true, false};
-ghost use Rattle.meet_tickets.specs.Meeting.{partner, kept_count};
+ghost use Rattle.std.specs.Prelude.{MatchOption, All, true, false, is_some, if◌then◌else◌};
+ghost use Rattle.meet_tickets.specs.Meeting.{partner, kept_count, IsAlone};
 ghost use Rattle.meet_tickets.specs.BySeat.{queued, open_ticket, entry_of, left};
 ghost use Rattle.meet_tickets.specs.Limits.{last_ticket};
 ghost use Rattle.meet_tickets.specs.declared.lines.Hold.TheVariants.{Free};
@@ -12,6 +12,13 @@ use crate::line::Line;
 use crate::meeting::{collect, meet, release, serve};
 use crate::meetings::Meetings;
 use meet_tickets::{Entry, Hold, Marked, SeatNo, Side, Ticket};
+
+/// One for a giver, which presents an item, else 0.
+fn count_if_gives<T>(item: &Option<T>) -> u64
+    ensures { result ≡ (if is_some item.now then 1 else 0) }
+{
+    u64::from(item.is_some())
+}
 
 impl<T: Marked, L: Line<T>> Meetings<T, L> {
     ghost use Rattle.meet_line.specs.Queue.{seats_of, count_of, places_of};
@@ -43,7 +50,7 @@ impl<T: Marked, L: Line<T>> Meetings<T, L> {
         ensures back { IfErr result (λ back. back ≡ item) }
         ensures unchanged { IfErr result (λ _. self.new ≡ self.old) }
     {
-        match meet(&mut self.line, Side::Giver) {
+        match meet(&mut self.line, self.givers, Side::Giver) {
             Some(taker) => Ok(serve(&mut self.seats, taker, ticket, item)),
             None => Err(item),
         }
@@ -57,7 +64,8 @@ impl<T: Marked, L: Line<T>> Meetings<T, L> {
         ensures alone { IfNone result (partner L.end self.old.line Taker ≡ None) }
         ensures unchanged { IfNone result (self.new ≡ self.old) }
     {
-        let giver = meet(&mut self.line, Side::Taker)?;
+        let giver = meet(&mut self.line, self.givers, Side::Taker)?;
+        self.givers -= 1;
         if giver.waits {
             Some(collect(&mut self.seats, giver, ticket))
         } else {
@@ -73,12 +81,12 @@ impl<T: Marked, L: Line<T>> Meetings<T, L> {
         requires room { 0 < self.old.room }
         requires new { All (λ e. e.ticket < ticket) self.old.line }
         requires used { ticket < self.old.next }
-        requires alone { MatchOption item (partner L.end self.old.line Taker ≡ None) (λ _.
-            partner L.end self.old.line Giver ≡ None) }
+        requires alone { IsAlone L.end self.old.line item }
         ensures queued { Leaves self.old self.new (queued (seats_of self.old) seat ticket item true) }
         ensures kept { kept_count self.new.line ≡ kept_count self.old.line }
         ensures places { places_of self.new ≡ places_of self.old }
     {
+        let gives = count_if_gives(&item);
         self.seats.put(seat, Hold::Waiting(ticket));
         self.line.push_back(Entry {
             ticket,
@@ -86,6 +94,8 @@ impl<T: Marked, L: Line<T>> Meetings<T, L> {
             item,
             waits: true,
         });
+        let _entries = self.line.len();
+        self.givers += gives;
     }
 
     /// The giver's item goes to the line's end and is kept there; its seat has nothing open.
@@ -106,6 +116,8 @@ impl<T: Marked, L: Line<T>> Meetings<T, L> {
             item: Some(item),
             waits: false,
         });
+        let _entries = self.line.len();
+        self.givers += 1;
     }
 
     /// Whether as many items are kept as the bound says.
@@ -138,6 +150,7 @@ impl<T: Marked, L: Line<T>> Meetings<T, L> {
         match self.line.remove(ticket) {
             None => None,
             Some(entry) => {
+                self.givers -= count_if_gives(&entry.item);
                 self.seats.put(seat, Hold::Free);
                 Some(entry)
             }

@@ -106,22 +106,14 @@ impl<T: Marked, L: Line<T>> Meetings<T, L> {
     pub fn givers(&self) -> u64
         ensures { result ≡ count_on Giver self.now.line }
     {
-        let first = match self.line.first() {
-            None => return 0,
-            Some(first) => first,
-        };
-        if first.is_on(Side::Giver) {
-            self.line.len()
-        } else {
-            0
-        }
+        self.givers
     }
 
     /// How many takers stand in the line.
     pub fn takers(&self) -> u64
         ensures { result ≡ count_on Taker self.now.line }
     {
-        self.line.len() - self.givers()
+        self.line.len() - self.givers
     }
 
     /// The mark of the item that came first, where givers stand in the line.

@@ -1,4 +1,5 @@
-//! What a queue shows of itself, each at constant cost but `awaits`, which walks the line. None of these takes memory.
+//! What a queue shows of itself, each at constant cost but `awaits`, which looks for a ticket in the line. None of these
+//! takes memory.
 
 ghost use Rattle.std.specs.Prelude.{◌+◌, ◌≡◌, ◌≤◌, ◌-◌, ◌↔◌, IsTrue, nat_lt, option_map, slice_get};
 ghost use Rattle.std.specs.Option.{option_and_then};
@@ -64,7 +65,7 @@ impl<T: Marked> Transfer<T> {
     }
 
     /// Whether the seat's open ticket is this one; and while its item lies here, since it waits or was cut, whether the
-    /// item has this mark, or there is none where this is none. It walks the line where the ticket waits.
+    /// item has this mark, or there is none where this is none. Where the ticket waits it is looked for in the line.
     pub fn awaits(&self, seat: SeatNo, ticket: Ticket, mark: Option<u64>) -> bool
         ensures { IsTrue result ↔ AwaitsAs T.mark_of (seats_of self.now.queue) seat ticket mark }
     {

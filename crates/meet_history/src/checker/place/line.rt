@@ -1,24 +1,25 @@
 //! The line of a history's marks, met at the end of its place.
 
 ghost use Rattle.std.specs.Prelude.{◌≡◌, ◌≢◌, ◌+◌, ◌<◌, ◌==◌, [], ◌∷◌, ◌++◌, find, length, All, OnOk, IsOk, IfErr};
-ghost use Rattle.std.specs.Prelude.{option_to_list, is_some, if◌then◌else◌};
-ghost use Rattle.std.specs.Slice.{IsItemAt};
-ghost use Rattle.meet_tickets.specs.Meeting.{met, partner, kept_count};
+ghost use Rattle.std.specs.Prelude.{◌↔◌, None, is_some, AllPairs, IsTrue, if◌then◌else◌};
+ghost use Rattle.meet_tickets.specs.Meeting.{partner, kept_count, count_on, IsAlone};
+ghost use Rattle.meet_tickets.specs.declared.places.Side.TheVariants.{Giver};
 ghost use Rattle.meet_tickets.specs.BySeat.{unmet, without_first};
 ghost use Rattle.meet_tickets.specs.declared.refusals.Refusal.TheVariants.{Memory};
-ghost use Rattle.meet_history.specs.Marks.{met_end, entries_of, room_of, count_if_kept};
+ghost use Rattle.meet_history.specs.Marks.{met_end, entries_of, room_of, one_if_gives, one_if_kept, count_if_gives, count_if_kept};
 
-use meet_line::{FairLine, Line, StackLine};
+use meet_line::{FairLine, Line, StackLine, is_alone, meet};
 use meet_tickets::{End, Entry, Refusal, Side, Ticket};
 use std::alloc::Global;
 use std::marker::Model;
 
-/// A line of entries whose items are marks. It counts the kept ones.
+/// A line of entries whose items are marks. It counts the givers and the kept ones.
 #[derive(Drop)]
 pub(crate) struct MarkLine {
     line: ByEnd,
-    kept: u64,
+    givers: u64,
     newest: u64,
+    kept: u64,
 }
 
 /// The end at which an entry is met.
@@ -29,8 +30,9 @@ enum ByEnd {
 }
 
 impl Model for MarkLine {
-    ghost use Rattle.std.specs.Prelude.{◌≡◌, ◌≤◌, All};
-    ghost use Rattle.meet_tickets.specs.Meeting.{kept_count};
+    ghost use Rattle.std.specs.Prelude.{◌≡◌, ◌≤◌, All, AllPairs, is_some};
+    ghost use Rattle.meet_tickets.specs.Meeting.{kept_count, count_on};
+    ghost use Rattle.meet_tickets.specs.declared.places.Side.TheVariants.{Giver};
     ghost use Rattle.meet_history.specs.Marks.{MarkedLine, met_end, entries_of, room_of};
 
     ghost Value = { MarkedLine };
@@ -43,7 +45,9 @@ impl Model for MarkLine {
     } };
 
     ghost invariant = { λ marks. All (λ e. e.ticket ≤ marks.newest) (entries_of marks.line)
-        × (marks.kept ≡ kept_count (entries_of marks.line)) };
+        × (marks.kept ≡ kept_count (entries_of marks.line))
+        × AllPairs (λ e f. is_some e.item ≡ is_some f.item) (entries_of marks.line)
+        × (marks.givers ≡ count_on Giver (entries_of marks.line)) };
 }
 
 impl MarkLine {
@@ -59,6 +63,7 @@ impl MarkLine {
         };
         MarkLine {
             line,
+            givers: 0,
             kept: 0,
             newest: 0,
         }
@@ -85,29 +90,30 @@ impl MarkLine {
     pub(crate) fn push_back(&mut self, entry: Entry<u64>)
         requires room { 0 < self.old.room }
         requires above { self.old.newest < entry.ticket }
+        requires alone { IsAlone self.old.end self.old.entries entry.item }
         ensures end { self.new.end ≡ self.old.end }
         ensures entries { self.new.entries ≡ self.old.entries ++ entry ∷ [] }
         ensures newest { self.new.newest ≡ entry.ticket }
     {
         let ticket = entry.ticket;
-        let kept = u64::from(!entry.waits);
+        let gives = one_if_gives(&entry);
+        let kept = one_if_kept(&entry);
         push_by(&mut self.line, entry);
         let _entries = len_of(&self.line);
         self.newest = ticket.number();
+        self.givers += gives;
         self.kept += kept;
     }
 
-    /// The entry that is met leaves the line, if anybody is there.
+    /// Whether a request of this side finds nobody.
     #[inline(always)]
-    fn meet(&mut self) -> Option<Entry<u64>>
-        ensures end { self.new.end ≡ self.old.end }
-        ensures entry { result ≡ met self.old.end self.old.entries }
-        ensures entries { self.new.entries ≡ unmet self.old.end self.old.entries }
-        ensures newest { self.new.newest ≡ self.old.newest }
+    pub(crate) fn is_alone(&self, side: Side) -> bool
+        ensures { IsTrue result ↔ (partner self.now.end self.now.entries side ≡ None) }
     {
-        let met = meet_by(&mut self.line);
-        self.kept -= count_if_kept(&met);
-        met
+        match &self.line {
+            ByEnd::Front(line) => is_alone(line, self.givers, side),
+            ByEnd::Back(line) => is_alone(line, self.givers, side),
+        }
     }
 
     /// The partner of a request of this side leaves the line, if it has one.
@@ -119,11 +125,10 @@ impl MarkLine {
             else self.old.entries) }
         ensures newest { self.new.newest ≡ self.old.newest }
     {
-        let own = match self.first() {
-            None => return None,
-            Some(first) => first.is_on(side),
-        };
-        if own { None } else { self.meet() }
+        let partner = partner_by(&mut self.line, self.givers, side);
+        self.givers -= count_if_gives(&partner);
+        self.kept -= count_if_kept(&partner);
+        partner
     }
 
     /// The entry of this ticket leaves the line, if it is there.
@@ -134,6 +139,7 @@ impl MarkLine {
         ensures newest { self.new.newest ≡ self.old.newest }
     {
         let removed = remove_by(&mut self.line, ticket);
+        self.givers -= count_if_gives(&removed);
         self.kept -= count_if_kept(&removed);
         removed
     }
@@ -143,16 +149,6 @@ impl MarkLine {
         ensures value { result ≡ kept_count self.now.entries }
     {
         self.kept
-    }
-
-    /// The entry that came first, if anybody is there.
-    pub(crate) fn first(&self) -> Option<&Entry<u64>>
-        ensures { IsItemAt self.now.entries 0 result }
-    {
-        match &self.line {
-            ByEnd::Front(line) => line.first(),
-            ByEnd::Back(line) => line.first(),
-        }
     }
 
     /// How many entries there are.
@@ -187,16 +183,19 @@ fn push_by(line: &mut ByEnd, entry: Entry<u64>)
     }
 }
 
-/// The entry that is met leaves its line.
+/// The partner of a request of this side leaves its line, in which so many givers stand.
 #[inline(always)]
-fn meet_by(line: &mut ByEnd) -> Option<Entry<u64>>
+fn partner_by(line: &mut ByEnd, givers: u64, side: Side) -> Option<Entry<u64>>
+    requires givers { givers ≡ count_on Giver (entries_of line.old) }
+    requires side { AllPairs (λ e f. is_some e.item ≡ is_some f.item) (entries_of line.old) }
     ensures end { met_end line.new ≡ met_end line.old }
-    ensures entry { result ≡ met (met_end line.old) (entries_of line.old) }
-    ensures entries { entries_of line.new ≡ unmet (met_end line.old) (entries_of line.old) }
+    ensures partner { result ≡ partner (met_end line.old) (entries_of line.old) side }
+    ensures rest { entries_of line.new ≡ (if is_some result then unmet (met_end line.old) (entries_of line.old)
+        else entries_of line.old) }
 {
     match line {
-        ByEnd::Front(line) => line.meet(),
-        ByEnd::Back(line) => line.meet(),
+        ByEnd::Front(line) => meet(line, givers, side),
+        ByEnd::Back(line) => meet(line, givers, side),
     }
 }
 
@@ -212,12 +211,36 @@ fn remove_by(line: &mut ByEnd, ticket: Ticket) -> Option<Entry<u64>>
     }
 }
 
+/// One for a giver, else 0.
+fn one_if_gives(entry: &Entry<u64>) -> u64
+    ensures { result ≡ one_if_gives entry.now }
+{
+    u64::from(entry.item.is_some())
+}
+
 /// One for a kept entry, else 0.
+fn one_if_kept(entry: &Entry<u64>) -> u64
+    ensures { result ≡ one_if_kept entry.now }
+{
+    u64::from(!entry.waits)
+}
+
+/// One where a giver is there, else 0.
+fn count_if_gives(entry: &Option<Entry<u64>>) -> u64
+    ensures { result ≡ count_if_gives entry.now }
+{
+    match entry {
+        Some(entry) => one_if_gives(entry),
+        None => 0,
+    }
+}
+
+/// One where a kept entry is there, else 0.
 fn count_if_kept(entry: &Option<Entry<u64>>) -> u64
     ensures { result ≡ count_if_kept entry.now }
 {
     match entry {
-        Some(entry) => u64::from(!entry.waits),
+        Some(entry) => one_if_kept(entry),
         None => 0,
     }
 }

@@ -1,10 +1,10 @@
 //! The requests of a history.
 
-ghost use Rattle.std.specs.Prelude.{◌≡◌, ◌<◌, ◌↔◌, length, true, false, Some, IsTrue};
-ghost use Rattle.meet_tickets.specs.Meeting.{Alone, Finds, MayKeep};
+ghost use Rattle.std.specs.Prelude.{◌≡◌, ◌<◌, ◌↔◌, length, true, false, Some, MatchOption, IsTrue};
+ghost use Rattle.meet_tickets.specs.Meeting.{end_of, Alone, Finds, IsAlone, MayKeep};
 ghost use Rattle.meet_tickets.specs.BySeat.{queued, paired_hold, meets, flagged, IsFree, is_request, Allows};
 ghost use Rattle.meet_tickets.specs.BySeat.{seats_after};
-ghost use Rattle.meet_tickets.specs.declared.places.Side.TheVariants.{Giver};
+ghost use Rattle.meet_tickets.specs.declared.places.Side.TheVariants.{Giver, Taker};
 ghost use Rattle.meet_history.specs.Checking.{moment_at};
 
 use crate::checker::place::CheckedPlace;
@@ -42,6 +42,7 @@ impl CheckedPlace {
         requires seat { seat < length self.old.table.holds }
         requires room { 0 < self.old.room }
         requires above { self.old.last < ticket }
+        requires side { MatchOption item (side ≡ Taker) (λ _. side ≡ Giver) }
         ensures allowed { IsTrue result ↔ (Alone self.old.kind self.old.line side
             × ((moment_at self.old).seats.flags seat ≡ false)) }
         ensures seats { IsTrue result → (moment_at self.new).seats
@@ -57,10 +58,12 @@ impl CheckedPlace {
     }
 
     /// A new entry goes to the line's end.
+    #[inline(always)]
     fn join(&mut self, seat: SeatNo, ticket: Ticket, item: Option<u64>, waits: bool)
         requires seat { seat < length self.old.table.holds }
         requires room { 0 < self.old.room }
         requires above { self.old.last < ticket }
+        requires alone { IsAlone (end_of self.old.kind.order) self.old.line item }
         ensures seats { (moment_at self.new).seats ≡ queued (moment_at self.old).seats seat ticket item waits }
         ensures last { self.new.last ≡ ticket }
         ensures kind { self.new.kind ≡ self.old.kind }

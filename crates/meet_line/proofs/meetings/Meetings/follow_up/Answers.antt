@@ -11,4 +11,5 @@ invariant_of-self g c =
       rw c.replace.ensures.holds (IsSound-settled c.args.seat _ c.self.invariant.0 (λ ticket. not_waiting _ ticket settled) (IsApart-free _ _)),
       c.self.invariant.1,
       c.self.invariant.2,
+      c.self.invariant.3,
     )

@@ -1,6 +1,7 @@
 use Rattle.std.proofs.Common.{◌≡◌, ◌∙◌, sym, ap, subst, refl, Some, false}
 use Rattle.meet_tickets.specs.declared.places.Side.TheVariants.{Giver}
 use Rattle.meet_tickets.specs.Meeting.{is_on}
+use Rattle.meet_tickets.proofs.Counted.{givers-stay}
 use Rattle.meet_tickets.proofs.Keeping.{kept-paired}
 use Rattle.meet_tickets.proofs.Partners.{none-from}
 use Rattle.meet_tickets.proofs.Sides.{partner-other}
@@ -10,6 +11,9 @@ use Rattle.meet_line.specs.Queue.{Queue}
 use Rattle.meet_line.proofs.Sound.{HasOneSide-sound, held-taker, IsSound-met, there-waiting}
 use Rattle.meet_line.proofs.Moves.{paired_hold-taker, Leaves-paired}
 use Rattle.meet_line.proofs.meetings.Meetings.hand.Goals as goal
+
+pub meet-requires-clause-side : goal.meet-requires-clause-side
+meet-requires-clause-side g c = HasOneSide-sound c.self.invariant.0
 
 pub serve-requires-clause-seat : goal.serve-requires-clause-seat
 serve-requires-clause-seat g c =
@@ -26,6 +30,7 @@ invariant_of-self g c =
       rw (c.in-Some.ensures.rest, c.serve.ensures.held) (IsSound-met g.L.Line.end Giver c.in-Some.taker _ c.self.invariant.0 found waits refl),
       c.self.invariant.1 ∙ sym (kept-paired g.L.Line.end _ _ Giver c.in-Some.taker found c.in-Some.ensures.rest waits),
       c.self.invariant.2,
+      c.self.invariant.3 ∙ sym (givers-stay g.L.Line.end _ _ c.in-Some.taker (HasOneSide-sound c.self.invariant.0) found c.in-Some.ensures.rest),
     )
 
 pub returns-in-Some-clause-kept : goal.returns-in-Some-clause-kept

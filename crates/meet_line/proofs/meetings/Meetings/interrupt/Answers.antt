@@ -20,6 +20,7 @@ invariant_of-self g c =
       rw c.put.ensures.holds (IsSound-settled c.args.target _ c.self-2.invariant.0 away (IsApart-ticket _ _ c.in-Some.entry.ticket _ refl (rw (← c.self-2.view_is) at c.in-Some.ensures.apart) (rw (← c.self-2.view_is) at c.in-Some.ensures.used))),
       c.self-2.invariant.1,
       c.self-2.invariant.2,
+      c.self-2.invariant.3,
     )
 
 pub returns-in-Some-clause-step : goal.returns-in-Some-clause-step

@@ -1,5 +1,6 @@
 use Rattle.std.proofs.Common.{◌+◌, ◌<◌, ◌∙◌, sym, refl, ap, arith}
 use Rattle.meet_tickets.specs.Meeting.{kept_count}
+use Rattle.meet_tickets.proofs.Counted.{giver-joins}
 use Rattle.meet_tickets.proofs.Keeping.{kept-more}
 use Rattle.meet_line.proofs.Sound.{IsSound-kept}
 use Rattle.meet_line.proofs.meetings.Meetings.keep.Goals as goal
@@ -14,4 +15,5 @@ invariant_of-self g c =
           (rw (← c.self.view_is) at c.requires.alone)),
       ap (λ n. n + 1) c.self.invariant.1 ∙ sym (kept-more _ _ _ c.push_back.ensures.entries refl),
       omega (arith, few, c.self.invariant.1),
+      omega (arith, c.self.invariant.3, giver-joins _ _ _ c.push_back.ensures.entries),
     )

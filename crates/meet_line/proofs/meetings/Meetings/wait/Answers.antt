@@ -1,4 +1,5 @@
-use Rattle.std.proofs.Common.{◌∙◌, sym, refl}
+use Rattle.std.proofs.Common.{◌∙◌, sym, refl, arith}
+use Rattle.meet_tickets.proofs.Counted.{giver-joins}
 use Rattle.meet_tickets.proofs.Keeping.{kept-joined}
 use Rattle.meet_line.proofs.Sound.{IsSound-queued}
 use Rattle.meet_line.proofs.meetings.Meetings.wait.Goals as goal
@@ -12,6 +13,7 @@ invariant_of-self g c = (
       (rw (← c.self.view_is) at c.requires.alone)),
   c.self.invariant.1 ∙ sym (kept-joined _ _ _ c.push_back.ensures.entries refl),
   c.self.invariant.2,
+  omega (arith, c.self.invariant.3, giver-joins _ _ _ c.push_back.ensures.entries),
 )
 
 pub returns-clause-kept : goal.returns-clause-kept

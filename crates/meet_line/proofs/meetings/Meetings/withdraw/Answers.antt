@@ -1,6 +1,8 @@
-use Rattle.std.proofs.Common.{◌≡◌, ◌∙◌, ◌==◌, sym, ap, refl, true, arith}
+use Rattle.std.proofs.Common.{◌≡◌, ◌-◌, ◌∙◌, ◌==◌, sym, ap, refl, true, arith}
 use Rattle.meet_tickets.specs.declared.lines.Hold.TheVariants.{Free}
-use Rattle.meet_tickets.specs.Meeting.{kept_count}
+use Rattle.meet_tickets.specs.declared.places.Side.TheVariants.{Giver}
+use Rattle.meet_tickets.specs.Meeting.{kept_count, count_on}
+use Rattle.meet_tickets.proofs.Counted.{giver-removed}
 use Rattle.meet_tickets.proofs.Keeping.{kept-removed}
 use Rattle.meet_tickets.proofs.Sides.{found-ticket}
 use Rattle.meet_tickets.specs.BySeat.{left, without_first}
@@ -17,6 +19,11 @@ pub invariant_of-self : goal.invariant_of-self
 invariant_of-self g c =
     rw (removed-none c.in-Waiting.ticket (g.L.Line.entries c.self.inside.line) _ c.in-None.ensures.entry c.in-None.ensures.entries) c.self.invariant
 
+pub overflow_sub-self : goal.overflow_sub-self
+overflow_sub-self g c =
+    let less = giver-removed c.in-Waiting.ticket _ _ c.in-Some.entry (sym c.in-Some.ensures.entry) c.in-Some.ensures.entries in
+    omega (arith, less, c.self.invariant.3, c.count_if_gives.ensures)
+
 pub returns-in-None-clause-kept : goal.returns-in-None-clause-kept
 returns-in-None-clause-kept g c =
     rw (← c.self.view_is) (ap kept_count (removed-none c.in-Waiting.ticket (g.L.Line.entries c.self.inside.line) _ c.in-None.ensures.entry c.in-None.ensures.entries))
@@ -26,11 +33,14 @@ waited : (g : Over) (c : After-put g) → c.in-Some.entry.waits ≡ true
 waited g c = waits-open c.args.seat c.in-Waiting.ticket c.in-Some.entry c.self.invariant.0 (sym c.hold.ensures ∙ c.in-Waiting.is) (sym c.in-Some.ensures.entry)
 
 pub invariant_of-self-in-Some : goal.invariant_of-self-in-Some
-invariant_of-self-in-Some g c = (
-  rw (c.in-Some.ensures.entries, c.put.ensures.holds) (IsSound-removed c.args.seat c.in-Waiting.ticket c.in-Some.entry c.self.invariant.0 (sym c.hold.ensures ∙ c.in-Waiting.is) (sym c.in-Some.ensures.entry)),
-  c.self.invariant.1 ∙ sym (kept-removed c.in-Waiting.ticket _ _ c.in-Some.entry (sym c.in-Some.ensures.entry) c.in-Some.ensures.entries (waited g c)),
-  c.self.invariant.2,
-)
+invariant_of-self-in-Some g c =
+    let less = giver-removed c.in-Waiting.ticket _ _ c.in-Some.entry (sym c.in-Some.ensures.entry) c.in-Some.ensures.entries in
+    let fewer : c.self.inside.givers - c.count_if_gives.result ≡ count_on Giver (g.L.Line.entries c.remove.new.self) = omega (arith, less, c.self.invariant.3, c.count_if_gives.ensures) in (
+      rw (c.in-Some.ensures.entries, c.put.ensures.holds) (IsSound-removed c.args.seat c.in-Waiting.ticket c.in-Some.entry c.self.invariant.0 (sym c.hold.ensures ∙ c.in-Waiting.is) (sym c.in-Some.ensures.entry)),
+      c.self.invariant.1 ∙ sym (kept-removed c.in-Waiting.ticket _ _ c.in-Some.entry (sym c.in-Some.ensures.entry) c.in-Some.ensures.entries (waited g c)),
+      c.self.invariant.2,
+      fewer,
+    )
 
 pub returns-in-Some-clause-waited : goal.returns-in-Some-clause-waited
 returns-in-Some-clause-waited g c = waited g (goal.at.returns-in-Some-clause-waited g c).After-put
