@@ -18,7 +18,7 @@ use std::time::{Clock, Instant};
 const BOUT: u64 = 4_000;
 
 /// How many bouts a thread takes at most, for some seconds: others at work that don't come then weren't started.
-const MOST_BOUTS: u64 = 2_000;
+const MOST_BOUTS: u64 = 100_000;
 
 /// Exchanges this seat's item for that of another, and waits for one while others are at work: at first in this slot,
 /// and where nobody came in slot 0, to which all come who wait for long.
