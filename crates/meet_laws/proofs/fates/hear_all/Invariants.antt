@@ -1,0 +1,9 @@
+use Rattle.std.proofs.Common.{◌≡◌, ◌++◌, take, List}
+use Rattle.meet_tickets.specs.declared.records.Record.{Record}
+use Rattle.meet_tickets.specs.declared.records.Deed.{Deed}
+use Rattle.meet_laws.specs.Hearing.{told_in}
+use Rattle.meet_laws.proofs.fates.hear_all.Given as goal
+
+-- what the records so far tell
+abbrev pub invariant-loop-entry : goal.invariant-loop-entry
+invariant-loop-entry l = (history : List (Record Deed)) → l.fn.start ≡ told_in history l.ticket → l.told ≡ told_in (history ++ take l.entry-index l.records) l.ticket

@@ -1,0 +1,11 @@
+use Rattle.std.proofs.Common.{◌≡◌, ◌++◌, take, List}
+use Rattle.std.specs.List.{flat_map}
+use Rattle.meet_tickets.specs.declared.records.Record.{Record}
+use Rattle.meet_tickets.specs.declared.records.Deed.{Deed}
+use Rattle.meet_tickets.specs.Fates.{pair_records}
+use Rattle.meet_laws.specs.Hearing.{told_in}
+use Rattle.meet_laws.proofs.fates.hear_pairs.Given as goal
+
+-- what the entries so far tell
+abbrev pub invariant-loop-pair : goal.invariant-loop-pair
+invariant-loop-pair l = (history : List (Record Deed)) → l.fn.start ≡ told_in history l.ticket → l.told ≡ told_in (history ++ flat_map pair_records (take l.pair-index l.pairs)) l.ticket

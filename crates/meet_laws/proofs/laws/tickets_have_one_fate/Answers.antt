@@ -1,0 +1,5 @@
+use Rattle.meet_laws.proofs.Rows.{one_fate}
+use Rattle.meet_laws.proofs.laws.tickets_have_one_fate.Goals as goal
+
+pub returns : goal.returns
+returns c = one_fate

@@ -1,0 +1,8 @@
+use Rattle.std.proofs.Common.{◌≡◌, ◌≤◌, take}
+use Rattle.std.specs.Prelude.{count_by}
+use Rattle.meet_laws.specs.Tally.{stands_kept}
+use Rattle.meet_laws.proofs.tally.count_kept.Given as goal
+
+-- so many so far
+abbrev pub invariant-loop-one : goal.invariant-loop-one
+invariant-loop-one g l = record { count : l.count ≡ count_by (λ a. stands_kept a.standing) (take l.one-index l.left); few : l.count ≤ l.one-index }

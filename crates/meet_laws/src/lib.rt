@@ -1,0 +1,16 @@
+//! What holds of every legal history, with cancels that race: how fates move, who is with whom, in which order tickets
+//! are met, and what is left where those that were cut or taken back are erased.
+#![tactic(auto)]
+
+mod erasing;
+mod fates;
+pub mod laws;
+mod tally;
+
+pub use erasing::erase;
+pub use fates::fate;
+pub use laws::{
+    erased_is_legal, fates_move, gives_count_once, partners_are_mutual, tickets_are_met_in_order,
+    tickets_have_one_fate,
+};
+pub use tally::{Tally, reckon};
