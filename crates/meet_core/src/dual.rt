@@ -42,7 +42,7 @@ impl<T: Marked, L: Line<T>> Dual<T, L> {
     ghost use Rattle.meet_line.specs.Awaits.{AwaitsAs};
     ghost use Rattle.meet_line.specs.Queue.{seats_of, count_of, places_of, admit_refusal, IsSound};
     ghost use Rattle.meet_line.specs.Steps.{GiveStep, TakeStep, OfferStep, PollStep};
-    ghost use Rattle.meet_tickets.specs.declared.refusals.Refusal.TheVariants.{Memory};
+    ghost use Rattle.meet_tickets.specs.declared.refusals.Refusal.TheVariants.{Memory, TicketsSpent};
 
     /// A queue with no room yet, with this many seats, at most 65,536, and this first ticket, 1 to 2^63 - 1. The only
     /// refusal is Memory.
@@ -193,6 +193,17 @@ impl<T: Marked, L: Line<T>> Dual<T, L> {
         ensures { result ≡ count_on Giver self.now.line }
     {
         self.meetings.givers()
+    }
+
+    /// Uses up the next ticket, and changes nothing else. The only refusal is TicketsSpent, exactly where none is left.
+    pub fn draw(&mut self) -> Result<Ticket, Refusal>
+        ensures ticket { IfOk result (λ ticket. ticket ≡ self.old.next) }
+        ensures left { IsOk result ↔ (self.old.next ≤ last_ticket) }
+        ensures next { OnOk result (self.new ≡ record self.old { last = self.old.next; next = self.old.next + 1 }) }
+        ensures why { IfErr result (λ why. why ≡ TicketsSpent) }
+        ensures unchanged { OnErr result (self.new ≡ self.old) }
+    {
+        self.meetings.spend()
     }
 
     /// How many tickets are left.

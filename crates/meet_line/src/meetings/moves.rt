@@ -1,17 +1,18 @@
 //! The moves that the steps of a queue are made of.
 
-ghost use Rattle.std.specs.Prelude.{◌≡◌, ◌≢◌, ℕ, ◌+◌, ◌<◌, ◌≤◌, ⊤, Some, None, IfOk, IfErr, IfSome, IfNone};
+ghost use Rattle.std.specs.Prelude.{◌≡◌, ◌≢◌, ℕ, ◌+◌, ◌<◌, ◌≤◌, ◌↔◌, ⊤, Some, None, IsOk, IfOk, OnOk, OnErr, IfErr, IfSome, IfNone};
 ghost use Rattle.std.specs.Prelude.{MatchOption, All, true, false, is_some, if◌then◌else◌};
 ghost use Rattle.meet_tickets.specs.Meeting.{partner, kept_count, IsAlone};
 ghost use Rattle.meet_tickets.specs.BySeat.{queued, open_ticket, entry_of, left};
 ghost use Rattle.meet_tickets.specs.Limits.{last_ticket};
+ghost use Rattle.meet_tickets.specs.declared.refusals.Refusal.TheVariants.{TicketsSpent};
 ghost use Rattle.meet_tickets.specs.declared.lines.Hold.TheVariants.{Free};
 ghost use Rattle.meet_tickets.specs.declared.places.Side.TheVariants.{Giver, Taker};
 
 use crate::line::Line;
 use crate::meeting::{collect, meet, release, serve};
 use crate::meetings::Meetings;
-use meet_tickets::{Entry, Hold, Marked, SeatNo, Side, Ticket};
+use meet_tickets::{Entry, Hold, Marked, Refusal, SeatNo, Side, Ticket};
 
 /// One for a giver, which presents an item, else 0.
 fn count_if_gives<T>(item: &Option<T>) -> u64
@@ -23,6 +24,20 @@ fn count_if_gives<T>(item: &Option<T>) -> u64
 impl<T: Marked, L: Line<T>> Meetings<T, L> {
     ghost use Rattle.meet_line.specs.Queue.{seats_of, count_of, places_of};
     ghost use Rattle.meet_line.specs.Steps.{Leaves, HandsOver, Fetches};
+
+    /// Uses up the next ticket, and changes nothing else. The only refusal is TicketsSpent, exactly where none is left.
+    pub fn spend(&mut self) -> Result<Ticket, Refusal>
+        ensures ticket { IfOk result (λ ticket. ticket ≡ self.old.next) }
+        ensures left { IsOk result ↔ (self.old.next ≤ last_ticket) }
+        ensures next { OnOk result (self.new ≡ record self.old { last = self.old.next; next = self.old.next + 1 }) }
+        ensures why { IfErr result (λ why. why ≡ TicketsSpent) }
+        ensures unchanged { OnErr result (self.new ≡ self.old) }
+    {
+        if self.tickets_left() == 0 {
+            return Err(Refusal::TicketsSpent);
+        }
+        Ok(self.draw())
+    }
 
     /// Uses up the next ticket.
     pub(super) fn draw(&mut self) -> Ticket

@@ -1,15 +1,16 @@
 //! What a queue shows of itself, each at constant cost but `awaits`, which looks for a ticket in the line. None of these
 //! takes memory.
 
-ghost use Rattle.std.specs.Prelude.{◌+◌, ◌≡◌, ◌≤◌, ◌-◌, ◌↔◌, IsTrue, nat_lt, option_map, slice_get};
+ghost use Rattle.std.specs.Prelude.{◌+◌, ◌≡◌, ◌≤◌, ◌-◌, ◌↔◌, IsOk, IfOk, IfErr, OnOk, OnErr, IsTrue, nat_lt, option_map, slice_get};
 ghost use Rattle.std.specs.Option.{option_and_then};
 ghost use Rattle.meet_tickets.specs.Meeting.{waiting_count, kept_count, count_on};
 ghost use Rattle.meet_tickets.specs.BySeat.{open_ticket, owed_of, settled_of};
 ghost use Rattle.meet_tickets.specs.Limits.{most_seats, last_ticket, told_capacity};
+ghost use Rattle.meet_tickets.specs.declared.refusals.Refusal.TheVariants.{TicketsSpent};
 ghost use Rattle.meet_tickets.specs.declared.places.Side.TheVariants.{Giver, Taker};
 
 use crate::transfer::Transfer;
-use meet_tickets::{Marked, SeatNo, TOLD_CAPACITY, Ticket};
+use meet_tickets::{Marked, Refusal, SeatNo, TOLD_CAPACITY, Ticket};
 
 impl<T: Marked> Transfer<T> {
     ghost use Rattle.meet_line.specs.Awaits.{AwaitsAs};
@@ -120,6 +121,17 @@ impl<T: Marked> Transfer<T> {
         ensures { result ≡ kept_count self.now.queue.line }
     {
         self.meetings.kept()
+    }
+
+    /// Uses up the next ticket, and changes nothing else. The only refusal is TicketsSpent, exactly where none is left.
+    pub fn draw(&mut self) -> Result<Ticket, Refusal>
+        ensures ticket { IfOk result (λ ticket. ticket ≡ self.old.queue.next) }
+        ensures left { IsOk result ↔ (self.old.queue.next ≤ last_ticket) }
+        ensures next { OnOk result (self.new ≡ record self.old { queue = record self.old.queue { last = self.old.queue.next; next = self.old.queue.next + 1 } }) }
+        ensures why { IfErr result (λ why. why ≡ TicketsSpent) }
+        ensures unchanged { OnErr result (self.new ≡ self.old) }
+    {
+        self.meetings.spend()
     }
 
     /// How many tickets are left.
