@@ -7,8 +7,8 @@ use clap::{Arg, ArgAction, ArgMatches, Command, Error, value_parser};
 use meet_run::{MOST_EACH, MOST_GIVERS};
 use std::alloc::Global;
 
-/// The version, and the toolchain with which the program is proved, as `rt version` names it.
-const VERSION: &str = "0.1.0 (proved with rattle-kit-13f logic dac8208d650f15bf)";
+/// The version; which toolchain proved a build is told by what built it.
+const VERSION: &str = "0.1.0";
 
 /// What stands at the end of the help.
 const REST_OF_HELP: &str = "\
@@ -16,7 +16,7 @@ A script is a place and then calls, a line each, by the seat that makes them. A 
   printf 'fair\\n0 put 5\\n1 take\\n0 follow\\n' | meet run
 
 Places: fair, unfair, transfer
-Verbs: put N, offer N, take, poll, follow, cancel, expire, interrupt SEAT, drain N, size, room, peek;
+Verbs: put N, offer N, take, poll, follow, cancel, expire, interrupt SEAT, drain N, size, room, peek, checkpoint;
        of a transfer queue also transfer N, try N, consumers
 
 A drive is threads that pass items through a fair queue, closed and checked: how many items were taken, their sum, how
@@ -40,6 +40,8 @@ pub enum Task {
     Trace,
     /// A trace on standard input, what is found of it on standard output.
     Check,
+    /// A trace on standard input, what is left of it once erased on standard output.
+    Erase,
 }
 
 /// What a command line asks for.
@@ -70,8 +72,8 @@ fn given(asked: &ArgMatches<'_>, name: &str, most: u64) -> u64
     asked.get_one::<u64>(name).unwrap_or(1).clamp(1, most)
 }
 
-/// Reads the words of a command line, the program's name first: none, `run`, `run --trace`, `check` or `drive N M`. The
-/// error has the text to show; a request for help or for the version is one.
+/// Reads the words of a command line, the program's name first: none, `run`, `run --trace`, `check`, `check --erase` or
+/// `drive N M`. The error has the text to show; a request for help or for the version is one.
 pub fn wanted_of(alloc: Global, words: &[String]) -> Result<Wanted, Error>
     ensures { IfOk result IsWithin }
 {
@@ -83,9 +85,16 @@ pub fn wanted_of(alloc: Global, words: &[String]) -> Result<Wanted, Error>
         .about("Runs the script on standard input (the default)")
         .override_usage("meet run [--trace] < SCRIPT")
         .arg(trace)?;
+    let erase = Arg::new(alloc, "erase")
+        .long("erase")
+        .help(
+            "Writes the trace without the tickets that were cut, withdrawn or refused at their entry",
+        )
+        .action(ArgAction::SetTrue);
     let check = Command::new(alloc, "check")
         .about("Checks the trace on standard input")
-        .override_usage("meet check < TRACE");
+        .override_usage("meet check [--erase] < TRACE")
+        .arg(erase)?;
     let drive = Command::new(alloc, "drive")
         .about("Drives N givers and N takers through a fair queue, M items each")
         .override_usage("meet drive N M")
@@ -114,6 +123,9 @@ pub fn wanted_of(alloc: Global, words: &[String]) -> Result<Wanted, Error>
     let matches = command.try_get_matches_from(words)?;
     match matches.subcommand() {
         None => Ok(Wanted::Text(Task::Run)),
+        Some((name, asked)) if name == "check" && asked.get_flag("erase") => {
+            Ok(Wanted::Text(Task::Erase))
+        }
         Some((name, _)) if name == "check" => Ok(Wanted::Text(Task::Check)),
         Some((name, asked)) if name == "drive" => {
             Ok(Wanted::Drive(given(asked, "N", MOST_GIVERS), given(asked, "M", MOST_EACH)))

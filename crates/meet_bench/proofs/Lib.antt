@@ -1,4 +1,5 @@
 pub mod AskedLemmas
+pub mod Counting
 pub mod Prefixes
 pub mod Served
 pub mod TaskLemmas

@@ -89,6 +89,13 @@ impl<O: Object> Book<O> {
         self.records.as_slice()
     }
 
+    /// How many records were written since the first, those that were folded away included.
+    pub fn written(&self) -> u64
+        ensures { result ≡ O.gone_of self.now.base + length self.now.records }
+    {
+        O::gone(&self.base) + self.records.len() as u64
+    }
+
     /// Makes room for this many records, beside those that are owed, and this much in the place: while it lasts, no
     /// call is refused for memory. The only refusal is Memory; then nothing but the book's room has changed.
     pub fn reserve(&mut self, records: u64, room: u64) -> Result<(), Refusal>

@@ -1,11 +1,12 @@
 -- How large a drive is, and what it finds (our choice).
-use Rattle.std.specs.Prelude.{◌≡◌, ℕ, ◌<◌, ◌≤◌, None, List, length}
+use Rattle.std.specs.Prelude.{◌≡◌, ℕ, ◌+◌, ◌<◌, ◌≤◌, None, List, length}
+use Rattle.meet_tickets.specs.declared.places.Kind.{Kind}
 use Rattle.meet_tickets.specs.declared.places.Order.TheVariants.{Fair}
 use Rattle.meet_tickets.specs.declared.records.Record.{Record}
 use Rattle.meet_tickets.specs.declared.records.Deed.{Deed}
 use Rattle.meet_tickets.specs.ByLists.{IsLegal}
 use Rattle.meet_history.specs.Standings.{standing_in}
-use Rattle.meet_sync.specs.Chronicles.{delivered_in}
+use Rattle.meet_laws.specs.Tally.{tally_in}
 use Rattle.meet_drive.specs.declared.outcome.Drive.{Drive}
 
 -- how many givers there are at most, and as many takers
@@ -20,8 +21,12 @@ most_each = 1000
 abbrev pub IsSized : (givers each : ℕ) → Type 0
 IsSized givers each = (0 < givers) × (givers ≤ most_givers) × (0 < each) × (each ≤ most_each)
 
--- there is a legal history of a synchronous queue in fair mode, which has so many records, of which so many hand an item
--- over, and which leaves so much
+-- the kind of its queue: a synchronous queue in fair mode
+abbrev pub fair : Kind
+fair = record { order = Fair; bound = None }
+
+-- there is a legal history of a synchronous queue in fair mode, which has so many records, in which the items of so many
+-- give requests are paired, and which leaves so much
 abbrev pub IsDriven : Drive → Type 0
-IsDriven drive = (history : List (Record Deed)) × IsLegal (record { order = Fair; bound = None }) history
-    × (drive.records ≡ length history) × (drive.pairs ≡ delivered_in history) × (drive.standing ≡ standing_in history)
+IsDriven drive = (history : List (Record Deed)) × IsLegal fair history
+    × (drive.records ≡ length history) × (drive.pairs ≡ (tally_in history).delivered) × (drive.standing ≡ standing_in history)

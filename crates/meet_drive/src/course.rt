@@ -3,12 +3,11 @@
 use crate::progress::Progress;
 use meet_cells::{Gate, ParkGate, Turn};
 use meet_sync::{
-    Answer, Asked, FairLine, FollowedUp, Pending, Request, Seat, SyncQueue, Withdrawn,
+    Answer, Asked, FairLine, FollowedUp, Ledgers, Pending, Request, Seat, SyncQueue, Withdrawn,
 };
 use meet_tickets::{Deed, Refusal, SeatNo};
 use std::sync::Wait;
 use std::sync::atomic::{AtomicBool, AtomicU64, Ordering};
-use std::sync::ledger::Ledger;
 use std::time::Clock;
 
 /// A second, in milliseconds.
@@ -16,7 +15,7 @@ const SECOND: u64 = 1_000;
 
 /// What the threads of a drive share: the queue, whether all are to stop, and how far they are.
 #[derive(Drop)]
-pub struct Course<G, N: Ledger> {
+pub struct Course<G, N: Ledgers> {
     queue: SyncQueue<u64, FairLine<u64>, G, N>,
     stopped: AtomicBool,
     /// How many items were taken so far.
@@ -40,7 +39,7 @@ pub enum Passed {
     Refused(Refusal),
 }
 
-impl<G, N: Ledger> Course<G, N> {
+impl<G, N: Ledgers> Course<G, N> {
     /// A course over this queue.
     pub fn new(queue: SyncQueue<u64, FairLine<u64>, G, N>) -> Self {
         Course {
@@ -94,7 +93,7 @@ impl<G, N: Ledger> Course<G, N> {
     }
 }
 
-impl<G: Gate, N: Ledger> Course<G, N> {
+impl<G: Gate, N: Ledgers> Course<G, N> {
     /// Stops all: who waits is woken, and takes its ticket back.
     pub fn stop(&self) {
         self.stopped.store(true, Ordering::SeqCst);

@@ -4,10 +4,9 @@
 use crate::course::{Course, Passed};
 use crate::progress::Progress;
 use meet_cells::Gate;
-use meet_sync::{Request, Seat};
+use meet_sync::{Ledgers, Request, Seat};
 use meet_tickets::{Deed, Refusal};
 use std::mem::ManuallyDrop;
-use std::sync::ledger::Ledger;
 use std::sync::{Mutex, Wait};
 use std::thread::Threads;
 use std::time::Clock;
@@ -39,7 +38,7 @@ pub const NOTHING: Count = Count {
 
 /// Where a seat lies before its thread starts and after it ended, and what the thread counted.
 #[derive(Drop)]
-pub struct Slot<N: Ledger> {
+pub struct Slot<N: Ledgers> {
     pub seat: Option<Seat<Deed, N>>,
     pub count: Count,
 }
@@ -97,7 +96,7 @@ impl Task {
 }
 
 /// Does a task with a seat, until it is done, or all are to stop, or a call is refused; then all are stopped.
-fn perform<G: Gate, N: Ledger, R: Wait + Clock>(
+fn perform<G: Gate, N: Ledgers, R: Wait + Clock>(
     rt: &R,
     course: &Course<G, N>,
     first: Seat<Deed, N>,
@@ -122,7 +121,7 @@ fn perform<G: Gate, N: Ledger, R: Wait + Clock>(
 }
 
 /// Does a task with the seat of this slot.
-fn work<G: Gate, N: Ledger, R: Wait + Clock>(
+fn work<G: Gate, N: Ledgers, R: Wait + Clock>(
     rt: &R,
     course: &Course<G, N>,
     slot: &Mutex<Slot<N>>,
@@ -151,7 +150,7 @@ pub fn run_all<G, N, R, P>(
 where
     G: Gate + Send + Sync,
     P: Progress,
-    N: Ledger + Send + Sync,
+    N: Ledgers + Send + Sync,
     R: Threads + Wait + Clock + Sync,
 {
     let givers = slots.len() / 2;

@@ -1,8 +1,12 @@
 //! A drive from its start to its end.
 
-ghost use Rattle.std.specs.Prelude.{◌≡◌, ◌<◌, ◌≤◌, ◌*◌, [], IfOk, vec_len};
+ghost use Rattle.std.specs.Prelude.{◌≡◌, ℕ, ◌<◌, ◌≤◌, ◌*◌, [], List, IfOk, vec_len};
 ghost use Rattle.std.specs.Vec.{vec_capacity};
-ghost use Rattle.meet_drive.specs.Driven.{IsDriven, IsSized};
+ghost use Rattle.meet_place.specs.Ledgers.{AreOf};
+ghost use Rattle.meet_tickets.specs.declared.records.Deed.{Deed};
+ghost use Rattle.meet_book.specs.Received.{Received};
+ghost use Rattle.meet_sync.specs.Chronicles.{IsChronicle};
+ghost use Rattle.meet_drive.specs.Driven.{IsDriven, IsSized, fair};
 
 use crate::course::Course;
 use crate::outcome::Drive;
@@ -10,12 +14,11 @@ use crate::progress::{Progress, Silent};
 use crate::threads::{Count, NOTHING, Slot, run_all};
 use meet_cells::{Gate, ParkGate};
 use meet_history::{CheckFault, Kind, Order, check};
-use meet_sync::{Back, Chronicle, NewQueue, Seat, SyncQueue};
+use meet_sync::{Back, Blanks, Chronicle, Ledgers, NewQueue, Seat, SyncQueue};
 use meet_tickets::{Deed, MOST_RECORDS, Refusal};
 use std::alloc::Global;
 use std::marker::Brand;
 use std::mem::ManuallyDrop;
-use std::sync::ledger::{Blank, Ledger};
 use std::sync::{Mutex, Wait};
 use std::thread::Threads;
 use std::time::Clock;
@@ -33,7 +36,10 @@ const FAIR: Kind = Kind {
 };
 
 /// Slots with these seats, in their order. The empty list has room for them.
-fn slots_of<N: Ledger>(seats: Vec<Seat<Deed, N>>, empty: Vec<Mutex<Slot<N>>>) -> Vec<Mutex<Slot<N>>>
+fn slots_of<N: Ledgers>(
+    seats: Vec<Seat<Deed, N>>,
+    empty: Vec<Mutex<Slot<N>>>,
+) -> Vec<Mutex<Slot<N>>>
     requires empty { empty.items ≡ [] }
     requires room { vec_len seats ≤ vec_capacity empty }
     ensures count { vec_len result ≡ vec_len seats }
@@ -50,7 +56,7 @@ fn slots_of<N: Ledger>(seats: Vec<Seat<Deed, N>>, empty: Vec<Mutex<Slot<N>>>) ->
 
 /// The seats of these slots, to be given back, and what their threads counted together. The empty list has room for
 /// them.
-fn seats_of<N: Ledger>(
+fn seats_of<N: Ledgers>(
     slots: Vec<Mutex<Slot<N>>>,
     empty: Vec<Back<Deed, N>>,
 ) -> (Vec<Back<Deed, N>>, Count)
@@ -69,12 +75,17 @@ fn seats_of<N: Ledger>(
     (backs, counted)
 }
 
-/// What a chronicle tells of a drive whose takers counted so.
+/// What a chronicle tells of a drive whose takers counted so. A drive's records aren't folded away.
 fn told(alloc: Global, chronicle: &Chronicle<u64>, counted: Count) -> Result<Drive, Refusal>
+    requires history { (mark : ℕ → ℕ) × (lists : List (List (Received Deed))) × IsChronicle mark fair
+        chronicle.now.base chronicle.now.records.items lists chronicle.now.left.items }
     ensures { IfOk result IsDriven }
 {
+    if chronicle.base.gone > 0 {
+        return Err(Refusal::Differs);
+    }
     let records = chronicle.records.as_slice();
-    match check(alloc, FAIR, records) {
+    match check(alloc, FAIR, &chronicle.base, records) {
         Ok(standing) => Ok(Drive {
             items: counted.items,
             sum: counted.sum,
@@ -100,11 +111,10 @@ fn driving<G, N, R, P>(
 where
     P: Progress,
     G: Gate + Drop + Send + Sync,
-    N: Ledger + Send + Sync,
+    N: Ledgers + Send + Sync,
     R: Threads + Wait + Clock + Sync,
-    requires name { parts.blank.name ≡ N.name }
-    requires parts { parts.blank.parts ≡ N.parts }
-    requires one_each { parts.blank.parts ≡ vec_len parts.gates }
+    requires ledgers { AreOf N.name N.folds N.parts parts.blanks }
+    requires one_each { N.parts ≡ vec_len parts.gates }
     ensures { IfOk result IsDriven }
 {
     let count = parts.gates.len();
@@ -207,7 +217,7 @@ where
         gates.push(ParkGate::new()).map_err(|_| Refusal::Memory)?;
         gates.push(ParkGate::new()).map_err(|_| Refusal::Memory)?;
     }
-    let blank = Blank::new(gates.len() as u64);
-    let parts = NewQueue { gates, blank };
+    let blanks = Blanks::new(gates.len() as u64);
+    let parts = NewQueue { gates, blanks };
     driving::<ParkGate, Brand, R, P>(rt, alloc, parts, each, cap, progress)
 }

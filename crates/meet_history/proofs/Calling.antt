@@ -17,31 +17,31 @@ use Rattle.meet_history.specs.declared.one_thread.replies.Reply.{Reply}
 use Rattle.meet_history.specs.Stepping.{refusal_at}
 
 -- the book's reason is that of the place
-refusal-there : (setup : Setup) (q : Queue ℕ) (written seat : ℕ) (call : DualCall ℕ) → count_of q ≡ setup.seats → 0 < dual_need call → call_refusal (dual_refusal q seat call) (nat_lt setup.cap (written + dual_owed q + dual_need call)) ≡ refusal_at setup (record { next = q.next; seats = seats_of q; records = written }) seat call
-refusal-there setup q written seat (Give mark) count need = ap (λ n. call_refusal (refusal_of n q.next (seats_of q) seat) (nat_lt setup.cap (written + owed_of n (seats_of q).holds + 2))) count
-refusal-there setup q written seat (Offer mark) count need = ap (λ n. call_refusal (refusal_of n q.next (seats_of q) seat) (nat_lt setup.cap (written + owed_of n (seats_of q).holds + 2))) count
-refusal-there setup q written seat Take count need = ap (λ n. call_refusal (refusal_of n q.next (seats_of q) seat) (nat_lt setup.cap (written + owed_of n (seats_of q).holds + 2))) count
-refusal-there setup q written seat Poll count need = ap (λ n. call_refusal (refusal_of n q.next (seats_of q) seat) (nat_lt setup.cap (written + owed_of n (seats_of q).holds + 2))) count
-refusal-there setup q written seat (FollowUp t) count need = absurd (omega arith)
-refusal-there setup q written seat (Cancel t) count need = absurd (omega arith)
-refusal-there setup q written seat (Expire t) count need = absurd (omega arith)
-refusal-there setup q written seat (Interrupt j) count need = ap (λ n. call_refusal (absent_refusal n seat j) (nat_lt setup.cap (written + owed_of n (seats_of q).holds + 1))) count
+refusal-there : (setup : Setup) (q : Queue ℕ) (gone : ℕ) (cut : Bool) (written seat : ℕ) (call : DualCall ℕ) → count_of q ≡ setup.seats → 0 < dual_need call → call_refusal (dual_refusal q seat call) (nat_lt setup.cap (written + dual_owed q + dual_need call)) ≡ refusal_at setup (record { next = q.next; seats = seats_of q; gone = gone; cut = cut; records = written }) seat call
+refusal-there setup q gone cut written seat (Give mark) count need = ap (λ n. call_refusal (refusal_of n q.next (seats_of q) seat) (nat_lt setup.cap (written + owed_of n (seats_of q).holds + 2))) count
+refusal-there setup q gone cut written seat (Offer mark) count need = ap (λ n. call_refusal (refusal_of n q.next (seats_of q) seat) (nat_lt setup.cap (written + owed_of n (seats_of q).holds + 2))) count
+refusal-there setup q gone cut written seat Take count need = ap (λ n. call_refusal (refusal_of n q.next (seats_of q) seat) (nat_lt setup.cap (written + owed_of n (seats_of q).holds + 2))) count
+refusal-there setup q gone cut written seat Poll count need = ap (λ n. call_refusal (refusal_of n q.next (seats_of q) seat) (nat_lt setup.cap (written + owed_of n (seats_of q).holds + 2))) count
+refusal-there setup q gone cut written seat (FollowUp t) count need = absurd (omega arith)
+refusal-there setup q gone cut written seat (Cancel t) count need = absurd (omega arith)
+refusal-there setup q gone cut written seat (Expire t) count need = absurd (omega arith)
+refusal-there setup q gone cut written seat (Interrupt j) count need = ap (λ n. call_refusal (absent_refusal n seat j) (nat_lt setup.cap (written + owed_of n (seats_of q).holds + 1))) count
 
 -- whatever the book's cap is called
-pub refusal_at-is : (setup : Setup) (q : Queue ℕ) (cap written seat : ℕ) (call : DualCall ℕ) → cap ≡ setup.cap → count_of q ≡ setup.seats → 0 < dual_need call → call_refusal (dual_refusal q seat call) (nat_lt cap (written + dual_owed q + dual_need call)) ≡ refusal_at setup (record { next = q.next; seats = seats_of q; records = written }) seat call
-refusal_at-is setup q cap written seat call same count need =
-    ap (λ n. call_refusal (dual_refusal q seat call) (nat_lt n (written + dual_owed q + dual_need call))) same ∙ refusal-there setup q written seat call count need
+pub refusal_at-is : (setup : Setup) (q : Queue ℕ) (gone : ℕ) (cut : Bool) (cap written seat : ℕ) (call : DualCall ℕ) → cap ≡ setup.cap → count_of q ≡ setup.seats → 0 < dual_need call → call_refusal (dual_refusal q seat call) (nat_lt cap (written + dual_owed q + dual_need call)) ≡ refusal_at setup (record { next = q.next; seats = seats_of q; gone = gone; cut = cut; records = written }) seat call
+refusal_at-is setup q gone cut cap written seat call same count need =
+    ap (λ n. call_refusal (dual_refusal q seat call) (nat_lt n (written + dual_owed q + dual_need call))) same ∙ refusal-there setup q gone cut written seat call count need
 
 -- an admitted call isn't refused by the place; an ending of an open ticket isn't anyway
-pub admitted-at : (setup : Setup) (q : Queue ℕ) (cap written seat : ℕ) (call : DualCall ℕ) → cap ≡ setup.cap → count_of q ≡ setup.seats → call_refusal (dual_refusal q seat call) (nat_lt cap (written + dual_owed q + dual_need call)) ≡ None → refusal_at setup (record { next = q.next; seats = seats_of q; records = written }) seat call ≡ None
-admitted-at setup q cap written seat (Give mark) same count none = sym (refusal_at-is setup q cap written seat (Give mark) same count (omega arith)) ∙ none
-admitted-at setup q cap written seat (Offer mark) same count none = sym (refusal_at-is setup q cap written seat (Offer mark) same count (omega arith)) ∙ none
-admitted-at setup q cap written seat Take same count none = sym (refusal_at-is setup q cap written seat Take same count (omega arith)) ∙ none
-admitted-at setup q cap written seat Poll same count none = sym (refusal_at-is setup q cap written seat Poll same count (omega arith)) ∙ none
-admitted-at setup q cap written seat (FollowUp t) same count none = refl
-admitted-at setup q cap written seat (Cancel t) same count none = refl
-admitted-at setup q cap written seat (Expire t) same count none = refl
-admitted-at setup q cap written seat (Interrupt j) same count none = sym (refusal_at-is setup q cap written seat (Interrupt j) same count (omega arith)) ∙ none
+pub admitted-at : (setup : Setup) (q : Queue ℕ) (gone : ℕ) (cut : Bool) (cap written seat : ℕ) (call : DualCall ℕ) → cap ≡ setup.cap → count_of q ≡ setup.seats → call_refusal (dual_refusal q seat call) (nat_lt cap (written + dual_owed q + dual_need call)) ≡ None → refusal_at setup (record { next = q.next; seats = seats_of q; gone = gone; cut = cut; records = written }) seat call ≡ None
+admitted-at setup q gone cut cap written seat (Give mark) same count none = sym (refusal_at-is setup q gone cut cap written seat (Give mark) same count (omega arith)) ∙ none
+admitted-at setup q gone cut cap written seat (Offer mark) same count none = sym (refusal_at-is setup q gone cut cap written seat (Offer mark) same count (omega arith)) ∙ none
+admitted-at setup q gone cut cap written seat Take same count none = sym (refusal_at-is setup q gone cut cap written seat Take same count (omega arith)) ∙ none
+admitted-at setup q gone cut cap written seat Poll same count none = sym (refusal_at-is setup q gone cut cap written seat Poll same count (omega arith)) ∙ none
+admitted-at setup q gone cut cap written seat (FollowUp t) same count none = refl
+admitted-at setup q gone cut cap written seat (Cancel t) same count none = refl
+admitted-at setup q gone cut cap written seat (Expire t) same count none = refl
+admitted-at setup q gone cut cap written seat (Interrupt j) same count none = sym (refusal_at-is setup q gone cut cap written seat (Interrupt j) same count (omega arith)) ∙ none
 
 -- nor has the place a reason of its own
 pub place-admits : (first : Option Refusal) (full : Bool) → call_refusal first full ≡ None → first ≡ None

@@ -5,7 +5,7 @@ use Rattle.std.specs.Option.{option_map_or}
 use Rattle.std.proofs.lemmas.Bool.{le-ltb, ltb-false}
 use Rattle.meet_tickets.specs.declared.records.Deed.{Deed}
 use Rattle.meet_tickets.specs.declared.refusals.Refusal.{Refusal}
-use Rattle.meet_tickets.specs.declared.refusals.Refusal.TheVariants.{Memory, HistoryFull, TicketsSpent, SeatOpen, NoSuchSeat, NotOpen, Differs, SeatMissing, Contended, Worn, BadSizes, PolicyNeedsBuffer, NoThread, BadLine, BadTrace, ReadFault, WriteFault}
+use Rattle.meet_tickets.specs.declared.refusals.Refusal.TheVariants.{Memory, HistoryFull, TicketsSpent, SeatOpen, NoSuchSeat, NotOpen, Differs, SeatMissing, Contended, Worn, BadSizes, PolicyNeedsBuffer, NoThread, BadLine, BadTrace, ReadFault, WriteFault, HasBase}
 use Rattle.meet_tickets.specs.BySeat.{owed_of}
 use Rattle.meet_tickets.specs.Limits.{last_ticket}
 use Rattle.meet_tickets.specs.Refusals.{refusal_of}
@@ -28,23 +28,23 @@ use Rattle.meet_history.specs.Stepping.{reply_of, back_of}
 use Rattle.meet_calls.proofs.Polling.{not-spent}
 use Rattle.meet_history.proofs.Telling.{IsTold, poll-told, call-count}
 
--- where a place with this queue is, after so many records
-abbrev place_at : Queue ℕ → ℕ → Place
-place_at q written = record { next = q.next; seats = seats_of q; records = written }
+module _ (setup : Setup) (seat gone : ℕ) (cut : Bool) where
+  -- where a place with this queue is, after so many records since
+  abbrev place_at : Queue ℕ → ℕ → Place
+  place_at q written = record { next = q.next; seats = seats_of q; gone = gone; cut = cut; records = written }
 
--- the turn of the poll that a receipt is for
-abbrev told_turn : (seat : ℕ) → QueueAnswer ℕ → Received Deed → Queue ℕ → ℕ → Turn
-told_turn seat answer receipt new written = record {
-  replies = reply_of seat receipt (back_of answer) ∷ [];
-  records = receipt.entry ∷ [];
-  place = place_at new written;
-}
+  -- the turn of the poll that a receipt is for
+  abbrev told_turn : QueueAnswer ℕ → Received Deed → Queue ℕ → ℕ → Turn
+  told_turn answer receipt new written = record {
+    replies = reply_of seat receipt (back_of answer) ∷ [];
+    records = receipt.entry ∷ [];
+    place = place_at new written;
+  }
 
-module _ (setup : Setup) (seat : ℕ) where
   -- one poll
-  queue-poll : (old new : Queue ℕ) (written : ℕ) (answer : QueueAnswer ℕ) (receipt : Received Deed) → request_refusal setup (place_at old written) seat ≡ None → QueueStep (λ m. m) setup.kind old seat (Dual Poll) answer new → queue_record (λ m. m) seat (Dual Poll) answer ≡ Some receipt.entry → receipt.place ≡ written + 1 → take setup (place_at old written) seat immediate ≡ told_turn seat answer receipt new (written + 1)
+  queue-poll : (old new : Queue ℕ) (written : ℕ) (answer : QueueAnswer ℕ) (receipt : Received Deed) → request_refusal setup (place_at old written) seat ≡ None → QueueStep (λ m. m) setup.kind old seat (Dual Poll) answer new → queue_record (λ m. m) seat (Dual Poll) answer ≡ Some receipt.entry → receipt.place ≡ gone + written + 1 → take setup (place_at old written) seat immediate ≡ told_turn answer receipt new (written + 1)
   queue-poll old new written (ToDual (ToPoll answer)) receipt none step is place =
-      subst (IsTold setup old written seat new (Dual Poll) (ToDual (ToPoll answer))) is (poll-told setup old written seat new answer none step)
+      subst (IsTold setup old gone cut written seat new (Dual Poll) (ToDual (ToPoll answer))) is (poll-told setup old gone cut written seat new answer none step)
       ∙ ap (λ n. record { replies = record { seat = seat; outcome = told n receipt.entry.ticket receipt.entry.deed None } ∷ []; records = receipt.entry ∷ []; place = place_at new (written + 1) }) (sym place)
   queue-poll old new written answer receipt none step is place = absurd step
 
@@ -65,7 +65,7 @@ module _ (setup : Setup) (seat : ℕ) where
     pub kind : new.kind ≡ setup.kind
     pub count : count_of new.queue ≡ setup.seats
 
-  pub are-polls : (old new : QueueOfKind) (written : ℕ) (got : List (QueueAnswer ℕ × Received Deed)) → old.kind ≡ setup.kind → count_of old.queue ≡ setup.seats → (0 < length got → dual_refusal old.queue seat Poll ≡ None) → length got ≤ dual_left old.queue → (0 < length got → written + dual_owed old.queue + length got + 1 ≤ setup.cap) → AreNumbered written got → Polls Poll_of (λ answer. queue_record (λ m. m) seat (Dual Poll) answer) old got new → ArePolls old.queue written got new
+  pub are-polls : (old new : QueueOfKind) (written : ℕ) (got : List (QueueAnswer ℕ × Received Deed)) → old.kind ≡ setup.kind → count_of old.queue ≡ setup.seats → (0 < length got → dual_refusal old.queue seat Poll ≡ None) → length got ≤ dual_left old.queue → (0 < length got → written + dual_owed old.queue + length got + 1 ≤ setup.cap) → AreNumbered (gone + written) got → Polls Poll_of (λ answer. queue_record (λ m. m) seat (Dual Poll) answer) old got new → ArePolls old.queue written got new
   are-polls old new written [] kind count none left fits numbered same =
       let still : written ≡ written + 0 = omega arith in
       record {
@@ -75,8 +75,8 @@ module _ (setup : Setup) (seat : ℕ) where
       }
   are-polls old new written (one ∷ got) kind count none left fits numbered (mid, (step, takes), is, more) =
       let made_step : QueueStep (λ m. m) setup.kind old.queue seat (Dual Poll) one.0 mid.queue = subst (λ k. QueueStep (λ m. m) k old.queue seat (Dual Poll) one.0 mid.queue) kind step.1 in
-      let first : take setup (place_at old.queue written) seat immediate ≡ told_turn seat one.0 one.1 mid.queue (written + 1) = queue-poll old.queue mid.queue written one.0 one.1 (admitted old.queue written count (none (omega arith)) (omega (arith, fits (omega arith)))) made_step is numbered.0 in
-      let rest : ArePolls mid.queue (written + 1) got new = are-polls mid new (written + 1) got (step.0 ∙ kind) (call-count old.kind old.queue mid.queue seat (Dual Poll) one.0 step.1 ∙ count) (λ some. takes.free (omega (arith, left, takes.left, some))) (omega (arith, left, takes.left)) (λ some. omega (arith, fits (omega arith), takes.owed)) numbered.1 more in
+      let first : take setup (place_at old.queue written) seat immediate ≡ told_turn one.0 one.1 mid.queue (written + 1) = queue-poll old.queue mid.queue written one.0 one.1 (admitted old.queue written count (none (omega arith)) (omega (arith, fits (omega arith)))) made_step is numbered.0 in
+      let rest : ArePolls mid.queue (written + 1) got new = are-polls mid new (written + 1) got (step.0 ∙ kind) (call-count old.kind old.queue mid.queue seat (Dual Poll) one.0 step.1 ∙ count) (λ some. takes.free (omega (arith, left, takes.left, some))) (omega (arith, left, takes.left)) (λ some. omega (arith, fits (omega arith), takes.owed)) (let next : gone + written + 1 ≡ gone + (written + 1) = omega arith in subst (λ n. AreNumbered n got) next numbered.1) more in
       let further : written + 1 + length got ≡ written + length (one ∷ got) = omega arith in
       record {
         turns = ap (λ t. joined t (λ q. polls setup q seat (length got))) first
@@ -117,6 +117,7 @@ module _ (setup : Setup) (seat : ℕ) where
       by_first (Some BadTrace) is few are none = cc
       by_first (Some ReadFault) is few are none = cc
       by_first (Some WriteFault) is few are none = cc
+      by_first (Some HasBase) is few are none = cc
       by_first None is true are none = cc
       by_first None is false are none = enough q k full none are is
       by_first (Some TicketsSpent) is true are none = cc
@@ -141,7 +142,7 @@ module _ (setup : Setup) (seat : ℕ) where
     pub kind : new.kind ≡ setup.kind
     pub count : count_of new.queue ≡ setup.seats
 
-  pub drained : (old new : QueueOfKind) (cap written k : ℕ) (got : List (QueueAnswer ℕ × Received Deed)) → cap ≡ setup.cap → count_of old.queue ≡ setup.seats → old.kind ≡ setup.kind → drain_refusal_by (dual_refusal old.queue seat Poll) (dual_left old.queue) k (nat_lt cap (written + dual_owed old.queue + (k + 1))) ≡ None → length got ≡ k → AreNumbered written got → Polls Poll_of (λ answer. queue_record (λ m. m) seat (Dual Poll) answer) old got new → IsDrained old.queue written k got new
+  pub drained : (old new : QueueOfKind) (cap written k : ℕ) (got : List (QueueAnswer ℕ × Received Deed)) → cap ≡ setup.cap → count_of old.queue ≡ setup.seats → old.kind ≡ setup.kind → drain_refusal_by (dual_refusal old.queue seat Poll) (dual_left old.queue) k (nat_lt cap (written + dual_owed old.queue + (k + 1))) ≡ None → length got ≡ k → AreNumbered (gone + written) got → Polls Poll_of (λ answer. queue_record (λ m. m) seat (Dual Poll) answer) old got new → IsDrained old.queue written k got new
   drained old new cap written k got same count kind none long numbered steps =
       let may : MayDrain old.queue k (nat_lt cap (written + dual_owed old.queue + (k + 1))) = may-drain old.queue k (nat_lt cap (written + dual_owed old.queue + (k + 1))) none in
       let are : ArePolls old.queue written got new = are-polls old new written got kind count (λ some. may.free (omega (arith, long, some))) (omega (arith, long, may.left))

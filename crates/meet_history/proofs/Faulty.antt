@@ -5,10 +5,10 @@ use Rattle.meet_tickets.specs.declared.records.Record.{Record}
 use Rattle.meet_tickets.specs.declared.records.Cause.TheVariants.{Cancelled, Expired, Interrupted}
 use Rattle.meet_tickets.specs.declared.records.Deed.{Deed}
 use Rattle.meet_tickets.specs.declared.records.Deed.TheVariants.{GiveWaits, GiveMeets, GiveFails, GiveKept, TakeWaits, TakeMeets, TakeFails, EntryInterrupted, Done, Got, Withdrawn, Interrupt}
-use Rattle.meet_tickets.specs.BySeat.{Seats, Moment, beginning, moment_of, moment_after, open_ticket, is_open, IsFree, is_request, Allows, Fits, IsLegalBySeatFrom}
-use Rattle.meet_tickets.specs.ByLists.{IsLegal}
+use Rattle.meet_tickets.specs.BySeat.{Seats, Moment, moment_of, moment_after, open_ticket, is_open, IsFree, is_request, Allows, Fits, IsLegalBySeatFrom}
+use Rattle.meet_tickets.specs.Bases.{Based, moment_of_base, IsWellFormed, IsLegalOn}
 use Rattle.meet_tickets.proofs.Continued.{legal-append}
-use Rattle.meet_tickets.proofs.Histories.{tellings_are_one}
+use Rattle.meet_tickets.proofs.Based.{tellings_agree_on}
 use Rattle.meet_history.specs.declared.checker.Why.{Why}
 use Rattle.meet_history.specs.declared.checker.Why.TheVariants.{SeatOpen, TicketOrder, NotOpen, WrongReply}
 use Rattle.meet_history.specs.Checking.{is_ending, IsFaulty, IsIllegalAt}
@@ -58,21 +58,21 @@ last-fits k m [] r legal = legal.0
 last-fits k m (x ∷ xs) r legal = last-fits k (moment_after k m x) xs r legal.1
 
 -- so behind legal records it is the last of the shortest prefix that isn't legal
-pub illegal-at : (k : Kind) (past : List (Record Deed)) (r : Record Deed) (why : Why) → IsLegal k past → IsFaulty k (moment_of k beginning past) r why → IsIllegalAt k (past ++ r ∷ []) (length past + 1) why
-illegal-at k past r why legal faulty = record {
+pub illegal-at : (k : Kind) (base : Based) (past : List (Record Deed)) (r : Record Deed) (why : Why) → IsWellFormed k base → IsLegalOn k base past → IsFaulty k (moment_of k (moment_of_base base) past) r why → IsIllegalAt k base (past ++ r ∷ []) (base.gone + length past + 1) why
+illegal-at k base past r why well legal faulty = record {
   prefix = past;
   bad = r;
   rest = [];
   parts = refl;
   last = refl;
   legal = legal;
-  illegal = λ longer. unfit k (moment_of k beginning past) r why faulty (last-fits k beginning past r ((tellings_are_one k (past ++ r ∷ [])).legal.0 longer));
+  illegal = λ longer. unfit k (moment_of k (moment_of_base base) past) r why faulty (last-fits k (moment_of_base base) past r ((tellings_agree_on k base (past ++ r ∷ []) well).legal.0 longer));
   faulty = faulty;
 }
 
 -- whatever comes behind
-pub illegal-on : (k : Kind) (past more : List (Record Deed)) (n : ℕ) (why : Why) → IsIllegalAt k past n why → IsIllegalAt k (past ++ more) n why
-illegal-on k past more n why found = record {
+pub illegal-on : (k : Kind) (base : Based) (past more : List (Record Deed)) (n : ℕ) (why : Why) → IsIllegalAt k base past n why → IsIllegalAt k base (past ++ more) n why
+illegal-on k base past more n why found = record {
   prefix = found.prefix;
   bad = found.bad;
   rest = found.rest ++ more;
@@ -84,6 +84,6 @@ illegal-on k past more n why found = record {
 }
 
 -- a record that fits goes on a legal history
-pub legal-on : (k : Kind) (past : List (Record Deed)) (r : Record Deed) → IsLegal k past → Fits k (moment_of k beginning past) r → IsLegal k (past ++ r ∷ [])
-legal-on k past r legal fits =
-    (tellings_are_one k (past ++ r ∷ [])).legal.1 (legal-append k beginning past (r ∷ []) ((tellings_are_one k past).legal.0 legal) (fits, tt))
+pub legal-on : (k : Kind) (base : Based) (past : List (Record Deed)) (r : Record Deed) → IsWellFormed k base → IsLegalOn k base past → Fits k (moment_of k (moment_of_base base) past) r → IsLegalOn k base (past ++ r ∷ [])
+legal-on k base past r well legal fits =
+    (tellings_agree_on k base (past ++ r ∷ []) well).legal.1 (legal-append k (moment_of_base base) past (r ∷ []) ((tellings_agree_on k base past well).legal.0 legal) (fits, tt))

@@ -25,12 +25,12 @@ use Rattle.meet_tickets.proofs.Sides.{HasOneSide, partner-other, HasOneSide-unme
 use Rattle.meet_tickets.proofs.Admitted.{IsAdmitted, IsAdmitted-from}
 use Rattle.meet_history.specs.declared.one_thread.verbs.Call.{Call}
 use Rattle.meet_history.specs.declared.one_thread.verbs.Verb.{Verb}
-use Rattle.meet_history.specs.declared.one_thread.verbs.Verb.TheVariants.{Put, Offer, Take, Poll, Transfer as TransferItem, Try, Follow, Cancel, Expire, Interrupt as InterruptSeat, Drain, Size, Room, Peek, Consumers}
+use Rattle.meet_history.specs.declared.one_thread.verbs.Verb.TheVariants.{Put, Offer, Take, Poll, Transfer as TransferItem, Try, Follow, Cancel, Expire, Interrupt as InterruptSeat, Drain, Size, Room, Peek, Consumers, Checkpoint}
 use Rattle.meet_history.specs.declared.one_thread.setup.Setup.{Setup}
 use Rattle.meet_history.specs.declared.one_thread.replies.Outcome.{Outcome}
 use Rattle.meet_history.specs.declared.one_thread.replies.Outcome.TheVariants.{Refused, Late, Drained}
 use Rattle.meet_history.proofs.Within.{by_cases, IsWithin, IsWithin-after}
-use Rattle.meet_history.specs.OneThread.{Place, Turn, start, silent, refused, written, joined, Form, waiting, immediate, keeping, may_keep, give_alone, give_deed, take_alone, take_deed, stepped, request_refusal, request, give, take, follow, withdraw, interrupt, interrupt_refusal, polls, drain, drain_refusal, put_form, offer_form, turn_of, turn, turns}
+use Rattle.meet_history.specs.OneThread.{Place, Turn, start, silent, refused, written, joined, Form, waiting, immediate, keeping, may_keep, give_alone, give_deed, take_alone, take_deed, stepped, request_refusal, request, give, take, follow, withdraw, interrupt, interrupt_refusal, checkpoint, checkpoint_refusal, folded, polls, drain, drain_refusal, put_form, offer_form, turn_of, turn, turns}
 
 -- a meeting leaves a line of one side
 HasOneSide-meets : (k : Kind) (s : Seats ℕ) (t : ℕ) (item : Option ℕ) (o : Option (Entry ℕ)) → HasOneSide s.line → HasOneSide (option_map_or (paired (λ mark. mark) (end_of k.order) s t item) o s).line
@@ -218,6 +218,13 @@ drain_legal setup last p seat k ready =
     (λ why is. IsLegalTurn-silent setup last p seat (Refused why) ready)
     (λ none. IsLegalTurn-joined setup last p (polls setup p seat k) (λ q. silent q seat (Drained k)) (polls_legal setup last p seat k ready) (λ l later. IsLegalTurn-silent setup l (polls setup p seat k).place seat (Drained k) later))
 
+-- a checkpoint writes nothing, and leaves the seats
+checkpoint_legal : (setup : Setup) (last : ℕ) (p : Place) (seat : ℕ) → IsReady setup.seats last p → IsLegalTurn setup last p (checkpoint setup p seat)
+checkpoint_legal setup last p seat ready =
+    by_cases (λ t. IsLegalTurn setup last p t) (checkpoint_refusal setup p seat) (refused p seat) (folded p seat)
+    (λ why is. IsLegalTurn-silent setup last p seat (Refused why) ready)
+    (λ none. record { legal = tt; last_now = last; leads = refl; ready = record { below = ready.below; one_side = ready.one_side; within = ready.within } })
+
 -- only the puts and offers of a place that keeps items keep
 put_form-keeps : (order : Order) → put_form order ≡ keeping → keeps order ≡ true
 put_form-keeps order = by_test (keeps order)
@@ -250,6 +257,7 @@ turn_legal setup last p seat Size ready = IsLegalTurn-silent setup last p seat _
 turn_legal setup last p seat Room ready = IsLegalTurn-silent setup last p seat _ ready
 turn_legal setup last p seat Peek ready = IsLegalTurn-silent setup last p seat _ ready
 turn_legal setup last p seat Consumers ready = IsLegalTurn-silent setup last p seat _ ready
+turn_legal setup last p seat Checkpoint ready = checkpoint_legal setup last p seat ready
 
 -- so are the turns of a list of calls
 turns_legal : (setup : Setup) (last : ℕ) (p : Place) (calls : List Call) → IsReady setup.seats last p → IsLegalTurn setup last p (turns setup p calls)

@@ -19,3 +19,11 @@ part-step part listed setup now p q calls i call said after whole same there ite
     ∙ ap (λ xs. said ++ xs) (sym (listed (turn setup p call) (λ r. turns setup r (drop (i + 1) calls))))
     ∙ ap (λ cs. said ++ part (turns setup p cs)) (sym here)
     ∙ so_far
+
+-- the rest leaves the place where all calls do, over one call
+pub place-step : (setup now : Setup) (p q whole : Place) (calls : List Call) (i : ℕ) (call : Call) → now ≡ setup → i < length calls → call ≡ get_or calls i call → (turns setup p (drop i calls)).place ≡ whole → q ≡ (turn now p call).place → (turns setup q (drop (i + 1) calls)).place ≡ whole
+place-step setup now p q whole calls i call same there item so_far moved =
+    let here : drop i calls ≡ call ∷ drop (i + 1) calls = drop_more calls i call there ∙ ap (λ x. x ∷ drop (i + 1) calls) (sym item) in
+    ap (λ r. (turns setup r (drop (i + 1) calls)).place) (moved ∙ ap (λ s. (turn s p call).place) same)
+    ∙ ap (λ cs. (turns setup p cs).place) (sym here)
+    ∙ so_far

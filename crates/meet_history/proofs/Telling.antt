@@ -1,5 +1,5 @@
 -- A queue's call is one thread's turn: the reply that tells its record is the turn's.
-use Rattle.std.proofs.Common.{◌≡◌, ℕ, ◌+◌, ◌<◌, ◌≤◌, refl, sym, ap, ◌∙◌, subst, true, false, Bool, cond, Option, Some, None, Ok, Err, List, [], ◌∷◌, ◌++◌, append-nil, length, length-append, arith}
+use Rattle.std.proofs.Common.{◌≡◌, ℕ, ◌+◌, ◌<◌, ◌≤◌, refl, sym, ap, ◌∙◌, subst, true, false, Bool, cond, Option, Some, None, Ok, Err, List, [], ◌∷◌, ◌++◌, append-nil, length, length-append}
 use Rattle.std.specs.Prelude.{MatchOption, ⊤, nat_lt, unwrap_or, option_to_list}
 use Rattle.std.specs.Option.{option_map_or}
 use Rattle.std.specs.Result.{IfOk}
@@ -18,6 +18,7 @@ use Rattle.meet_tickets.specs.declared.records.Cause.TheVariants.{Cancelled, Exp
 use Rattle.meet_tickets.specs.declared.records.Deed.{Deed}
 use Rattle.meet_tickets.specs.declared.records.Deed.TheVariants.{GiveWaits, GiveMeets, GiveFails, GiveKept, TakeWaits, TakeMeets, TakeFails, EntryInterrupted, Done, Got, Withdrawn, Interrupt as InterruptDeed}
 use Rattle.meet_tickets.specs.declared.refusals.Refusal.{Refusal}
+use Rattle.meet_tickets.specs.Bases.{Based}
 use Rattle.meet_tickets.specs.Meeting.{end_of, keeps, partner, kept_count}
 use Rattle.meet_tickets.specs.BySeat.{Seats, paired, meets, entry_of, cut_off, flagged, cut_ticket, open_ticket, is_request, seats_after}
 use Rattle.meet_tickets.specs.Refusals.{refusal_unless}
@@ -57,11 +58,12 @@ use Rattle.meet_history.specs.declared.one_thread.replies.Reply.{Reply}
 use Rattle.meet_history.specs.declared.one_thread.replies.Outcome.TheVariants.{Late, Refused}
 use Rattle.meet_history.specs.OneThread.{Place, Turn, Form, waiting, immediate, keeping, told, silent, refused, stepped, may_keep, give, give_alone, give_deed, take_alone, take_deed, follow, withdraw, interrupt, request, request_refusal, interrupt_refusal}
 use Rattle.meet_history.specs.Stepping.{Stepping, place_of, TakesTurn, turn_of_call, refusal_at, back_of, unrecorded, reply_of}
+use Rattle.meet_history.proofs.Foldings.{folded-more}
 
-module _ (setup : Setup) (q : Queue ℕ) (count seat : ℕ) where
+module _ (setup : Setup) (q : Queue ℕ) (gone : ℕ) (cut : Bool) (count seat : ℕ) where
   -- where the place is, after so many records
   abbrev p : Place
-  p = record { next = q.next; seats = seats_of q; records = count }
+  p = record { next = q.next; seats = seats_of q; gone = gone; cut = cut; records = count }
 
   abbrev here : Seats ℕ
   here = seats_of q
@@ -88,9 +90,9 @@ module _ (setup : Setup) (q : Queue ℕ) (count seat : ℕ) where
     -- the turn that writes this record, tells it, and leaves the new queue
     abbrev recorded : Record Deed → (back : Option ℕ) → Turn
     recorded r back = record {
-      replies = record { seat = seat; outcome = told (count + 1) r.ticket r.deed back } ∷ [];
+      replies = record { seat = seat; outcome = told (gone + count + 1) r.ticket r.deed back } ∷ [];
       records = r ∷ [];
-      place = record { next = new.next; seats = seats_of new; records = count + 1 };
+      place = record { next = new.next; seats = seats_of new; gone = gone; cut = cut; records = count + 1 };
     }
 
     -- a call's turn, by its record: it tells this, or where there is none nothing changed
@@ -99,15 +101,15 @@ module _ (setup : Setup) (q : Queue ℕ) (count seat : ℕ) where
         MatchOption r ((turn_of_call setup p seat call ≡ silent p seat (unrecorded call)) × (new ≡ q)) (λ r. turn_of_call setup p seat call ≡ recorded r (back_of answer))
 
     -- a step in parts, whatever of the item is told
-    stepped-is : (t : ℕ) (deed : Deed) (item back : Option ℕ) → new.next ≡ cond (is_request deed) (q.next + 1) q.next → seats_of new ≡ seats_after setup.kind here seat t deed → told (count + 1) t deed item ≡ told (count + 1) t deed back → stepped setup p seat t deed item ≡ recorded (made seat t deed) back
+    stepped-is : (t : ℕ) (deed : Deed) (item back : Option ℕ) → new.next ≡ cond (is_request deed) (q.next + 1) q.next → seats_of new ≡ seats_after setup.kind here seat t deed → told (gone + count + 1) t deed item ≡ told (gone + count + 1) t deed back → stepped setup p seat t deed item ≡ recorded (made seat t deed) back
     stepped-is t deed item back next seats tells = λ i. record {
       replies = record { seat = seat; outcome = tells i } ∷ [];
       records = made seat t deed ∷ [];
-      place = record { next = sym next i; seats = sym seats i; records = count + 1 };
+      place = record { next = sym next i; seats = sym seats i; gone = gone; cut = cut; records = count + 1 };
     }
 
     -- a request of this deed, where it isn't refused
-    request-is : (t : ℕ) (own deed : Deed) (item back : Option ℕ) (seats : Seats ℕ) → request_refusal setup p seat ≡ None → own ≡ deed → is_request deed ≡ true → Uses q new t seats → seats ≡ seats_after setup.kind here seat t deed → told (count + 1) t deed item ≡ told (count + 1) t deed back → request setup p seat own item ≡ recorded (made seat t deed) back
+    request-is : (t : ℕ) (own deed : Deed) (item back : Option ℕ) (seats : Seats ℕ) → request_refusal setup p seat ≡ None → own ≡ deed → is_request deed ≡ true → Uses q new t seats → seats ≡ seats_after setup.kind here seat t deed → told (gone + count + 1) t deed item ≡ told (gone + count + 1) t deed back → request setup p seat own item ≡ recorded (made seat t deed) back
     request-is t own deed item back seats none is asks uses after tells =
         ap (λ o. option_map_or (refused p seat) o (stepped setup p seat p.next own item)) none
         ∙ ap (λ d. stepped setup p seat p.next d item) is
@@ -156,14 +158,14 @@ module _ (setup : Setup) (q : Queue ℕ) (count seat : ℕ) where
         request-is t _ (GiveMeets mark u) (Some mark) None _ none (give-met waiting mark e u found ticket) refl uses (met-seats Giver t (Some mark) e found) refl
     give-told mark (GiverInterrupted t back) none (alone, flag, same, uses) =
         request-is t _ (EntryInterrupted Giver) (Some mark) (Some back) _ none (give-alone waiting mark alone ∙ ap (λ b. cond b (EntryInterrupted Giver) (GiveWaits mark)) flag) refl uses refl
-        (ap (λ item. told (count + 1) t (EntryInterrupted Giver) (Some item)) (sym same))
+        (ap (λ item. told (gone + count + 1) t (EntryInterrupted Giver) (Some item)) (sym same))
 
     offer-told : (mark : ℕ) (answer : Offered ℕ) → request_refusal setup p seat ≡ None → OfferStep (λ m. m) (end_of setup.kind.order) q mark answer new → IsTold (Dual (Offer mark)) (ToDual (ToOffer answer)) (dual_record (λ m. m) seat (Offer mark) (ToOffer answer))
     offer-told mark (OfferMeets t u) none (e, found, ticket, own, uses) =
         request-is t _ (GiveMeets mark u) (Some mark) None _ none (give-met immediate mark e u found ticket) refl uses (met-seats Giver t (Some mark) e found) refl
     offer-told mark (OfferFails t back) none (alone, same, uses) =
         request-is t _ (GiveFails mark) (Some mark) (Some back) _ none (give-alone immediate mark alone) refl uses refl
-        (ap (λ item. told (count + 1) t (GiveFails mark) (Some item)) (sym same))
+        (ap (λ item. told (gone + count + 1) t (GiveFails mark) (Some item)) (sym same))
 
     -- a put that is kept, or that waits
     kept-told : (mark : ℕ) (answer : PutAnswer ℕ) → request_refusal setup p seat ≡ None → PutStep (λ m. m) (end_of setup.kind.order) setup.kind.bound q seat mark answer new → MatchOption (queue_record (λ m. m) seat (Put mark) (ToPut answer)) ⊥ (λ r. give setup p seat keeping mark ≡ recorded r (back_of (ToPut answer)))
@@ -173,7 +175,7 @@ module _ (setup : Setup) (q : Queue ℕ) (count seat : ℕ) where
         request-is t _ (GiveMeets mark u) (Some mark) None _ none (give-met keeping mark e u found ticket) refl uses (met-seats Giver t (Some mark) e found) refl
     kept-told mark (PutFails t back) none (alone, full, same, uses) =
         request-is t _ (GiveFails mark) (Some mark) (Some back) _ none (give-alone keeping mark alone ∙ ap (λ b. cond b (GiveKept mark) (GiveFails mark)) (may-not full)) refl uses refl
-        (ap (λ item. told (count + 1) t (GiveFails mark) (Some item)) (sym same))
+        (ap (λ item. told (gone + count + 1) t (GiveFails mark) (Some item)) (sym same))
 
     -- a put is a give of the place's form
     as-put : (kept : Bool) (mark : ℕ) (answer : QueueAnswer ℕ) (r : Record Deed) → keeps setup.kind.order ≡ kept → give setup p seat (cond kept keeping waiting) mark ≡ recorded r (back_of answer) → IsTold (Put mark) answer (Some r)
@@ -271,61 +273,56 @@ abbrev pub reply_by : (seat : ℕ) → QueueCall ℕ → QueueAnswer ℕ → Opt
 reply_by seat call answer None = record { seat = seat; outcome = unrecorded call }
 reply_by seat call answer (Some receipt) = reply_of seat receipt (back_of answer)
 
-module _ (setup : Setup) (old new : Queue ℕ) (records after : List (Record Deed)) (room left : ℕ) (seat : ℕ) (call : QueueCall ℕ) where
+module _ (setup : Setup) (old new : Queue ℕ) (base now : Based) (cut : Bool) (records after : List (Record Deed)) (room left : ℕ) (seat : ℕ) (call : QueueCall ℕ) where
   abbrev before : Stepping
-  before = record { setup = setup; queue = old; records = records; room = room }
+  before = record { setup = setup; queue = old; base = base; cut = cut; records = records; room = room }
 
   abbrev behind : Stepping
-  behind = record { setup = setup; queue = new; records = after; room = left }
+  behind = record { setup = setup; queue = new; base = now; cut = cut; records = after; room = left }
 
   abbrev turn : Turn
   turn = turn_of_call setup (place_of before) seat call
 
   -- a call that was refused changes nothing
-  pub takes-refused : (why : Refusal) → new ≡ old → after ≡ records → refusal_at setup (place_of before) seat (dual_call call) ≡ Some why → TakesTurn turn before behind (record { seat = seat; outcome = Refused why })
-  takes-refused why same stay is =
-      let told : turn ≡ refused (place_of before) seat why = call-refused setup old (length records) seat call why is in
+  pub takes-refused : (why : Refusal) → new ≡ old → now ≡ base → after ≡ records → refusal_at setup (place_of before) seat (dual_call call) ≡ Some why → TakesTurn turn before behind (record { seat = seat; outcome = Refused why })
+  takes-refused why same based stay is =
+      let told : turn ≡ refused (place_of before) seat why = call-refused setup old base.gone cut (length records) seat call why is in
       record {
         replies = ap (λ (t : Turn). t.replies) told;
         takes = record {
           setup = refl;
-          records = stay ∙ sym (append-nil records) ∙ ap (λ (t : Turn). records ++ t.records) (sym told);
-          place = (λ i. record { next = (same i).next; seats = seats_of (same i); records = length (stay i) }) ∙ ap (λ (t : Turn). t.place) (sym told);
+          written = λ all. folded-more setup.kind all base now records after _ based (stay ∙ sym (append-nil records) ∙ ap (λ (t : Turn). records ++ t.records) (sym told));
+          place = (λ i. record { next = (same i).next; seats = seats_of (same i); gone = (based i).gone; cut = cut; records = length (stay i) }) ∙ ap (λ (t : Turn). t.place) (sym told);
         };
       }
 
-  by-receipt : (answer : QueueAnswer ℕ) (receipt : Option (Received Deed)) → IsTold setup old (length records) seat new call answer (record_of_receipt receipt) → MatchOption receipt ⊤ (λ r. r.place ≡ length records + 1) → after ≡ records ++ option_to_list (record_of_receipt receipt) → TakesTurn turn before behind (reply_by seat call answer receipt)
-  by-receipt answer None (told, same) place more =
+  by-receipt : (answer : QueueAnswer ℕ) (receipt : Option (Received Deed)) → now ≡ base → IsTold setup old base.gone cut (length records) seat new call answer (record_of_receipt receipt) → MatchOption receipt ⊤ (λ r. r.place ≡ base.gone + length records + 1) → after ≡ records ++ option_to_list (record_of_receipt receipt) → TakesTurn turn before behind (reply_by seat call answer receipt)
+  by-receipt answer None based (told, same) place more =
       let stay : after ≡ records = more ∙ append-nil records in
       record {
         replies = ap (λ (t : Turn). t.replies) told;
         takes = record {
           setup = refl;
-          records = more ∙ ap (λ (t : Turn). records ++ t.records) (sym told);
-          place = (λ i. record { next = (same i).next; seats = seats_of (same i); records = length (stay i) }) ∙ ap (λ (t : Turn). t.place) (sym told);
+          written = λ all. folded-more setup.kind all base now records after _ based (more ∙ ap (λ (t : Turn). records ++ t.records) (sym told));
+          place = (λ i. record { next = (same i).next; seats = seats_of (same i); gone = (based i).gone; cut = cut; records = length (stay i) }) ∙ ap (λ (t : Turn). t.place) (sym told);
         };
       }
-  by-receipt answer (Some r) is place more =
+  by-receipt answer (Some r) based is place more =
       let long : length after ≡ length records + 1 = ap length more ∙ length-append records (r.entry ∷ []) in
       record {
         replies = ap (λ (t : Turn). t.replies) is ∙ ap (λ n. record { seat = seat; outcome = told n r.entry.ticket r.entry.deed (back_of answer) } ∷ []) (sym place);
         takes = record {
           setup = refl;
-          records = more ∙ ap (λ (t : Turn). records ++ t.records) (sym is);
-          place = (λ i. record { next = new.next; seats = seats_of new; records = long i }) ∙ ap (λ (t : Turn). t.place) (sym is);
+          written = λ all. folded-more setup.kind all base now records after _ based (more ∙ ap (λ (t : Turn). records ++ t.records) (sym is));
+          place = (λ i. record { next = new.next; seats = seats_of new; gone = (based i).gone; cut = cut; records = long i }) ∙ ap (λ (t : Turn). t.place) (sym is);
         };
       }
 
   -- one that was made tells its receipt
-  pub takes-made : (answer : QueueAnswer ℕ) (receipt of : Option (Received Deed)) → receipt ≡ of → refusal_at setup (place_of before) seat (dual_call call) ≡ None → queue_refusal old seat call ≡ None → QueueStep (λ m. m) setup.kind old seat call answer new → record_of_receipt receipt ≡ queue_record (λ m. m) seat call answer → MatchOption receipt ⊤ (λ r. r.place ≡ length records + 1) → after ≡ records ++ option_to_list (record_of_receipt receipt) → TakesTurn turn before behind (reply_by seat call answer of)
-  takes-made answer receipt of same none own step is place more =
+  pub takes-made : (answer : QueueAnswer ℕ) (receipt of : Option (Received Deed)) → now ≡ base → receipt ≡ of → refusal_at setup (place_of before) seat (dual_call call) ≡ None → queue_refusal old seat call ≡ None → QueueStep (λ m. m) setup.kind old seat call answer new → record_of_receipt receipt ≡ queue_record (λ m. m) seat call answer → MatchOption receipt ⊤ (λ r. r.place ≡ base.gone + length records + 1) → after ≡ records ++ option_to_list (record_of_receipt receipt) → TakesTurn turn before behind (reply_by seat call answer of)
+  takes-made answer receipt of based same none own step is place more =
       subst (λ o. TakesTurn turn before behind (reply_by seat call answer o)) same
-      (by-receipt answer receipt (subst (IsTold setup old (length records) seat new call answer) (sym is) (call-told setup old (length records) seat new call answer none own step)) place more)
-
--- in a book of which nothing was folded away the numbers are those of its records
-pub numbered-on : (gone n : ℕ) (receipt : Option (Received Deed)) → gone ≡ 0 → MatchOption receipt ⊤ (λ r. r.place ≡ gone + n + 1) → MatchOption receipt ⊤ (λ r. r.place ≡ n + 1)
-numbered-on gone n None none place = tt
-numbered-on gone n (Some r) none place = omega (arith, place, none)
+      (by-receipt answer receipt based (subst (IsTold setup old base.gone cut (length records) seat new call answer) (sym is) (call-told setup old base.gone cut (length records) seat new call answer none own step)) place more)
 
 -- what is said of a reply that is told of a refusal
 pub told-refused : (said : Result Reply Refusal) (reply : Reply) (Other : Type 0) (P : Reply → Type 0) → IfOk said (λ own. own ≡ reply) → IfOk said (λ _. Other) → (Other → P reply) → IfOk said P

@@ -5,8 +5,8 @@ use Rattle.meet_tickets.specs.declared.places.Kind.{Kind}
 use Rattle.meet_tickets.specs.declared.records.Record.{Record}
 use Rattle.meet_tickets.specs.declared.records.Deed.{Deed}
 use Rattle.meet_tickets.specs.declared.records.Deed.TheVariants.{Done, Got, Withdrawn, Interrupt}
-use Rattle.meet_tickets.specs.ByLists.{IsLegal}
-use Rattle.meet_tickets.specs.BySeat.{Moment, beginning, moment_of, open_ticket, is_open, IsFree, is_request, Allows}
+use Rattle.meet_tickets.specs.Bases.{Based, moment_of_base, IsLegalOn}
+use Rattle.meet_tickets.specs.BySeat.{Moment, moment_of, open_ticket, is_open, IsFree, is_request, Allows}
 use Rattle.meet_line.specs.Table.{Table, hold_at, flag_at}
 use Rattle.meet_history.specs.declared.checker.Why.{Why}
 use Rattle.meet_history.specs.declared.checker.Why.TheVariants.{SeatOpen, TicketOrder, NotOpen, WrongReply}
@@ -39,21 +39,21 @@ IsUntimely m i t SeatOpen = is_open (m.seats.holds i) ≡ true
 IsUntimely m i t TicketOrder = IsFree m.seats i × (t ≤ m.last)
 IsUntimely m i t why = ⊥
 
--- the record of this number is the last of the shortest prefix that isn't legal
-pub record IsIllegalAt (k : Kind) (records : List (Record Deed)) (number : ℕ) (why : Why) : Type 0 where
+-- the record of this number is the last of the shortest prefix that isn't legal after a base, whose records count
+pub record IsIllegalAt (k : Kind) (base : Based) (records : List (Record Deed)) (number : ℕ) (why : Why) : Type 0 where
   pub prefix : List (Record Deed)
   pub bad : Record Deed
   pub rest : List (Record Deed)
   pub parts : records ≡ prefix ++ bad ∷ rest
-  pub last : number ≡ length prefix + 1
-  pub legal : IsLegal k prefix
-  pub illegal : IsLegal k (prefix ++ bad ∷ []) → ⊥
-  pub faulty : IsFaulty k (moment_of k beginning prefix) bad why
+  pub last : number ≡ base.gone + length prefix + 1
+  pub legal : IsLegalOn k base prefix
+  pub illegal : IsLegalOn k base (prefix ++ bad ∷ []) → ⊥
+  pub faulty : IsFaulty k (moment_of k (moment_of_base base) prefix) bad why
 
 -- what the checker says of records that aren't legal; want of memory says nothing
-abbrev pub IsCheckFault : Kind → List (Record Deed) → CheckFault → Type 0
-IsCheckFault k records (Illegal number why) = IsIllegalAt k records number why
-IsCheckFault k records Memory = Unit {0}
+abbrev pub IsCheckFault : Kind → Based → List (Record Deed) → CheckFault → Type 0
+IsCheckFault k base records (Illegal number why) = IsIllegalAt k base records number why
+IsCheckFault k base records Memory = Unit {0}
 
 -- the seat that a record is about: that of an interrupt's target, else its own
 abbrev pub subject_of : (seat : ℕ) → Deed → ℕ

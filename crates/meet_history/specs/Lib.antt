@@ -1,7 +1,10 @@
 pub mod Checking
+pub mod Grounds
+pub mod Laid
 pub mod Limits
 pub mod Marks
 pub mod OneThread
+pub mod Pieces
 pub mod Pushing
 pub mod Served
 pub mod Standings

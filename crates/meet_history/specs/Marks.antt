@@ -1,5 +1,5 @@
 -- What the line of a history's marks shows of itself.
-use Rattle.std.specs.Prelude.{ℕ, List, Option, Some, None, is_some, not, if◌then◌else◌}
+use Rattle.std.specs.Prelude.{◌≡◌, ℕ, ◌-◌, ◌<◌, List, length, slice_index_or, Option, Some, None, is_some, not, if◌then◌else◌}
 use Rattle.meet_tickets.specs.declared.lines.Entry.{Entry}
 use Rattle.meet_tickets.specs.declared.places.End.{End}
 use Rattle.meet_tickets.specs.declared.places.End.TheVariants.{Front, Back}
@@ -27,6 +27,11 @@ entries_of (AtBack line) = line.entries
 abbrev pub room_of : ByEnd → ℕ
 room_of (AtFront line) = line.room
 room_of (AtBack line) = line.room
+
+-- the ticket of the last entry, or 0 where there is none
+abbrev pub IsNewest : List (Entry ℕ) → ℕ → Type 0
+IsNewest line newest = (length line ≡ 0 → newest ≡ 0)
+    × ((d : Entry ℕ) → 0 < length line → newest ≡ (slice_index_or line (length line - 1) d).ticket)
 
 -- one for a giver, else 0
 abbrev pub one_if_gives : Entry ℕ → ℕ

@@ -1,5 +1,5 @@
 -- The replies of a place that one thread uses, whatever seats it speaks for.
-use Rattle.std.specs.Prelude.{ℕ, zero, suc, ◌+◌, ◌-◌, nat_lt, min, Bool, true, Option, Some, None, unwrap_or, List}
+use Rattle.std.specs.Prelude.{ℕ, zero, suc, ◌+◌, ◌-◌, nat_lt, min, Bool, true, false, Option, Some, None, unwrap_or, List}
 use Rattle.std.specs.Prelude.{[], ◌∷◌, ◌++◌, if◌then◌else◌}
 use Rattle.std.specs.Option.{option_map_or}
 use Rattle.meet_tickets.specs.declared.lines.Entry.{Entry}
@@ -19,7 +19,7 @@ use Rattle.meet_tickets.specs.declared.refusals.Refusal.{Refusal}
 use Rattle.meet_tickets.specs.declared.refusals.Refusal.TheVariants.{NotOpen}
 use Rattle.meet_tickets.specs.Meeting.{end_of, keeps, partner, kept_count, waiting_count, count_on}
 use Rattle.meet_tickets.specs.BySeat.{Seats, nobody, entry_of, cut_ticket, owed_of, settled_of, is_request, seats_after}
-use Rattle.meet_tickets.specs.Limits.{last_ticket}
+use Rattle.meet_tickets.specs.Limits.{last_ticket, most_gone}
 use Rattle.meet_tickets.specs.Refusals.{refusal_of, absent_refusal}
 use Rattle.meet_book.specs.Booking.{call_refusal}
 use Rattle.meet_book.specs.Draining.{drain_refusal_by}
@@ -30,13 +30,13 @@ use Rattle.meet_history.specs.declared.one_thread.verbs.Verb.{Verb}
 use Rattle.meet_history.specs.declared.one_thread.verbs.Verb.TheVariants.{Put, Offer, Take, Poll}
 use Rattle.meet_history.specs.declared.one_thread.verbs.Verb.TheVariants.{Transfer as TransferItem, Try, Follow}
 use Rattle.meet_history.specs.declared.one_thread.verbs.Verb.TheVariants.{Cancel, Expire, Interrupt as InterruptSeat}
-use Rattle.meet_history.specs.declared.one_thread.verbs.Verb.TheVariants.{Drain, Size, Room, Peek, Consumers}
+use Rattle.meet_history.specs.declared.one_thread.verbs.Verb.TheVariants.{Drain, Size, Room, Peek, Consumers, Checkpoint}
 use Rattle.meet_history.specs.declared.one_thread.setup.Setup.{Setup}
 use Rattle.meet_history.specs.declared.one_thread.replies.Reply.{Reply}
 use Rattle.meet_history.specs.declared.one_thread.replies.Outcome.{Outcome}
 use Rattle.meet_history.specs.declared.one_thread.replies.Outcome.TheVariants.{Recorded}
 use Rattle.meet_history.specs.declared.one_thread.replies.Outcome.TheVariants.{Interrupted as InterruptedSeat, NotYet}
-use Rattle.meet_history.specs.declared.one_thread.replies.Outcome.TheVariants.{Late, Drained, Count, Peeked, Refused}
+use Rattle.meet_history.specs.declared.one_thread.replies.Outcome.TheVariants.{Late, Drained, Count, Peeked, Based, Refused}
 use Rattle.meet_history.specs.declared.one_thread.replies.Answer.TheVariants.{Waits, Kept, Gave, Got as GotItem}
 use Rattle.meet_history.specs.declared.one_thread.replies.Answer.TheVariants.{Fails, Done as Finished}
 use Rattle.meet_history.specs.declared.one_thread.replies.Answer.TheVariants.{Withdrawn as TakenBack}
@@ -45,11 +45,13 @@ use Rattle.meet_history.specs.declared.one_thread.replies.Answer.TheVariants.{Wi
 pub record Place : Type 0 where
   pub next : ℕ  -- the next ticket
   pub seats : Seats ℕ
-  pub records : ℕ  -- how many records were written
+  pub gone : ℕ  -- how many records were folded away
+  pub cut : Bool  -- whether a checkpoint was made
+  pub records : ℕ  -- how many records were written since
 
 -- before the first call
 abbrev pub start : Setup → Place
-start setup = record { next = setup.first; seats = nobody; records = 0 }
+start setup = record { next = setup.first; seats = nobody; gone = 0; cut = false; records = 0 }
 
 -- what a call says, writes and leaves
 pub record Turn : Type 0 where
@@ -89,11 +91,13 @@ told n t (Interrupt j) back = InterruptedSeat n j (named t)
 -- one record is written, whose step the place makes; a request uses its ticket
 abbrev pub written : Setup → Place → Record Deed → (back : Option ℕ) → Turn
 written setup p r back = record {
-  replies = record { seat = r.seat; outcome = told (p.records + 1) r.ticket r.deed back } ∷ [];
+  replies = record { seat = r.seat; outcome = told (p.gone + p.records + 1) r.ticket r.deed back } ∷ [];
   records = r ∷ [];
   place = record {
     next = if is_request r.deed then p.next + 1 else p.next;
     seats = seats_after setup.kind p.seats r.seat r.ticket r.deed;
+    gone = p.gone;
+    cut = p.cut;
     records = p.records + 1;
   };
 }
@@ -209,6 +213,23 @@ drain setup p seat k =
     option_map_or (refused p seat) (drain_refusal setup p seat k)
     (joined (polls setup p seat k) (λ q. silent q seat (Drained k)))
 
+-- why a checkpoint is refused: the first that applies (our choice)
+abbrev pub checkpoint_refusal : Setup → Place → (seat : ℕ) → Option Refusal
+checkpoint_refusal setup p seat =
+    call_refusal (absent_refusal setup.seats seat seat) (nat_lt most_gone (p.gone + p.records))
+
+-- the records so far are folded away: they count no more for the history's room, and their numbers go on rising
+abbrev pub folded : Place → (seat : ℕ) → Turn
+folded p seat = record {
+  replies = record { seat = seat; outcome = Based (p.gone + p.records) } ∷ [];
+  records = [];
+  place = record { next = p.next; seats = p.seats; gone = p.gone + p.records; cut = true; records = 0 };
+}
+
+-- a checkpoint writes no record (our choice)
+abbrev pub checkpoint : Setup → Place → (seat : ℕ) → Turn
+checkpoint setup p seat = option_map_or (refused p seat) (checkpoint_refusal setup p seat) (folded p seat)
+
 -- SynchronousQueue.put waits; LinkedTransferQueue.put keeps its item
 abbrev pub put_form : Order → Form
 put_form order = if keeps order then keeping else waiting
@@ -234,6 +255,7 @@ turn_of setup p seat Size = silent p seat (Count (size_of setup.kind.order p.sea
 turn_of setup p seat Room = silent p seat (Count (remaining_of setup.kind.order))
 turn_of setup p seat Peek = silent p seat (Peeked (peek_of setup.kind.order p.seats.line))
 turn_of setup p seat Consumers = silent p seat (Count (count_on Taker p.seats.line))
+turn_of setup p seat Checkpoint = checkpoint setup p seat
 
 -- one call's turn
 abbrev pub turn : Setup → Place → Call → Turn
@@ -248,7 +270,7 @@ turns setup p (call ∷ calls) = joined (turn setup p call) (λ q. turns setup q
 abbrev pub replies : Setup → List Call → List Reply
 replies setup calls = (turns setup (start setup) calls).replies
 
--- the records of the calls of one thread
+-- the records of the calls of one thread, those that were folded away included
 abbrev pub records : Setup → List Call → List (Record Deed)
 records setup calls = (turns setup (start setup) calls).records
 

@@ -4,7 +4,7 @@ use Rattle.meet_tickets.specs.declared.places.Order.{Order}
 use Rattle.meet_tickets.specs.Meeting.{keeps}
 use Rattle.meet_history.specs.declared.one_thread.verbs.Verb.{Verb}
 use Rattle.meet_history.specs.declared.one_thread.verbs.Verb.TheVariants.{Transfer as TransferItem, Try, Drain}
-use Rattle.meet_history.specs.declared.one_thread.verbs.Verb.TheVariants.{Consumers}
+use Rattle.meet_history.specs.declared.one_thread.verbs.Verb.TheVariants.{Consumers, Checkpoint}
 
 -- a synchronous place serves all verbs but those that LinkedTransferQueue alone has
 abbrev pub serves_synchronous : Verb → Bool
@@ -18,6 +18,12 @@ abbrev pub serves : Order → Verb → Bool
 serves order verb = if keeps order then true else serves_synchronous verb
 
 -- every verb but a drain has one reply
+abbrev pub IsAnswered : Verb → Type 0
+IsAnswered (Drain most) = ⊥
+IsAnswered verb = Unit {0}
+
+-- every verb but a drain and a checkpoint is one step of the place, or a look, with one reply
 abbrev pub IsOne : Verb → Type 0
 IsOne (Drain most) = ⊥
+IsOne Checkpoint = ⊥
 IsOne verb = Unit {0}

@@ -1,5 +1,5 @@
 -- What a stepper shows of itself, and what a call does to it.
-use Rattle.std.specs.Prelude.{◌≡◌, ℕ, ◌+◌, ◌≤◌, Option, Some, None, List, [], ◌∷◌, ◌++◌, length}
+use Rattle.std.specs.Prelude.{◌≡◌, ℕ, ◌+◌, ◌≤◌, Bool, Option, Some, None, List, [], ◌∷◌, ◌++◌, length}
 use Rattle.meet_tickets.specs.declared.records.Record.{Record}
 use Rattle.meet_tickets.specs.declared.records.Deed.{Deed}
 use Rattle.meet_tickets.specs.declared.records.Cause.TheVariants.{Cancelled, Expired}
@@ -12,6 +12,7 @@ use Rattle.meet_line.specs.declared.answers.Offered.TheVariants.{Fails}
 use Rattle.meet_line.specs.declared.answers.Followed.TheVariants.{Interrupted}
 use Rattle.meet_line.specs.declared.answers.TakenBack.TheVariants.{Back}
 use Rattle.meet_book.specs.Received.{Received}
+use Rattle.meet_tickets.specs.Bases.{Based}
 use Rattle.meet_tickets.specs.BySeat.{owed_of}
 use Rattle.meet_calls.specs.declared.queue_calls.DualCall.{DualCall}
 use Rattle.meet_calls.specs.declared.queue_calls.DualCall.TheVariants.{Give, Offer, Take, Poll, FollowUp, Cancel}
@@ -29,22 +30,35 @@ use Rattle.meet_history.specs.declared.one_thread.replies.Outcome.{Outcome}
 use Rattle.meet_history.specs.declared.one_thread.replies.Outcome.TheVariants.{NotYet, Late}
 use Rattle.meet_history.specs.OneThread.{Place, Turn, told, put_form, waiting, immediate, give, take, follow}
 use Rattle.meet_history.specs.OneThread.{withdraw, interrupt, request_refusal, interrupt_refusal}
+use Rattle.meet_history.specs.Standings.{IsFolded}
 
 -- what a run over a place shows of itself
 pub record Stepping : Type 0 where
   pub setup : Setup
   pub queue : Queue ℕ
-  pub records : List (Record Deed)
+  pub base : Based  -- what stands for the records that were folded away
+  pub cut : Bool  -- whether a checkpoint was made
+  pub records : List (Record Deed)  -- those since
   pub room : ℕ  -- how many records more may come without growth
 
 -- where the place is
 abbrev pub place_of : Stepping → Place
-place_of s = record { next = s.queue.next; seats = seats_of s.queue; records = length s.records }
+place_of s = record {
+  next = s.queue.next;
+  seats = seats_of s.queue;
+  gone = s.base.gone;
+  cut = s.cut;
+  records = length s.records;
+}
 
--- a call did what this turn says
+-- all records that were written are these: those that the base stands for, and those since
+abbrev pub HasWritten : Stepping → (all : List (Record Deed)) → Type 0
+HasWritten s all = IsFolded s.setup.kind all s.base s.records
+
+-- a call did what this turn says: whatever was written before, its records were written behind it
 pub record Takes (turn : Turn) (old new : Stepping) : Type 0 where
   pub setup : new.setup ≡ old.setup
-  pub records : new.records ≡ old.records ++ turn.records
+  pub written : (all : List (Record Deed)) → HasWritten old all → HasWritten new (all ++ turn.records)
   pub place : place_of new ≡ turn.place
 
 -- and answered this

@@ -1,13 +1,13 @@
 //! The checker of histories: are these records legal? It takes them one by one, or all at once.
 
 ghost use Rattle.std.specs.Prelude.{◌≡◌, ◌≢◌, [], Some, None, Err, IfSome, IfOk, IfErr, OnOk};
-ghost use Rattle.meet_tickets.specs.ByLists.{IsLegal};
+ghost use Rattle.meet_tickets.specs.Bases.{IsWellFormed, IsLegalOn};
 ghost use Rattle.meet_history.specs.declared.checker.CheckFault.TheVariants.{Memory};
 ghost use Rattle.meet_history.specs.Checking.{IsCheckFault};
 ghost use Rattle.meet_history.specs.Pushing.{HasSeen, HasRoomFor, IsUnchanged, TakesIn, IsStandingOf};
-ghost use Rattle.meet_history.specs.Standings.{standing_in};
+ghost use Rattle.meet_history.specs.Standings.{standing_on};
 
-use meet_tickets::{Deed, Kind, Record};
+use meet_tickets::{Base, Deed, Kind, Record};
 use place::CheckedPlace;
 use std::alloc::Global;
 use std::marker::Model;
@@ -30,7 +30,7 @@ pub enum Why {
 /// What the checker finds against records.
 #[derive(Clone, Copy, PartialEq, Eq, Debug)]
 pub enum CheckFault {
-    /// The record of this number, from 1, is the first that can't stand, for this reason.
+    /// The record of this number, from 1 and with those of the base, is the first that can't stand, for this reason.
     Illegal { place: u64, why: Why },
     /// Memory was wanted and not there.
     Memory,
@@ -69,17 +69,19 @@ impl Model for Checker {
 }
 
 impl Checker {
-    /// A checker of a place of this kind, which has seen no record. The only fault is Memory.
-    pub fn new(alloc: Global, kind: Kind) -> Result<Self, CheckFault>
+    /// A checker of a place of this kind that begins with this base, and has seen no record since. It asks that the base
+    /// is well formed. The only fault is Memory.
+    pub fn new(alloc: Global, kind: Kind, base: &Base) -> Result<Self, CheckFault>
+        requires { IsWellFormed kind base.now }
         ensures kind { IfOk result (λ checker. checker.place.kind ≡ kind) }
-        ensures seen { IfOk result (λ checker. HasSeen checker []) }
+        ensures seen { IfOk result (λ checker. HasSeen base.now checker []) }
         ensures sound { IfOk result (λ checker. checker.fault ≡ None) }
         ensures memory { IfErr result (λ fault. fault ≡ Memory) }
     {
-        match CheckedPlace::new(alloc, kind) {
+        match CheckedPlace::on(alloc, kind, base) {
             Ok(place) => Ok(Checker {
                 place,
-                count: 0,
+                count: base.gone,
                 fault: None,
             }),
             Err(_) => Err(CheckFault::Memory),
@@ -132,15 +134,21 @@ impl Checker {
     }
 }
 
-/// Whether these records, from the first, are a legal history of a place of this kind, and then where its tickets and
-/// items are. Else it names the last record of the shortest prefix that isn't legal, with the first reason that
-/// applies; or Memory.
-pub fn check(alloc: Global, kind: Kind, records: &[Record<Deed>]) -> Result<Standing, CheckFault>
-    ensures legal { IfOk result (λ _. IsLegal kind records.now) }
-    ensures standing { IfOk result (λ standing. standing ≡ standing_in records.now) }
-    ensures fault { IfErr result (λ fault. IsCheckFault kind records.now fault) }
+/// Whether these records are a legal history of a place of this kind after this base, and then where its tickets and
+/// items are. It asks that the base is well formed. Else it names the last record of the shortest prefix that isn't
+/// legal, with the first reason that applies; or Memory.
+pub fn check(
+    alloc: Global,
+    kind: Kind,
+    base: &Base,
+    records: &[Record<Deed>],
+) -> Result<Standing, CheckFault>
+    requires { IsWellFormed kind base.now }
+    ensures legal { IfOk result (λ _. IsLegalOn kind base.now records.now) }
+    ensures standing { IfOk result (λ standing. standing ≡ standing_on base.now records.now) }
+    ensures fault { IfErr result (λ fault. IsCheckFault kind base.now records.now fault) }
 {
-    let mut checker = Checker::new(alloc, kind)?;
+    let mut checker = Checker::new(alloc, kind, base)?;
     for entry in records {
         match checker.push(*entry) {
             Ok(()) => {}

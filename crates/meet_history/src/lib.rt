@@ -2,14 +2,20 @@
 #![tactic(auto)]
 
 mod checker;
+mod ground;
+mod numbers;
 mod one_thread;
+mod pieces;
 
 pub use checker::{CheckFault, Checker, Standing, Why, check};
+pub use ground::Ground;
 pub use meet_book::{Bases, Book, Drains, Holds, Object, Receipt, Same, compare};
 pub use meet_queues::{
     AnyQueue, DualAnswer, DualCall, QueueAnswer, QueueCall, queue_book, transfer_book,
 };
-pub use meet_tickets::{Kind, Order};
+pub use meet_tickets::{Base, Kind, Order};
 pub use one_thread::{
-    Answer, Call, Outcome, Reply, Setup, Stepper, Verb, is_served, one_thread_is_recorded, run_all,
+    Answer, Call, Outcome, Reply, Run, Setup, Stepper, Verb, is_served, one_thread_is_recorded,
+    run_all,
 };
+pub use pieces::Piece;

@@ -7,7 +7,7 @@ mod setup;
 mod stepper;
 mod verbs;
 
-pub use all_calls::run_all;
+pub use all_calls::{Run, run_all};
 pub use laws::one_thread_is_recorded;
 pub use replies::{Answer, Outcome, Reply};
 pub use setup::Setup;

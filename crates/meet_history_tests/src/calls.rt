@@ -1,10 +1,10 @@
 //! The calls of one thread, all at once, and checks of what they write.
 
 use meet_history::{
-    Answer, Call, CheckFault, Kind, Order, Outcome, Reply, Setup, Standing, Verb, Why, check,
+    Answer, Call, CheckFault, Kind, Order, Outcome, Reply, Run, Setup, Standing, Verb, Why, check,
     is_served, run_all,
 };
-use meet_tickets::{Deed, Record, SeatNo, Ticket};
+use meet_tickets::{Base, Deed, Record, SeatNo, Ticket};
 use std::test::Fail;
 
 pub fn seat(number: u64) -> Result<SeatNo, Fail> {
@@ -60,7 +60,11 @@ fn a_handoff(rt: HostRuntime) -> Result<(), Fail> {
             verb: Verb::Follow,
         },
     ];
-    let (replies, records) = run_all(rt.alloc(), TRANSFER, &calls).ok().ok_or("memory")?;
+    let Run {
+        replies,
+        base: _,
+        records,
+    } = run_all(rt.alloc(), TRANSFER, &calls).ok().ok_or("memory")?;
     let wanted = [
         reply(0, 1, 1, Answer::Waits)?,
         reply(1, 2, 2, Answer::Got(5, ticket(1)?))?,
@@ -100,8 +104,14 @@ fn whom_a_taker_meets(rt: HostRuntime) -> Result<(), Fail> {
         place: 3,
         why: Why::WrongReply,
     };
-    assert_eq!(rt; check(rt.alloc(), fair, &records), Err(illegal));
-    assert_eq!(rt; check(rt.alloc(), unfair, &records), Ok(standing));
+    assert_eq!(rt;
+        check(rt.alloc(), fair, &Base::empty(rt.alloc()), &records),
+        Err(illegal)
+    );
+    assert_eq!(rt;
+        check(rt.alloc(), unfair, &Base::empty(rt.alloc()), &records),
+        Ok(standing)
+    );
     Ok(())
 }
 
@@ -126,7 +136,11 @@ fn a_hundred_thousand(rt: HostRuntime) -> Result<(), Fail> {
         verb: Verb::Put(5),
     };
     let calls = vec![in rt.alloc(); put; 100_000]?;
-    let (replies, records) = run_all(rt.alloc(), TRANSFER, calls.as_slice())
+    let Run {
+        replies,
+        base: _,
+        records,
+    } = run_all(rt.alloc(), TRANSFER, calls.as_slice())
         .ok()
         .ok_or("memory")?;
     assert_eq!(rt; replies.len(), 100_000);
@@ -137,7 +151,12 @@ fn a_hundred_thousand(rt: HostRuntime) -> Result<(), Fail> {
         uncollected: 0,
         kept: 100_000,
     };
-    let found = check(rt.alloc(), TRANSFER.kind, records.as_slice());
+    let found = check(
+        rt.alloc(),
+        TRANSFER.kind,
+        &Base::empty(rt.alloc()),
+        records.as_slice(),
+    );
     assert_eq!(rt; found, Ok(standing));
     Ok(())
 }

@@ -3,9 +3,9 @@
 
 use crate::calls::{TRANSFER, record, reply, seat, ticket};
 use meet_history::{
-    Answer, Call, CheckFault, Checker, Outcome, Reply, Standing, Verb, check, run_all,
+    Answer, Call, CheckFault, Checker, Outcome, Reply, Run, Standing, Verb, check, run_all,
 };
-use meet_tickets::{Deed, Kind, Order, Record, Refusal};
+use meet_tickets::{Base, Deed, Kind, Order, Record, Refusal};
 use std::alloc::Global;
 use std::process::Abort;
 use std::test::Fail;
@@ -19,9 +19,9 @@ fn is_legal(
     standing: Standing,
 ) {
     let kind = Kind { order, bound: None };
-    let mut found = check(alloc, kind, records);
+    let mut found = check(alloc, kind, &Base::empty(alloc), records);
     if found == Err(CheckFault::Memory) {
-        found = check(alloc, kind, records);
+        found = check(alloc, kind, &Base::empty(alloc), records);
     }
     assert_eq!(rt; found, Ok(standing));
 }
@@ -73,9 +73,11 @@ fn records_that_are_pushed(rt: HostRuntime) -> Result<(), Fail> {
         order: Order::Unfair,
         bound: None,
     };
-    let mut checker = match Checker::new(rt.alloc(), kind) {
+    let mut checker = match Checker::new(rt.alloc(), kind, &Base::empty(rt.alloc())) {
         Ok(checker) => checker,
-        Err(_) => Checker::new(rt.alloc(), kind).ok().ok_or("memory")?,
+        Err(_) => Checker::new(rt.alloc(), kind, &Base::empty(rt.alloc()))
+            .ok()
+            .ok_or("memory")?,
     };
     for number in 0..9 {
         let mut pushed = push_giver(&mut checker, number * 100, number + 1)?;
@@ -106,7 +108,11 @@ fn calls_of_one_thread(rt: HostRuntime) -> Result<(), Fail> {
         verb: Verb::Drain(9),
     };
     let calls = [put, put, put, put, put, drain];
-    let (replies, records) = match run_all(rt.alloc(), TRANSFER, &calls) {
+    let Run {
+        replies,
+        base: _,
+        records,
+    } = match run_all(rt.alloc(), TRANSFER, &calls) {
         Ok(all) => all,
         Err(why) => {
             assert!(rt; why == Refusal::Memory);

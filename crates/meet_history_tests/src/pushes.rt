@@ -2,7 +2,7 @@
 
 use crate::calls::{record, ticket};
 use meet_history::{CheckFault, Checker, Kind, Order, Standing, Why};
-use meet_tickets::Deed;
+use meet_tickets::{Base, Deed};
 use std::test::Fail;
 
 /// A fair queue.
@@ -18,7 +18,9 @@ fn a_handoff_record_by_record(rt: HostRuntime) -> Result<(), Fail> {
         (record(1, 2, Deed::TakeMeets(5, ticket(1)?))?, (0, 1)),
         (record(0, 1, Deed::Done)?, (0, 0)),
     ];
-    let mut checker = Checker::new(rt.alloc(), FAIR).ok().ok_or("memory")?;
+    let mut checker = Checker::new(rt.alloc(), FAIR, &Base::empty(rt.alloc()))
+        .ok()
+        .ok_or("memory")?;
     for (entry, (waiting, uncollected)) in records {
         assert_eq!(rt; checker.push(entry), Ok(()));
         let standing = Standing {
@@ -33,7 +35,9 @@ fn a_handoff_record_by_record(rt: HostRuntime) -> Result<(), Fail> {
 
 #[test]
 fn a_fault_stays(rt: HostRuntime) -> Result<(), Fail> {
-    let mut checker = Checker::new(rt.alloc(), FAIR).ok().ok_or("memory")?;
+    let mut checker = Checker::new(rt.alloc(), FAIR, &Base::empty(rt.alloc()))
+        .ok()
+        .ok_or("memory")?;
     assert_eq!(rt; checker.push(record(0, 1, Deed::GiveWaits(1))?), Ok(()));
     assert_eq!(rt; checker.push(record(1, 2, Deed::GiveWaits(2))?), Ok(()));
     let fault = Err(CheckFault::Illegal {

@@ -1,8 +1,6 @@
 -- Lists that are made element by element.
-use Rattle.std.proofs.Common.{◌≡◌, ◌+◌, List, [], ◌∷◌, ◌++◌, length, map, append_assoc, sym, ap, ◌∙◌, arith}
+use Rattle.std.proofs.Common.{◌≡◌, List, [], ◌∷◌, ◌++◌, map, append_assoc, sym, ap, ◌∙◌}
 use Rattle.std.proofs.lemmas.List.{map-append}
-use Rattle.meet_book.specs.Received.{Received}
-use Rattle.meet_place.specs.Backs.{receipts_in}
 
 -- an element goes from what is left to what was taken
 pub moves_on : {A B C : Type 0} (f : A → C) (h : B → C) (taken : List A) (x : A) (left rest : List B) (y : B)
@@ -17,9 +15,3 @@ pub moves_plain : {A : Type 0} (taken : List A) (x : A) (left rest : List A) (y 
     → x ≡ y → taken ++ left ≡ all → (taken ++ x ∷ []) ++ rest ≡ all
 moves_plain taken x left rest y all is same e =
     append_assoc taken (x ∷ []) rest ∙ (λ j. taken ++ same j ∷ rest) ∙ ap (λ l. taken ++ l) (sym is) ∙ e
-
--- one more list has so many receipts more
-pub receipts_in-push : {A D : Type 0} (f : A → List (Received D)) (xs : List A) (x : A)
-    → receipts_in (map f (xs ++ x ∷ [])) ≡ receipts_in (map f xs) + length (f x)
-receipts_in-push f [] x = omega arith
-receipts_in-push f (y ∷ xs) x = let h = receipts_in-push f xs x in omega arith

@@ -1,7 +1,8 @@
 -- What contracts see of seats that are given back (our choice).
-use Rattle.std.specs.Prelude.{ℕ, ◌+◌, Option, Some, None, List, [], ◌∷◌, length, IsPermutation}
+use Rattle.std.specs.Prelude.{ℕ, ◌+◌, Option, Some, None, List, length, sum_by, IsPermutation}
 use Rattle.std.specs.List.Sorted.{IsNonDecreasingBy}
 use Rattle.meet_book.specs.Received.{Received}
+use Rattle.meet_place.specs.declared.seats.Past.{Past}
 use Rattle.meet_place.specs.declared.seats.Back.{Back}
 use Rattle.meet_place.specs.declared.seats.Back.TheVariants.{Free, Held}
 
@@ -16,18 +17,33 @@ module _ {D N : Type 0} where
   list_of (Free seat) = seat.list
   list_of (Held p) = p.list
 
-  -- the seat of this number, with these receipts and so much room; held, where a ticket is open, with that and its mark
-  abbrev pub back_of : ℕ → List (Received D) → ℕ → Option (ℕ × Option ℕ) → Back D N
-  back_of number list room None = Free (record { number = number; list = list; room = room })
-  back_of number list room (Some held) = Held (record { number = number; list = list; ticket = held.0; mark = held.1 })
+  -- its seat's share of the number of records: how many receipts it ever got
+  abbrev pub share_of : Back D N → ℕ
+  share_of (Free seat) = seat.past.trimmed + length seat.list
+  share_of (Held p) = p.past.trimmed + length p.list
+
+  -- how many records its seat's checkpoints folded away
+  abbrev pub folded_of : Back D N → ℕ
+  folded_of (Free seat) = seat.past.folded
+  folded_of (Held p) = p.past.folded
+
+  -- what all these seats' shares are together
+  abbrev pub shares_in : List (Back D N) → ℕ
+  shares_in seats = sum_by share_of seats
+
+  -- how many records the checkpoints of all these seats folded away
+  abbrev pub folded_in : List (Back D N) → ℕ
+  folded_in seats = sum_by folded_of seats
+
+  -- the seat of this number, with this behind it, these receipts and so much room; held, where a ticket is open,
+  -- with that and its mark
+  abbrev pub back_of : ℕ → Past → List (Received D) → ℕ → Option (ℕ × Option ℕ) → Back D N
+  back_of number past list room None =
+      Free (record { number = number; past = past; list = list; room = room })
+  back_of number past list room (Some held) =
+      Held (record { number = number; past = past; list = list; ticket = held.0; mark = held.1 })
 
   -- these are the same seats, in the order of their numbers
   pub record AreOrdered (seats ordered : List (Back D N)) : Type 0 where
     pub same : IsPermutation seats ordered
     pub rising : IsNonDecreasingBy number_of ordered
-
-module _ {D : Type 0} where
-  -- how many receipts these lists have
-  abbrev pub receipts_in : List (List (Received D)) → ℕ
-  receipts_in [] = 0
-  receipts_in (list ∷ lists) = length list + receipts_in lists

@@ -4,7 +4,7 @@ use Rattle.meet_tickets.specs.declared.refusals.Refusal.{Refusal}
 use Rattle.meet_tickets.specs.declared.refusals.Refusal.TheVariants.{Memory as NoMemory, Differs as ListDiffers}
 use Rattle.meet_tickets.specs.declared.refusals.Refusal.TheVariants.{SeatMissing as NotAllSeats}
 use Rattle.meet_book.specs.Listed.{FirstDiffer}
-use Rattle.meet_place.specs.Backs.{list_of, AreOrdered, receipts_in}
+use Rattle.meet_place.specs.Backs.{list_of, AreOrdered, shares_in, folded_in}
 use Rattle.meet_place.specs.declared.seats.Back.{Back}
 use Rattle.meet_place.specs.declared.close.CloseFault.{CloseFault}
 use Rattle.meet_place.specs.declared.close.CloseFault.TheVariants.{SeatMissing, Memory, Differs}
@@ -17,8 +17,8 @@ module _ {O G N C A D B : Type 0} where
   why_of (Differs seat index book seats) = ListDiffers
 
   -- this is why a place with so many seats isn't closed with these. Fewer seats than were made, or no memory: the place
-  -- and the seats come back. A difference: the book comes back, with as many records as the seats have receipts, and
-  -- the seats, in the order of their numbers, by which this is the first difference
+  -- and the seats come back. A difference: the book comes back, with as many records as the seats' shares are together,
+  -- and the seats, in the order of their numbers, by which this is the first difference
   abbrev pub FaultFits : (gone_of : B → ℕ) → (count : ℕ) → List (Back D N) → CloseFault O G N C A D B → Type 0
   FaultFits gone_of count seats (SeatMissing have made place back) =
       (have ≡ length seats) × (made ≡ count) × (have < made) × (place ≡ count) × (back.items ≡ seats)
@@ -26,5 +26,5 @@ module _ {O G N C A D B : Type 0} where
       (count ≤ length seats) × (place ≡ count) × (back.items ≡ seats)
   FaultFits gone_of count seats (Differs seat index book back) =
       (count ≤ length seats) × AreOrdered seats back.items
-      × (gone_of book.base + length book.records ≡ receipts_in (map list_of back.items))
+      × (gone_of book.base + length book.records ≡ shares_in back.items) × (gone_of book.base ≡ folded_in back.items)
       × FirstDiffer (gone_of book.base) book.records (map list_of back.items) seat index

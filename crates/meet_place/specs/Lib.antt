@@ -1,4 +1,5 @@
 pub mod Backs
 pub mod Faults
 pub mod Holds
+pub mod Ledgers
 pub mod Seats

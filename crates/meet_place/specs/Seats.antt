@@ -1,17 +1,22 @@
 -- What contracts see of a seat, and what a call leaves in its list (our choice).
-use Rattle.std.specs.Prelude.{◌≡◌, ℕ, Option, Some, List, [], ◌++◌, map, slice_get}
+use Rattle.std.specs.Prelude.{◌≡◌, ℕ, ◌+◌, Option, Some, List, [], ◌++◌, length, map, filter, slice_get}
 use Rattle.meet_tickets.specs.declared.records.Record.{Record}
+use Rattle.meet_book.specs.Listed.{is_since}
 use Rattle.meet_book.specs.Received.{Received}
+use Rattle.meet_place.specs.declared.seats.Past.{Past}
 
--- a seat's number, its receipts in order, and how many more its list has room for
+-- a seat's number, what it has behind it (how many receipts were dropped from its list, and how many records its
+-- checkpoints folded away), the receipts that it has in order, and how many more the list has room for
 pub record SeatView (D : Type 0) : Type 0 where
   pub number : ℕ
+  pub past : Past
   pub list : List (Received D)
   pub room : ℕ
 
--- a seat whose ticket is open: its number, its receipts in order, the ticket, and the mark that its request brought
+-- a seat whose ticket is open: its number, what it has behind it, the receipts that it has in order, the ticket, and the mark that its request brought
 pub record PendingView (D : Type 0) : Type 0 where
   pub number : ℕ
+  pub past : Past
   pub list : List (Received D)
   pub ticket : ℕ
   pub mark : Option ℕ
@@ -25,9 +30,42 @@ module _ {D : Type 0} where
   abbrev pub Adds : (old new : List (Received D)) → List (Record D) → Type 0
   Adds old new records = (made : List (Received D)) × (new ≡ old ++ made) × (entries made ≡ records)
 
-  -- seats in the order of their numbers, from 0, without receipts
+  -- seats in the order of their numbers, from 0, without receipts, and with nothing behind them
   abbrev pub AreFresh : List (SeatView D) → Type 0
-  AreFresh seats = (i : ℕ) (seat : SeatView D) → slice_get seats i ≡ Some seat → (seat.number ≡ i) × (seat.list ≡ [])
+  AreFresh seats = (i : ℕ) (seat : SeatView D) → slice_get seats i ≡ Some seat
+      → (seat.number ≡ i) × (seat.list ≡ []) × (seat.past.trimmed ≡ 0) × (seat.past.folded ≡ 0)
+
+  -- a seat's share of the number of records: how many receipts it ever got
+  abbrev pub share_in : SeatView D → ℕ
+  share_in seat = seat.past.trimmed + length seat.list
+
+  -- a call hands the same seat back: its number, and what it has behind it
+  abbrev pub SameSeat : (old new : SeatView D) → Type 0
+  SameSeat old new = (new.number ≡ old.number) × (new.past ≡ old.past)
+
+  -- the same, with an open ticket
+  abbrev pub ParksSeat : SeatView D → PendingView D → Type 0
+  ParksSeat seat p = (p.number ≡ seat.number) × (p.past ≡ seat.past)
+
+  -- the same, and its ticket ended
+  abbrev pub FreesSeat : PendingView D → SeatView D → Type 0
+  FreesSeat p seat = (seat.number ≡ p.number) × (seat.past ≡ p.past)
+
+  -- the receipts for the first `gone` records, which were folded away, were dropped from the list; the share stays
+  pub record Trims (gone : ℕ) (old new : SeatView D) : Type 0 where
+    pub number : new.number ≡ old.number
+    pub list : new.list ≡ filter (is_since gone) old.list
+    pub share : share_in new ≡ share_in old
+    pub folded : new.past.folded ≡ old.past.folded
+    pub room : length new.list + new.room ≡ length old.list + old.room
+
+  -- a checkpoint of the seat folded so many records away, and changed nothing else of it
+  pub record Checkpoints (more : ℕ) (old new : SeatView D) : Type 0 where
+    pub folded : new.past.folded ≡ old.past.folded + more
+    pub trimmed : new.past.trimmed ≡ old.past.trimmed
+    pub number : new.number ≡ old.number
+    pub list : new.list ≡ old.list
+    pub room : new.room ≡ old.room
 
 -- polls that do this were made, whose receipts came to the list's end, and whose answers are these, both in their order
 abbrev pub DrainedAs : {A D : Type 0} → (List (A × Received D) → Type 0) → (old new : List (Received D)) → List A → Type 0

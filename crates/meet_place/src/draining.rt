@@ -10,6 +10,7 @@ ghost use Rattle.meet_book.specs.Draining.{TakingPolls, book_drain_refusal};
 ghost use Rattle.meet_book.specs.Received.{Received};
 ghost use Rattle.meet_place.specs.Seats.{SeatView, DrainedAs};
 
+use crate::ledgers::Ledgers;
 use crate::place::Place;
 use crate::seats::Seat;
 use crate::shared::Shared;
@@ -18,7 +19,6 @@ use meet_cells::Gate;
 use meet_tickets::{Refusal, Refused, SeatNo};
 use std::alloc::Global;
 use std::sync::Wait;
-use std::sync::ledger::Ledger;
 
 /// Empty lists for what a drain takes: the polls with their receipts, and their answers.
 #[derive(Drop)]
@@ -52,7 +52,7 @@ fn hand_out<A, D: Copy>(
     answers
 }
 
-impl<O: Drains, N: Ledger> Shared<O, N> {
+impl<O: Drains, N: Ledgers> Shared<O, N> {
     /// `BlockingQueue.drainTo` of a seat under this hold: up to `max` items, and no more than both empty lists and the
     /// seat's list have room for; one recorded poll after another. It answers the polls' answers in order, and the
     /// receipts are at the end of the seat's list; the watch is told of each seat that may go on. It refuses what the
@@ -68,6 +68,7 @@ impl<O: Drains, N: Ledger> Shared<O, N> {
         requires answers { vec_capacity empty.polled ≤ vec_capacity empty.answers }
         requires receipts { vec_capacity empty.polled ≤ seat.old.room }
         ensures number { seat.new.number ≡ seat.old.number }
+        ensures past { seat.new.past ≡ seat.old.past }
         ensures room { length seat.new.list + seat.new.room ≡ length seat.old.list + seat.old.room }
         ensures count { IfOk result (λ answers. length answers.items
             ≡ min (min max (vec_capacity empty.polled)) (O.available_of self.old.object)) }
@@ -89,6 +90,7 @@ impl<O: Drains, N: Ledger> Shared<O, N> {
             number,
             list,
             share,
+            ..
         } = seat;
         let Shared { book, total, .. } = self;
         let DrainRoom { polled, answers } = empty;
@@ -152,7 +154,7 @@ impl Watch for Woken {
     }
 }
 
-impl<O: Drains, G: Gate, N: Ledger> Place<O, G, N> {
+impl<O: Drains, G: Gate, N: Ledgers> Place<O, G, N> {
     /// `BlockingQueue.drainTo` of a seat: up to `max` of the items that are there, one recorded poll after another, all
     /// under one hold. It looks how many they are, makes room for as many, the lock being free, and then takes up to as
     /// many: so items that come in between are left. The givers are woken once the lock is free again. It refuses Memory
@@ -165,6 +167,7 @@ impl<O: Drains, G: Gate, N: Ledger> Place<O, G, N> {
         max: u64,
     ) -> Result<Vec<O::Answer>, Refusal>
         ensures number { seat.new.number ≡ seat.old.number }
+        ensures past { seat.new.past ≡ seat.old.past }
         ensures few { IfOk result (λ answers. length answers.items ≤ max) }
         ensures polls { IfOk result (λ answers. (old : O) × (new : O) × DrainedAs (λ got. TakingPolls
             (λ before answer after. O.steps before seat.old.number O.poll answer after)
@@ -202,6 +205,7 @@ impl<O: Drains, G: Gate, N: Ledger> Place<O, G, N> {
         watch: &mut W,
     ) -> Result<Vec<O::Answer>, Refusal>
         ensures number { seat.new.number ≡ seat.old.number }
+        ensures past { seat.new.past ≡ seat.old.past }
         ensures few { IfOk result (λ answers. length answers.items ≤ max) }
         ensures polls { IfOk result (λ answers. (old : O) × (new : O) × DrainedAs (λ got. TakingPolls
             (λ before answer after. O.steps before seat.old.number O.poll answer after)

@@ -5,13 +5,19 @@
 mod backs;
 mod close;
 mod draining;
+mod ledgers;
+mod opening;
 mod place;
 mod seats;
+mod settling;
 mod shared;
 
 pub use close::{CloseFault, Closed};
 pub use draining::DrainRoom;
+pub use ledgers::{Blanks, Folds, Ledgers, Stake, Totals};
 pub use meet_cells::{Gate, Turn};
+pub use opening::{hold, open_seats};
 pub use place::{NewPlace, Place};
-pub use seats::{Back, Pending, Seat};
+pub use seats::{Back, Past, Pending, Seat};
+pub use settling::{SeatRoom, Settled, Unsettled, settle};
 pub use shared::Shared;

@@ -7,24 +7,23 @@ ghost use Rattle.std.specs.Vec.{vec_capacity};
 ghost use Rattle.meet_tickets.specs.Limits.{most_seats};
 ghost use Rattle.meet_tickets.specs.Refusals.{IsWhy};
 ghost use Rattle.meet_book.specs.Booked.{Booked};
-ghost use Rattle.meet_place.specs.Seats.{Adds, AreFresh};
+ghost use Rattle.meet_book.specs.Booking.{cut_refusal};
+ghost use Rattle.meet_place.specs.Ledgers.{AreOf};
+ghost use Rattle.meet_place.specs.Seats.{Adds, AreFresh, Trims, Checkpoints};
 ghost use Rattle.meet_place.specs.Holds.{BookRefuses, sizes_refusal};
 
+use crate::ledgers::{Blanks, Ledgers};
+use crate::opening::hold;
 use crate::seats::{Pending, Seat};
 use crate::shared::Shared;
 use crossbeam_utils::CachePadded;
-use meet_book::{Book, Object, Wakes};
+use meet_book::{Bases, Book, Object, Wakes};
 use meet_cells::{Gate, Turn};
 use meet_tickets::{MOST_SEATS, Refusal, Refused, SeatNo};
 use std::alloc::Global;
 use std::marker::Model;
-use std::sync::ledger::{Blank, Ledger, Share};
-use std::sync::{Mutex, MutexGuard, Wait, ledger};
-use std::thread;
+use std::sync::{Mutex, MutexGuard, Wait};
 use std::time::Clock;
-
-/// How often a thread tries the lock before it sleeps: our choice, of which nothing is promised.
-const LOCK_TURNS: u64 = 4;
 
 /// What a place is made of.
 #[derive(Drop)]
@@ -33,19 +32,19 @@ pub struct NewPlace<O: Object, G> {
     pub book: Book<O>,
     /// A gate for each seat.
     pub gates: Vec<G>,
-    /// A ledger with a part for each seat.
-    pub blank: Blank,
+    /// Two ledgers with a part for each seat.
+    pub blanks: Blanks,
 }
 
 /// A book under a lock, and a gate for each seat. A contract sees the number of its seats: what lies under the lock is
 /// changed by all threads, so it is known while one holds the lock, and not else.
 #[derive(Drop)]
-pub struct Place<O: Object, G, N: Ledger> {
+pub struct Place<O: Object, G, N: Ledgers> {
     gates: Vec<CachePadded<G>>,
     shared: Mutex<Shared<O, N>>,
 }
 
-impl<O: Object, G, N: Ledger> Model for Place<O, G, N> {
+impl<O: Object, G, N: Ledgers> Model for Place<O, G, N> {
     ghost use Rattle.std.specs.Prelude.{◌≡◌, ◌≤◌, ℕ, vec_len};
     ghost use Rattle.meet_tickets.specs.Limits.{most_seats};
 
@@ -57,14 +56,14 @@ impl<O: Object, G, N: Ledger> Model for Place<O, G, N> {
 }
 
 /// The seat of this number.
-fn seat_of(number: usize) -> SeatNo
+pub(crate) fn seat_of(number: usize) -> SeatNo
     requires { number < most_seats }
     ensures { result ≡ number }
 {
     SeatNo::new(number as u64).unwrap()
 }
 
-impl<O: Object, G: Drop, N: Ledger> Place<O, G, N> {
+impl<O: Object, G: Drop, N: Ledgers> Place<O, G, N> {
     /// A place over the book of a place that has no history yet, and its seats, one for each gate, numbered from 0. It
     /// refuses BadSizes exactly where there is no gate or more than 65,536, then Memory; then all comes back.
     pub fn new(
@@ -72,9 +71,9 @@ impl<O: Object, G: Drop, N: Ledger> Place<O, G, N> {
         parts: NewPlace<O, G>,
     ) -> Result<(Self, Vec<Seat<O::Deed, N>>), Refused<NewPlace<O, G>>>
         requires fresh { O.gone_of parts.book.base + length parts.book.records ≡ 0 }
-        requires name { parts.blank.name ≡ N.name }
-        requires parts { parts.blank.parts ≡ N.parts }
-        requires one_each { parts.blank.parts ≡ vec_len parts.gates }
+        requires first { parts.book.base ≡ O.no_base }
+        requires ledgers { AreOf N.name N.folds N.parts parts.blanks }
+        requires one_each { N.parts ≡ vec_len parts.gates }
         ensures count { IfOk result (λ made. made.0 ≡ vec_len parts.gates) }
         ensures seats { IfOk result (λ made. vec_len made.1 ≡ vec_len parts.gates) }
         ensures numbers { IfOk result (λ made. AreFresh made.1.items) }
@@ -109,22 +108,26 @@ impl<O: Object, G: Drop, N: Ledger> Place<O, G, N> {
         mut seats: Vec<Seat<O::Deed, N>>,
     ) -> (Self, Vec<Seat<O::Deed, N>>)
         requires fresh { O.gone_of parts.book.base + length parts.book.records ≡ 0 }
+        requires first { parts.book.base ≡ O.no_base }
         requires limit { vec_len parts.gates ≤ most_seats }
-        requires name { parts.blank.name ≡ N.name }
-        requires parts { parts.blank.parts ≡ N.parts }
-        requires one_each { parts.blank.parts ≡ vec_len parts.gates }
+        requires ledgers { AreOf N.name N.folds N.parts parts.blanks }
+        requires one_each { N.parts ≡ vec_len parts.gates }
         requires empty { (padded.items ≡ []) × (seats.items ≡ []) }
         requires room { (vec_len parts.gates ≤ vec_capacity padded) × (vec_len parts.gates ≤ vec_capacity seats) }
         ensures count { result.0 ≡ vec_len parts.gates }
         ensures seats { vec_len result.1 ≡ vec_len parts.gates }
         ensures numbers { AreFresh result.1.items }
     {
-        let NewPlace { book, gates, blank } = parts;
-        let (total, mut rest) = blank.open::<N>();
+        let NewPlace {
+            book,
+            gates,
+            blanks,
+        } = parts;
+        let (total, mut rest) = blanks.open::<N>();
         for gate in gates {
             let number = seat_of(padded.len());
             padded.push_reserved(CachePadded::new(gate));
-            seats.push_reserved(Seat::new(alloc, number, rest.split_off(1, 0)));
+            seats.push_reserved(Seat::new(alloc, number, rest.split_off(1, 0, 0)));
         }
         let place = Place {
             gates: padded,
@@ -134,7 +137,7 @@ impl<O: Object, G: Drop, N: Ledger> Place<O, G, N> {
     }
 }
 
-impl<O: Object, G, N: Ledger> Place<O, G, N> {
+impl<O: Object, G, N: Ledgers> Place<O, G, N> {
     /// How many seats there are.
     pub fn seats(&self) -> usize
         ensures count { result ≡ self.now }
@@ -147,13 +150,7 @@ impl<O: Object, G, N: Ledger> Place<O, G, N> {
     /// Takes the lock, once no other thread has it, and holds it until the guard is let go. A step is short, so it first
     /// lets another thread run a few times, and sleeps only where the lock is held even then.
     pub fn hold<R: Wait>(&self, rt: &R) -> MutexGuard<'_, Shared<O, N>> {
-        for _ in 0..LOCK_TURNS {
-            if let Some(guard) = self.shared.try_lock() {
-                return guard;
-            }
-            thread::yield_now();
-        }
-        self.shared.lock(rt)
+        hold(rt, &self.shared)
     }
 
     /// What this closure answers of the place as it is at some time, under one hold of the lock.
@@ -165,37 +162,56 @@ impl<O: Object, G, N: Ledger> Place<O, G, N> {
         look(shared.probe())
     }
 
-    /// The gates, the book, the ledger of its records, and a share that has no part.
-    pub(crate) fn into_parts(self) -> (Vec<CachePadded<G>>, Book<O>, ledger::Book<N>, Share<N>)
+    /// Drops the receipts for the records that are folded away by now from a seat's list. Under the lock it looks how
+    /// many these are; it takes no memory.
+    pub fn trim<R: Wait>(&self, rt: &R, seat: &mut Seat<O::Deed, N>)
+        ensures { (base : O.Base) × Trims (O.gone_of base) seat.old seat.new }
+    {
+        let gone = self.hold(rt).gone_for(seat);
+        seat.forget(gone);
+    }
+
+    /// The gates, and what the lock guarded.
+    pub(crate) fn into_shared(self) -> (Vec<CachePadded<G>>, Shared<O, N>)
         ensures gates { (vec_len result.0 ≡ self) × (self ≡ N.parts) × (self ≤ most_seats) }
-        ensures total { O.gone_of result.1.base + length result.1.records ≡ result.2.total }
-        ensures rest { (result.3.parts ≡ 0) × (result.3.amount ≡ 0) }
     {
         let Place { gates, shared } = self;
-        let (book, total, rest) = shared.into_inner().into_parts();
-        (gates, book, total, rest)
+        (gates, shared.into_inner())
     }
 
     /// The place of these parts.
-    pub(crate) fn of_parts(
-        gates: Vec<CachePadded<G>>,
-        book: Book<O>,
-        total: ledger::Book<N>,
-        rest: Share<N>,
-    ) -> Self
+    pub(crate) fn of_shared(gates: Vec<CachePadded<G>>, shared: Shared<O, N>) -> Self
         requires gates { (vec_len gates ≡ N.parts) × (vec_len gates ≤ most_seats) }
-        requires total { O.gone_of book.base + length book.records ≡ total.total }
-        requires rest { (rest.parts ≡ 0) × (rest.amount ≡ 0) }
         ensures { result ≡ vec_len gates }
     {
         Place {
             gates,
-            shared: Mutex::new(Shared::new(book, total, rest)),
+            shared: Mutex::new(shared),
         }
     }
 }
 
-impl<O: Wakes, G, N: Ledger> Place<O, G, N> {
+impl<O: Bases, G, N: Ledgers> Place<O, G, N>
+where
+    O::Base: Drop,
+{
+    /// A checkpoint of a seat: folds the records away, under one hold of the lock, and answers how many were folded away
+    /// since the first. Those of this time count for the seat. It refuses what the book's `cut` does; then nothing has
+    /// changed.
+    pub fn locked_cut<R: Wait>(&self, rt: &R, seat: &mut Seat<O::Deed, N>) -> Result<u64, Refusal>
+        ensures gone { IfOk result (λ gone. (book : Booked O O.Base O.Deed)
+            × (gone ≡ O.gone_of book.base + length book.records) × (cut_refusal (O.gone_of book.base) book ≡ None)
+            × Checkpoints (length book.records) seat.old seat.new) }
+        ensures why { IfErr result (λ why. (book : Booked O O.Base O.Deed)
+            × IsWhy (cut_refusal (O.gone_of book.base) book) why) }
+        ensures same { IfErr result (λ _. seat.new ≡ seat.old) }
+    {
+        let mut shared = self.hold(rt);
+        shared.cut(seat)
+    }
+}
+
+impl<O: Wakes, G, N: Ledgers> Place<O, G, N> {
     /// Makes a call of a seat under one hold of the lock: its answer, and whom it should wake, once the lock is free
     /// again. The seat's list has room for the receipt, so under the lock nothing grows but the book's records. It
     /// refuses what the book's `step` does; then the seat is as it was, and the call comes back.
@@ -207,6 +223,7 @@ impl<O: Wakes, G, N: Ledger> Place<O, G, N> {
     ) -> Result<(O::Answer, Option<SeatNo>), Refused<O::Call>>
         requires room { 0 < seat.old.room }
         ensures number { seat.new.number ≡ seat.old.number }
+        ensures past { seat.new.past ≡ seat.old.past }
         ensures room { length seat.new.list + seat.new.room ≡ length seat.old.list + seat.old.room }
         ensures adds { IfOk result (λ made. Adds seat.old.list seat.new.list
             (option_to_list (O.record_of seat.old.number call made.0))) }
@@ -228,7 +245,7 @@ impl<O: Wakes, G, N: Ledger> Place<O, G, N> {
     }
 }
 
-impl<O: Object, G: Gate, N: Ledger> Place<O, G, N> {
+impl<O: Object, G: Gate, N: Ledgers> Place<O, G, N> {
     /// Wakes the gate of this seat, if one is given and is there.
     pub fn wake(&self, seat: Option<SeatNo>) {
         if let Some(seat) = seat {

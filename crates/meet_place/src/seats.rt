@@ -1,27 +1,41 @@
 //! Seats, and seats whose ticket is open.
 
-ghost use Rattle.std.specs.Prelude.{◌≡◌, ◌<◌, ◌≤◌, [], IsOk, IfErr, OnOk};
+ghost use Rattle.std.specs.Prelude.{◌≡◌, ◌<◌, ◌≤◌, ◌+◌, ◌^◌, [], length, filter, vec_len, IsOk, IfErr, OnOk};
+ghost use Rattle.std.specs.Vec.{vec_capacity};
 ghost use Rattle.meet_tickets.specs.declared.refusals.Refusal.TheVariants.{Memory};
 ghost use Rattle.meet_place.specs.Backs.{number_of, list_of};
-ghost use Rattle.meet_place.specs.Seats.{SeatView, PendingView};
+ghost use Rattle.meet_book.specs.Listed.{is_since};
+ghost use Rattle.meet_place.specs.Seats.{SeatView, PendingView, Trims, share_in};
 
+use crate::ledgers::{Ledgers, Stake};
 use meet_book::Receipt;
 use meet_tickets::{Refusal, SeatNo, Ticket};
 use std::alloc::Global;
 use std::marker::Model;
-use std::sync::ledger::{Ledger, Share};
 
-/// A seat of a place: its number, its receipts, and its share of the number of records, which is the number of its
-/// receipts. It is of the one place whose ledger is `N`, which alone makes its seats, each number once.
-#[derive(Drop)]
-pub struct Seat<D: Copy, N: Ledger> {
-    pub(crate) number: SeatNo,
-    pub(crate) list: Vec<Receipt<D>>,
-    pub(crate) share: Share<N>,
+/// What a seat has behind it.
+#[derive(Clone, Copy)]
+pub struct Past {
+    /// How many receipts were dropped from its list.
+    pub trimmed: u64,
+    /// How many records its checkpoints folded away.
+    pub folded: u64,
 }
 
-impl<D: Copy, N: Ledger> Model for Seat<D, N> {
-    ghost use Rattle.std.specs.Prelude.{◌≡◌, ◌<◌, ◌-◌, ℕ, vec_len};
+/// A seat of a place: its number, its receipts, and its share of the number of records, which is the number of the
+/// receipts that it ever got, and of the number of those that were folded away, which is how many its own checkpoints
+/// did. Receipts for records that were folded away can be dropped (`trim` of its place), and are then counted alone. It
+/// is of the one place whose ledgers are `N`, which alone makes its seats, each number once.
+#[derive(Drop)]
+pub struct Seat<D: Copy, N: Ledgers> {
+    pub(crate) number: SeatNo,
+    pub(crate) past: Past,
+    pub(crate) list: Vec<Receipt<D>>,
+    pub(crate) share: Stake<N>,
+}
+
+impl<D: Copy, N: Ledgers> Model for Seat<D, N> {
+    ghost use Rattle.std.specs.Prelude.{◌≡◌, ◌<◌, ◌+◌, ◌-◌, ℕ, vec_len};
     ghost use Rattle.std.specs.Vec.{vec_capacity};
     ghost use Rattle.meet_place.specs.Seats.{SeatView};
 
@@ -29,23 +43,30 @@ impl<D: Copy, N: Ledger> Model for Seat<D, N> {
 
     ghost view = { λ s. record {
       number = s.number;
+      past = s.past;
       list = s.list.items;
       room = vec_capacity s.list - vec_len s.list;
     } };
 
-    ghost invariant = { λ s. (s.share.parts ≡ 1) × (s.share.amount ≡ vec_len s.list) × (s.number < N.parts) };
+    ghost invariant = { λ s. (s.share.parts ≡ 1) × (s.share.amount ≡ s.past.trimmed + vec_len s.list)
+        × (s.share.folds ≡ s.past.folded) × (s.number < N.parts) };
 }
 
-impl<D: Copy, N: Ledger> Seat<D, N> {
+impl<D: Copy, N: Ledgers> Seat<D, N> {
     /// A new seat, which has no receipt.
-    pub(crate) fn new(alloc: Global, number: SeatNo, share: Share<N>) -> Self
-        requires share { (share.parts ≡ 1) × (share.amount ≡ 0) }
+    pub(crate) fn new(alloc: Global, number: SeatNo, share: Stake<N>) -> Self
+        requires share { (share.parts ≡ 1) × (share.amount ≡ 0) × (share.folds ≡ 0) }
         requires number { number < N.parts }
         ensures number { result.number ≡ number }
         ensures list { result.list ≡ [] }
+        ensures past { (result.past.trimmed ≡ 0) × (result.past.folded ≡ 0) }
     {
         Seat {
             number,
+            past: Past {
+                trimmed: 0,
+                folded: 0,
+            },
             list: Vec::new(alloc),
             share,
         }
@@ -59,11 +80,41 @@ impl<D: Copy, N: Ledger> Seat<D, N> {
         self.number
     }
 
-    /// The seat's receipts so far, in order.
+    /// The seat's receipts so far, in order, without those that were dropped.
     pub fn receipts(&self) -> &[Receipt<D>]
         ensures { result.now ≡ self.now.list }
     {
         self.list.as_slice()
+    }
+
+    /// How many receipts were dropped.
+    pub fn trimmed(&self) -> u64
+        ensures { result ≡ self.now.past.trimmed }
+    {
+        self.past.trimmed
+    }
+
+    /// How many records its checkpoints folded away.
+    pub fn folded(&self) -> u64
+        ensures { result ≡ self.now.past.folded }
+    {
+        self.past.folded
+    }
+
+    /// Drops the receipts for the first `gone` records. It takes no memory.
+    pub fn forget(&mut self, gone: u64)
+        requires { share_in self.old < 2 ^ 64 }
+        ensures { Trims gone self.old self.new }
+    {
+        let Seat { past, list, .. } = self;
+        past.trimmed += drop_folded(list, gone);
+    }
+
+    /// How many more receipts its list has room for.
+    pub fn room(&self) -> usize
+        ensures { result ≡ self.now.room }
+    {
+        self.list.capacity() - self.list.len()
     }
 
     /// Makes room for so many receipts, ahead of a call. The only refusal is Memory, and never where there is so much;
@@ -72,6 +123,7 @@ impl<D: Copy, N: Ledger> Seat<D, N> {
         ensures room { OnOk result (receipts ≤ self.new.room) }
         ensures more { self.old.room ≤ self.new.room }
         ensures number { self.new.number ≡ self.old.number }
+        ensures past { self.new.past ≡ self.old.past }
         ensures list { self.new.list ≡ self.old.list }
         ensures memory { IfErr result (λ why. why ≡ Memory) }
         ensures unchanged { IfErr result (λ _. self.new ≡ self.old) }
@@ -84,31 +136,54 @@ impl<D: Copy, N: Ledger> Seat<D, N> {
     }
 }
 
+/// Drops the receipts for the first `gone` records, and answers how many.
+fn drop_folded<D: Copy>(list: &mut Vec<Receipt<D>>, gone: u64) -> u64
+    ensures list { list.new.items ≡ filter (is_since gone) list.old.items }
+    ensures count { result + vec_len list.new ≡ vec_len list.old }
+    ensures capacity { vec_capacity list.new ≡ vec_capacity list.old }
+{
+    let all = list.len();
+    list.retain(|receipt| gone < receipt.place());
+    (all - list.len()) as u64
+}
+
 /// A seat whose ticket is open, with the mark that its request brought, where it brought an item. Its list has room for
 /// the receipt of the ending.
 #[derive(Drop)]
-pub struct Pending<D: Copy, N: Ledger> {
+pub struct Pending<D: Copy, N: Ledgers> {
     seat: Seat<D, N>,
     ticket: Ticket,
     mark: Option<u64>,
 }
 
-impl<D: Copy, N: Ledger> Model for Pending<D, N> {
+impl<D: Copy, N: Ledgers> Model for Pending<D, N> {
     ghost use Rattle.std.specs.Prelude.{◌<◌};
     ghost use Rattle.meet_place.specs.Seats.{PendingView};
 
     ghost Value = { PendingView D };
 
-    ghost view = { λ p. record { number = p.seat.number; list = p.seat.list; ticket = p.ticket; mark = p.mark } };
+    ghost view = { λ p. record {
+      number = p.seat.number;
+      past = p.seat.past;
+      list = p.seat.list;
+      ticket = p.ticket;
+      mark = p.mark;
+    } };
 
     ghost invariant = { λ p. 0 < p.seat.room };
 }
 
-impl<D: Copy, N: Ledger> Pending<D, N> {
+impl<D: Copy, N: Ledgers> Pending<D, N> {
     /// This seat, which has room for one receipt more, with its open ticket and the mark that its request brought.
     pub fn new(seat: Seat<D, N>, ticket: Ticket, mark: Option<u64>) -> Self
         requires room { 0 < seat.room }
-        ensures { result ≡ record { number = seat.number; list = seat.list; ticket = ticket; mark = mark } }
+        ensures { result ≡ record {
+          number = seat.number;
+          past = seat.past;
+          list = seat.list;
+          ticket = ticket;
+          mark = mark;
+        } }
     {
         Pending { seat, ticket, mark }
     }
@@ -146,6 +221,7 @@ impl<D: Copy, N: Ledger> Pending<D, N> {
     pub fn into_parts(self) -> (Seat<D, N>, Ticket, Option<u64>)
         ensures room { 0 < result.0.room }
         ensures number { result.0.number ≡ self.number }
+        ensures past { result.0.past ≡ self.past }
         ensures list { result.0.list ≡ self.list }
         ensures ticket { result.1 ≡ self.ticket }
         ensures mark { result.2 ≡ self.mark }
@@ -157,14 +233,14 @@ impl<D: Copy, N: Ledger> Pending<D, N> {
 
 /// A seat that is given back at the end.
 #[derive(Drop)]
-pub enum Back<D: Copy, N: Ledger> {
+pub enum Back<D: Copy, N: Ledgers> {
     /// One without an open ticket.
     Free(Seat<D, N>),
     /// One whose ticket is still open.
     Held(Pending<D, N>),
 }
 
-impl<D: Copy, N: Ledger> Back<D, N> {
+impl<D: Copy, N: Ledgers> Back<D, N> {
     /// The seat's number, which is below the number of seats that its place was made with.
     pub fn number(&self) -> SeatNo
         ensures number { result ≡ number_of self.now }

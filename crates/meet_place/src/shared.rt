@@ -1,28 +1,29 @@
 //! What the lock guards.
 
-ghost use Rattle.std.specs.Prelude.{◌≡◌, ◌+◌, ◌<◌, ◌≤◌, ◌++◌, None, length, option_to_list, IsOk, IfOk, IfErr};
+ghost use Rattle.std.specs.Prelude.{◌≡◌, ◌+◌, ◌<◌, ◌≤◌, ◌++◌, ◌^◌, None, [], length, option_to_list, IsOk, IfOk, IfErr};
 ghost use Rattle.meet_book.specs.Booked.{Booked};
-ghost use Rattle.meet_book.specs.Booking.{book_refusal};
-ghost use Rattle.meet_place.specs.Seats.{SeatView, Adds};
+ghost use Rattle.meet_book.specs.Booking.{book_refusal, cut_refusal};
+ghost use Rattle.meet_tickets.specs.Refusals.{IsWhy};
+ghost use Rattle.meet_place.specs.Seats.{SeatView, Adds, Checkpoints, share_in};
 ghost use Rattle.meet_place.specs.Holds.{BookRefuses};
 
+use crate::ledgers::{Ledgers, Stake, Totals};
 use crate::seats::Seat;
-use meet_book::{Book, Object};
-use meet_tickets::Refused;
+use meet_book::{Bases, Book, Object};
+use meet_tickets::{Refusal, Refused};
 use std::marker::Model;
-use std::sync::ledger;
-use std::sync::ledger::{Ledger, Share};
 
-/// A book beside a ledger, whose total is the number of the book's records, those that were folded away included. A
-/// contract sees it as the book.
+/// A book beside two ledgers: the total of the one is the number of the book's records, those that were folded away
+/// included, that of the other the number of these. Where none were, the base is that of no records. A contract sees it as
+/// the book.
 #[derive(Drop)]
-pub struct Shared<O: Object, N: Ledger> {
+pub struct Shared<O: Object, N: Ledgers> {
     pub(crate) book: Book<O>,
-    pub(crate) total: ledger::Book<N>,
-    rest: Share<N>,
+    pub(crate) total: Totals<N>,
+    rest: Stake<N>,
 }
 
-impl<O: Object, N: Ledger> Model for Shared<O, N> {
+impl<O: Object, N: Ledgers> Model for Shared<O, N> {
     ghost use Rattle.std.specs.Prelude.{◌≡◌, ◌+◌, length};
     ghost use Rattle.meet_book.specs.Booked.{Booked};
 
@@ -32,14 +33,18 @@ impl<O: Object, N: Ledger> Model for Shared<O, N> {
 
     ghost invariant = { λ s.
         (O.gone_of s.book.base + length s.book.records ≡ s.total.total)
-        × (s.rest.parts ≡ 0) × (s.rest.amount ≡ 0) };
+        × (O.gone_of s.book.base ≡ s.total.folds)
+        × (O.gone_of s.book.base ≡ 0 → s.book.base ≡ O.no_base)
+        × (s.rest.parts ≡ 0) × (s.rest.amount ≡ 0) × (s.rest.folds ≡ 0) };
 }
 
-impl<O: Object, N: Ledger> Shared<O, N> {
-    /// A book, a ledger of its records, and a share that has no part.
-    pub(crate) fn new(book: Book<O>, total: ledger::Book<N>, rest: Share<N>) -> Self
+impl<O: Object, N: Ledgers> Shared<O, N> {
+    /// A book, the totals of both ledgers, and a share that has no part.
+    pub fn new(book: Book<O>, total: Totals<N>, rest: Stake<N>) -> Self
         requires total { O.gone_of book.base + length book.records ≡ total.total }
-        requires rest { (rest.parts ≡ 0) × (rest.amount ≡ 0) }
+        requires folds { O.gone_of book.base ≡ total.folds }
+        requires first { O.gone_of book.base ≡ 0 → book.base ≡ O.no_base }
+        requires rest { (rest.parts ≡ 0) × (rest.amount ≡ 0) × (rest.folds ≡ 0) }
         ensures { result ≡ book }
     {
         Shared { book, total, rest }
@@ -59,11 +64,13 @@ impl<O: Object, N: Ledger> Shared<O, N> {
         self.book.probe()
     }
 
-    /// The book, the ledger of its records, and a share that has no part.
-    pub(crate) fn into_parts(self) -> (Book<O>, ledger::Book<N>, Share<N>)
+    /// The book, the totals of both ledgers, and a share that has no part.
+    pub fn into_parts(self) -> (Book<O>, Totals<N>, Stake<N>)
         ensures book { result.0 ≡ self }
         ensures total { O.gone_of result.0.base + length result.0.records ≡ result.1.total }
-        ensures rest { (result.2.parts ≡ 0) × (result.2.amount ≡ 0) }
+        ensures folds { O.gone_of result.0.base ≡ result.1.folds }
+        ensures first { O.gone_of result.0.base ≡ 0 → result.0.base ≡ O.no_base }
+        ensures rest { (result.2.parts ≡ 0) × (result.2.amount ≡ 0) × (result.2.folds ≡ 0) }
     {
         let Shared { book, total, rest } = self;
         (book, total, rest)
@@ -78,6 +85,7 @@ impl<O: Object, N: Ledger> Shared<O, N> {
     ) -> Result<O::Answer, Refused<O::Call>>
         requires room { 0 < seat.old.room }
         ensures number { seat.new.number ≡ seat.old.number }
+        ensures past { seat.new.past ≡ seat.old.past }
         ensures room { length seat.new.list + seat.new.room ≡ length seat.old.list + seat.old.room }
         ensures adds { IfOk result (λ answer. Adds seat.old.list seat.new.list
             (option_to_list (O.record_of seat.old.number call answer))) }
@@ -102,6 +110,7 @@ impl<O: Object, N: Ledger> Shared<O, N> {
             number,
             list,
             share,
+            ..
         } = seat;
         let Shared { book, total, .. } = self;
         let (answer, made) = match book.step(*number, call) {
@@ -115,5 +124,57 @@ impl<O: Object, N: Ledger> Shared<O, N> {
         total.add(share, 1);
         list.push_reserved(receipt);
         Ok(answer)
+    }
+
+    /// How many records were folded away, looked at for a seat, whose share is no more than all records.
+    pub fn gone_for(&mut self, seat: &mut Seat<O::Deed, N>) -> u64
+        ensures gone { result ≡ O.gone_of self.old.base }
+        ensures fits { share_in seat.new < 2 ^ 64 }
+        ensures seat { seat.new ≡ seat.old }
+        ensures same { self.new ≡ self.old }
+    {
+        let Seat { share, .. } = seat;
+        let Shared { book, total, .. } = self;
+        total.audit(share);
+        let gone = O::gone(book.base());
+        let _written = book.written();
+        gone
+    }
+}
+
+impl<O: Bases, N: Ledgers> Shared<O, N>
+where
+    O::Base: Drop,
+{
+    /// A checkpoint of a seat: folds the records away, as the book's `cut`, and counts them for the seat. It is refused as
+    /// `cut` is, and then nothing has changed. Where there never was a record, nothing is folded: the base of no records
+    /// stays.
+    pub fn cut(&mut self, seat: &mut Seat<O::Deed, N>) -> Result<u64, Refusal>
+        ensures counted { IfOk result (λ _. Checkpoints (length self.old.records) seat.old seat.new) }
+        ensures same { IfErr result (λ _. seat.new ≡ seat.old) }
+        ensures gone { IfOk result (λ gone. gone ≡ O.gone_of self.old.base + length self.old.records) }
+        ensures folded { IfOk result (λ gone. O.gone_of self.new.base ≡ gone) }
+        ensures base { IfOk result (λ gone. 0 < gone → O.is_base self.old.object gone self.new.base) }
+        ensures records { IfOk result (λ _. self.new.records ≡ []) }
+        ensures object { self.new.object ≡ self.old.object }
+        ensures cap { self.new.cap ≡ self.old.cap }
+        ensures admitted { IfOk result (λ _. cut_refusal (O.gone_of self.old.base) self.old ≡ None) }
+        ensures why { IfErr result (IsWhy (cut_refusal (O.gone_of self.old.base) self.old)) }
+        ensures unchanged { IfErr result (λ _. self.new ≡ self.old) }
+    {
+        let Seat { past, share, .. } = seat;
+        let Shared { book, total, .. } = self;
+        if book.written() == 0 {
+            return Ok(0);
+        }
+        let more = book.records().len() as u64;
+        match book.cut() {
+            Ok(gone) => {
+                total.fold(share, more);
+                past.folded += more;
+                Ok(gone)
+            }
+            Err(why) => Err(why),
+        }
     }
 }

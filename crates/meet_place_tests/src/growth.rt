@@ -2,30 +2,29 @@
 //! runs this test with each allocation refused in turn.
 
 ghost use Rattle.std.specs.Prelude.{◌≡◌, ◌<◌, [], IfOk, OnOk, vec_len};
+ghost use Rattle.meet_place.specs.Ledgers.{AreOf};
 
 use crate::shared::{Shop, keep};
 use crate::till::{Amount, Till};
 use meet_book::Book;
 use meet_cells::ParkGate;
-use meet_place::{Back, CloseFault, Closed, NewPlace, Seat};
+use meet_place::{Back, Blanks, CloseFault, Closed, Ledgers, NewPlace, Seat};
 use meet_tickets::Refusal;
 use std::alloc::Global;
 use std::marker::Brand;
 use std::process::Abort;
 use std::sync::Wait;
-use std::sync::ledger::{Blank, Ledger};
 use std::test::*;
 
 /// A place, at the second try where there was no memory at first.
-fn made<N: Ledger>(
+fn made<N: Ledgers>(
     rt: &impl Abort,
     alloc: Global,
     parts: NewPlace<Till, ParkGate>,
 ) -> Result<(Shop<N>, Vec<Seat<Amount, N>>), &'static str>
     requires fresh { (parts.book.base ≡ 0) × (parts.book.records ≡ []) }
-    requires name { parts.blank.name ≡ N.name }
-    requires parts { parts.blank.parts ≡ N.parts }
-    requires one_each { parts.blank.parts ≡ vec_len parts.gates }
+    requires ledgers { AreOf N.name N.folds N.parts parts.blanks }
+    requires one_each { N.parts ≡ vec_len parts.gates }
 {
     match Shop::<N>::new(alloc, parts) {
         Ok(made) => Ok(made),
@@ -40,7 +39,7 @@ fn made<N: Ledger>(
 }
 
 /// Room for a receipt, at the second try where there was no memory at first.
-fn reserves<N: Ledger>(rt: &impl Abort, seat: &mut Seat<Amount, N>) -> Result<(), &'static str>
+fn reserves<N: Ledgers>(rt: &impl Abort, seat: &mut Seat<Amount, N>) -> Result<(), &'static str>
     ensures { OnOk result (0 < seat.new.room) }
 {
     if let Err(why) = seat.reserve(1) {
@@ -51,7 +50,7 @@ fn reserves<N: Ledger>(rt: &impl Abort, seat: &mut Seat<Amount, N>) -> Result<()
 }
 
 /// Adds 5, at the second try where there was no memory at first: the sum.
-fn adds<N: Ledger>(
+fn adds<N: Ledgers>(
     rt: &(impl Abort + Wait),
     shop: &Shop<N>,
     seat: &mut Seat<Amount, N>,
@@ -72,7 +71,7 @@ fn adds<N: Ledger>(
 }
 
 /// Closes a place, at the second try where there was no memory at first.
-fn ends<N: Ledger>(
+fn ends<N: Ledgers>(
     alloc: Global,
     shop: Shop<N>,
     backs: Vec<Back<Amount, N>>,
@@ -107,7 +106,7 @@ fn list_for_one<X: Drop>(alloc: Global) -> Result<Vec<X>, &'static str>
 }
 
 /// A seat makes room, and adds 5.
-fn uses<N: Ledger>(
+fn uses<N: Ledgers>(
     rt: &(impl Abort + Wait),
     shop: &Shop<N>,
     seat: &mut Seat<Amount, N>,
@@ -117,15 +116,14 @@ fn uses<N: Ledger>(
 }
 
 /// A place of one seat is made, used and closed.
-fn lives<N: Ledger, R: Abort + Wait>(
+fn lives<N: Ledgers, R: Abort + Wait>(
     rt: &R,
     alloc: Global,
     parts: NewPlace<Till, ParkGate>,
 ) -> Result<(), &'static str>
     requires fresh { (parts.book.base ≡ 0) × (parts.book.records ≡ []) }
-    requires name { parts.blank.name ≡ N.name }
-    requires parts { parts.blank.parts ≡ N.parts }
-    requires one_each { parts.blank.parts ≡ vec_len parts.gates }
+    requires ledgers { AreOf N.name N.folds N.parts parts.blanks }
+    requires one_each { N.parts ≡ vec_len parts.gates }
 {
     let mut backs = list_for_one(alloc)?;
     let (shop, mut seats) = made::<N>(rt, alloc, parts)?;
@@ -153,7 +151,7 @@ fn a_place_lives(rt: HostRuntime) -> Result<(), Fail> {
     let parts = NewPlace {
         book: Book::new(alloc, till, 10),
         gates,
-        blank: Blank::new(1),
+        blanks: Blanks::new(1),
     };
     Ok(lives::<Brand, _>(&rt, alloc, parts)?)
 }

@@ -1,17 +1,17 @@
 //! Threads that add to one till, and one that waits for its sum.
 
 ghost use Rattle.std.specs.Prelude.{◌≡◌, ◌+◌, ◌≤◌, IfOk, IfSome, vec_len};
+ghost use Rattle.meet_place.specs.Ledgers.{AreOf};
 
 use crate::till::{Amount, GOAL, Till};
 use meet_book::Book;
 use meet_cells::ParkGate;
-use meet_place::{Back, CloseFault, Closed, NewPlace, Pending, Place, Seat};
+use meet_place::{Back, Blanks, CloseFault, Closed, Ledgers, NewPlace, Pending, Place, Seat};
 use meet_tickets::{Refusal, Refused, Ticket};
 use std::alloc::Global;
 use std::marker::Brand;
 use std::mem::ManuallyDrop;
 use std::sync::Wait;
-use std::sync::ledger::{Blank, Ledger};
 use std::test::*;
 use std::thread;
 use std::thread::Threads;
@@ -21,7 +21,7 @@ use std::time::Clock;
 pub type Shop<N> = Place<Till, ParkGate, N>;
 
 /// Adds an amount: the sum, which is no less.
-fn add<N: Ledger, R: Wait>(
+fn add<N: Ledgers, R: Wait>(
     rt: &R,
     shop: &Shop<N>,
     seat: &mut Seat<Amount, N>,
@@ -40,7 +40,7 @@ fn add<N: Ledger, R: Wait>(
 }
 
 /// Adds an amount where there is less than so much.
-fn add_below<N: Ledger, R: Wait>(
+fn add_below<N: Ledgers, R: Wait>(
     rt: &R,
     shop: &Shop<N>,
     seat: &mut Seat<Amount, N>,
@@ -61,7 +61,7 @@ fn add_below<N: Ledger, R: Wait>(
 }
 
 /// Adds an amount so often: how often it was added.
-fn add_all<N: Ledger, R: Wait>(
+fn add_all<N: Ledgers, R: Wait>(
     rt: &R,
     shop: &Shop<N>,
     first: Seat<Amount, N>,
@@ -79,7 +79,7 @@ fn add_all<N: Ledger, R: Wait>(
 }
 
 /// Waits until the sum is the goal: whether it is.
-fn await_goal<N: Ledger, R: Wait + Clock>(
+fn await_goal<N: Ledgers, R: Wait + Clock>(
     rt: &R,
     shop: &Shop<N>,
     first: Seat<Amount, N>,
@@ -117,7 +117,7 @@ enum Ending {
 }
 
 /// Closes a place.
-fn closed<N: Ledger>(alloc: Global, shop: Shop<N>, backs: Vec<Back<Amount, N>>) -> Ending {
+fn closed<N: Ledgers>(alloc: Global, shop: Shop<N>, backs: Vec<Back<Amount, N>>) -> Ending {
     match shop.close(alloc, backs) {
         Ok(whole) => {
             let Closed {
@@ -157,17 +157,23 @@ fn parking(alloc: Global, count: usize) -> Result<Vec<ParkGate>, &'static str> {
 }
 
 /// Why a place with these gates isn't made, and how many of them come back.
-fn refusal<N: Ledger>(
+fn refusal<N: Ledgers>(
     alloc: Global,
     gates: Vec<ParkGate>,
-    blank: Blank,
+    blanks: Blanks,
 ) -> Result<Option<(Refusal, usize)>, Fail>
-    requires name { blank.name ≡ N.name }
-    requires parts { blank.parts ≡ N.parts }
-    requires one_each { blank.parts ≡ vec_len gates }
+    requires ledgers { AreOf N.name N.folds N.parts blanks }
+    requires one_each { N.parts ≡ vec_len gates }
 {
     let book = Book::new(alloc, Till::new().ok_or("till")?, 100);
-    match Shop::<N>::new(alloc, NewPlace { book, gates, blank }) {
+    match Shop::<N>::new(
+        alloc,
+        NewPlace {
+            book,
+            gates,
+            blanks,
+        },
+    ) {
         Ok((shop, _)) => {
             keep(shop);
             Ok(None)
@@ -182,8 +188,8 @@ fn refusal<N: Ledger>(
 /// Why a place with so many gates isn't made, and how many of them come back.
 fn refusal_of(alloc: Global, count: usize) -> Result<Option<(Refusal, usize)>, Fail> {
     let gates = parking(alloc, count)?;
-    let blank = Blank::new(gates.len() as u64);
-    refusal::<Brand>(alloc, gates, blank)
+    let blanks = Blanks::new(gates.len() as u64);
+    refusal::<Brand>(alloc, gates, blanks)
 }
 
 #[test]
@@ -200,7 +206,7 @@ fn places_have_seats(rt: HostRuntime) -> Result<(), Fail> {
 }
 
 /// Two seats that met: how often one added, and whether the other saw the goal.
-struct Met<N: Ledger> {
+struct Met<N: Ledgers> {
     adder: Seat<Amount, N>,
     waiter: Seat<Amount, N>,
     made: u64,
@@ -208,7 +214,7 @@ struct Met<N: Ledger> {
 }
 
 /// One thread adds 10 so often, and another waits for the goal; then it adds 1, but not below 1.
-fn meet<N: Ledger + Send + Sync, R: Threads + Wait + Clock + Sync>(
+fn meet<N: Ledgers + Send + Sync, R: Threads + Wait + Clock + Sync>(
     rt: &R,
     shop: &Shop<N>,
     adder: Seat<Amount, N>,
@@ -234,16 +240,15 @@ fn meet<N: Ledger + Send + Sync, R: Threads + Wait + Clock + Sync>(
 }
 
 /// Two seats meet, and then this many are given back.
-fn meeting<N: Ledger + Send + Sync, R: Threads + Wait + Clock + Sync>(
+fn meeting<N: Ledgers + Send + Sync, R: Threads + Wait + Clock + Sync>(
     rt: &R,
     alloc: Global,
-    blank: Blank,
+    blanks: Blanks,
     times: u64,
     given: usize,
 ) -> Result<(u64, bool, Ending), &'static str>
-    requires name { blank.name ≡ N.name }
-    requires parts { blank.parts ≡ N.parts }
-    requires two { blank.parts ≡ 2 }
+    requires ledgers { AreOf N.name N.folds N.parts blanks }
+    requires two { N.parts ≡ 2 }
 {
     let ticket = Ticket::new(1).ok_or("no such ticket number")?;
     let till = Till::new().ok_or("till")?;
@@ -255,9 +260,15 @@ fn meeting<N: Ledger + Send + Sync, R: Threads + Wait + Clock + Sync>(
         return Err("memory");
     }
     let book = Book::new(alloc, till, 1_000_000);
-    let (shop, mut seats) = Shop::<N>::new(alloc, NewPlace { book, gates, blank }).map_err(
-        |_| "new",
-    )?;
+    let (shop, mut seats) = Shop::<N>::new(
+        alloc,
+        NewPlace {
+            book,
+            gates,
+            blanks,
+        },
+    )
+    .map_err(|_| "new")?;
     let (waiter, adder) = match (seats.pop(), seats.pop()) {
         (Some(waiter), Some(adder)) => (waiter, adder),
         _ => {
@@ -287,7 +298,7 @@ fn play<R: Threads + Wait + Clock + Sync>(
     times: u64,
     given: usize,
 ) -> Result<(u64, bool, Ending), &'static str> {
-    meeting::<Brand, _>(rt, alloc, Blank::new(2), times, given)
+    meeting::<Brand, _>(rt, alloc, Blanks::new(2), times, given)
 }
 
 #[test]

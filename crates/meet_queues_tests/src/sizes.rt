@@ -8,7 +8,7 @@ use meet_core::Dual;
 use meet_history::{Standing, check};
 use meet_line::{FairLine, Line, StackLine};
 use meet_queues::transfer_book;
-use meet_tickets::{Deed, Kind, Order, Record, Refusal};
+use meet_tickets::{Base, Deed, Kind, Order, Record, Refusal};
 use meet_transfer::Transfer;
 use std::alloc::Global;
 use std::process::Abort;
@@ -95,7 +95,7 @@ fn is_legal(rt: &impl Abort, alloc: Global, records: &[Record<Deed>]) {
         uncollected: 0,
         kept: 0,
     };
-    assert!(rt; check(alloc, kind, records) == Ok(standing));
+    assert!(rt; check(alloc, kind, &Base::empty(alloc), records) == Ok(standing));
 }
 
 /// A request needs a place for its own record and one for the ending that it may owe: so one place stays free.

@@ -1,18 +1,20 @@
 //! A round over a synchronous queue in fair mode, with a book, and a seat for each thread.
 
 ghost use Rattle.std.specs.Prelude.{◌≡◌, ◌≤◌, [], vec_len};
+ghost use Rattle.meet_place.specs.Ledgers.{AreOf};
 ghost use Rattle.std.specs.Vec.{vec_capacity};
 
 use crate::command_line::Race;
 use crate::round::Finish;
 use crate::threads::{Call, Count, NOTHING, Passed, Slot, Track, run_timed};
 use meet_cells::{Gate, ParkGate, SpinGate};
-use meet_sync::{Back, End, Ended, FairLine, NewQueue, Seat, SeatRefused, Struck, SyncQueue};
+use meet_sync::{
+    Back, Blanks, End, Ended, FairLine, Ledgers, NewQueue, Seat, SeatRefused, Struck, SyncQueue,
+};
 use meet_tickets::{Deed, Refusal, SeatNo};
 use std::alloc::Global;
 use std::marker::Brand;
 use std::mem::ManuallyDrop;
-use std::sync::ledger::{Blank, Ledger};
 use std::sync::{Mutex, Wait};
 use std::thread::Threads;
 use std::time::Clock;
@@ -37,7 +39,7 @@ fn passed_of(end: End<u64>) -> Passed {
     }
 }
 
-impl<G: Gate, N: Ledger> Track<Seat<Deed, N>> for Fair<G, N> {
+impl<G: Gate, N: Ledgers> Track<Seat<Deed, N>> for Fair<G, N> {
     fn pass<R: Wait + Clock>(
         &self,
         rt: &R,
@@ -74,7 +76,7 @@ impl<G: Gate, N: Ledger> Track<Seat<Deed, N>> for Fair<G, N> {
 }
 
 /// Slots with these seats, in their order. The empty list has room for them.
-fn slots_of<N: Ledger>(
+fn slots_of<N: Ledgers>(
     seats: Vec<Seat<Deed, N>>,
     empty: Vec<Mutex<Slot<Seat<Deed, N>>>>,
 ) -> Vec<Mutex<Slot<Seat<Deed, N>>>>
@@ -94,7 +96,7 @@ fn slots_of<N: Ledger>(
 
 /// The seats of these slots, to be given back, and what their threads counted together. The empty list has room for
 /// them.
-fn seats_of<N: Ledger>(
+fn seats_of<N: Ledgers>(
     slots: Vec<Mutex<Slot<Seat<Deed, N>>>>,
     empty: Vec<Back<Deed, N>>,
 ) -> (Vec<Back<Deed, N>>, Count)
@@ -122,11 +124,10 @@ fn run_over<G, N, R>(
 ) -> Result<Finish, Refusal>
 where
     G: Gate + Drop + Send + Sync,
-    N: Ledger + Send + Sync,
+    N: Ledgers + Send + Sync,
     R: Threads + Wait + Clock + Sync,
-    requires name { parts.blank.name ≡ N.name }
-    requires parts { parts.blank.parts ≡ N.parts }
-    requires one_each { parts.blank.parts ≡ vec_len parts.gates }
+    requires ledgers { AreOf N.name N.folds N.parts parts.blanks }
+    requires one_each { N.parts ≡ vec_len parts.gates }
 {
     let count = parts.gates.len();
     let Ok(slots) = Vec::with_capacity(alloc, count) else {
@@ -160,8 +161,8 @@ where
     for _ in 0..race.threads() {
         gates.push(ParkGate::new()).map_err(|_| Refusal::Memory)?;
     }
-    let blank = Blank::new(gates.len() as u64);
-    run_over::<ParkGate, Brand, R>(rt, alloc, NewQueue { gates, blank }, race.each)
+    let blanks = Blanks::new(gates.len() as u64);
+    run_over::<ParkGate, Brand, R>(rt, alloc, NewQueue { gates, blanks }, race.each)
 }
 
 /// The same over a queue whose threads spin before they park.
@@ -175,6 +176,6 @@ where
             .push(SpinGate::new(TURNS))
             .map_err(|_| Refusal::Memory)?;
     }
-    let blank = Blank::new(gates.len() as u64);
-    run_over::<SpinGate, Brand, R>(rt, alloc, NewQueue { gates, blank }, race.each)
+    let blanks = Blanks::new(gates.len() as u64);
+    run_over::<SpinGate, Brand, R>(rt, alloc, NewQueue { gates, blanks }, race.each)
 }

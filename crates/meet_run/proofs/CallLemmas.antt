@@ -10,7 +10,7 @@ use Rattle.meet_tickets.specs.declared.places.Order.{Order}
 use Rattle.meet_tickets.specs.Limits.{most_seats}
 use Rattle.meet_history.specs.declared.one_thread.verbs.Call.{Call}
 use Rattle.meet_history.specs.declared.one_thread.verbs.Verb.{Verb}
-use Rattle.meet_history.specs.declared.one_thread.verbs.Verb.TheVariants.{Put, Offer, Take, Poll, Transfer as TransferItem, Try, Follow, Cancel, Expire, Interrupt, Drain, Size, Room, Peek, Consumers}
+use Rattle.meet_history.specs.declared.one_thread.verbs.Verb.TheVariants.{Put, Offer, Take, Poll, Transfer as TransferItem, Try, Follow, Cancel, Expire, Interrupt, Drain, Size, Room, Peek, Consumers, Checkpoint}
 use Rattle.meet_history.specs.Served.{serves}
 use Rattle.meet_run.specs.Words.{word_of, rest_of, number_spelled}
 use Rattle.meet_run.specs.Grammar.{◌>>=◌, seat_in, bare_verb_of, interrupt_of, numbered_verb_of, verb_of, verb_behind, seat_of, call_in, served_call, call_of}
@@ -56,7 +56,8 @@ bare-is word verb e =
     chosen word (codes "size") (Some Size) _ verb P e5 (bare word _ Size verb refl tt) (λ e6.
     chosen word (codes "room") (Some Room) _ verb P e6 (bare word _ Room verb refl tt) (λ e7.
     chosen word (codes "peek") (Some Peek) _ verb P e7 (bare word _ Peek verb refl tt) (λ e8.
-    chosen word (codes "consumers") (Some Consumers) _ verb P e8 (bare word _ Consumers verb refl tt) (λ e9. absurd cc)))))))))
+    chosen word (codes "consumers") (Some Consumers) _ verb P e8 (bare word _ Consumers verb refl tt) (λ e9.
+    chosen word (codes "checkpoint") (Some Checkpoint) _ verb P e9 (bare word _ Checkpoint verb refl tt) (λ e10. absurd cc))))))))))
 
 abbrev IsNumbered : (word : List ℕ) → ℕ → Verb → Type 0
 IsNumbered word n verb = (word ++ 32 ∷ decimal n ≡ verb_text verb) × FitsVerb verb
@@ -157,6 +158,7 @@ verb-again Size h = refl
 verb-again Room h = refl
 verb-again Peek h = refl
 verb-again Consumers h = refl
+verb-again Checkpoint h = refl
 
 call_in-again : (call : Call) → call.seat < most_seats → FitsVerb call.verb → call_in (spelling call) ≡ Some call
 unfolding call_in seat_of
@@ -184,6 +186,7 @@ verb-short Size h = lit≤ tt
 verb-short Room h = lit≤ tt
 verb-short Peek h = lit≤ tt
 verb-short Consumers h = lit≤ tt
+verb-short Checkpoint h = lit≤ tt
 
 spelling-short : (call : Call) → call.seat < most_seats → FitsVerb call.verb → length (spelling call) ≤ 128
 spelling-short call small fits =

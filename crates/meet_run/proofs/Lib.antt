@@ -1,10 +1,15 @@
+mod WorkedTraces
 pub mod BlockLemmas
 pub mod CallLemmas
+pub mod Erasing
 pub mod HeadLemmas
+pub mod Laid
 pub mod LineLemmas
 pub mod NextLemmas
+pub mod PieceLines
 pub mod Ran
 pub mod Reached
+pub mod ReadFrom
 pub mod Recorded
 pub mod RunLemmas
 pub mod ScriptLemmas

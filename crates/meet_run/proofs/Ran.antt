@@ -101,14 +101,14 @@ module _ (setup : Setup) (old mid : Option (List ℕ)) (before now : Option (Lis
       known (Some ys) none = λ input h. ends input (reached-end setup input ys (read + 1) place ran.written h none)
 
   -- and the last line was written
-  pub ran-closed : (after : Option (List ℕ)) → IfSome mid (λ xs. lines_of xs ≡ []) → Appends now after (last_line place.records (standing_of setup place)) → IfSome old (λ first. (input : List ℕ) → Reached setup input first 2 (start setup) [] → (fault_of input ≡ None) × Appends before after (output_of input))
+  pub ran-closed : (after : Option (List ℕ)) → IfSome mid (λ xs. lines_of xs ≡ []) → Appends now after (last_line (place.gone + place.records) (standing_of setup place)) → IfSome old (λ first. (input : List ℕ) → Reached setup input first 2 (start setup) [] → (fault_of input ≡ None) × Appends before after (output_of input))
   ran-closed after none wrote = ran-ended (λ input. (fault_of input ≡ None) × Appends before after (output_of input)) none
-      (λ input ended. (ended.fault, subst (λ t. Appends before after t) (sym ended.output) (appends-more before now after ran.written (last_line place.records (standing_of setup place)) ran.wrote wrote)))
+      (λ input ended. (ended.fault, subst (λ t. Appends before after t) (sym ended.output) (appends-more before now after ran.written (last_line (place.gone + place.records) (standing_of setup place)) ran.wrote wrote)))
 
   -- or only a prefix of it
-  pub ran-half_closed : (after : Option (List ℕ)) → IfSome mid (λ xs. lines_of xs ≡ []) → AppendsPrefix now after (last_line place.records (standing_of setup place)) → IfSome old (λ first. (input : List ℕ) → Reached setup input first 2 (start setup) [] → AppendsPrefix before after (output_of input))
+  pub ran-half_closed : (after : Option (List ℕ)) → IfSome mid (λ xs. lines_of xs ≡ []) → AppendsPrefix now after (last_line (place.gone + place.records) (standing_of setup place)) → IfSome old (λ first. (input : List ℕ) → Reached setup input first 2 (start setup) [] → AppendsPrefix before after (output_of input))
   ran-half_closed after none prefix = ran-ended (λ input. AppendsPrefix before after (output_of input)) none
-      (λ input ended. prefix-more before now after ran.written (last_line place.records (standing_of setup place)) (output_of input) ran.wrote prefix ([], ended.output ∙ sym (append-nil _)))
+      (λ input ended. prefix-more before now after ran.written (last_line (place.gone + place.records) (standing_of setup place)) (output_of input) ran.wrote prefix ([], ended.output ∙ sym (append-nil _)))
 
   -- or none of it
   pub ran-unclosed : (after : Option (List ℕ)) → IfSome mid (λ xs. lines_of xs ≡ []) → AppendsPrefix now after [] → IfSome old (λ first. (input : List ℕ) → Reached setup input first 2 (start setup) [] → AppendsPrefix before after (text_before input))
@@ -125,7 +125,7 @@ pub bad_line-ends : (f : RunFault) (n : ℕ) (fault : Option ℕ) (text output :
 bad_line-ends f n fault text output old new is at = subst (λ x. RunEnds fault text output (Err x) old new) (sym is) at
 
 -- how a run that was cut short ends
-cut-ends : (f : RunFault) (why : Refusal) (fault : Option ℕ) (text output : List ℕ) (old new : Option (List ℕ)) → f ≡ record { why = why; line = None } → (why ≡ Memory) ⊎ (why ≡ WriteFault) → AppendsPrefix old new text × AppendsPrefix old new output → RunEnds fault text output (Err f) old new
+pub cut-ends : (f : RunFault) (why : Refusal) (fault : Option ℕ) (text output : List ℕ) (old new : Option (List ℕ)) → f ≡ record { why = why; line = None } → (why ≡ Memory) ⊎ (why ≡ WriteFault) → AppendsPrefix old new text × AppendsPrefix old new output → RunEnds fault text output (Err f) old new
 cut-ends f why fault text output old new is (inl memory) prefixes =
     subst (λ x. RunEnds fault text output (Err x) old new) (sym (is ∙ ap (λ w. let x : RunFault = record { why = w; line = None } in x) memory)) prefixes.0
 cut-ends f why fault text output old new is (inr write) prefixes =
@@ -138,14 +138,14 @@ module _ (setup : Setup) (old mid : Option (List ℕ)) (before now : Option (Lis
       follows old (λ rest prefixes input h. cut-ends f why (fault_of input) (text_before input) (output_of input) before after is cut (prefixes input h)) (ran-cut setup old mid before now read place ran new after call next prefix)
 
   -- a run whose last line was not written whole
-  pub runs-unclosed : (after : Option (List ℕ)) (f : RunFault) (why : Refusal) → IfSome mid (λ xs. lines_of xs ≡ []) → AppendsPrefix now after (last_line place.records (standing_of setup place)) → (why ≡ Memory → AppendsPrefix now after []) → f ≡ record { why = why; line = None } → (why ≡ Memory) ⊎ (why ≡ WriteFault) → IfSome old (λ rest. RunsOn setup rest (Err f) before after)
+  pub runs-unclosed : (after : Option (List ℕ)) (f : RunFault) (why : Refusal) → IfSome mid (λ xs. lines_of xs ≡ []) → AppendsPrefix now after (last_line (place.gone + place.records) (standing_of setup place)) → (why ≡ Memory → AppendsPrefix now after []) → f ≡ record { why = why; line = None } → (why ≡ Memory) ⊎ (why ≡ WriteFault) → IfSome old (λ rest. RunsOn setup rest (Err f) before after)
   runs-unclosed after f why none prefix nothing is (inl memory) =
       follows old (λ rest text input h. subst (λ x. RunEnds (fault_of input) (text_before input) (output_of input) (Err x) before after) (sym (is ∙ ap (λ w. let x : RunFault = record { why = w; line = None } in x) memory)) (text input h)) (ran-unclosed setup old mid before now read place ran after none (nothing memory))
   runs-unclosed after f why none prefix nothing is (inr write) =
       follows old (λ rest text input h. subst (λ x. RunEnds (fault_of input) (text_before input) (output_of input) (Err x) before after) (sym (is ∙ ap (λ w. let x : RunFault = record { why = w; line = None } in x) write)) (text input h)) (ran-half_closed setup old mid before now read place ran after none prefix)
 
   -- a run that reached its end
-  pub runs-closed : (after : Option (List ℕ)) → IfSome mid (λ xs. lines_of xs ≡ []) → Appends now after (last_line place.records (standing_of setup place)) → IfSome old (λ rest. RunsOn setup rest (Ok true) before after)
+  pub runs-closed : (after : Option (List ℕ)) → IfSome mid (λ xs. lines_of xs ≡ []) → Appends now after (last_line (place.gone + place.records) (standing_of setup place)) → IfSome old (λ rest. RunsOn setup rest (Ok true) before after)
   runs-closed after none wrote =
       follows old (λ rest ended input h. (refl, (ended input h).0, (ended input h).1)) (ran-closed setup old mid before now read place ran after none wrote)
 

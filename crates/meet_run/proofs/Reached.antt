@@ -47,7 +47,7 @@ reached-prefix setup input rest n place written h = ((_, h.text), (_, h.output))
 pub record Ended (setup : Setup) (input : List ℕ) (place : Place) (written : List ℕ) : Type 0 where
   pub fault : fault_of input ≡ None
   pub text : text_before input ≡ written
-  pub output : output_of input ≡ written ++ last_line place.records (standing_of setup place)
+  pub output : output_of input ≡ written ++ last_line (place.gone + place.records) (standing_of setup place)
 
 pub reached-end : (setup : Setup) (input rest : List ℕ) (n : ℕ) (place : Place) (written : List ℕ) → Reached setup input rest n place written → lines_of rest ≡ [] → Ended setup input place written
 reached-end setup input rest n place written h is =

@@ -65,7 +65,7 @@ unfolding ending_from closing_from
 ending-more setup p call rest =
     let t = turn setup p call in
     let more = turns setup t.place rest.items in
-    let count : p.records + length (t.records ++ more.records) ≡ t.place.records + length more.records = omega (arith, length-append t.records more.records, turn-counted setup p call) in
+    let count : p.gone + p.records + length (t.records ++ more.records) ≡ t.place.gone + t.place.records + length more.records = omega (arith, length-append t.records more.records, turn-counted setup p call) in
     ap (λ (n : ℕ). option_map_or (λ k. []) rest.fault (last_line n (standing_of setup more.place))) count
 
 pub output-more : (setup : Setup) (p : Place) (call : Call) (rest : Listed Call) → output_from setup p (with_item call rest) ≡ replies_text (turn setup p call).replies ++ output_from setup (turn setup p call).place rest
@@ -77,10 +77,10 @@ output-more setup p call rest =
     ap (λ (s : List ℕ). s ++ ending_from setup p (with_item call rest)) text ∙ (append_assoc (replies_text t.replies) (text_from setup t.place rest.items) (ending_from setup p (with_item call rest)) ∙ ap (λ (s : List ℕ). replies_text t.replies ++ (text_from setup t.place rest.items ++ s)) end)
 
 -- at the end of the lines only the last line is left
-pub output-end : (setup : Setup) (p : Place) → output_from setup p no_more ≡ last_line p.records (standing_of setup p)
+pub output-end : (setup : Setup) (p : Place) → output_from setup p no_more ≡ last_line (p.gone + p.records) (standing_of setup p)
 unfolding output_from text_from replies_text ending_from closing_from
 output-end setup p =
-    let none : p.records + 0 ≡ p.records = omega arith in
+    let none : p.gone + p.records + 0 ≡ p.gone + p.records = omega arith in
     ap (λ (n : ℕ). last_line n (standing_of setup p)) none
 
 -- at a fault nothing is

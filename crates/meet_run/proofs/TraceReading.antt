@@ -1,16 +1,25 @@
 -- How far the records of a trace were read.
-use Rattle.std.proofs.Common.{◌≡◌, inl, inr, ℕ, ◌+◌, Bool, List, [], ◌∷◌, ◌++◌, length, Option, Some, None, Ok, refl, sym, ap, ◌∙◌, subst, append_assoc, append-nil}
-use Rattle.std.specs.Prelude.{IfSome}
+use Rattle.std.proofs.Common.{◌≡◌, inl, inr, ℕ, ◌+◌, ◌<◌, Bool, true, false, arith, List, [], ◌∷◌, ◌++◌, length, Option, Some, None, Ok, refl, sym, ap, ◌∙◌, subst, append_assoc, append-nil}
+use Rattle.std.specs.Prelude.{IfSome, IfErr, Result, Err}
 use Rattle.std.specs.Io.KnownBytes.{Appends}
 use Rattle.meet_tickets.specs.declared.places.Kind.{Kind}
 use Rattle.meet_tickets.specs.declared.records.Deed.{Deed}
 use Rattle.meet_tickets.specs.declared.records.Record.{Record}
 use Rattle.meet_tickets.specs.declared.refusals.Refusal.TheVariants.{BadTrace, WriteFault}
+use Rattle.meet_tickets.specs.Bases.{no_base}
 use Rattle.meet_history.specs.Pushing.{Progress, HasSeen}
 use Rattle.meet_run.specs.declared.faults.RunFault.{RunFault}
-use Rattle.meet_run.specs.Reading.{lines_of, Listed, Both, listed, no_more, faulty_at, with_item}
+use Rattle.std.specs.Io.KnownBytes.{Consumes, IsAtEnd}
+use Rattle.std.proofs.lemmas.Bool.{lt-ltb}
+use Rattle.meet_run.specs.BaseGrammar.{based_head_of}
+use Rattle.meet_run.specs.BasedTraces.{told_behind, IsVerdictOn, IsChecked, AreFoundOn, IsFoundOn}
+use Rattle.meet_run.proofs.RunLemmas.{ended-lines}
+use Rattle.meet_run.proofs.NextLemmas.{head-too_long}
+use Rattle.meet_run.specs.Reading.{lines_of, Listed, Both, TakesLine, BeginsTooLong, listed, no_more, faulty_at, with_item}
 use Rattle.meet_run.specs.TraceGrammar.{head_of}
-use Rattle.meet_run.specs.Traces.{record_at, records_behind, trace_fault_in, IsTrace, NamesLine, IsVerdict, IsFound, AreFound, ArePushed, IsVerdictOf, CheckBreaks, CheckEnds, IsUnreadTrace, IsTraceFault}
+use Rattle.meet_run.specs.Traces.{record_at, records_behind, trace_fault_in, IsTrace, NamesLine, IsVerdict, IsFound, IsFoundIn, AreFound, ArePushed, IsVerdictOf, CheckBreaks, CheckEnds, IsUnreadTrace, IsTraceFault}
+use Rattle.meet_history.specs.Standings.{standing_in}
+use Rattle.meet_run.specs.Wording.{last_line}
 use Rattle.meet_run.specs.Writing.{AppendsPrefix}
 use Rattle.meet_run.proofs.Ran.{appends-nothing}
 use Rattle.meet_run.proofs.ScriptLemmas.{listed-end, listed-more, listed-fault}
@@ -42,7 +51,7 @@ module _ (past : List (Record Deed)) (read : ℕ) where
       subst (λ q. records_behind (lines_of xs) ≡ after_records q left) (sym more) (was ∙ (ap (λ (c : Listed (Record Deed)). after_records past c) items ∙ joined))
 
   -- no line is left
-  pub read-end : (old mid : Option (List ℕ)) (checker : Progress) (count : ℕ) → WasRead old mid read past → count ≡ length past → HasSeen checker past → IfSome mid (λ xs. lines_of xs ≡ []) → IfSome old (λ rest. ArePushed checker count (records_behind (lines_of rest)))
+  pub read-end : (old mid : Option (List ℕ)) (checker : Progress) (count : ℕ) → WasRead old mid read past → count ≡ length past → HasSeen no_base checker past → IfSome mid (λ xs. lines_of xs ≡ []) → IfSome old (λ rest. ArePushed checker count (records_behind (lines_of rest)))
   read-end None mid checker count was many seen none = tt
   read-end (Some xs) None checker count was many seen none = absurd was
   read-end (Some xs) (Some ys) checker count was many seen none =
@@ -67,34 +76,78 @@ names-it (Some xs) fault f n is at = λ bad. ap (λ x. x.line) is ∙ sym at
 
 -- ---- a whole trace
 
+-- what follows of a fault
+pub err-follows : {A B : Type 0} {P Q : B → Type 0} (r : Result A B) → ((f : B) → P f → Q f) → IfErr r P → IfErr r Q
+err-follows (Ok a) more own = tt
+err-follows (Err f) more own = more f own
+
 -- what is found of the records behind its first line is found of it
-pub found-behind : (old mid : Option (List ℕ)) (kind : Kind) (legal : Bool) (text : List ℕ) → Both old mid (λ xs ys. (line : List ℕ) × (lines_of xs ≡ line ∷ lines_of ys) × (head_of line ≡ Some kind)) → IfSome mid (λ rest. AreFound kind (records_behind (lines_of rest)) legal text) → IfSome old (λ input. IsFound (lines_of input) legal text)
-found-behind None mid kind legal text first rest = tt
-found-behind (Some xs) None kind legal text first rest = absurd first
-found-behind (Some xs) (Some ys) kind legal text first rest =
+pub found-behind : (old mid : Option (List ℕ)) (line : List ℕ) (kind : Kind) (legal : Bool) (text : List ℕ) → TakesLine old mid line → head_of line ≡ Some kind → IfSome mid (λ rest. AreFound kind (records_behind (lines_of rest)) legal text) → IfSome old (λ input. IsFoundIn (lines_of input) legal text)
+found-behind None mid line kind legal text takes head rest = tt
+found-behind (Some xs) None line kind legal text takes head rest = absurd takes
+found-behind (Some xs) (Some ys) line kind legal text takes head rest =
     let lines : Listed (Record Deed) = records_behind (lines_of ys) in
     let whole : lines ≡ record { items = lines.items; fault = None } = ap (λ (f : Option ℕ). let l : Listed (Record Deed) = record { items = lines.items; fault = f } in l) rest.0 in
-    let trace : IsTrace (lines_of xs) kind lines.items = record { first = first.0; rest = lines_of ys; parts = first.1; head = first.2; behind = whole } in
-    record { kind = kind; records = lines.items; trace = trace; verdict = rest.1 }
+    let trace : IsTrace (lines_of xs) kind lines.items = record { first = line; rest = lines_of ys; parts = takes; head = head; behind = whole } in
+    inl (record { kind = kind; records = lines.items; trace = trace; verdict = rest.1 })
+
+-- so is what is found behind the first line of a trace that has a base
+pub found-based : (old mid : Option (List ℕ)) (line : List ℕ) (kind : Kind) (legal : Bool) (text : List ℕ) → TakesLine old mid line → based_head_of line ≡ Some kind → IfSome mid (λ rest. AreFoundOn kind (lines_of rest) legal text) → IfSome old (λ input. IsFoundIn (lines_of input) legal text)
+found-based None mid line kind legal text takes head rest = tt
+found-based (Some xs) None line kind legal text takes head rest = absurd takes
+found-based (Some xs) (Some ys) line kind legal text takes head rest =
+    inr (record { kind = kind; base = rest.base; records = rest.records; trace = record { first = line; rest = lines_of ys; parts = takes; head = head; behind = rest.told }; verdict = rest.verdict })
 
 -- its fault is behind its first line
-pub fault-behind : (old mid : Option (List ℕ)) (kind : Kind) (P : Option ℕ → Type 0) → Both old mid (λ xs ys. (line : List ℕ) × (lines_of xs ≡ line ∷ lines_of ys) × (head_of line ≡ Some kind)) → IfSome mid (λ rest. P (records_behind (lines_of rest)).fault) → IfSome old (λ input. P (trace_fault_in (lines_of input)))
+pub fault-behind : (old mid : Option (List ℕ)) (line : List ℕ) (kind : Kind) (P : Option ℕ → Type 0) → TakesLine old mid line → head_of line ≡ Some kind → IfSome mid (λ rest. P (records_behind (lines_of rest)).fault) → IfSome old (λ input. P (trace_fault_in (lines_of input)))
 unfolding trace_fault_in
-fault-behind None mid kind P first rest = tt
-fault-behind (Some xs) None kind P first rest = absurd first
-fault-behind (Some xs) (Some ys) kind P first rest =
-    subst (λ ls. P (trace_fault_in ls)) (sym first.1) (rw first.2 rest)
+fault-behind None mid line kind P takes head rest = tt
+fault-behind (Some xs) None line kind P takes head rest = absurd takes
+fault-behind (Some xs) (Some ys) line kind P takes head rest =
+    subst (λ ls. P (trace_fault_in ls)) (sym takes) (rw head rest)
+
+pub fault-based : (old mid : Option (List ℕ)) (line : List ℕ) (kind : Kind) (P : Option ℕ → Type 0) → TakesLine old mid line → head_of line ≡ None → based_head_of line ≡ Some kind → IfSome mid (λ rest. P (told_behind kind (lines_of rest)).fault) → IfSome old (λ input. P (trace_fault_in (lines_of input)))
+unfolding trace_fault_in
+fault-based None mid line kind P takes none head rest = tt
+fault-based (Some xs) None line kind P takes none head rest = absurd takes
+fault-based (Some xs) (Some ys) line kind P takes none head rest =
+    subst (λ ls. P (trace_fault_in ls)) (sym takes) (rw (none, head) rest)
 
 -- its first line is at fault, or isn't there
-pub fault-first : (old : Option (List ℕ)) → IfSome old (λ xs. (line : List ℕ) × (lines : List (List ℕ)) × (lines_of xs ≡ line ∷ lines) × (head_of line ≡ None)) → IfSome old (λ input. trace_fault_in (lines_of input) ≡ Some 1)
+fault-of : (line : List ℕ) (lines : List (List ℕ)) → head_of line ≡ None → based_head_of line ≡ None → trace_fault_in (line ∷ lines) ≡ Some 1
 unfolding trace_fault_in
-fault-first None faulty = tt
-fault-first (Some xs) faulty = ap (λ (ls : List (List ℕ)). trace_fault_in ls) faulty.2 ∙ (rw faulty.3 refl)
+fault-of line lines none other = rw (none, other) refl
 
-pub fault-none : (old : Option (List ℕ)) → IfSome old (λ xs. lines_of xs ≡ []) → IfSome old (λ input. trace_fault_in (lines_of input) ≡ Some 1)
+pub fault-first : (old mid : Option (List ℕ)) (line : List ℕ) → TakesLine old mid line → head_of line ≡ None → based_head_of line ≡ None → IfSome old (λ input. trace_fault_in (lines_of input) ≡ Some 1)
+fault-first None mid line takes none other = tt
+fault-first (Some xs) None line takes none other = absurd takes
+fault-first (Some xs) (Some ys) line takes none other = ap (λ (ls : List (List ℕ)). trace_fault_in ls) takes ∙ fault-of line (lines_of ys) none other
+
+based-long : (line : List ℕ) → 128 < length line → based_head_of line ≡ None
+unfolding based_head_of
+based-long line long = rw (lt-ltb 128 (length line) long) refl
+
+pub fault-long : (old : Option (List ℕ)) → BeginsTooLong old → IfSome old (λ input. trace_fault_in (lines_of input) ≡ Some 1)
+fault-long None long = tt
+fault-long (Some xs) long = ap (λ (ls : List (List ℕ)). trace_fault_in ls) long.2 ∙ fault-of long.0 long.1 (head-too_long long.0 long.3) (based-long long.0 long.3)
+
+pub fault-none : (old new : Option (List ℕ)) → Consumes old new [] → IsAtEnd new → IfSome old (λ input. trace_fault_in (lines_of input) ≡ Some 1)
 unfolding trace_fault_in
-fault-none None none = tt
-fault-none (Some xs) none = ap (λ (ls : List (List ℕ)). trace_fault_in ls) none
+fault-none old new consumes at_end = by old (ended-lines old new consumes at_end)
+  where
+    by : (o : Option (List ℕ)) → IfSome o (λ xs. lines_of xs ≡ []) → IfSome o (λ input. trace_fault_in (lines_of input) ≡ Some 1)
+    by None none = tt
+    by (Some xs) none = ap (λ (ls : List (List ℕ)). trace_fault_in ls) none
+
+-- what the checker found of a base and the records since is found of these lines
+pub found-checked : (old : Option (List ℕ)) (kind : Kind) (checker : Progress) (count : ℕ) (legal : Bool) (text : List ℕ) → IfSome old (λ rest. IsChecked kind (lines_of rest) checker count) → IsVerdictOf checker count legal text → IfSome old (λ rest. AreFoundOn kind (lines_of rest) legal text)
+found-checked None kind checker count legal text checked verdict = tt
+found-checked (Some xs) kind checker count legal text checked verdict = record {
+  base = checked.base;
+  records = checked.records;
+  told = checked.told;
+  verdict = subst (λ k. IsVerdictOn k checked.base checked.records legal text) checked.own (verdict checked.base checked.records checked.seen checked.counted);
+}
 
 -- ---- what is found of it
 
@@ -116,18 +169,25 @@ unread-faults f (inr (inl memory)) = subst IsTraceFault (sym memory) tt
 unread-faults f (inr (inr read)) = subst IsTraceFault (sym read) tt
 
 -- a trace that was read, whose line is written whole, or but for a part
-pub check-broken : (old before after : Option (List ℕ)) (f : RunFault) (legal : Bool) (text : List ℕ) → f ≡ record { why = WriteFault; line = None } → IfSome old (λ input. IsFound (lines_of input) legal text) → AppendsPrefix before after text → IfSome old (λ input. CheckBreaks (lines_of input) f.why f.line before after)
+pub check-broken : (old before after : Option (List ℕ)) (f : RunFault) (legal : Bool) (text : List ℕ) → f ≡ record { why = WriteFault; line = None } → IfSome old (λ input. IsFoundIn (lines_of input) legal text) → AppendsPrefix before after text → IfSome old (λ input. CheckBreaks (lines_of input) f.why f.line before after)
 check-broken None before after f legal text is found prefix = tt
 check-broken (Some xs) before after f legal text is found prefix =
     subst (λ (x : RunFault). CheckBreaks (lines_of xs) x.why x.line before after) (sym is) (legal, text, found, prefix)
 
-pub check-done : (old before after : Option (List ℕ)) (legal : Bool) (text : List ℕ) → IfSome old (λ input. IsFound (lines_of input) legal text) → Appends before after text → IfSome old (λ input. CheckEnds (lines_of input) (Ok legal) before after)
+pub check-done : (old before after : Option (List ℕ)) (legal : Bool) (text : List ℕ) → IfSome old (λ input. IsFoundIn (lines_of input) legal text) → Appends before after text → IfSome old (λ input. CheckEnds (lines_of input) (Ok legal) before after)
 check-done None before after legal text found wrote = tt
 check-done (Some xs) before after legal text found wrote = (text, found, wrote)
+
+-- a verdict of no base and records is one of the records
+plain-verdict : (k : Kind) (records : List (Record Deed)) (legal : Bool) (text : List ℕ) → IsVerdictOn k no_base records legal text → IsVerdict k records legal text
+plain-verdict k records true text found =
+    let same : 0 + length records ≡ length records = omega arith in
+    (found.0, found.1 ∙ ap (λ n. last_line n (standing_in records)) same)
+plain-verdict k records false text found = found
 
 -- what was found of the records that were pushed is found of these lines
 pub found-pushed : (old : Option (List ℕ)) (kind : Kind) (checker : Progress) (count : ℕ) (legal : Bool) (text : List ℕ) → checker.place.kind ≡ kind → IfSome old (λ rest. ArePushed checker count (records_behind (lines_of rest))) → IsVerdictOf checker count legal text → IfSome old (λ rest. AreFound kind (records_behind (lines_of rest)) legal text)
 found-pushed None kind checker count legal text own pushed verdict = tt
 found-pushed (Some xs) kind checker count legal text own pushed verdict =
-    let found = verdict (records_behind (lines_of xs)).items pushed.2 pushed.1 in
+    let found = plain-verdict checker.place.kind (records_behind (lines_of xs)).items legal text (verdict no_base (records_behind (lines_of xs)).items pushed.2 (omega (arith, pushed.1))) in
     (pushed.0, subst (λ k. IsVerdict k (records_behind (lines_of xs)).items legal text) own found)

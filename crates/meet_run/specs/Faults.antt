@@ -5,7 +5,7 @@ use Rattle.meet_tickets.specs.declared.refusals.Refusal.TheVariants.{Memory, His
 use Rattle.meet_tickets.specs.declared.refusals.Refusal.TheVariants.{NoSuchSeat, NotOpen, Differs, SeatMissing}
 use Rattle.meet_tickets.specs.declared.refusals.Refusal.TheVariants.{Contended, Worn, BadSizes, PolicyNeedsBuffer}
 use Rattle.meet_tickets.specs.declared.refusals.Refusal.TheVariants.{NoThread, BadLine, BadTrace, ReadFault}
-use Rattle.meet_tickets.specs.declared.refusals.Refusal.TheVariants.{WriteFault}
+use Rattle.meet_tickets.specs.declared.refusals.Refusal.TheVariants.{WriteFault, HasBase}
 use Rattle.meet_tickets.specs.Refusals.{name_of}
 use Rattle.meet_run.specs.declared.faults.RunFault.{RunFault}
 
@@ -28,6 +28,7 @@ fault_status BadLine = 3
 fault_status BadTrace = 3
 fault_status ReadFault = 5
 fault_status WriteFault = 5
+fault_status HasBase = 4
 
 -- the exit status of a run: 0 where all is well, 1 for a trace that isn't legal
 unfoldable pub status_of : Result Bool RunFault → ℕ

@@ -12,7 +12,7 @@ use Rattle.meet_history.specs.declared.one_thread.verbs.Verb.{Verb}
 use Rattle.meet_history.specs.declared.one_thread.verbs.Verb.TheVariants.{Put, Offer, Take, Poll}
 use Rattle.meet_history.specs.declared.one_thread.verbs.Verb.TheVariants.{Transfer as TransferItem, Try, Follow}
 use Rattle.meet_history.specs.declared.one_thread.verbs.Verb.TheVariants.{Cancel, Expire, Interrupt, Drain, Size}
-use Rattle.meet_history.specs.declared.one_thread.verbs.Verb.TheVariants.{Room, Peek, Consumers}
+use Rattle.meet_history.specs.declared.one_thread.verbs.Verb.TheVariants.{Room, Peek, Consumers, Checkpoint}
 use Rattle.meet_run.specs.declared.first_line.Options.{Options}
 use Rattle.meet_history.specs.declared.one_thread.setup.Setup.{Setup}
 use Rattle.meet_history.specs.Served.{serves}
@@ -42,7 +42,8 @@ bare_verb_of word =
     if bytes_eq word (codes "size") then Some Size else (
     if bytes_eq word (codes "room") then Some Room else (
     if bytes_eq word (codes "peek") then Some Peek else (
-    if bytes_eq word (codes "consumers") then Some Consumers else None))))))))
+    if bytes_eq word (codes "consumers") then Some Consumers else (
+    if bytes_eq word (codes "checkpoint") then Some Checkpoint else None)))))))))
 
 -- the interrupt of a seat
 unfoldable pub interrupt_of : (number : ℕ) → Option Verb

@@ -1,5 +1,9 @@
+pub mod BaseGrammar
+pub mod BaseWording
+pub mod BasedTraces
 pub mod Blocks
 pub mod Driving
+pub mod Erasing
 pub mod Faults
 pub mod Grammar
 pub mod Reading

@@ -31,7 +31,7 @@ text setup calls = text_from setup (start setup) calls
 -- the last line, after the calls from here on
 unfoldable pub closing_from : Setup → Place → List Call → List ℕ
 closing_from setup place calls =
-    last_line (place.records + length (turns setup place calls).records)
+    last_line (place.gone + place.records + length (turns setup place calls).records)
     (standing_of setup (turns setup place calls).place)
 
 -- the same; after a fault there is none

@@ -8,7 +8,7 @@ use Rattle.meet_history.specs.declared.one_thread.verbs.Verb.{Verb}
 use Rattle.meet_history.specs.declared.one_thread.verbs.Verb.TheVariants.{Put, Offer, Take, Poll}
 use Rattle.meet_history.specs.declared.one_thread.verbs.Verb.TheVariants.{Transfer as TransferItem, Try, Follow}
 use Rattle.meet_history.specs.declared.one_thread.verbs.Verb.TheVariants.{Cancel, Expire, Interrupt, Drain, Size}
-use Rattle.meet_history.specs.declared.one_thread.verbs.Verb.TheVariants.{Room, Peek, Consumers}
+use Rattle.meet_history.specs.declared.one_thread.verbs.Verb.TheVariants.{Room, Peek, Consumers, Checkpoint}
 use Rattle.meet_run.specs.declared.first_line.Options.{Options}
 use Rattle.meet_history.specs.declared.one_thread.setup.Setup.{Setup}
 use Rattle.meet_history.specs.Served.{serves}
@@ -32,6 +32,7 @@ verb_text Size = codes "size"
 verb_text Room = codes "room"
 verb_text Peek = codes "peek"
 verb_text Consumers = codes "consumers"
+verb_text Checkpoint = codes "checkpoint"
 
 -- the one spelling of a call: its seat and its verb
 abbrev pub spelling : Call → List ℕ
@@ -54,6 +55,7 @@ FitsVerb Size = ⊤
 FitsVerb Room = ⊤
 FitsVerb Peek = ⊤
 FitsVerb Consumers = ⊤
+FitsVerb Checkpoint = ⊤
 
 -- a call has its numbers in their limits, and the place serves its verb
 pub record FitsCall (order : Order) (call : Call) : Type 0 where

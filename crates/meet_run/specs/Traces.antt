@@ -1,28 +1,32 @@
 -- What a whole trace says, and what is found of it; and the trace that a script leaves.
 use Rattle.std.specs.Prelude.{◌+◌, ◌≡◌, ◌⊎◌, ℕ, nat_lt, Bool, true, false, Option, Some, None, Result, Ok, Err, List}
-use Rattle.std.specs.Prelude.{[], ◌∷◌, length, if◌then◌else◌}
+use Rattle.std.specs.Prelude.{[], ◌∷◌, length, MatchOption, if◌then◌else◌}
 use Rattle.std.specs.Io.KnownBytes.{Appends}
 use Rattle.std.specs.Option.{option_map_or}
 use Rattle.meet_tickets.specs.declared.places.Kind.{Kind}
 use Rattle.meet_tickets.specs.declared.records.Deed.{Deed}
 use Rattle.meet_tickets.specs.declared.records.Record.{Record}
 use Rattle.meet_tickets.specs.declared.refusals.Refusal.{Refusal}
-use Rattle.meet_tickets.specs.declared.refusals.Refusal.TheVariants.{Memory, BadTrace, ReadFault, WriteFault}
+use Rattle.meet_tickets.specs.declared.refusals.Refusal.TheVariants.{Memory, BadLine, BadTrace, ReadFault, WriteFault}
+use Rattle.meet_tickets.specs.Bases.{Based, no_base}
 use Rattle.meet_tickets.specs.ByLists.{IsLegal}
 use Rattle.meet_tickets.specs.Limits.{most_records}
 use Rattle.meet_history.specs.declared.checker.Why.{Why}
 use Rattle.meet_history.specs.declared.one_thread.setup.Setup.{Setup}
 use Rattle.meet_history.specs.Checking.{IsIllegalAt}
-use Rattle.meet_history.specs.OneThread.{records}
+use Rattle.meet_history.specs.OneThread.{records, start, turns}
 use Rattle.meet_history.specs.Pushing.{Progress, HasSeen}
-use Rattle.meet_history.specs.Standings.{standing_in}
+use Rattle.meet_history.specs.Standings.{standing_in, IsFolded}
 use Rattle.meet_run.specs.declared.faults.RunFault.{RunFault}
 use Rattle.meet_run.specs.Grammar.{setup_of}
 use Rattle.meet_run.specs.Reading.{lines_of, Listed, listed}
 use Rattle.meet_run.specs.Running.{RunEnds}
-use Rattle.meet_run.specs.Script.{calls_behind}
+use Rattle.meet_run.specs.Script.{calls_behind, fault_of}
 use Rattle.meet_run.specs.TraceGrammar.{head_of, record_of}
-use Rattle.meet_run.specs.TraceWording.{trace_text, illegal_line}
+use Rattle.meet_run.specs.BaseGrammar.{based_head_of}
+use Rattle.meet_run.specs.BasedTraces.{told_behind, IsVerdictOn, IsFoundOn}
+use Rattle.meet_run.specs.BaseWording.{run_text}
+use Rattle.meet_run.specs.TraceWording.{illegal_line}
 use Rattle.meet_run.specs.Wording.{last_line}
 use Rattle.meet_run.specs.Writing.{AppendsPrefix}
 
@@ -37,7 +41,8 @@ records_behind lines = listed record_at 2 lines
 -- the number of a trace's first faulty line; without a first line it is 1
 unfoldable pub trace_fault_in : (lines : List (List ℕ)) → Option ℕ
 trace_fault_in [] = Some 1
-trace_fault_in (line ∷ lines) = option_map_or (λ kind. (records_behind lines).fault) (head_of line) (Some 1)
+trace_fault_in (line ∷ lines) = option_map_or (λ kind. (records_behind lines).fault) (head_of line)
+    (option_map_or (λ kind. (told_behind kind lines).fault) (based_head_of line) (Some 1))
 
 -- these lines are a whole trace, of such a place, with these records
 pub record IsTrace (lines : List (List ℕ)) (kind : Kind) (records : List (Record Deed)) : Type 0 where
@@ -51,17 +56,17 @@ pub record IsTrace (lines : List (List ℕ)) (kind : Kind) (records : List (Reco
 -- the first that can't stand, and why
 abbrev pub IsVerdict : Kind → List (Record Deed) → (legal : Bool) → (text : List ℕ) → Type 0
 IsVerdict kind records true text = IsLegal kind records × (text ≡ last_line (length records) (standing_in records))
-IsVerdict kind records false text = (number : ℕ) × (why : Why) × IsIllegalAt kind records number why
+IsVerdict kind records false text = (number : ℕ) × (why : Why) × IsIllegalAt kind no_base records number why
     × (text ≡ illegal_line number why)
 
 -- these lines are records to their end, so many, and just they were pushed on the checker
 abbrev pub ArePushed : Progress → (count : ℕ) → Listed (Record Deed) → Type 0
-ArePushed checker count lines = (lines.fault ≡ None) × (count ≡ length lines.items) × HasSeen checker lines.items
+ArePushed checker count lines = (lines.fault ≡ None) × (count ≡ length lines.items) × HasSeen no_base checker lines.items
 
 -- whatever so many records were pushed on the checker, this is found of them
 abbrev pub IsVerdictOf : Progress → (count : ℕ) → (legal : Bool) → (text : List ℕ) → Type 0
-IsVerdictOf checker count legal text = (records : List (Record Deed)) → HasSeen checker records → count ≡ length records
-    → IsVerdict checker.place.kind records legal text
+IsVerdictOf checker count legal text = (base : Based) (records : List (Record Deed)) → HasSeen base checker records
+    → count ≡ base.gone + length records → IsVerdictOn checker.place.kind base records legal text
 
 -- these lines are records to their end, of a place of this kind, of which this is found
 abbrev pub AreFound : Kind → Listed (Record Deed) → (legal : Bool) → (text : List ℕ) → Type 0
@@ -74,6 +79,10 @@ pub record IsFound (lines : List (List ℕ)) (legal : Bool) (text : List ℕ) : 
   pub trace : IsTrace lines kind records
   pub verdict : IsVerdict kind records legal text
 
+-- the lines are a whole trace, with a base or without, of which this is found
+abbrev pub IsFoundIn : (lines : List (List ℕ)) → (legal : Bool) → (text : List ℕ) → Type 0
+IsFoundIn lines legal text = IsFound lines legal text ⊎ IsFoundOn lines legal text
+
 -- a fault of a trace's line names it
 abbrev pub NamesLine : RunFault → (fault : Option ℕ) → Type 0
 NamesLine f fault = f.why ≡ BadTrace → f.line ≡ fault
@@ -83,13 +92,13 @@ abbrev pub CheckBreaks : (lines : List (List ℕ)) → Refusal → Option ℕ �
 CheckBreaks lines BadTrace (Some n) old new = (trace_fault_in lines ≡ Some n) × Appends old new []
 CheckBreaks lines Memory None old new = Appends old new []
 CheckBreaks lines ReadFault None old new = Appends old new []
-CheckBreaks lines WriteFault None old new = (legal : Bool) × (text : List ℕ) × IsFound lines legal text
+CheckBreaks lines WriteFault None old new = (legal : Bool) × (text : List ℕ) × IsFoundIn lines legal text
     × AppendsPrefix old new text
 CheckBreaks lines _ _ old new = ⊥
 
 -- what came of a check
 abbrev pub CheckEnds : (lines : List (List ℕ)) → Result Bool RunFault → (old new : Option (List ℕ)) → Type 0
-CheckEnds lines (Ok legal) old new = (text : List ℕ) × IsFound lines legal text × Appends old new text
+CheckEnds lines (Ok legal) old new = (text : List ℕ) × IsFoundIn lines legal text × Appends old new text
 CheckEnds lines (Err f) old new = CheckBreaks lines f.why f.line old new
 
 -- the faults of a trace that wasn't read to its end: a line's, and want of memory or a read that failed
@@ -110,31 +119,48 @@ TraceFaultIs _ _ = ⊥
 abbrev pub IsTraceFault : RunFault → Type 0
 IsTraceFault f = TraceFaultIs f.why f.line
 
--- the trace of these lines' calls
-abbrev pub trace_behind : Setup → (lines : List (List ℕ)) → List ℕ
-trace_behind setup lines = trace_text setup.kind (records setup (calls_behind setup lines).items)
+-- the calls of these lines, up to the first that is none, leave this base and these records since; a checkpoint was made
+-- among them, or wasn't
+pub record LeavesRun (setup : Setup) (lines : List (List ℕ)) (cut : Bool) (base : Based) (since : List (Record Deed))
+    (bad : Option ℕ) : Type 0 where
+  pub folded : IsFolded setup.kind (records setup (calls_behind setup lines).items) base since
+  pub gone : base.gone ≡ (turns setup (start setup) (calls_behind setup lines).items).place.gone
+  pub was_cut : cut ≡ (turns setup (start setup) (calls_behind setup lines).items).place.cut
+  pub fault : (calls_behind setup lines).fault ≡ bad
+
+-- the trace of these lines' calls: of what they leave, which there is once
+pub record IsTraceBehind (setup : Setup) (lines : List (List ℕ)) (text : List ℕ) : Type 0 where
+  pub cut : Bool
+  pub base : Based
+  pub since : List (Record Deed)
+  pub leaves : LeavesRun setup lines cut base since (calls_behind setup lines).fault
+  pub spelled : text ≡ run_text setup.kind cut base since
 
 -- the trace of a script's calls before its first fault; where that is its first line, nothing
-unfoldable pub trace_in : (lines : List (List ℕ)) → List ℕ
-trace_in [] = []
-trace_in (line ∷ lines) =
-    option_map_or (λ setup. trace_behind setup lines) (setup_of line) []
+unfoldable pub IsTraceIn : (lines : List (List ℕ)) → (text : List ℕ) → Type 0
+IsTraceIn [] text = text ≡ []
+IsTraceIn (line ∷ lines) text = MatchOption (setup_of line) (text ≡ []) (λ setup. IsTraceBehind setup lines text)
 
--- the same of a whole input
-abbrev pub trace_of : (input : List ℕ) → List ℕ
-trace_of input = trace_in (lines_of input)
-
--- the calls of these lines, up to the first that is none, write these records
-pub record LeavesRecords (setup : Setup) (lines : List (List ℕ)) (written : List (Record Deed)) (bad : Option ℕ) :
-    Type 0 where
-  pub records : records setup (calls_behind setup lines).items ≡ written
-  pub fault : (calls_behind setup lines).fault ≡ bad
+-- what came of tracing a whole input
+abbrev pub TracesAll : (input : List ℕ) → Result Bool RunFault → (old new : Option (List ℕ)) → Type 0
+TracesAll input result old new =
+    (text : List ℕ) → IsTraceIn (lines_of input) text → RunEnds (fault_of input) text text result old new
 
 -- what came of tracing these lines
 abbrev pub TracesOn : Setup → (lines : List (List ℕ)) → Result Bool RunFault → (old new : Option (List ℕ)) → Type 0
 TracesOn setup lines result old new =
-    RunEnds (calls_behind setup lines).fault (trace_behind setup lines) (trace_behind setup lines) result old new
+    (text : List ℕ) → IsTraceBehind setup lines text
+    → RunEnds (calls_behind setup lines).fault text text result old new
 
 -- a text that wasn't read to its end: there was no memory, or a read failed
 abbrev pub IsUnread : Refusal → Type 0
 IsUnread why = (why ≡ Memory) ⊎ (why ≡ ReadFault)
+
+-- a run whose text was read to its end, or to a faulty line
+abbrev pub WasRun : Result Bool RunFault → Type 0
+WasRun (Ok legal) = Unit {0}
+WasRun (Err f) = f.why ≡ BadLine
+
+-- there is a trace of these lines
+abbrev pub HasTrace : (lines : List (List ℕ)) → Type 0
+HasTrace lines = (text : List ℕ) × IsTraceIn lines text

@@ -7,7 +7,7 @@ use Rattle.meet_history.specs.declared.one_thread.replies.Reply.{Reply}
 use Rattle.meet_history.specs.declared.one_thread.replies.Outcome.{Outcome}
 use Rattle.meet_history.specs.declared.one_thread.replies.Outcome.TheVariants.{Recorded}
 use Rattle.meet_history.specs.declared.one_thread.replies.Outcome.TheVariants.{Interrupted as InterruptedSeat, NotYet}
-use Rattle.meet_history.specs.declared.one_thread.replies.Outcome.TheVariants.{Late, Drained, Count, Peeked, Refused}
+use Rattle.meet_history.specs.declared.one_thread.replies.Outcome.TheVariants.{Late, Drained, Count, Peeked, Based, Refused}
 use Rattle.meet_history.specs.declared.one_thread.replies.Answer.{Answer}
 use Rattle.meet_history.specs.declared.one_thread.replies.Answer.TheVariants.{Waits, Kept, Gave, Got, Fails, Done}
 use Rattle.meet_history.specs.declared.one_thread.replies.Answer.TheVariants.{Withdrawn}
@@ -55,6 +55,7 @@ outcome_text seat Late = codes "- " ++ decimal seat ++ codes " late"
 outcome_text seat (Drained k) = codes "- " ++ decimal seat ++ codes " drained " ++ decimal k
 outcome_text seat (Count n) = codes "- " ++ decimal seat ++ codes " " ++ decimal n
 outcome_text seat (Peeked mark) = codes "- " ++ decimal seat ++ codes " " ++ mark_text mark
+outcome_text seat (Based gone) = codes "- " ++ decimal seat ++ codes " base " ++ decimal gone
 outcome_text seat (Refused why) = codes "- " ++ decimal seat ++ codes " refused " ++ name_of why
 
 -- a reply's line

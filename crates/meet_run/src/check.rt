@@ -5,20 +5,26 @@ ghost use Rattle.std.specs.Vec.{vec_capacity};
 ghost use Rattle.meet_tickets.specs.declared.refusals.Refusal.TheVariants.{Memory};
 ghost use Rattle.meet_history.specs.declared.checker.CheckFault.TheVariants.{Memory as NoMemory};
 ghost use Rattle.meet_history.specs.Pushing.{HasSeen};
+ghost use Rattle.meet_tickets.specs.Bases.{no_base};
 ghost use Rattle.meet_run.specs.Reading.{UsesTurns, EndsInTurns, lines_of};
 ghost use Rattle.meet_run.specs.Running.{CannotRead};
-ghost use Rattle.meet_run.specs.Traces.{records_behind, trace_fault_in, NamesLine, IsFound, AreFound, CheckEnds};
+ghost use Rattle.meet_run.specs.BasedTraces.{told_behind, AreFoundOn};
+ghost use Rattle.meet_run.specs.Traces.{records_behind, trace_fault_in, NamesLine, IsFoundIn, AreFound, CheckEnds};
 ghost use Rattle.meet_run.specs.Traces.{ArePushed, IsVerdictOf, IsUnreadTrace, IsTraceFault};
 
+use crate::base_grammar::read_based_head;
+use crate::based::check_based;
 use crate::faults::{RunFault, at_line, cut_short};
 use crate::grammar::LONGEST_LINE;
-use crate::next::{Next, next_head, next_record};
+use crate::next::{Next, next_record};
 use crate::output::write_whole;
+use crate::reading::{LineRead, read_line};
 use crate::run::MOST_READS;
+use crate::trace_grammar::read_head;
 use crate::trace_wording::push_illegal;
 use crate::wording::push_last_line;
 use meet_history::{CheckFault, Checker};
-use meet_tickets::{Kind, Refusal};
+use meet_tickets::{Base, Kind, Refusal};
 use std::alloc::Global;
 use std::io::{Read, Write};
 
@@ -31,7 +37,7 @@ fn push_records<R: Read>(
 ) -> Result<u64, RunFault>
     requires room { LONGEST_LINE ≤ vec_capacity line.old }
     requires turns { turns.old + 1 < 2 ^ 64 }
-    requires fresh { HasSeen checker.old [] }
+    requires fresh { HasSeen no_base checker.old [] }
     ensures pushed { IfOk result (λ count. IfSome (R.remaining reader.old) (λ rest.
         ArePushed checker.new count (records_behind (lines_of rest)))) }
     ensures kind { checker.new.place.kind ≡ checker.old.place.kind }
@@ -60,7 +66,7 @@ fn push_records<R: Read>(
 }
 
 /// Whether a push found no memory.
-fn is_memory(pushed: Result<(), CheckFault>) -> bool
+pub(crate) fn is_memory(pushed: Result<(), CheckFault>) -> bool
     ensures { IsTrue result ↔ (pushed ≡ Err NoMemory) }
 {
     match pushed {
@@ -107,7 +113,7 @@ fn find_records<R: Read>(
     ensures ends { OnOk result (EndsInTurns (R.remaining reader.old) turns.old) }
     ensures faults { IfErr result IsUnreadTrace }
 {
-    let mut checker = match Checker::new(alloc, kind) {
+    let mut checker = match Checker::new(alloc, kind, &Base::empty(alloc)) {
         Ok(checker) => checker,
         Err(_) => return Err(cut_short(Refusal::Memory)),
     };
@@ -128,7 +134,7 @@ fn find_trace<R: Read>(
     turns: u64,
 ) -> Result<(bool, Vec<u8>), RunFault>
     ensures found { IfOk result (λ found. IfSome (R.remaining reader.old) (λ input.
-        IsFound (lines_of input) found.0 found.1.items)) }
+        IsFoundIn (lines_of input) found.0 found.1.items)) }
     ensures bad { IfErr result (λ fault. IfSome (R.remaining reader.old) (λ input.
         NamesLine fault (trace_fault_in (lines_of input)))) }
     ensures uses { UsesTurns (R.remaining reader.old) (R.remaining reader.new) turns 0 }
@@ -144,14 +150,45 @@ fn find_trace<R: Read>(
         Ok(line) => line,
         Err(_) => return Err(cut_short(Refusal::Memory)),
     };
-    match next_head(reader, &mut left, &mut line) {
-        Next::Read(kind) => match find_records(alloc, reader, &mut left, &mut line, kind) {
-            Ok(found) => Ok(found),
-            Err(fault) => Err(fault),
+    match read_line(reader, &mut left, &mut line) {
+        LineRead::Line => match read_head(line.as_slice()) {
+            Some(kind) => find_records(alloc, reader, &mut left, &mut line, kind),
+            None => match read_based_head(line.as_slice()) {
+                Some(kind) => find_based(alloc, reader, &mut left, &mut line, kind),
+                None => Err(at_line(Refusal::BadTrace, 1)),
+            },
         },
-        Next::Ended => Err(at_line(Refusal::BadTrace, 1)),
-        Next::Faulty => Err(at_line(Refusal::BadTrace, 1)),
-        Next::Broken => Err(cut_short(Refusal::ReadFault)),
+        LineRead::End => Err(at_line(Refusal::BadTrace, 1)),
+        LineRead::TooLong => Err(at_line(Refusal::BadTrace, 1)),
+        LineRead::Failed => Err(cut_short(Refusal::ReadFault)),
+    }
+}
+
+/// What is found behind the first line of a trace that has a base, and the line that says so.
+fn find_based<R: Read>(
+    alloc: Global,
+    reader: &mut R,
+    turns: &mut u64,
+    line: &mut Vec<u8>,
+    kind: Kind,
+) -> Result<(bool, Vec<u8>), RunFault>
+    requires room { LONGEST_LINE ≤ vec_capacity line.old }
+    requires turns { turns.old + 1 < 2 ^ 64 }
+    ensures found { IfOk result (λ found. IfSome (R.remaining reader.old) (λ rest.
+        AreFoundOn kind (lines_of rest) found.0 found.1.items)) }
+    ensures bad { IfErr result (λ fault. IfSome (R.remaining reader.old) (λ rest.
+        NamesLine fault (told_behind kind (lines_of rest)).fault)) }
+    ensures uses { UsesTurns (R.remaining reader.old) (R.remaining reader.new) turns.old turns.new }
+    ensures ends { OnOk result (EndsInTurns (R.remaining reader.old) turns.old) }
+    ensures faults { IfErr result IsUnreadTrace }
+{
+    let (checker, count) = match check_based(alloc, reader, turns, line, kind) {
+        Ok(made) => made,
+        Err(fault) => return Err(fault),
+    };
+    match verdict(alloc, &checker, count) {
+        Ok(found) => Ok(found),
+        Err(why) => Err(cut_short(why)),
     }
 }
 

@@ -35,6 +35,8 @@ fn bare_verb(word: &[u8]) -> Option<Verb>
         Some(Verb::Peek)
     } else if word == b"consumers".as_slice() {
         Some(Verb::Consumers)
+    } else if word == b"checkpoint".as_slice() {
+        Some(Verb::Checkpoint)
     } else {
         None
     }

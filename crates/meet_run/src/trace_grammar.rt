@@ -14,7 +14,7 @@ use meet_tickets::{Cause, Deed, Kind, MOST_KEPT, Order, Record, SeatNo, Side, Ti
 
 /// The ticket of a word.
 #[tactic(auto, unfolding(crate::specs::TraceGrammar::ticket_of, crate::specs::TraceGrammar::ticket_in))]
-fn read_ticket(word: &[u8]) -> Option<Ticket>
+pub(crate) fn read_ticket(word: &[u8]) -> Option<Ticket>
     ensures { result ≡ ticket_of word.now }
 {
     let number = read_number(word)?;
@@ -23,7 +23,7 @@ fn read_ticket(word: &[u8]) -> Option<Ticket>
 
 /// A side by its word.
 #[tactic(auto, unfolding(crate::specs::TraceGrammar::side_of))]
-fn read_side(word: &[u8]) -> Option<Side>
+pub(crate) fn read_side(word: &[u8]) -> Option<Side>
     ensures { result ≡ side_of word.now }
 {
     if word == b"give".as_slice() {
@@ -213,7 +213,7 @@ fn finish_kind(order: Order, bound: Option<u64>, rest: &[u8]) -> Option<Kind>
 
 /// A kind of place: its word, and its bound where it is spelled out.
 #[tactic(auto, unfolding(crate::specs::TraceGrammar::kind_in))]
-fn read_kind(text: &[u8]) -> Option<Kind>
+pub(crate) fn read_kind(text: &[u8]) -> Option<Kind>
     ensures { result ≡ kind_in text.now }
 {
     let (word, rest) = split_word(text);

@@ -1,7 +1,7 @@
 //! The text of a trace, and of what is found against it, one line each. Where memory runs out, nothing is said of what
 //! was appended.
 
-ghost use Rattle.std.specs.Prelude.{◌≡◌, ◌++◌, OnOk};
+ghost use Rattle.std.specs.Prelude.{◌≡◌, ◌++◌, OnOk, codes};
 ghost use Rattle.meet_run.specs.Spelling.{place_text, option_text};
 ghost use Rattle.meet_run.specs.TraceSpelling.{side_text, paired_text, deed_text};
 ghost use Rattle.meet_run.specs.TraceWording.{head_line, record_line, why_text, illegal_line};
@@ -32,19 +32,27 @@ fn push_option(out: &mut Vec<u8>, name: &[u8], value: Option<u64>) -> Result<(),
     }
 }
 
+/// Appends a place's word, and its bound where it has one.
+pub(crate) fn push_place(out: &mut Vec<u8>, kind: Kind) -> Result<(), AllocError>
+    ensures { OnOk result (out.new.items
+        ≡ out.old.items ++ (place_text kind.order ++ option_text (codes " bound ") kind.bound)) }
+{
+    out.extend_from_slice(order_word(kind.order))?;
+    push_option(out, b" bound ", kind.bound)
+}
+
 /// Appends a trace's first line.
 #[tactic(auto, unfolding(crate::specs::TraceWording::head_line))]
 pub(crate) fn push_head(out: &mut Vec<u8>, kind: Kind) -> Result<(), AllocError>
     ensures { OnOk result (out.new.items ≡ out.old.items ++ head_line kind) }
 {
     out.extend_from_slice(b"trace 1 ")?;
-    out.extend_from_slice(order_word(kind.order))?;
-    push_option(out, b" bound ", kind.bound)?;
+    push_place(out, kind)?;
     out.extend_from_slice(b"\n")
 }
 
 /// A side's word.
-fn side_word(side: Side) -> &'static [u8]
+pub(crate) fn side_word(side: Side) -> &'static [u8]
     ensures { result.now ≡ side_text side }
 {
     match side {

@@ -147,6 +147,10 @@ fn push_outcome(out: &mut Vec<u8>, seat: SeatNo, outcome: Outcome) -> Result<(),
             push_seat(out, seat, b" ")?;
             push_mark(out, mark)
         }
+        Outcome::Based(gone) => {
+            push_seat(out, seat, b" base ")?;
+            push_number(out, gone)
+        }
         Outcome::Refused(why) => {
             push_seat(out, seat, b" refused ")?;
             out.extend_from_slice(why.name().as_bytes())

@@ -6,7 +6,7 @@ use std::process::Abort;
 use std::test::Fail;
 
 /// Each refusal by its number, from 1: its name, and the exit status of a run that ends with it.
-const REFUSALS: [(Refusal, &str, u8); 17] = [
+const REFUSALS: [(Refusal, &str, u8); 18] = [
     (Refusal::Memory, "Memory", 4),
     (Refusal::HistoryFull, "HistoryFull", 4),
     (Refusal::TicketsSpent, "TicketsSpent", 4),
@@ -24,6 +24,7 @@ const REFUSALS: [(Refusal, &str, u8); 17] = [
     (Refusal::BadTrace, "BadTrace", 3),
     (Refusal::ReadFault, "ReadFault", 5),
     (Refusal::WriteFault, "WriteFault", 5),
+    (Refusal::HasBase, "HasBase", 4),
 ];
 
 /// A run that ends with this fault is reported so; the line but for its end is the fault's text.

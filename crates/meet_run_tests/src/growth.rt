@@ -1,8 +1,9 @@
 //! A run that finds no memory ends with Memory, and what it wrote is a beginning of the whole text; the next run
 //! writes the whole. `bin/refuse` runs these tests with each allocation refused in turn.
 
+use crate::checkpoints;
 use crate::tasks::Task;
-use meet_run::{Refusal, RunFault, check_trace, run_script, run_trace};
+use meet_run::{Refusal, RunFault, check_trace, erase_trace, run_script, run_trace};
 use std::alloc::Global;
 use std::process::Abort;
 use std::test::Fail;
@@ -18,6 +19,9 @@ const TRACE: &[u8] =
 
 const FOUND: &[u8] = b"legal 7 waiting 0 uncollected 1 kept 0\n";
 
+const CUT: &[u8] =
+    b"trace 1 fair\n0 1 take-waits\n1 1 interrupt 0\n0 1 withdrawn interrupted\n2 2 give-fails 4\n";
+
 /// Does a task on a text in memory.
 fn perform(
     alloc: Global,
@@ -30,6 +34,7 @@ fn perform(
         Task::Run => run_script(alloc, &mut reader, written),
         Task::Trace => run_trace(alloc, &mut reader, written),
         Task::Check => check_trace(alloc, &mut reader, written),
+        Task::Erase => erase_trace(alloc, &mut reader, written),
     }
 }
 
@@ -76,4 +81,48 @@ fn the_trace_of_a_script(rt: HostRuntime) -> Result<(), Fail> {
 #[test]
 fn a_trace(rt: HostRuntime) -> Result<(), Fail> {
     bears(&rt, rt.alloc(), Task::Check, TRACE, FOUND)
+}
+
+#[test]
+fn a_script_with_checkpoints(rt: HostRuntime) -> Result<(), Fail> {
+    bears(
+        &rt,
+        rt.alloc(),
+        Task::Run,
+        checkpoints::SCRIPT,
+        checkpoints::REPLIES,
+    )
+}
+
+#[test]
+fn the_trace_of_a_script_with_checkpoints(rt: HostRuntime) -> Result<(), Fail> {
+    bears(
+        &rt,
+        rt.alloc(),
+        Task::Trace,
+        checkpoints::SCRIPT,
+        checkpoints::TRACE,
+    )
+}
+
+#[test]
+fn a_trace_with_a_base(rt: HostRuntime) -> Result<(), Fail> {
+    bears(
+        &rt,
+        rt.alloc(),
+        Task::Check,
+        checkpoints::TRACE,
+        b"legal 5 waiting 2 uncollected 0 kept 0\n",
+    )
+}
+
+#[test]
+fn what_is_left_of_a_trace(rt: HostRuntime) -> Result<(), Fail> {
+    bears(
+        &rt,
+        rt.alloc(),
+        Task::Erase,
+        CUT,
+        b"trace 1 fair\n2 2 give-fails 4\n",
+    )
 }

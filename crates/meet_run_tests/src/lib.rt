@@ -2,9 +2,13 @@
 #![tactic(auto)]
 
 #[cfg(test)]
+mod checkpoints;
+#[cfg(test)]
 mod doubles;
 #[cfg(test)]
 mod ends;
+#[cfg(test)]
+mod erases;
 #[cfg(test)]
 mod growth;
 #[cfg(test)]

@@ -1,7 +1,8 @@
 //! What is done with a text, and what comes of it.
 
 use meet_run::{
-    MOST_READS, Refusal, RunFault, check_trace_within, run_script_within, run_trace_within,
+    MOST_READS, Refusal, RunFault, check_trace_within, erase_trace_within, run_script_within,
+    run_trace_within,
 };
 use std::alloc::Global;
 use std::io::{Read, Write};
@@ -12,6 +13,7 @@ pub enum Task {
     Run,
     Trace,
     Check,
+    Erase,
 }
 
 /// A task, its text, all that is written, and what of this is written before the end of the text is read.
@@ -29,10 +31,11 @@ const TRACE: &[u8] = b"trace 1 fair\n0 1 give-waits 5\n1 2 take-meets 5 1\n0 1 d
 const FOUND: &[u8] = b"legal 3 waiting 0 uncollected 0 kept 0\n";
 
 /// A handoff, as each task has it.
-pub const HANDOFF: [Row; 3] = [
+pub const HANDOFF: [Row; 4] = [
     (Task::Run, SCRIPT, WHOLE, REPLIES),
     (Task::Trace, SCRIPT, TRACE, b""),
     (Task::Check, TRACE, FOUND, b""),
+    (Task::Erase, TRACE, TRACE, b""),
 ];
 
 /// Does a task within so many reads.
@@ -47,6 +50,7 @@ pub fn perform_within<R: Read, W: Write>(
         Task::Run => run_script_within(alloc, reader, writer, turns),
         Task::Trace => run_trace_within(alloc, reader, writer, turns),
         Task::Check => check_trace_within(alloc, reader, writer, turns),
+        Task::Erase => erase_trace_within(alloc, reader, writer, turns),
     }
 }
 

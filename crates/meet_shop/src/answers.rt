@@ -2,10 +2,10 @@
 
 use crate::asks::Told;
 use meet_sync::{
-    Answer, Asked, Back, End, Ended, FollowedUp, Pending, Seat, SeatRefused, Struck, Withdrawn,
+    Answer, Asked, Back, End, Ended, FollowedUp, Ledgers, Pending, Seat, SeatRefused, Struck,
+    Withdrawn,
 };
 use meet_tickets::Deed;
-use std::sync::ledger::Ledger;
 
 /// A seat, and what it was told.
 pub type Came<N> = (Back<Deed, N>, Told);
@@ -19,17 +19,17 @@ fn answered(answer: Answer<u64>) -> Told {
     }
 }
 
-fn refused<N: Ledger>(refused: SeatRefused<u64, N>) -> Came<N> {
+fn refused<N: Ledgers>(refused: SeatRefused<u64, N>) -> Came<N> {
     let SeatRefused { why, seat, item } = refused;
     (Back::Free(seat), Told::Refused(why, item))
 }
 
-fn parked<N: Ledger>(pending: Pending<Deed, N>) -> Came<N> {
+fn parked<N: Ledgers>(pending: Pending<Deed, N>) -> Came<N> {
     let ticket = pending.ticket().number();
     (Back::Held(pending), Told::Parks(ticket))
 }
 
-fn settled<N: Ledger>(asked: Asked<u64, N>) -> Came<N> {
+fn settled<N: Ledgers>(asked: Asked<u64, N>) -> Came<N> {
     match asked {
         Asked::Settled(seat, answer) => (Back::Free(seat), answered(answer)),
         Asked::Parked(pending) => parked(pending),
@@ -37,7 +37,7 @@ fn settled<N: Ledger>(asked: Asked<u64, N>) -> Came<N> {
 }
 
 /// What came of a request.
-pub fn asked<N: Ledger>(asked: Result<Asked<u64, N>, SeatRefused<u64, N>>) -> Came<N> {
+pub fn asked<N: Ledgers>(asked: Result<Asked<u64, N>, SeatRefused<u64, N>>) -> Came<N> {
     match asked {
         Ok(asked) => settled(asked),
         Err(why) => refused(why),
@@ -58,7 +58,7 @@ fn ended(end: End<u64>) -> Told {
 }
 
 /// What came of a whole call.
-pub fn whole<N: Ledger>(whole: Result<Ended<u64, N>, SeatRefused<u64, N>>) -> Came<N> {
+pub fn whole<N: Ledgers>(whole: Result<Ended<u64, N>, SeatRefused<u64, N>>) -> Came<N> {
     match whole {
         Ok(whole) => {
             let Ended { seat, end } = whole;
@@ -69,7 +69,7 @@ pub fn whole<N: Ledger>(whole: Result<Ended<u64, N>, SeatRefused<u64, N>>) -> Ca
 }
 
 /// What came of a follow-up.
-pub fn followed<N: Ledger>(followed: FollowedUp<u64, N>) -> Came<N> {
+pub fn followed<N: Ledgers>(followed: FollowedUp<u64, N>) -> Came<N> {
     match followed {
         FollowedUp::Done(seat) => (Back::Free(seat), Told::Done),
         FollowedUp::Got(seat, with, item) => (Back::Free(seat), Told::Got(with.number(), item)),
@@ -79,14 +79,14 @@ pub fn followed<N: Ledger>(followed: FollowedUp<u64, N>) -> Came<N> {
 }
 
 /// What came of a cancel or an expiry.
-pub fn withdrawn<N: Ledger>(withdrawn: Withdrawn<u64, N>) -> Came<N> {
+pub fn withdrawn<N: Ledgers>(withdrawn: Withdrawn<u64, N>) -> Came<N> {
     match withdrawn {
         Withdrawn::Back(seat, back) => (Back::Free(seat), Told::Back(back)),
         Withdrawn::Late(pending) => (Back::Held(pending), Told::Late),
     }
 }
 
-fn hit<N: Ledger>(struck: Struck<N>) -> Came<N> {
+fn hit<N: Ledgers>(struck: Struck<N>) -> Came<N> {
     match struck {
         Struck::Cut(seat, ticket) => (Back::Free(seat), Told::Cut(ticket.number())),
         Struck::Flagged(seat) => (Back::Free(seat), Told::Flagged),
@@ -94,7 +94,7 @@ fn hit<N: Ledger>(struck: Struck<N>) -> Came<N> {
 }
 
 /// What came of an interrupt.
-pub fn struck<N: Ledger>(struck: Result<Struck<N>, SeatRefused<u64, N>>) -> Came<N> {
+pub fn struck<N: Ledgers>(struck: Result<Struck<N>, SeatRefused<u64, N>>) -> Came<N> {
     match struck {
         Ok(struck) => hit(struck),
         Err(why) => refused(why),

@@ -4,10 +4,9 @@ use crate::answers::{Came, whole};
 use crate::asks::Told;
 use crate::shops::Shop;
 use meet_line::Line;
-use meet_sync::{Back, Gate, Seat, SyncQueue, TransferQueue};
+use meet_sync::{Back, Gate, Ledgers, Seat, SyncQueue, TransferQueue};
 use meet_tickets::Deed;
 use std::sync::Wait;
-use std::sync::ledger::Ledger;
 use std::time::Clock;
 
 /// What a seat calls, with an item, and with a limit in milliseconds.
@@ -25,7 +24,7 @@ pub enum Call {
 }
 
 /// A call of a synchronous queue, which has no transfers.
-fn synchronous<L: Line<u64>, G: Gate, N: Ledger, R: Wait + Clock>(
+fn synchronous<L: Line<u64>, G: Gate, N: Ledgers, R: Wait + Clock>(
     rt: &R,
     queue: &SyncQueue<u64, L, G, N>,
     seat: Seat<Deed, N>,
@@ -43,7 +42,7 @@ fn synchronous<L: Line<u64>, G: Gate, N: Ledger, R: Wait + Clock>(
 }
 
 /// A call of a transfer queue.
-fn transferring<G: Gate, N: Ledger, R: Wait + Clock>(
+fn transferring<G: Gate, N: Ledgers, R: Wait + Clock>(
     rt: &R,
     queue: &TransferQueue<u64, G, N>,
     seat: Seat<Deed, N>,
@@ -63,7 +62,7 @@ fn transferring<G: Gate, N: Ledger, R: Wait + Clock>(
 }
 
 /// A seat without a ticket calls: the seat, and how the call ended.
-fn called_by<G: Gate, N: Ledger, R: Wait + Clock>(
+fn called_by<G: Gate, N: Ledgers, R: Wait + Clock>(
     rt: &R,
     shop: &Shop<G, N>,
     seat: Seat<Deed, N>,
@@ -77,7 +76,7 @@ fn called_by<G: Gate, N: Ledger, R: Wait + Clock>(
 }
 
 /// A seat calls: the seat, and how the call ended.
-pub fn called<G: Gate, N: Ledger, R: Wait + Clock>(
+pub fn called<G: Gate, N: Ledgers, R: Wait + Clock>(
     rt: &R,
     shop: &Shop<G, N>,
     back: Back<Deed, N>,

@@ -1,16 +1,15 @@
 //! Drains.
 
 use crate::shops::Shop;
-use meet_sync::{Back, DrainedItems, Gate, Seat, SeatRefused};
+use meet_sync::{Back, DrainedItems, Gate, Ledgers, Seat, SeatRefused};
 use meet_tickets::Deed;
 use std::alloc::Global;
 use std::sync::Wait;
-use std::sync::ledger::Ledger;
 
 /// A seat, and the items of its drain, where it wasn't refused.
 type Drained<N> = (Back<Deed, N>, Option<Vec<u64>>);
 
-fn drained<N: Ledger>(drained: Result<DrainedItems<u64, N>, SeatRefused<u64, N>>) -> Drained<N> {
+fn drained<N: Ledgers>(drained: Result<DrainedItems<u64, N>, SeatRefused<u64, N>>) -> Drained<N> {
     match drained {
         Ok(drained) => {
             let DrainedItems { seat, items } = drained;
@@ -27,7 +26,7 @@ fn drained<N: Ledger>(drained: Result<DrainedItems<u64, N>, SeatRefused<u64, N>>
     }
 }
 
-impl<G: Gate, N: Ledger> Shop<G, N> {
+impl<G: Gate, N: Ledgers> Shop<G, N> {
     /// A seat without a ticket drains up to so many items: the seat, and the items where the drain wasn't refused.
     pub fn drain<R: Wait>(
         &self,

@@ -1,22 +1,22 @@
 //! The three queues for threads as one, through which numbers go.
 
 ghost use Rattle.std.specs.Prelude.{◌≡◌, vec_len, IfOk, IfErr};
+ghost use Rattle.meet_place.specs.Ledgers.{AreOf};
 
 use crate::answers::{Came, asked, followed, struck, whole, withdrawn};
 use crate::asks::{Ask, Told};
 use meet_sync::{
-    Back, Chronicle, FairLine, Gate, NewQueue, Pending, QueueFault, Request, Seat, StackLine,
-    SyncQueue, TransferQueue,
+    Back, Chronicle, FairLine, Gate, Ledgers, NewQueue, Pending, QueueFault, Request, Seat,
+    StackLine, SyncQueue, TransferQueue,
 };
 use meet_tickets::{Deed, Order, Refusal, Refused, SeatNo, Ticket};
 use std::alloc::Global;
 use std::mem::ManuallyDrop;
 use std::sync::Wait;
-use std::sync::ledger::Ledger;
 
 /// A queue of numbers, of any order.
 #[derive(Drop)]
-pub enum Shop<G, N: Ledger> {
+pub enum Shop<G, N: Ledgers> {
     Fair(SyncQueue<u64, FairLine<u64>, G, N>),
     Unfair(SyncQueue<u64, StackLine<u64>, G, N>),
     Transfer(TransferQueue<u64, G, N>),
@@ -29,7 +29,7 @@ pub fn keep<X: Drop>(value: X) {
 
 /// Why a shop was not closed.
 #[derive(Drop)]
-pub enum Open<G, N: Ledger> {
+pub enum Open<G, N: Ledgers> {
     /// So many seats of so many were given back; all comes back.
     Missing(usize, usize, Shop<G, N>, Vec<Back<Deed, N>>),
     /// Something else.
@@ -37,7 +37,7 @@ pub enum Open<G, N: Ledger> {
 }
 
 /// The numbers of a close with too few seats, with what came back; or another reason.
-fn missing<Q: Drop, B: Drop, N: Ledger>(
+fn missing<Q: Drop, B: Drop, N: Ledgers>(
     fault: QueueFault<Q, B, N>,
 ) -> Result<(usize, usize, Q, Vec<Back<Deed, N>>), Refusal> {
     match fault {
@@ -66,7 +66,7 @@ fn missing<Q: Drop, B: Drop, N: Ledger>(
 }
 
 /// A seat whose ticket is still open.
-fn reopened<N: Ledger>(
+fn reopened<N: Ledgers>(
     seat: Seat<Deed, N>,
     ticket: Ticket,
     mark: Option<u64>,
@@ -79,7 +79,7 @@ fn reopened<N: Ledger>(
     }
 }
 
-impl<G: Gate + Drop, N: Ledger> Shop<G, N> {
+impl<G: Gate + Drop, N: Ledgers> Shop<G, N> {
     /// A shop of this order, with a seat for each gate and at most so many records.
     pub fn with_cap(
         alloc: Global,
@@ -87,9 +87,8 @@ impl<G: Gate + Drop, N: Ledger> Shop<G, N> {
         parts: NewQueue<G>,
         cap: u64,
     ) -> Result<(Self, Vec<Seat<Deed, N>>), Refused<NewQueue<G>>>
-        requires name { parts.blank.name ≡ N.name }
-        requires parts { parts.blank.parts ≡ N.parts }
-        requires one_each { parts.blank.parts ≡ vec_len parts.gates }
+        requires ledgers { AreOf N.name N.folds N.parts parts.blanks }
+        requires one_each { N.parts ≡ vec_len parts.gates }
         ensures seats { IfOk result (λ made. vec_len made.1 ≡ vec_len parts.gates) }
         ensures back { IfErr result (λ refused. refused.back ≡ parts) }
     {

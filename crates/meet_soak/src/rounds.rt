@@ -2,17 +2,17 @@
 //! is closed, its records are checked once more, and every item is looked for.
 
 ghost use Rattle.std.specs.Prelude.{◌≡◌, vec_len};
+ghost use Rattle.meet_place.specs.Ledgers.{AreOf};
 
 use crate::accounts::Account;
 use crate::work::{Done, Round, interrupts, works};
 use meet_history::{Kind, check};
 use meet_shop::{Fresh, Open, Shop, gates, keep};
-use meet_sync::{Back, Chronicle, NewQueue, Seat};
-use meet_tickets::{Deed, MOST_RECORDS, Order};
+use meet_sync::{Back, Blanks, Chronicle, Ledgers, NewQueue, Seat};
+use meet_tickets::{Base, Deed, MOST_RECORDS, Order};
 use std::alloc::Global;
 use std::marker::Brand;
 use std::sync::atomic::{AtomicU64, Ordering};
-use std::sync::ledger::{Blank, Ledger};
 use std::sync::{Mutex, Wait};
 use std::thread::Threads;
 use std::time::Clock;
@@ -20,13 +20,13 @@ use std::{mem, thread};
 
 /// Where a worker's seat lies before its thread starts and after it ended, and its account.
 #[derive(Drop)]
-struct Slot<N: Ledger> {
+struct Slot<N: Ledgers> {
     back: Option<Back<Deed, N>>,
     account: Account,
 }
 
 /// Slots with these seats.
-fn slots_of<N: Ledger>(
+fn slots_of<N: Ledgers>(
     alloc: Global,
     seats: Vec<Seat<Deed, N>>,
 ) -> Result<Vec<Mutex<Slot<N>>>, &'static str> {
@@ -42,7 +42,7 @@ fn slots_of<N: Ledger>(
 }
 
 /// The worker of a slot makes its calls.
-fn work<G: Fresh, N: Ledger, R: Wait + Clock>(
+fn work<G: Fresh, N: Ledgers, R: Wait + Clock>(
     rt: &R,
     alloc: Global,
     shop: &Shop<G, N>,
@@ -61,7 +61,7 @@ fn work<G: Fresh, N: Ledger, R: Wait + Clock>(
 
 /// Each worker in a thread of its own, and this thread interrupts them: its seat, and whether each thread could be
 /// started.
-fn work_all<G: Fresh + Sync, N: Ledger + Send + Sync, R: Threads + Wait + Clock + Sync>(
+fn work_all<G: Fresh + Sync, N: Ledgers + Send + Sync, R: Threads + Wait + Clock + Sync>(
     rt: &R,
     alloc: Global,
     shop: &Shop<G, N>,
@@ -88,7 +88,7 @@ fn work_all<G: Fresh + Sync, N: Ledger + Send + Sync, R: Threads + Wait + Clock 
 }
 
 /// The workers' seats and that of who interrupted them, and the account of all.
-fn summed<N: Ledger>(
+fn summed<N: Ledgers>(
     alloc: Global,
     slots: Vec<Mutex<Slot<N>>>,
     last: Done<N>,
@@ -128,7 +128,14 @@ fn finds_all(
         return Err(fault);
     }
     let records = chronicle.records.as_slice();
-    if check(alloc, Kind { order, bound: None }, records).is_err() {
+    if check(
+        alloc,
+        Kind { order, bound: None },
+        &Base::empty(alloc),
+        records,
+    )
+    .is_err()
+    {
         return Err("the records aren't legal");
     }
     let mut listed = 0usize;
@@ -150,7 +157,7 @@ fn finds_all(
 }
 
 /// A shop is closed with all its seats.
-fn closed<G: Fresh, N: Ledger>(
+fn closed<G: Fresh, N: Ledgers>(
     alloc: Global,
     shop: Shop<G, N>,
     backs: Vec<Back<Deed, N>>,
@@ -169,7 +176,7 @@ fn closed<G: Fresh, N: Ledger>(
 }
 
 /// The seats do what they do in a round: they and their account.
-fn worked<G: Fresh + Sync, N: Ledger + Send + Sync, R: Threads + Wait + Clock + Sync>(
+fn worked<G: Fresh + Sync, N: Ledgers + Send + Sync, R: Threads + Wait + Clock + Sync>(
     rt: &R,
     alloc: Global,
     shop: &Shop<G, N>,
@@ -191,15 +198,14 @@ fn worked<G: Fresh + Sync, N: Ledger + Send + Sync, R: Threads + Wait + Clock + 
 }
 
 /// A round at a queue of these parts.
-fn held<G: Fresh + Sync, N: Ledger + Send + Sync, R: Threads + Wait + Clock + Sync>(
+fn held<G: Fresh + Sync, N: Ledgers + Send + Sync, R: Threads + Wait + Clock + Sync>(
     rt: &R,
     alloc: Global,
     parts: NewQueue<G>,
     round: Round,
 ) -> Result<(), &'static str>
-    requires name { parts.blank.name ≡ N.name }
-    requires parts { parts.blank.parts ≡ N.parts }
-    requires one_each { parts.blank.parts ≡ vec_len parts.gates }
+    requires ledgers { AreOf N.name N.folds N.parts parts.blanks }
+    requires one_each { N.parts ≡ vec_len parts.gates }
 {
     let (shop, made) = match Shop::<G, N>::with_cap(alloc, round.order, parts, MOST_RECORDS) {
         Ok(made) => made,
@@ -224,7 +230,7 @@ pub fn hold<G: Fresh + Sync, R: Threads + Wait + Clock + Sync>(
     round: Round,
 ) -> Result<(), &'static str> {
     let gates = gates::<G>(alloc, round.seats)?;
-    let blank = Blank::new(gates.len() as u64);
-    let parts = NewQueue { gates, blank };
+    let blanks = Blanks::new(gates.len() as u64);
+    let parts = NewQueue { gates, blanks };
     held::<G, Brand, R>(rt, alloc, parts, round)
 }

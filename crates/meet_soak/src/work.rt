@@ -3,12 +3,11 @@
 use crate::accounts::Account;
 use meet_cells::ParkGate;
 use meet_shop::{Ask, Call, Chance, Shop, called};
-use meet_sync::{Back, Gate, Seat};
+use meet_sync::{Back, Gate, Ledgers, Seat};
 use meet_tickets::{Deed, Order};
 use std::alloc::Global;
 use std::sync::Wait;
 use std::sync::atomic::{AtomicU64, Ordering};
-use std::sync::ledger::Ledger;
 use std::time::Clock;
 
 /// How many calls a worker makes.
@@ -99,7 +98,7 @@ fn given_by_part(ask: Ask) -> Option<u64> {
 }
 
 /// A seat drains up to so many items.
-fn drains<G: Gate, N: Ledger, R: Wait>(
+fn drains<G: Gate, N: Ledgers, R: Wait>(
     rt: &R,
     alloc: Global,
     shop: &Shop<G, N>,
@@ -118,7 +117,7 @@ fn drains<G: Gate, N: Ledger, R: Wait>(
 }
 
 /// A seat does this.
-fn acts<G: Gate + Drop, N: Ledger, R: Wait + Clock>(
+fn acts<G: Gate + Drop, N: Ledgers, R: Wait + Clock>(
     rt: &R,
     alloc: Global,
     shop: &Shop<G, N>,
@@ -142,7 +141,7 @@ fn acts<G: Gate + Drop, N: Ledger, R: Wait + Clock>(
 }
 
 /// A worker makes its calls; its last ticket may stay open.
-pub fn works<G: Gate + Drop, N: Ledger, R: Wait + Clock>(
+pub fn works<G: Gate + Drop, N: Ledgers, R: Wait + Clock>(
     rt: &R,
     alloc: Global,
     shop: &Shop<G, N>,
@@ -165,7 +164,7 @@ pub fn works<G: Gate + Drop, N: Ledger, R: Wait + Clock>(
 }
 
 /// Each millisecond some of the workers, whose seats are below this one, are interrupted, until none is busy.
-pub fn interrupts<G: Gate + Drop, N: Ledger, R: Wait + Clock>(
+pub fn interrupts<G: Gate + Drop, N: Ledgers, R: Wait + Clock>(
     rt: &R,
     alloc: Global,
     shop: &Shop<G, N>,

@@ -69,9 +69,9 @@ pub waited : {T N : Type 0} (MayExpire : Type 0) (mark : T → ℕ) (seat : Seat
     (request : Request T) (ended : Ended T N) → AskedAs {N = N} mark seat request (Parked p) → OutcomeOf mark p ended
     → NotExpired ended.end → EndedAs MayExpire mark seat request ended
 waited MayExpire mark seat p request ended (number, own, (first, is, one)) (number', back, (last, is', two)) not = (
-  number' ∙ number,
+  (number'.0 ∙ number.0, number'.1 ∙ number.1),
   untimed MayExpire mark seat ended.seat request ended.end last is'
-      (waited_with mark seat p ended.seat request first last number is one two)
+      (waited_with mark seat p ended.seat request first last number.0 is one two)
       (same_mark mark p.mark (brought mark request) ended.end own back) not,
 )
 
@@ -79,8 +79,8 @@ pub waited_for : {T N : Type 0} (mark : T → ℕ) (seat : SeatView Deed) (p : P
     (ended : Ended T N) → AskedAs {N = N} mark seat request (Parked p) → OutcomeOf mark p ended
     → EndedAs ⊤ mark seat request ended
 waited_for mark seat p request ended (number, own, (first, is, one)) (number', back, (last, is', two)) = (
-  number' ∙ number,
+  (number'.0 ∙ number.0, number'.1 ∙ number.1),
   timed mark seat ended.seat request ended.end last is'
-      (waited_with mark seat p ended.seat request first last number is one two)
+      (waited_with mark seat p ended.seat request first last number.0 is one two)
       (same_mark mark p.mark (brought mark request) ended.end own back),
 )

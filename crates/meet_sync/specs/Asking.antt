@@ -10,7 +10,7 @@ use Rattle.meet_tickets.specs.declared.records.Deed.TheVariants.{TakeFails, Entr
 use Rattle.meet_tickets.specs.declared.records.Deed.TheVariants.{Done as DoneDeed, Got as GotDeed}
 use Rattle.meet_tickets.specs.declared.records.Deed.TheVariants.{Withdrawn as WithdrawnDeed, Interrupt}
 use Rattle.meet_calls.specs.DualRecords.{made}
-use Rattle.meet_place.specs.Seats.{SeatView, PendingView, Adds}
+use Rattle.meet_place.specs.Seats.{SeatView, PendingView, Adds, SameSeat, ParksSeat, FreesSeat}
 use Rattle.meet_sync.specs.declared.asked.Request.{Request}
 use Rattle.meet_sync.specs.declared.asked.Request.TheVariants.{Give, Offer, Take, Poll}
 use Rattle.meet_sync.specs.declared.asked.Answer.{Answer}
@@ -71,25 +71,25 @@ module _ {T N : Type 0} where
   -- and the mark of its item is kept
   abbrev pub AskedAs : (T → ℕ) → SeatView Deed → Request T → Asked T N → Type 0
   AskedAs mark seat request (Settled after answer) =
-      (after.number ≡ seat.number) × SettledAs mark seat after request answer
-  AskedAs mark seat request (Parked p) = (p.number ≡ seat.number) × (p.mark ≡ brought mark request)
+      SameSeat seat after × SettledAs mark seat after request answer
+  AskedAs mark seat request (Parked p) = ParksSeat seat p × (p.mark ≡ brought mark request)
       × ((deed : Deed) × (waiting_deed mark request ≡ Some deed)
       × Adds seat.list p.list (made seat.number p.ticket deed ∷ []))
 
   -- a follow-up ended the ticket with one receipt, whose deed is its answer's, and what comes back has the mark that the
   -- request brought; or nothing was written
   abbrev pub FollowedAs : (T → ℕ) → PendingView Deed → FollowedUp T N → Type 0
-  FollowedAs mark p (Done s) = (s.number ≡ p.number) × Adds p.list s.list (made p.number p.ticket DoneDeed ∷ [])
+  FollowedAs mark p (Done s) = FreesSeat p s × Adds p.list s.list (made p.number p.ticket DoneDeed ∷ [])
   FollowedAs mark p (HasGot s u item) =
-      (s.number ≡ p.number) × Adds p.list s.list (made p.number p.ticket (GotDeed (mark item) u) ∷ [])
-  FollowedAs mark p (WasCut s back) = (s.number ≡ p.number) × (option_map mark back ≡ p.mark)
+      FreesSeat p s × Adds p.list s.list (made p.number p.ticket (GotDeed (mark item) u) ∷ [])
+  FollowedAs mark p (WasCut s back) = FreesSeat p s × (option_map mark back ≡ p.mark)
       × Adds p.list s.list (made p.number p.ticket (WithdrawnDeed ByInterrupt) ∷ [])
   FollowedAs mark p (NotYet q) = q ≡ p
 
   -- the ticket was withdrawn for this cause, with one receipt, and what comes back has the mark that the request
   -- brought; or nothing was written
   abbrev pub WithdrawnAs : (T → ℕ) → PendingView Deed → Cause → Withdrawn T N → Type 0
-  WithdrawnAs mark p cause (Back s back) = (s.number ≡ p.number) × (option_map mark back ≡ p.mark)
+  WithdrawnAs mark p cause (Back s back) = FreesSeat p s × (option_map mark back ≡ p.mark)
       × Adds p.list s.list (made p.number p.ticket (WithdrawnDeed cause) ∷ [])
   WithdrawnAs mark p cause (Late q) = q ≡ p
 
@@ -97,6 +97,6 @@ module _ {N : Type 0} where
   -- an interrupt left one receipt, with its target and the ticket that it cut, or 0
   abbrev pub StruckAs : SeatView Deed → (target : ℕ) → Struck N → Type 0
   StruckAs seat target (Cut s t) =
-      (s.number ≡ seat.number) × Adds seat.list s.list (made seat.number t (Interrupt target) ∷ [])
+      SameSeat seat s × Adds seat.list s.list (made seat.number t (Interrupt target) ∷ [])
   StruckAs seat target (Flagged s) =
-      (s.number ≡ seat.number) × Adds seat.list s.list (made seat.number 0 (Interrupt target) ∷ [])
+      SameSeat seat s × Adds seat.list s.list (made seat.number 0 (Interrupt target) ∷ [])

@@ -7,7 +7,7 @@ use Rattle.meet_tickets.specs.declared.records.Deed.TheVariants.{Done as DoneDee
 use Rattle.meet_tickets.specs.declared.records.Deed.TheVariants.{Withdrawn as WithdrawnDeed}
 use Rattle.meet_tickets.specs.declared.records.Deed.TheVariants.{GiveMeets, GiveKept}
 use Rattle.meet_calls.specs.DualRecords.{made}
-use Rattle.meet_place.specs.Seats.{SeatView, PendingView, Adds}
+use Rattle.meet_place.specs.Seats.{SeatView, PendingView, Adds, SameSeat, FreesSeat}
 use Rattle.meet_sync.specs.Asking.{waiting_deed, brought, SettledAs}
 use Rattle.meet_sync.specs.declared.asked.Request.{Request}
 use Rattle.meet_sync.specs.declared.asked.Answer.{Answer}
@@ -76,16 +76,16 @@ module _ {T N : Type 0} where
   -- a whole call of this request came to this end
   abbrev pub EndedAs : (MayExpire : Type 0) → (T → ℕ) → SeatView Deed → Request T → Ended T N → Type 0
   EndedAs MayExpire mark seat request ended =
-      (ended.seat.number ≡ seat.number) × EndsAs MayExpire mark seat ended.seat request ended.end
+      SameSeat seat ended.seat × EndsAs MayExpire mark seat ended.seat request ended.end
 
   -- an open ticket ended so, with one receipt
   abbrev pub OutcomeOf : (T → ℕ) → PendingView Deed → Ended T N → Type 0
-  OutcomeOf mark p ended = (ended.seat.number ≡ p.number) × MarksBack mark p.mark ended.end
+  OutcomeOf mark p ended = FreesSeat p ended.seat × MarksBack mark p.mark ended.end
       × ((deed : Deed) × (last_deed mark ended.end ≡ Some deed)
       × Adds p.list ended.seat.list (made p.number p.ticket deed ∷ []))
 
   -- a put to a queue that keeps items came to this end, with one receipt
   abbrev pub PutAs : (T → ℕ) → SeatView Deed → (item : T) → Ended T N → Type 0
-  PutAs mark seat item ended = (ended.seat.number ≡ seat.number)
+  PutAs mark seat item ended = SameSeat seat ended.seat
       × ((ticket : ℕ) × (deed : Deed) × (put_deed mark item ended.end ≡ Some deed)
       × Adds seat.list ended.seat.list (made seat.number ticket deed ∷ []))

@@ -92,3 +92,9 @@ IsInterruptWhy Memory = ⊤
 IsInterruptWhy HistoryFull = ⊤
 IsInterruptWhy NoSuchSeat = ⊤
 IsInterruptWhy why = ⊥
+
+-- why a checkpoint may be refused (our choice)
+abbrev pub IsCutWhy : Refusal → Type 0
+IsCutWhy Memory = ⊤
+IsCutWhy HistoryFull = ⊤
+IsCutWhy why = ⊥

@@ -4,9 +4,8 @@ ghost use Rattle.std.specs.Prelude.{◌≡◌};
 ghost use Rattle.meet_sync.specs.Asking.{item_of};
 ghost use Rattle.meet_sync.specs.Ending.{end_of};
 
-use meet_place::{Pending, Seat};
+use meet_place::{Ledgers, Pending, Seat};
 use meet_tickets::{Deed, Refusal, Ticket};
-use std::sync::ledger::Ledger;
 
 /// A request that a queue settles, or that waits.
 #[derive(Drop)]
@@ -36,7 +35,7 @@ pub enum Answer<T> {
 
 /// A request that was made.
 #[derive(Drop)]
-pub enum Asked<T, N: Ledger> {
+pub enum Asked<T, N: Ledgers> {
     /// It was settled at once.
     Settled(Seat<Deed, N>, Answer<T>),
     /// It waits in the line: its ticket is open.
@@ -45,7 +44,7 @@ pub enum Asked<T, N: Ledger> {
 
 /// A call that was refused: nothing was written, and the seat and the item come back.
 #[derive(Drop)]
-pub struct SeatRefused<T, N: Ledger> {
+pub struct SeatRefused<T, N: Ledgers> {
     /// Why.
     pub why: Refusal,
     /// The seat as it was, with room for more receipts perhaps.
@@ -56,7 +55,7 @@ pub struct SeatRefused<T, N: Ledger> {
 
 /// The answer to a follow-up.
 #[derive(Drop)]
-pub enum FollowedUp<T, N: Ledger> {
+pub enum FollowedUp<T, N: Ledgers> {
     /// The giver was met.
     Done(Seat<Deed, N>),
     /// The taker was met: the item came from the giver with this ticket.
@@ -69,7 +68,7 @@ pub enum FollowedUp<T, N: Ledger> {
 
 /// The answer to a cancel or an expiry.
 #[derive(Drop)]
-pub enum Withdrawn<T, N: Ledger> {
+pub enum Withdrawn<T, N: Ledgers> {
     /// The ticket left the line; a giver's item comes back.
     Back(Seat<Deed, N>, Option<T>),
     /// The ticket was met or cut before, and nothing was written: a follow-up ends it.
@@ -78,7 +77,7 @@ pub enum Withdrawn<T, N: Ledger> {
 
 /// The answer to an interrupt.
 #[derive(Drop)]
-pub enum Struck<N: Ledger> {
+pub enum Struck<N: Ledgers> {
     /// This ticket of the target's was cut.
     Cut(Seat<Deed, N>, Ticket),
     /// The target doesn't stand in the line: it is flagged.
@@ -108,7 +107,7 @@ pub enum End<T> {
 
 /// A seat, and how its call ended.
 #[derive(Drop)]
-pub struct Ended<T, N: Ledger> {
+pub struct Ended<T, N: Ledgers> {
     /// The seat, with the call's receipts.
     pub seat: Seat<Deed, N>,
     /// How the call ended.

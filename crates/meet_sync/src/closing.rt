@@ -1,9 +1,9 @@
 //! The end of a queue for threads: its one history.
 
-ghost use Rattle.std.specs.Prelude.{◌≡◌, None, List, map, vec_len, IfOk, IfErr};
+ghost use Rattle.std.specs.Prelude.{◌≡◌, ◌+◌, ◌<◌, ◌^◌, None, List, length, map, vec_len, IfOk, IfErr};
 ghost use Rattle.meet_calls.specs.DualSteps.{kind_of};
 ghost use Rattle.meet_calls.specs.QueueSteps.{bounded_kind};
-ghost use Rattle.meet_place.specs.Backs.{list_of, AreOrdered};
+ghost use Rattle.meet_place.specs.Backs.{list_of, AreOrdered, shares_in, folded_in};
 ghost use Rattle.meet_place.specs.declared.seats.Back.{Back};
 ghost use Rattle.meet_sync.specs.Chronicles.{IsChronicle};
 ghost use Rattle.meet_sync.specs.Faults.{QueueFaultFits, why_of};
@@ -13,23 +13,22 @@ use crate::transfer_queue::TransferQueue;
 use meet_book::{Book, Receipt};
 use meet_core::Dual;
 use meet_line::{Left, Line};
-use meet_place::{Back, CloseFault, Closed};
+use meet_place::{Back, CloseFault, Closed, Ledgers};
 use meet_tickets::{Base, Deed, Marked, Record, Refusal, SeatNo};
 use meet_transfer::Unbounded;
 use std::alloc::Global;
 use std::error::Error;
 use std::fmt;
 use std::fmt::{Debug, Display, Formatter, Write};
-use std::sync::ledger::Ledger;
 
 /// What a queue leaves once it is closed.
 #[derive(Drop)]
 pub struct Chronicle<T> {
-    /// What stands for the records that were folded away; of a queue for threads none were.
+    /// What stands for the records that were folded away.
     pub base: Base,
-    /// The records, in order: one legal history.
+    /// The records since, in order: with the base one legal history.
     pub records: Vec<Record<Deed>>,
-    /// The receipts of each seat, in the order of their numbers.
+    /// The receipts of each seat, in the order of their numbers, without those that were dropped.
     pub lists: Vec<Vec<Receipt<Deed>>>,
     /// The items that are left, by rising ticket of their givers.
     pub left: Vec<Left<T>>,
@@ -37,7 +36,7 @@ pub struct Chronicle<T> {
 
 /// Why a queue was not closed. As an error its text is the name of the refusal that it is.
 #[derive(Drop)]
-pub enum QueueFault<Q, B, N: Ledger> {
+pub enum QueueFault<Q, B, N: Ledgers> {
     /// Fewer seats were given back than were made. The queue and the seats come back.
     SeatMissing {
         /// How many were given back.
@@ -64,7 +63,7 @@ pub enum QueueFault<Q, B, N: Ledger> {
     },
 }
 
-impl<Q, B, N: Ledger> QueueFault<Q, B, N> {
+impl<Q, B, N: Ledgers> QueueFault<Q, B, N> {
     /// The reason as a refusal: SeatMissing, Memory or Differs.
     pub fn why(&self) -> Refusal
         ensures { result ≡ why_of self.now }
@@ -78,7 +77,7 @@ impl<Q, B, N: Ledger> QueueFault<Q, B, N> {
 }
 
 /// The name of the reason.
-impl<Q, B, N: Ledger> Display for QueueFault<Q, B, N> {
+impl<Q, B, N: Ledgers> Display for QueueFault<Q, B, N> {
     ghost use Rattle.std.specs.Prelude.{Some};
     ghost use Rattle.meet_tickets.specs.Refusals.{name_of};
     ghost use Rattle.meet_sync.specs.Faults.{why_of};
@@ -91,15 +90,15 @@ impl<Q, B, N: Ledger> Display for QueueFault<Q, B, N> {
 }
 
 /// The reason alone: what comes back need not be such as can be shown.
-impl<Q, B, N: Ledger> Debug for QueueFault<Q, B, N> {
+impl<Q, B, N: Ledgers> Debug for QueueFault<Q, B, N> {
     fn fmt<W: Write>(&self, f: &mut Formatter<W>) -> fmt::Result {
         write!(f, "QueueFault({})", self.why())
     }
 }
 
-impl<Q: Drop, B: Drop, N: Ledger> Error for QueueFault<Q, B, N> {}
+impl<Q: Drop, B: Drop, N: Ledgers> Error for QueueFault<Q, B, N> {}
 
-impl<T: Marked, L: Line<T>, G: Drop, N: Ledger> SyncQueue<T, L, G, N> {
+impl<T: Marked, L: Line<T>, G: Drop, N: Ledgers> SyncQueue<T, L, G, N> {
     /// Ends the queue: takes all seats back, free or with an open ticket, in whatever order, compares the records with
     /// the seats' receipts, and takes out what is left. So the threads' calls, however they interleaved, have one legal
     /// history, in which each seat's calls stand once, in the seat's order, and no others. It refuses SeatMissing
@@ -115,6 +114,9 @@ impl<T: Marked, L: Line<T>, G: Drop, N: Ledger> SyncQueue<T, L, G, N> {
         ensures lists { IfOk result (λ c. (ordered : List (Back Deed N)) × AreOrdered seats.items ordered
             × (map (λ list. list.items) c.lists.items ≡ map list_of ordered)) }
         ensures count { IfOk result (λ c. vec_len c.lists ≡ self) }
+        ensures shares { IfOk result (λ c. c.base.gone + length c.records.items ≡ shares_in seats.items) }
+        ensures folded { IfOk result (λ c. c.base.gone ≡ folded_in seats.items) }
+        ensures few { IfOk result (λ c. c.base.gone + length c.records.items < 2 ^ 64) }
         ensures fault { IfErr result (λ fault. QueueFaultFits self seats.items fault) }
     {
         let SyncQueue { place } = self;
@@ -165,7 +167,7 @@ impl<T: Marked, L: Line<T>, G: Drop, N: Ledger> SyncQueue<T, L, G, N> {
     }
 }
 
-impl<T: Marked, G: Drop, N: Ledger> TransferQueue<T, G, N> {
+impl<T: Marked, G: Drop, N: Ledgers> TransferQueue<T, G, N> {
     /// Ends the queue: takes all seats back, free or with an open ticket, in whatever order, compares the records with
     /// the seats' receipts, and takes out what is left. So the threads' calls, however they interleaved, have one legal
     /// history, in which each seat's calls stand once, in the seat's order, and no others. It refuses SeatMissing
@@ -181,6 +183,9 @@ impl<T: Marked, G: Drop, N: Ledger> TransferQueue<T, G, N> {
         ensures lists { IfOk result (λ c. (ordered : List (Back Deed N)) × AreOrdered seats.items ordered
             × (map (λ list. list.items) c.lists.items ≡ map list_of ordered)) }
         ensures count { IfOk result (λ c. vec_len c.lists ≡ self) }
+        ensures shares { IfOk result (λ c. c.base.gone + length c.records.items ≡ shares_in seats.items) }
+        ensures folded { IfOk result (λ c. c.base.gone ≡ folded_in seats.items) }
+        ensures few { IfOk result (λ c. c.base.gone + length c.records.items < 2 ^ 64) }
         ensures fault { IfErr result (λ fault. QueueFaultFits self seats.items fault) }
     {
         let TransferQueue { place } = self;

@@ -12,12 +12,11 @@ use meet_book::Drains;
 use meet_calls::{DualAnswer, QueueAnswer};
 use meet_core::Dual;
 use meet_line::{Line, Polled};
-use meet_place::{Gate, Place, Seat};
+use meet_place::{Gate, Ledgers, Place, Seat};
 use meet_tickets::{Deed, Marked, Refusal};
 use meet_transfer::Unbounded;
 use std::alloc::Global;
 use std::sync::Wait;
-use std::sync::ledger::Ledger;
 
 /// The item that an answer brings.
 fn item_of_dual<T>(answer: DualAnswer<T>) -> T
@@ -80,7 +79,7 @@ fn items_of_transfer<T>(answers: Vec<QueueAnswer<T>>, empty: Vec<T>) -> Vec<T>
 
 /// Takes the items of a synchronous queue, one poll after another under one hold. It refuses Memory where the list of
 /// the items or the seat's can't grow; else what the book does, before anything is taken.
-fn drain_dual<T: Marked, L: Line<T>, G: Gate, N: Ledger, R: Wait>(
+fn drain_dual<T: Marked, L: Line<T>, G: Gate, N: Ledgers, R: Wait>(
     rt: &R,
     alloc: Global,
     place: &Place<Dual<T, L>, G, N>,
@@ -88,6 +87,7 @@ fn drain_dual<T: Marked, L: Line<T>, G: Gate, N: Ledger, R: Wait>(
     max: u64,
 ) -> Result<Vec<T>, Refusal>
     ensures number { seat.new.number ≡ seat.old.number }
+    ensures past { seat.new.past ≡ seat.old.past }
     ensures few { IfOk result (λ items. length items.items ≤ max) }
     ensures drained { IfOk result (λ items. DrainedTo T.mark_of seat.old seat.new items.items) }
     ensures why { IfErr result IsRequestWhy }
@@ -107,7 +107,7 @@ fn drain_dual<T: Marked, L: Line<T>, G: Gate, N: Ledger, R: Wait>(
 }
 
 /// The same of a transfer queue.
-fn drain_transfer<T: Marked, G: Gate, N: Ledger, R: Wait>(
+fn drain_transfer<T: Marked, G: Gate, N: Ledgers, R: Wait>(
     rt: &R,
     alloc: Global,
     place: &Place<Unbounded<T>, G, N>,
@@ -115,6 +115,7 @@ fn drain_transfer<T: Marked, G: Gate, N: Ledger, R: Wait>(
     max: u64,
 ) -> Result<Vec<T>, Refusal>
     ensures number { seat.new.number ≡ seat.old.number }
+    ensures past { seat.new.past ≡ seat.old.past }
     ensures few { IfOk result (λ items. length items.items ≤ max) }
     ensures drained { IfOk result (λ items. DrainedTo T.mark_of seat.old seat.new items.items) }
     ensures why { IfErr result IsRequestWhy }
@@ -135,14 +136,14 @@ fn drain_transfer<T: Marked, G: Gate, N: Ledger, R: Wait>(
 
 /// A seat, and the items that its drain took.
 #[derive(Drop)]
-pub struct DrainedItems<T, N: Ledger> {
+pub struct DrainedItems<T, N: Ledgers> {
     /// The seat, with a receipt for each item.
     pub seat: Seat<Deed, N>,
     /// The items, in the order in which they were taken.
     pub items: Vec<T>,
 }
 
-impl<T: Marked, L: Line<T>, G: Gate, N: Ledger> SyncQueue<T, L, G, N> {
+impl<T: Marked, L: Line<T>, G: Gate, N: Ledgers> SyncQueue<T, L, G, N> {
     /// `SynchronousQueue.drainTo`: takes up to `max` items that givers in the line brought, in the order in which polls
     /// would, all under one hold of the lock, each by a recorded poll. It refuses Memory where a list can't grow, else
     /// NoSuchSeat, SeatOpen, TicketsSpent, HistoryFull or Memory, the first that applies; then nothing was taken.
@@ -154,9 +155,11 @@ impl<T: Marked, L: Line<T>, G: Gate, N: Ledger> SyncQueue<T, L, G, N> {
         max: u64,
     ) -> Result<DrainedItems<T, N>, SeatRefused<T, N>>
         ensures number { IfOk result (λ drained. drained.seat.number ≡ seat.number) }
+        ensures past { IfOk result (λ drained. drained.seat.past ≡ seat.past) }
         ensures few { IfOk result (λ drained. length drained.items.items ≤ max) }
         ensures drained { IfOk result (λ drained. DrainedTo T.mark_of seat drained.seat drained.items.items) }
         ensures back { IfErr result (λ refused. refused.seat.number ≡ seat.number) }
+        ensures back_past { IfErr result (λ refused. refused.seat.past ≡ seat.past) }
         ensures list { IfErr result (λ refused. refused.seat.list ≡ seat.list) }
         ensures item { IfErr result (λ refused. refused.item ≡ None) }
         ensures why { IfErr result (λ refused. IsRequestWhy refused.why) }
@@ -172,7 +175,7 @@ impl<T: Marked, L: Line<T>, G: Gate, N: Ledger> SyncQueue<T, L, G, N> {
     }
 }
 
-impl<T: Marked, G: Gate, N: Ledger> TransferQueue<T, G, N> {
+impl<T: Marked, G: Gate, N: Ledgers> TransferQueue<T, G, N> {
     /// `LinkedTransferQueue.drainTo`: takes up to `max` items that givers in the line brought, in the order in which polls
     /// would, all under one hold of the lock, each by a recorded poll. It refuses Memory where a list can't grow, else
     /// NoSuchSeat, SeatOpen, TicketsSpent, HistoryFull or Memory, the first that applies; then nothing was taken.
@@ -184,9 +187,11 @@ impl<T: Marked, G: Gate, N: Ledger> TransferQueue<T, G, N> {
         max: u64,
     ) -> Result<DrainedItems<T, N>, SeatRefused<T, N>>
         ensures number { IfOk result (λ drained. drained.seat.number ≡ seat.number) }
+        ensures past { IfOk result (λ drained. drained.seat.past ≡ seat.past) }
         ensures few { IfOk result (λ drained. length drained.items.items ≤ max) }
         ensures drained { IfOk result (λ drained. DrainedTo T.mark_of seat drained.seat drained.items.items) }
         ensures back { IfErr result (λ refused. refused.seat.number ≡ seat.number) }
+        ensures back_past { IfErr result (λ refused. refused.seat.past ≡ seat.past) }
         ensures list { IfErr result (λ refused. refused.seat.list ≡ seat.list) }
         ensures item { IfErr result (λ refused. refused.item ≡ None) }
         ensures why { IfErr result (λ refused. IsRequestWhy refused.why) }

@@ -8,12 +8,11 @@ use crate::asked::{FollowedUp, Withdrawn};
 use crate::steps::{Ending, QueueRef};
 use crate::told::{told_followed, told_taken_back};
 use meet_line::{Followed, Line, TakenBack};
-use meet_place::{Gate, Pending};
+use meet_place::{Gate, Ledgers, Pending};
 use meet_tickets::{Deed, Marked};
 use std::sync::Wait;
-use std::sync::ledger::Ledger;
 
-impl<T: Marked, L: Line<T>, G: Gate, N: Ledger> QueueRef<'_, T, L, G, N> {
+impl<T: Marked, L: Line<T>, G: Gate, N: Ledgers> QueueRef<'_, T, L, G, N> {
     /// The follow-up of an open ticket.
     pub(crate) fn follow_up<R: Wait>(&self, rt: &R, pending: Pending<Deed, N>) -> FollowedUp<T, N>
         ensures { FollowedAs T.mark_of pending result }

@@ -3,6 +3,7 @@
 #![tactic(auto)]
 
 mod asked;
+mod checkpoints;
 mod closing;
 mod deadline;
 mod draining;
@@ -23,8 +24,8 @@ pub use asked::{Answer, Asked, End, Ended, FollowedUp, Request, SeatRefused, Str
 pub use closing::{Chronicle, QueueFault};
 pub use draining::DrainedItems;
 pub use making::NewQueue;
+pub use meet_laws::Tally;
 pub use meet_line::{FairLine, Left, LeftStanding, StackLine};
-pub use meet_place::{Back, Gate, Pending, Seat, Turn};
+pub use meet_place::{Back, Blanks, Gate, Ledgers, Pending, Seat, Turn};
 pub use sync_queue::SyncQueue;
-pub use tally::Tally;
 pub use transfer_queue::TransferQueue;

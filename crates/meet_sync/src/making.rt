@@ -4,25 +4,25 @@ ghost use Rattle.std.specs.Prelude.{◌≡◌, Some, None, vec_len, IfOk, IfErr,
 ghost use Rattle.meet_tickets.specs.declared.refusals.Refusal.TheVariants.{BadSizes};
 ghost use Rattle.meet_tickets.specs.Limits.{most_records};
 ghost use Rattle.meet_tickets.specs.Refusals.{IsWhy};
+ghost use Rattle.meet_place.specs.Ledgers.{AreOf};
 ghost use Rattle.meet_place.specs.Seats.{AreFresh};
 ghost use Rattle.meet_sync.specs.Making.{making_refusal};
 
 use crate::sync_queue::SyncQueue;
 use crate::transfer_queue::TransferQueue;
 use meet_line::Line;
-use meet_place::{NewPlace, Place, Seat};
+use meet_place::{Blanks, Ledgers, NewPlace, Place, Seat};
 use meet_queues::{ready_queue_book, ready_transfer_book};
 use meet_tickets::{Deed, MOST_RECORDS, MOST_SEATS, Marked, Refusal, Refused};
 use std::alloc::Global;
-use std::sync::ledger::{Blank, Ledger};
 
 /// What a queue for threads is made of.
 #[derive(Drop)]
 pub struct NewQueue<G> {
     /// A gate for each seat.
     pub gates: Vec<G>,
-    /// A ledger with a part for each seat.
-    pub blank: Blank,
+    /// Two ledgers with a part for each seat.
+    pub blanks: Blanks,
 }
 
 /// Whether so many gates and records are within the limits.
@@ -32,7 +32,7 @@ fn fits(gates: usize, cap: u64) -> bool
     gates != 0 && gates as u64 <= MOST_SEATS && cap != 0 && cap <= MOST_RECORDS
 }
 
-impl<T: Marked, L: Line<T>, G: Drop, N: Ledger> SyncQueue<T, L, G, N> {
+impl<T: Marked, L: Line<T>, G: Drop, N: Ledgers> SyncQueue<T, L, G, N> {
     /// A queue with a seat for each gate, numbered from 0, and at most so many records. It refuses BadSizes where there
     /// is no gate or more than 65,536, or the records are none or more than 1,048,576; then Memory. All comes back.
     pub fn with_cap(
@@ -40,9 +40,8 @@ impl<T: Marked, L: Line<T>, G: Drop, N: Ledger> SyncQueue<T, L, G, N> {
         parts: NewQueue<G>,
         cap: u64,
     ) -> Result<(Self, Vec<Seat<Deed, N>>), Refused<NewQueue<G>>>
-        requires name { parts.blank.name ≡ N.name }
-        requires parts { parts.blank.parts ≡ N.parts }
-        requires one_each { parts.blank.parts ≡ vec_len parts.gates }
+        requires ledgers { AreOf N.name N.folds N.parts parts.blanks }
+        requires one_each { N.parts ≡ vec_len parts.gates }
         ensures count { IfOk result (λ made. made.0 ≡ vec_len parts.gates) }
         ensures seats { IfOk result (λ made. vec_len made.1 ≡ vec_len parts.gates) }
         ensures numbers { IfOk result (λ made. AreFresh made.1.items) }
@@ -60,18 +59,26 @@ impl<T: Marked, L: Line<T>, G: Drop, N: Ledger> SyncQueue<T, L, G, N> {
             Ok(book) => book,
             Err(why) => return Err(Refused { why, back: parts }),
         };
-        let NewQueue { gates, blank } = parts;
-        let whole = NewPlace { book, gates, blank };
+        let NewQueue { gates, blanks } = parts;
+        let whole = NewPlace {
+            book,
+            gates,
+            blanks,
+        };
         match Place::new(alloc, whole) {
             Ok((place, seats)) => Ok((SyncQueue { place }, seats)),
             Err(refused) => {
                 let Refused { why, back } = refused;
-                let NewPlace { book, gates, blank } = back;
+                let NewPlace {
+                    book,
+                    gates,
+                    blanks,
+                } = back;
                 let (queue, _, _) = book.into_parts();
                 queue.destroy_empty();
                 Err(Refused {
                     why,
-                    back: NewQueue { gates, blank },
+                    back: NewQueue { gates, blanks },
                 })
             }
         }
@@ -83,9 +90,8 @@ impl<T: Marked, L: Line<T>, G: Drop, N: Ledger> SyncQueue<T, L, G, N> {
         alloc: Global,
         parts: NewQueue<G>,
     ) -> Result<(Self, Vec<Seat<Deed, N>>), Refused<NewQueue<G>>>
-        requires name { parts.blank.name ≡ N.name }
-        requires parts { parts.blank.parts ≡ N.parts }
-        requires one_each { parts.blank.parts ≡ vec_len parts.gates }
+        requires ledgers { AreOf N.name N.folds N.parts parts.blanks }
+        requires one_each { N.parts ≡ vec_len parts.gates }
         ensures count { IfOk result (λ made. made.0 ≡ vec_len parts.gates) }
         ensures seats { IfOk result (λ made. vec_len made.1 ≡ vec_len parts.gates) }
         ensures numbers { IfOk result (λ made. AreFresh made.1.items) }
@@ -97,7 +103,7 @@ impl<T: Marked, L: Line<T>, G: Drop, N: Ledger> SyncQueue<T, L, G, N> {
     }
 }
 
-impl<T: Marked, G: Drop, N: Ledger> TransferQueue<T, G, N> {
+impl<T: Marked, G: Drop, N: Ledgers> TransferQueue<T, G, N> {
     /// A queue with a seat for each gate, numbered from 0, and at most so many records. It refuses BadSizes where there
     /// is no gate or more than 65,536, or the records are none or more than 1,048,576; then Memory. All comes back.
     pub fn with_cap(
@@ -105,9 +111,8 @@ impl<T: Marked, G: Drop, N: Ledger> TransferQueue<T, G, N> {
         parts: NewQueue<G>,
         cap: u64,
     ) -> Result<(Self, Vec<Seat<Deed, N>>), Refused<NewQueue<G>>>
-        requires name { parts.blank.name ≡ N.name }
-        requires parts { parts.blank.parts ≡ N.parts }
-        requires one_each { parts.blank.parts ≡ vec_len parts.gates }
+        requires ledgers { AreOf N.name N.folds N.parts parts.blanks }
+        requires one_each { N.parts ≡ vec_len parts.gates }
         ensures count { IfOk result (λ made. made.0 ≡ vec_len parts.gates) }
         ensures seats { IfOk result (λ made. vec_len made.1 ≡ vec_len parts.gates) }
         ensures numbers { IfOk result (λ made. AreFresh made.1.items) }
@@ -125,18 +130,26 @@ impl<T: Marked, G: Drop, N: Ledger> TransferQueue<T, G, N> {
             Ok(book) => book,
             Err(why) => return Err(Refused { why, back: parts }),
         };
-        let NewQueue { gates, blank } = parts;
-        let whole = NewPlace { book, gates, blank };
+        let NewQueue { gates, blanks } = parts;
+        let whole = NewPlace {
+            book,
+            gates,
+            blanks,
+        };
         match Place::new(alloc, whole) {
             Ok((place, seats)) => Ok((TransferQueue { place }, seats)),
             Err(refused) => {
                 let Refused { why, back } = refused;
-                let NewPlace { book, gates, blank } = back;
+                let NewPlace {
+                    book,
+                    gates,
+                    blanks,
+                } = back;
                 let (queue, _, _) = book.into_parts();
                 queue.destroy_empty();
                 Err(Refused {
                     why,
-                    back: NewQueue { gates, blank },
+                    back: NewQueue { gates, blanks },
                 })
             }
         }
@@ -148,9 +161,8 @@ impl<T: Marked, G: Drop, N: Ledger> TransferQueue<T, G, N> {
         alloc: Global,
         parts: NewQueue<G>,
     ) -> Result<(Self, Vec<Seat<Deed, N>>), Refused<NewQueue<G>>>
-        requires name { parts.blank.name ≡ N.name }
-        requires parts { parts.blank.parts ≡ N.parts }
-        requires one_each { parts.blank.parts ≡ vec_len parts.gates }
+        requires ledgers { AreOf N.name N.folds N.parts parts.blanks }
+        requires one_each { N.parts ≡ vec_len parts.gates }
         ensures count { IfOk result (λ made. made.0 ≡ vec_len parts.gates) }
         ensures seats { IfOk result (λ made. vec_len made.1 ≡ vec_len parts.gates) }
         ensures numbers { IfOk result (λ made. AreFresh made.1.items) }

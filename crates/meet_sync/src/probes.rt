@@ -7,11 +7,11 @@ ghost use Rattle.meet_tickets.specs.Limits.{most_seats, told_capacity};
 use crate::sync_queue::SyncQueue;
 use crate::transfer_queue::TransferQueue;
 use meet_line::Line;
+use meet_place::Ledgers;
 use meet_tickets::{Marked, TOLD_CAPACITY};
 use std::sync::Wait;
-use std::sync::ledger::Ledger;
 
-impl<T: Marked, L: Line<T>, G, N: Ledger> SyncQueue<T, L, G, N> {
+impl<T: Marked, L: Line<T>, G, N: Ledgers> SyncQueue<T, L, G, N> {
     /// How many seats there are.
     pub fn seats(&self) -> usize
         ensures count { result ≡ self.now }
@@ -57,7 +57,7 @@ impl<T: Marked, L: Line<T>, G, N: Ledger> SyncQueue<T, L, G, N> {
     }
 }
 
-impl<T: Marked, G, N: Ledger> TransferQueue<T, G, N> {
+impl<T: Marked, G, N: Ledgers> TransferQueue<T, G, N> {
     /// How many seats there are.
     pub fn seats(&self) -> usize
         ensures count { result ≡ self.now }

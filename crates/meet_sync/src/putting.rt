@@ -7,11 +7,10 @@ ghost use Rattle.meet_sync.specs.Told.{IsRequestWhy};
 use crate::asked::{End, Ended, SeatRefused};
 use meet_calls::{QueueAnswer, QueueCall};
 use meet_line::Put;
-use meet_place::{Gate, Place, Seat};
+use meet_place::{Gate, Ledgers, Place, Seat};
 use meet_tickets::{Deed, Marked, Refusal, Refused};
 use meet_transfer::Unbounded;
 use std::sync::Wait;
-use std::sync::ledger::Ledger;
 
 /// The answer to a put.
 fn told_put<T>(answer: QueueAnswer<T>) -> Put<T>
@@ -26,7 +25,7 @@ fn told_put<T>(answer: QueueAnswer<T>) -> Put<T>
 
 /// Gives an item to a taker that waits, or leaves it in the line. Its seat's list grows first, so Memory for it comes
 /// before every other refusal.
-pub(crate) fn put_item<T: Marked, G: Gate, N: Ledger, R: Wait>(
+pub(crate) fn put_item<T: Marked, G: Gate, N: Ledgers, R: Wait>(
     rt: &R,
     place: &Place<Unbounded<T>, G, N>,
     mut seat: Seat<Deed, N>,
@@ -34,6 +33,7 @@ pub(crate) fn put_item<T: Marked, G: Gate, N: Ledger, R: Wait>(
 ) -> Result<Ended<T, N>, SeatRefused<T, N>>
     ensures ended { IfOk result (λ ended. PutAs T.mark_of seat item ended) }
     ensures number { IfErr result (λ refused. refused.seat.number ≡ seat.number) }
+    ensures past { IfErr result (λ refused. refused.seat.past ≡ seat.past) }
     ensures list { IfErr result (λ refused. refused.seat.list ≡ seat.list) }
     ensures item { IfErr result (λ refused. refused.item ≡ Some item) }
     ensures why { IfErr result (λ refused. IsRequestWhy refused.why) }

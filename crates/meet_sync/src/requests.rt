@@ -10,12 +10,11 @@ use crate::steps::QueueRef;
 use crate::told::{told_gave, told_offered, told_polled, told_struck, told_took};
 use meet_calls::DualCall;
 use meet_line::{Gave, Interrupted, Line, Offered, Polled, Took};
-use meet_place::{Gate, Pending, Seat};
+use meet_place::{Gate, Ledgers, Pending, Seat};
 use meet_tickets::{Deed, Marked, Refusal, Refused, SeatNo};
 use std::sync::Wait;
-use std::sync::ledger::Ledger;
 
-impl<T: Marked, L: Line<T>, G: Gate, N: Ledger> QueueRef<'_, T, L, G, N> {
+impl<T: Marked, L: Line<T>, G: Gate, N: Ledgers> QueueRef<'_, T, L, G, N> {
     /// Makes a request. Its seat's list grows first, so Memory for it comes before every other refusal; where it waits,
     /// its ending grows nothing.
     pub(crate) fn request<R: Wait>(
@@ -26,6 +25,7 @@ impl<T: Marked, L: Line<T>, G: Gate, N: Ledger> QueueRef<'_, T, L, G, N> {
     ) -> Result<Asked<T, N>, SeatRefused<T, N>>
         ensures asked { IfOk result (λ asked. AskedAs T.mark_of seat request asked) }
         ensures number { IfErr result (λ refused. refused.seat.number ≡ seat.number) }
+        ensures past { IfErr result (λ refused. refused.seat.past ≡ seat.past) }
         ensures list { IfErr result (λ refused. refused.seat.list ≡ seat.list) }
         ensures item { IfErr result (λ refused. refused.item ≡ item_of request) }
         ensures why { IfErr result (λ refused. IsRequestWhy refused.why) }
@@ -55,6 +55,7 @@ impl<T: Marked, L: Line<T>, G: Gate, N: Ledger> QueueRef<'_, T, L, G, N> {
         requires room { 2 ≤ seat.room }
         ensures asked { IfOk result (λ asked. AskedAs T.mark_of seat (Give item) asked) }
         ensures number { IfErr result (λ refused. refused.seat.number ≡ seat.number) }
+        ensures past { IfErr result (λ refused. refused.seat.past ≡ seat.past) }
         ensures list { IfErr result (λ refused. refused.seat.list ≡ seat.list) }
         ensures item { IfErr result (λ refused. refused.item ≡ item_of (Give item)) }
         ensures why { IfErr result (λ refused. IsRequestWhy refused.why) }
@@ -96,6 +97,7 @@ impl<T: Marked, L: Line<T>, G: Gate, N: Ledger> QueueRef<'_, T, L, G, N> {
         requires room { 2 ≤ seat.room }
         ensures asked { IfOk result (λ asked. AskedAs T.mark_of seat (Offer item) asked) }
         ensures number { IfErr result (λ refused. refused.seat.number ≡ seat.number) }
+        ensures past { IfErr result (λ refused. refused.seat.past ≡ seat.past) }
         ensures list { IfErr result (λ refused. refused.seat.list ≡ seat.list) }
         ensures item { IfErr result (λ refused. refused.item ≡ item_of (Offer item)) }
         ensures why { IfErr result (λ refused. IsRequestWhy refused.why) }
@@ -131,6 +133,7 @@ impl<T: Marked, L: Line<T>, G: Gate, N: Ledger> QueueRef<'_, T, L, G, N> {
         requires room { 2 ≤ seat.room }
         ensures asked { IfOk result (λ asked. AskedAs T.mark_of seat Take asked) }
         ensures number { IfErr result (λ refused. refused.seat.number ≡ seat.number) }
+        ensures past { IfErr result (λ refused. refused.seat.past ≡ seat.past) }
         ensures list { IfErr result (λ refused. refused.seat.list ≡ seat.list) }
         ensures item { IfErr result (λ refused. refused.item ≡ item_of Take) }
         ensures why { IfErr result (λ refused. IsRequestWhy refused.why) }
@@ -167,6 +170,7 @@ impl<T: Marked, L: Line<T>, G: Gate, N: Ledger> QueueRef<'_, T, L, G, N> {
         requires room { 2 ≤ seat.room }
         ensures asked { IfOk result (λ asked. AskedAs T.mark_of seat Poll asked) }
         ensures number { IfErr result (λ refused. refused.seat.number ≡ seat.number) }
+        ensures past { IfErr result (λ refused. refused.seat.past ≡ seat.past) }
         ensures list { IfErr result (λ refused. refused.seat.list ≡ seat.list) }
         ensures item { IfErr result (λ refused. refused.item ≡ item_of Poll) }
         ensures why { IfErr result (λ refused. IsRequestWhy refused.why) }
@@ -202,6 +206,7 @@ impl<T: Marked, L: Line<T>, G: Gate, N: Ledger> QueueRef<'_, T, L, G, N> {
     ) -> Result<Struck<N>, SeatRefused<T, N>>
         ensures struck { IfOk result (λ struck. StruckAs seat target struck) }
         ensures number { IfErr result (λ refused. refused.seat.number ≡ seat.number) }
+        ensures past { IfErr result (λ refused. refused.seat.past ≡ seat.past) }
         ensures list { IfErr result (λ refused. refused.seat.list ≡ seat.list) }
         ensures item { IfErr result (λ refused. refused.item ≡ None) }
         ensures why { IfErr result (λ refused. IsInterruptWhy refused.why) }

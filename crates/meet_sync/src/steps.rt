@@ -8,16 +8,15 @@ ghost use Rattle.meet_sync.specs.Told.{IsAnswer, IsEnding, IsRefusalOf, ending_c
 use meet_calls::{DualAnswer, DualCall, QueueAnswer, QueueCall};
 use meet_core::Dual;
 use meet_line::{FairLine, Line};
-use meet_place::{Gate, Pending, Place, Seat, Turn};
+use meet_place::{Gate, Ledgers, Pending, Place, Seat, Turn};
 use meet_tickets::{Deed, Marked, Refused, Ticket};
 use meet_transfer::Unbounded;
 use std::sync::Wait;
-use std::sync::ledger::Ledger;
 use std::time::Clock;
 
 /// A queue that threads share, lent.
 #[derive(Drop)]
-pub(crate) enum QueueRef<'a, T: Marked, L: Line<T>, G, N: Ledger> {
+pub(crate) enum QueueRef<'a, T: Marked, L: Line<T>, G, N: Ledgers> {
     Dual(&'a Place<Dual<T, L>, G, N>),
     Transfer(&'a Place<Unbounded<T>, G, N>),
 }
@@ -66,7 +65,7 @@ fn dual_answer<T>(answer: QueueAnswer<T>) -> DualAnswer<T>
 }
 
 /// One step of a synchronous queue; whom it should wake is woken once the lock is free.
-fn step_dual<T: Marked, L: Line<T>, G: Gate, N: Ledger, R: Wait>(
+fn step_dual<T: Marked, L: Line<T>, G: Gate, N: Ledgers, R: Wait>(
     rt: &R,
     place: &Place<Dual<T, L>, G, N>,
     seat: &mut Seat<Deed, N>,
@@ -74,6 +73,7 @@ fn step_dual<T: Marked, L: Line<T>, G: Gate, N: Ledger, R: Wait>(
 ) -> Result<DualAnswer<T>, Refused<DualCall<T>>>
     requires room { 0 < seat.old.room }
     ensures number { seat.new.number ≡ seat.old.number }
+    ensures past { seat.new.past ≡ seat.old.past }
     ensures room { length seat.new.list + seat.new.room ≡ length seat.old.list + seat.old.room }
     ensures adds { IfOk result (λ answer. Adds seat.old.list seat.new.list
         (option_to_list (dual_record T.mark_of seat.old.number call answer))) }
@@ -92,7 +92,7 @@ fn step_dual<T: Marked, L: Line<T>, G: Gate, N: Ledger, R: Wait>(
 }
 
 /// The same of a transfer queue.
-fn step_transfer<T: Marked, G: Gate, N: Ledger, R: Wait>(
+fn step_transfer<T: Marked, G: Gate, N: Ledgers, R: Wait>(
     rt: &R,
     place: &Place<Unbounded<T>, G, N>,
     seat: &mut Seat<Deed, N>,
@@ -100,6 +100,7 @@ fn step_transfer<T: Marked, G: Gate, N: Ledger, R: Wait>(
 ) -> Result<DualAnswer<T>, Refused<DualCall<T>>>
     requires room { 0 < seat.old.room }
     ensures number { seat.new.number ≡ seat.old.number }
+    ensures past { seat.new.past ≡ seat.old.past }
     ensures room { length seat.new.list + seat.new.room ≡ length seat.old.list + seat.old.room }
     ensures adds { IfOk result (λ answer. Adds seat.old.list seat.new.list
         (option_to_list (dual_record T.mark_of seat.old.number call answer))) }
@@ -124,7 +125,7 @@ fn step_transfer<T: Marked, G: Gate, N: Ledger, R: Wait>(
 }
 
 /// Ends a ticket of a synchronous queue, where the seat awaits it and its item has this mark; else nothing is done.
-fn end_dual<T: Marked, L: Line<T>, G: Gate, N: Ledger, R: Wait>(
+fn end_dual<T: Marked, L: Line<T>, G: Gate, N: Ledgers, R: Wait>(
     rt: &R,
     place: &Place<Dual<T, L>, G, N>,
     seat: &mut Seat<Deed, N>,
@@ -133,6 +134,7 @@ fn end_dual<T: Marked, L: Line<T>, G: Gate, N: Ledger, R: Wait>(
 ) -> Option<DualAnswer<T>>
     requires room { 0 < seat.old.room }
     ensures number { seat.new.number ≡ seat.old.number }
+    ensures past { seat.new.past ≡ seat.old.past }
     ensures room { length seat.new.list + seat.new.room ≡ length seat.old.list + seat.old.room }
     ensures adds { IfSome result (λ answer. Adds seat.old.list seat.new.list
         (option_to_list (dual_record T.mark_of seat.old.number (ending_call ending awaited.0) answer))) }
@@ -152,7 +154,7 @@ fn end_dual<T: Marked, L: Line<T>, G: Gate, N: Ledger, R: Wait>(
 }
 
 /// The same of a transfer queue.
-fn end_transfer<T: Marked, G: Gate, N: Ledger, R: Wait>(
+fn end_transfer<T: Marked, G: Gate, N: Ledgers, R: Wait>(
     rt: &R,
     place: &Place<Unbounded<T>, G, N>,
     seat: &mut Seat<Deed, N>,
@@ -161,6 +163,7 @@ fn end_transfer<T: Marked, G: Gate, N: Ledger, R: Wait>(
 ) -> Option<DualAnswer<T>>
     requires room { 0 < seat.old.room }
     ensures number { seat.new.number ≡ seat.old.number }
+    ensures past { seat.new.past ≡ seat.old.past }
     ensures room { length seat.new.list + seat.new.room ≡ length seat.old.list + seat.old.room }
     ensures adds { IfSome result (λ answer. Adds seat.old.list seat.new.list
         (option_to_list (dual_record T.mark_of seat.old.number (ending_call ending awaited.0) answer))) }
@@ -183,7 +186,7 @@ fn end_transfer<T: Marked, G: Gate, N: Ledger, R: Wait>(
     }
 }
 
-impl<T: Marked, L: Line<T>, G: Gate, N: Ledger> QueueRef<'_, T, L, G, N> {
+impl<T: Marked, L: Line<T>, G: Gate, N: Ledgers> QueueRef<'_, T, L, G, N> {
     /// Makes a call of a seat, whose list has room for its receipt, under one hold of the lock, and wakes whom it
     /// should. It refuses what the queue's book does; then the seat is as it was, and the call comes back.
     pub(crate) fn step<R: Wait>(
@@ -194,6 +197,7 @@ impl<T: Marked, L: Line<T>, G: Gate, N: Ledger> QueueRef<'_, T, L, G, N> {
     ) -> Result<DualAnswer<T>, Refused<DualCall<T>>>
         requires room { 0 < seat.old.room }
         ensures number { seat.new.number ≡ seat.old.number }
+        ensures past { seat.new.past ≡ seat.old.past }
         ensures room { length seat.new.list + seat.new.room ≡ length seat.old.list + seat.old.room }
         ensures adds { IfOk result (λ answer. Adds seat.old.list seat.new.list
             (option_to_list (dual_record T.mark_of seat.old.number call answer))) }
@@ -220,6 +224,7 @@ impl<T: Marked, L: Line<T>, G: Gate, N: Ledger> QueueRef<'_, T, L, G, N> {
     ) -> Option<DualAnswer<T>>
         requires room { 0 < seat.old.room }
         ensures number { seat.new.number ≡ seat.old.number }
+        ensures past { seat.new.past ≡ seat.old.past }
         ensures room { length seat.new.list + seat.new.room ≡ length seat.old.list + seat.old.room }
         ensures adds { IfSome result (λ answer. Adds seat.old.list seat.new.list
             (option_to_list (dual_record T.mark_of seat.old.number (ending_call ending awaited.0) answer))) }

@@ -11,22 +11,21 @@ use crate::asked::{Asked, Ended, FollowedUp, Request, SeatRefused, Struck, Withd
 use crate::steps::QueueRef;
 use meet_core::Dual;
 use meet_line::Line;
-use meet_place::{Gate, Pending, Place, Seat};
+use meet_place::{Gate, Ledgers, Pending, Place, Seat};
 use meet_tickets::{Deed, Marked, SeatNo};
 use std::marker::Model;
 use std::sync::Wait;
-use std::sync::ledger::Ledger;
 use std::time::Clock;
 
 /// `java.util.concurrent.SynchronousQueue` for threads: over a `FairLine` in fair mode, over a `StackLine` in the default
 /// mode. Each thread calls it with a seat of its own, and gets the seat back with the answer. A contract sees the number
 /// of its seats.
 #[derive(Drop)]
-pub struct SyncQueue<T: Marked, L: Line<T>, G, N: Ledger> {
+pub struct SyncQueue<T: Marked, L: Line<T>, G, N: Ledgers> {
     pub(crate) place: Place<Dual<T, L>, G, N>,
 }
 
-impl<T: Marked, L: Line<T>, G, N: Ledger> Model for SyncQueue<T, L, G, N> {
+impl<T: Marked, L: Line<T>, G, N: Ledgers> Model for SyncQueue<T, L, G, N> {
     ghost use Rattle.std.specs.Prelude.{ℕ};
 
     ghost Value = { ℕ };
@@ -34,7 +33,7 @@ impl<T: Marked, L: Line<T>, G, N: Ledger> Model for SyncQueue<T, L, G, N> {
     ghost view = { λ queue. queue.place };
 }
 
-impl<T: Marked, L: Line<T>, G: Gate, N: Ledger> SyncQueue<T, L, G, N> {
+impl<T: Marked, L: Line<T>, G: Gate, N: Ledgers> SyncQueue<T, L, G, N> {
     fn lent(&self) -> QueueRef<'_, T, L, G, N> {
         QueueRef::Dual(&self.place)
     }
@@ -50,6 +49,7 @@ impl<T: Marked, L: Line<T>, G: Gate, N: Ledger> SyncQueue<T, L, G, N> {
     ) -> Result<Asked<T, N>, SeatRefused<T, N>>
         ensures asked { IfOk result (λ asked. AskedAs T.mark_of seat request asked) }
         ensures number { IfErr result (λ refused. refused.seat.number ≡ seat.number) }
+        ensures past { IfErr result (λ refused. refused.seat.past ≡ seat.past) }
         ensures list { IfErr result (λ refused. refused.seat.list ≡ seat.list) }
         ensures item { IfErr result (λ refused. refused.item ≡ item_of request) }
         ensures why { IfErr result (λ refused. IsRequestWhy refused.why) }
@@ -88,6 +88,7 @@ impl<T: Marked, L: Line<T>, G: Gate, N: Ledger> SyncQueue<T, L, G, N> {
     ) -> Result<Struck<N>, SeatRefused<T, N>>
         ensures struck { IfOk result (λ struck. StruckAs seat target struck) }
         ensures number { IfErr result (λ refused. refused.seat.number ≡ seat.number) }
+        ensures past { IfErr result (λ refused. refused.seat.past ≡ seat.past) }
         ensures list { IfErr result (λ refused. refused.seat.list ≡ seat.list) }
         ensures item { IfErr result (λ refused. refused.item ≡ None) }
         ensures why { IfErr result (λ refused. IsInterruptWhy refused.why) }
@@ -104,6 +105,7 @@ impl<T: Marked, L: Line<T>, G: Gate, N: Ledger> SyncQueue<T, L, G, N> {
     ) -> Result<Ended<T, N>, SeatRefused<T, N>>
         ensures ended { IfOk result (λ ended. EndedAs ⊥ T.mark_of seat (Give item) ended) }
         ensures number { IfErr result (λ refused. refused.seat.number ≡ seat.number) }
+        ensures past { IfErr result (λ refused. refused.seat.past ≡ seat.past) }
         ensures list { IfErr result (λ refused. refused.seat.list ≡ seat.list) }
         ensures item { IfErr result (λ refused. refused.item ≡ item_of (Give item)) }
         ensures why { IfErr result (λ refused. IsRequestWhy refused.why) }
@@ -119,6 +121,7 @@ impl<T: Marked, L: Line<T>, G: Gate, N: Ledger> SyncQueue<T, L, G, N> {
     ) -> Result<Ended<T, N>, SeatRefused<T, N>>
         ensures ended { IfOk result (λ ended. EndedAs ⊥ T.mark_of seat Take ended) }
         ensures number { IfErr result (λ refused. refused.seat.number ≡ seat.number) }
+        ensures past { IfErr result (λ refused. refused.seat.past ≡ seat.past) }
         ensures list { IfErr result (λ refused. refused.seat.list ≡ seat.list) }
         ensures item { IfErr result (λ refused. refused.item ≡ item_of Take) }
         ensures why { IfErr result (λ refused. IsRequestWhy refused.why) }
@@ -135,6 +138,7 @@ impl<T: Marked, L: Line<T>, G: Gate, N: Ledger> SyncQueue<T, L, G, N> {
     ) -> Result<Ended<T, N>, SeatRefused<T, N>>
         ensures ended { IfOk result (λ ended. EndedAs ⊥ T.mark_of seat (Offer item) ended) }
         ensures number { IfErr result (λ refused. refused.seat.number ≡ seat.number) }
+        ensures past { IfErr result (λ refused. refused.seat.past ≡ seat.past) }
         ensures list { IfErr result (λ refused. refused.seat.list ≡ seat.list) }
         ensures item { IfErr result (λ refused. refused.item ≡ item_of (Offer item)) }
         ensures why { IfErr result (λ refused. IsRequestWhy refused.why) }
@@ -150,6 +154,7 @@ impl<T: Marked, L: Line<T>, G: Gate, N: Ledger> SyncQueue<T, L, G, N> {
     ) -> Result<Ended<T, N>, SeatRefused<T, N>>
         ensures ended { IfOk result (λ ended. EndedAs ⊥ T.mark_of seat Poll ended) }
         ensures number { IfErr result (λ refused. refused.seat.number ≡ seat.number) }
+        ensures past { IfErr result (λ refused. refused.seat.past ≡ seat.past) }
         ensures list { IfErr result (λ refused. refused.seat.list ≡ seat.list) }
         ensures item { IfErr result (λ refused. refused.item ≡ item_of Poll) }
         ensures why { IfErr result (λ refused. IsRequestWhy refused.why) }
@@ -168,6 +173,7 @@ impl<T: Marked, L: Line<T>, G: Gate, N: Ledger> SyncQueue<T, L, G, N> {
         ensures now { limit ≡ 0 → IfOk result (λ ended. EndedAs ⊥ T.mark_of seat (Offer item) ended) }
         ensures timed { 0 < limit → IfOk result (λ ended. EndedAs ⊤ T.mark_of seat (Give item) ended) }
         ensures number { IfErr result (λ refused. refused.seat.number ≡ seat.number) }
+        ensures past { IfErr result (λ refused. refused.seat.past ≡ seat.past) }
         ensures list { IfErr result (λ refused. refused.seat.list ≡ seat.list) }
         ensures item { IfErr result (λ refused. refused.item ≡ item_of (Give item)) }
         ensures why { IfErr result (λ refused. IsRequestWhy refused.why) }
@@ -185,6 +191,7 @@ impl<T: Marked, L: Line<T>, G: Gate, N: Ledger> SyncQueue<T, L, G, N> {
         ensures now { limit ≡ 0 → IfOk result (λ ended. EndedAs ⊥ T.mark_of seat Poll ended) }
         ensures timed { 0 < limit → IfOk result (λ ended. EndedAs ⊤ T.mark_of seat Take ended) }
         ensures number { IfErr result (λ refused. refused.seat.number ≡ seat.number) }
+        ensures past { IfErr result (λ refused. refused.seat.past ≡ seat.past) }
         ensures list { IfErr result (λ refused. refused.seat.list ≡ seat.list) }
         ensures item { IfErr result (λ refused. refused.item ≡ item_of Take) }
         ensures why { IfErr result (λ refused. IsRequestWhy refused.why) }

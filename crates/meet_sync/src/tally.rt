@@ -1,34 +1,51 @@
-//! What a chronicle tells of the items that were given.
+//! What a chronicle tells of its tickets, and of the items that were given.
 
-ghost use Rattle.std.specs.Prelude.{◌≡◌};
-ghost use Rattle.meet_sync.specs.Chronicles.{meets, delivered_in};
+ghost use Rattle.std.specs.Prelude.{◌≡◌, ℕ, ◌++◌, None, List, IfOk, IfErr};
+ghost use Rattle.meet_tickets.specs.Fates.{opening, fate_on};
+ghost use Rattle.meet_tickets.specs.declared.places.Kind.{Kind};
+ghost use Rattle.meet_tickets.specs.declared.records.Deed.{Deed};
+ghost use Rattle.meet_tickets.specs.Refusals.{IsWhy};
+ghost use Rattle.meet_book.specs.Received.{Received};
+ghost use Rattle.meet_laws.specs.Erasing.{erase, IsErased};
+ghost use Rattle.meet_laws.specs.Tally.{met_on, tally_in};
+ghost use Rattle.meet_sync.specs.Chronicles.{IsChronicle, erase_refusal};
 
 use crate::closing::Chronicle;
-use meet_tickets::Deed;
-
-/// What became of the items that were given, by number.
-#[derive(Clone, Copy, PartialEq, Eq, Debug)]
-pub struct Tally {
-    /// How many were handed over to a taker.
-    pub delivered: u64,
-}
-
-/// Whether a record says that its request met somebody.
-fn meets(deed: &Deed) -> bool
-    ensures { result ≡ meets deed.now }
-{
-    matches!(deed, Deed::GiveMeets(_, _) | Deed::TakeMeets(_, _))
-}
+use meet_laws::{Tally, erase, fate, reckon};
+use meet_tickets::{Deed, Fate, Record, Refusal, Ticket};
+use std::alloc::Global;
 
 impl<T> Chronicle<T> {
-    /// What became of the items that were given. Each that was handed over has one record that says so: that of the
-    /// request which met the other. It takes no memory, and reads each record once.
-    pub fn laws(&self) -> Tally
-        ensures delivered { result.delivered ≡ delivered_in self.now.records.items }
+    /// The fate of a ticket. It takes no memory, and reads each record once.
+    pub fn fate(&self, ticket: Ticket) -> Fate
+        ensures { result ≡ fate_on self.now.base self.now.records.items ticket }
     {
-        let meetings = self.records.iter().filter(|record| meets(&record.deed));
-        Tally {
-            delivered: meetings.count() as u64,
+        fate(&self.base, self.records.as_slice(), ticket)
+    }
+
+    /// Where the items are that were given, by number. It takes no memory, and reads each record a few times.
+    pub fn laws(&self) -> Tally
+        ensures delivered { result.delivered ≡ met_on self.now.base self.now.records.items }
+        ensures tally { (kind : Kind) → (mark : T → ℕ) → (lists : List (List (Received Deed)))
+            → IsChronicle mark kind self.now.base self.now.records.items lists self.now.left.items
+            → result ≡ tally_in (opening self.now.base ++ self.now.records.items) }
+    {
+        reckon(&self.base, self.records.as_slice(), self.left.as_slice())
+    }
+
+    /// The records that are left without those of tickets that were cut or taken back, the interrupts, and the requests
+    /// that were refused at their entry. It refuses HasBase exactly where records were folded away, else Memory.
+    pub fn erased(&self, alloc: Global) -> Result<Vec<Record<Deed>>, Refusal>
+        ensures erased { IfOk result (λ left. left.items ≡ erase self.now.records.items) }
+        ensures legal { (kind : Kind) → (mark : T → ℕ) → (lists : List (List (Received Deed)))
+            → IsChronicle mark kind self.now.base self.now.records.items lists self.now.left.items
+            → self.now.base.gone ≡ 0 → IsErased kind self.now.records.items }
+        ensures admitted { IfOk result (λ _. erase_refusal self.now.base.gone ≡ None) }
+        ensures why { IfErr result (IsWhy (erase_refusal self.now.base.gone)) }
+    {
+        if self.base.gone > 0 {
+            return Err(Refusal::HasBase);
         }
+        erase(alloc, self.records.as_slice())
     }
 }

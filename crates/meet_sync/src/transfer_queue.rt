@@ -11,22 +11,21 @@ use crate::asked::{Asked, Ended, FollowedUp, Request, SeatRefused, Struck, Withd
 use crate::putting::put_item;
 use crate::steps::QueueRef;
 use meet_line::FairLine;
-use meet_place::{Gate, Pending, Place, Seat};
+use meet_place::{Gate, Ledgers, Pending, Place, Seat};
 use meet_tickets::{Deed, Marked, SeatNo};
 use meet_transfer::Unbounded;
 use std::marker::Model;
 use std::sync::Wait;
-use std::sync::ledger::Ledger;
 use std::time::Clock;
 
 /// `java.util.concurrent.LinkedTransferQueue` for threads. Each thread calls it with a seat of its own, and gets the seat
 /// back with the answer. A contract sees the number of its seats.
 #[derive(Drop)]
-pub struct TransferQueue<T: Marked, G, N: Ledger> {
+pub struct TransferQueue<T: Marked, G, N: Ledgers> {
     pub(crate) place: Place<Unbounded<T>, G, N>,
 }
 
-impl<T: Marked, G, N: Ledger> Model for TransferQueue<T, G, N> {
+impl<T: Marked, G, N: Ledgers> Model for TransferQueue<T, G, N> {
     ghost use Rattle.std.specs.Prelude.{ℕ};
 
     ghost Value = { ℕ };
@@ -34,7 +33,7 @@ impl<T: Marked, G, N: Ledger> Model for TransferQueue<T, G, N> {
     ghost view = { λ queue. queue.place };
 }
 
-impl<T: Marked, G: Gate, N: Ledger> TransferQueue<T, G, N> {
+impl<T: Marked, G: Gate, N: Ledgers> TransferQueue<T, G, N> {
     fn lent(&self) -> QueueRef<'_, T, FairLine<T>, G, N> {
         QueueRef::Transfer(&self.place)
     }
@@ -50,6 +49,7 @@ impl<T: Marked, G: Gate, N: Ledger> TransferQueue<T, G, N> {
     ) -> Result<Asked<T, N>, SeatRefused<T, N>>
         ensures asked { IfOk result (λ asked. AskedAs T.mark_of seat request asked) }
         ensures number { IfErr result (λ refused. refused.seat.number ≡ seat.number) }
+        ensures past { IfErr result (λ refused. refused.seat.past ≡ seat.past) }
         ensures list { IfErr result (λ refused. refused.seat.list ≡ seat.list) }
         ensures item { IfErr result (λ refused. refused.item ≡ item_of request) }
         ensures why { IfErr result (λ refused. IsRequestWhy refused.why) }
@@ -88,6 +88,7 @@ impl<T: Marked, G: Gate, N: Ledger> TransferQueue<T, G, N> {
     ) -> Result<Struck<N>, SeatRefused<T, N>>
         ensures struck { IfOk result (λ struck. StruckAs seat target struck) }
         ensures number { IfErr result (λ refused. refused.seat.number ≡ seat.number) }
+        ensures past { IfErr result (λ refused. refused.seat.past ≡ seat.past) }
         ensures list { IfErr result (λ refused. refused.seat.list ≡ seat.list) }
         ensures item { IfErr result (λ refused. refused.item ≡ None) }
         ensures why { IfErr result (λ refused. IsInterruptWhy refused.why) }
@@ -105,6 +106,7 @@ impl<T: Marked, G: Gate, N: Ledger> TransferQueue<T, G, N> {
     ) -> Result<Ended<T, N>, SeatRefused<T, N>>
         ensures ended { IfOk result (λ ended. PutAs T.mark_of seat item ended) }
         ensures number { IfErr result (λ refused. refused.seat.number ≡ seat.number) }
+        ensures past { IfErr result (λ refused. refused.seat.past ≡ seat.past) }
         ensures list { IfErr result (λ refused. refused.seat.list ≡ seat.list) }
         ensures item { IfErr result (λ refused. refused.item ≡ Some item) }
         ensures why { IfErr result (λ refused. IsRequestWhy refused.why) }
@@ -121,6 +123,7 @@ impl<T: Marked, G: Gate, N: Ledger> TransferQueue<T, G, N> {
     ) -> Result<Ended<T, N>, SeatRefused<T, N>>
         ensures ended { IfOk result (λ ended. PutAs T.mark_of seat item ended) }
         ensures number { IfErr result (λ refused. refused.seat.number ≡ seat.number) }
+        ensures past { IfErr result (λ refused. refused.seat.past ≡ seat.past) }
         ensures list { IfErr result (λ refused. refused.seat.list ≡ seat.list) }
         ensures item { IfErr result (λ refused. refused.item ≡ Some item) }
         ensures why { IfErr result (λ refused. IsRequestWhy refused.why) }
@@ -138,6 +141,7 @@ impl<T: Marked, G: Gate, N: Ledger> TransferQueue<T, G, N> {
     ) -> Result<Ended<T, N>, SeatRefused<T, N>>
         ensures ended { IfOk result (λ ended. PutAs T.mark_of seat item ended) }
         ensures number { IfErr result (λ refused. refused.seat.number ≡ seat.number) }
+        ensures past { IfErr result (λ refused. refused.seat.past ≡ seat.past) }
         ensures list { IfErr result (λ refused. refused.seat.list ≡ seat.list) }
         ensures item { IfErr result (λ refused. refused.item ≡ Some item) }
         ensures why { IfErr result (λ refused. IsRequestWhy refused.why) }
@@ -154,6 +158,7 @@ impl<T: Marked, G: Gate, N: Ledger> TransferQueue<T, G, N> {
     ) -> Result<Ended<T, N>, SeatRefused<T, N>>
         ensures ended { IfOk result (λ ended. EndedAs ⊥ T.mark_of seat (Give item) ended) }
         ensures number { IfErr result (λ refused. refused.seat.number ≡ seat.number) }
+        ensures past { IfErr result (λ refused. refused.seat.past ≡ seat.past) }
         ensures list { IfErr result (λ refused. refused.seat.list ≡ seat.list) }
         ensures item { IfErr result (λ refused. refused.item ≡ item_of (Give item)) }
         ensures why { IfErr result (λ refused. IsRequestWhy refused.why) }
@@ -170,6 +175,7 @@ impl<T: Marked, G: Gate, N: Ledger> TransferQueue<T, G, N> {
     ) -> Result<Ended<T, N>, SeatRefused<T, N>>
         ensures ended { IfOk result (λ ended. EndedAs ⊥ T.mark_of seat (Offer item) ended) }
         ensures number { IfErr result (λ refused. refused.seat.number ≡ seat.number) }
+        ensures past { IfErr result (λ refused. refused.seat.past ≡ seat.past) }
         ensures list { IfErr result (λ refused. refused.seat.list ≡ seat.list) }
         ensures item { IfErr result (λ refused. refused.item ≡ item_of (Offer item)) }
         ensures why { IfErr result (λ refused. IsRequestWhy refused.why) }
@@ -189,6 +195,7 @@ impl<T: Marked, G: Gate, N: Ledger> TransferQueue<T, G, N> {
         ensures now { limit ≡ 0 → IfOk result (λ ended. EndedAs ⊥ T.mark_of seat (Offer item) ended) }
         ensures timed { 0 < limit → IfOk result (λ ended. EndedAs ⊤ T.mark_of seat (Give item) ended) }
         ensures number { IfErr result (λ refused. refused.seat.number ≡ seat.number) }
+        ensures past { IfErr result (λ refused. refused.seat.past ≡ seat.past) }
         ensures list { IfErr result (λ refused. refused.seat.list ≡ seat.list) }
         ensures item { IfErr result (λ refused. refused.item ≡ item_of (Give item)) }
         ensures why { IfErr result (λ refused. IsRequestWhy refused.why) }
@@ -204,6 +211,7 @@ impl<T: Marked, G: Gate, N: Ledger> TransferQueue<T, G, N> {
     ) -> Result<Ended<T, N>, SeatRefused<T, N>>
         ensures ended { IfOk result (λ ended. EndedAs ⊥ T.mark_of seat Take ended) }
         ensures number { IfErr result (λ refused. refused.seat.number ≡ seat.number) }
+        ensures past { IfErr result (λ refused. refused.seat.past ≡ seat.past) }
         ensures list { IfErr result (λ refused. refused.seat.list ≡ seat.list) }
         ensures item { IfErr result (λ refused. refused.item ≡ item_of Take) }
         ensures why { IfErr result (λ refused. IsRequestWhy refused.why) }
@@ -219,6 +227,7 @@ impl<T: Marked, G: Gate, N: Ledger> TransferQueue<T, G, N> {
     ) -> Result<Ended<T, N>, SeatRefused<T, N>>
         ensures ended { IfOk result (λ ended. EndedAs ⊥ T.mark_of seat Poll ended) }
         ensures number { IfErr result (λ refused. refused.seat.number ≡ seat.number) }
+        ensures past { IfErr result (λ refused. refused.seat.past ≡ seat.past) }
         ensures list { IfErr result (λ refused. refused.seat.list ≡ seat.list) }
         ensures item { IfErr result (λ refused. refused.item ≡ item_of Poll) }
         ensures why { IfErr result (λ refused. IsRequestWhy refused.why) }
@@ -236,6 +245,7 @@ impl<T: Marked, G: Gate, N: Ledger> TransferQueue<T, G, N> {
         ensures now { limit ≡ 0 → IfOk result (λ ended. EndedAs ⊥ T.mark_of seat Poll ended) }
         ensures timed { 0 < limit → IfOk result (λ ended. EndedAs ⊤ T.mark_of seat Take ended) }
         ensures number { IfErr result (λ refused. refused.seat.number ≡ seat.number) }
+        ensures past { IfErr result (λ refused. refused.seat.past ≡ seat.past) }
         ensures list { IfErr result (λ refused. refused.seat.list ≡ seat.list) }
         ensures item { IfErr result (λ refused. refused.item ≡ item_of Take) }
         ensures why { IfErr result (λ refused. IsRequestWhy refused.why) }

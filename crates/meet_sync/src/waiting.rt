@@ -4,13 +4,12 @@
 use crate::sync_queue::SyncQueue;
 use crate::transfer_queue::TransferQueue;
 use meet_line::Line;
-use meet_place::{Gate, Pending, Turn};
+use meet_place::{Gate, Ledgers, Pending, Turn};
 use meet_tickets::{Deed, Marked, SeatNo};
 use std::sync::Wait;
-use std::sync::ledger::Ledger;
 use std::time::Clock;
 
-impl<T: Marked, L: Line<T>, G: Gate, N: Ledger> SyncQueue<T, L, G, N> {
+impl<T: Marked, L: Line<T>, G: Gate, N: Ledgers> SyncQueue<T, L, G, N> {
     /// Waits at the gate of this seat, for this many milliseconds where there is a limit: `LockSupport.park`, `parkNanos`.
     /// The gate is woken once the ticket is met or cut.
     pub fn wait<R: Wait + Clock>(
@@ -29,7 +28,7 @@ impl<T: Marked, L: Line<T>, G: Gate, N: Ledger> SyncQueue<T, L, G, N> {
     }
 }
 
-impl<T: Marked, G: Gate, N: Ledger> TransferQueue<T, G, N> {
+impl<T: Marked, G: Gate, N: Ledgers> TransferQueue<T, G, N> {
     /// Waits at the gate of this seat, for this many milliseconds where there is a limit: `LockSupport.park`, `parkNanos`.
     /// The gate is woken once the ticket is met or cut.
     pub fn wait<R: Wait + Clock>(

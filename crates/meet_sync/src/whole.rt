@@ -10,13 +10,12 @@ use crate::asked::{Asked, End, Ended, FollowedUp, Request, SeatRefused, Withdraw
 use crate::deadline::Deadline;
 use crate::steps::QueueRef;
 use meet_line::Line;
-use meet_place::{Gate, Pending, Seat, Turn};
+use meet_place::{Gate, Ledgers, Pending, Seat, Turn};
 use meet_tickets::{Deed, Marked};
 use std::sync::Wait;
-use std::sync::ledger::Ledger;
 use std::time::Clock;
 
-impl<T: Marked, L: Line<T>, G: Gate, N: Ledger> QueueRef<'_, T, L, G, N> {
+impl<T: Marked, L: Line<T>, G: Gate, N: Ledgers> QueueRef<'_, T, L, G, N> {
     /// Follows an open ticket up: how it ended, or the ticket as it was.
     fn look<R: Wait>(
         &self,
@@ -116,6 +115,7 @@ impl<T: Marked, L: Line<T>, G: Gate, N: Ledger> QueueRef<'_, T, L, G, N> {
     ) -> Result<Ended<T, N>, SeatRefused<T, N>>
         ensures ended { IfOk result (λ ended. EndedAs ⊥ T.mark_of seat request ended) }
         ensures number { IfErr result (λ refused. refused.seat.number ≡ seat.number) }
+        ensures past { IfErr result (λ refused. refused.seat.past ≡ seat.past) }
         ensures list { IfErr result (λ refused. refused.seat.list ≡ seat.list) }
         ensures item { IfErr result (λ refused. refused.item ≡ item_of request) }
         ensures why { IfErr result (λ refused. IsRequestWhy refused.why) }
@@ -143,6 +143,7 @@ impl<T: Marked, L: Line<T>, G: Gate, N: Ledger> QueueRef<'_, T, L, G, N> {
     ) -> Result<Ended<T, N>, SeatRefused<T, N>>
         ensures ended { IfOk result (λ ended. EndedAs ⊤ T.mark_of seat request ended) }
         ensures number { IfErr result (λ refused. refused.seat.number ≡ seat.number) }
+        ensures past { IfErr result (λ refused. refused.seat.past ≡ seat.past) }
         ensures list { IfErr result (λ refused. refused.seat.list ≡ seat.list) }
         ensures item { IfErr result (λ refused. refused.item ≡ item_of request) }
         ensures why { IfErr result (λ refused. IsRequestWhy refused.why) }
@@ -171,6 +172,7 @@ impl<T: Marked, L: Line<T>, G: Gate, N: Ledger> QueueRef<'_, T, L, G, N> {
         ensures now { limit ≡ 0 → IfOk result (λ ended. EndedAs ⊥ T.mark_of seat (Offer item) ended) }
         ensures timed { 0 < limit → IfOk result (λ ended. EndedAs ⊤ T.mark_of seat (Give item) ended) }
         ensures number { IfErr result (λ refused. refused.seat.number ≡ seat.number) }
+        ensures past { IfErr result (λ refused. refused.seat.past ≡ seat.past) }
         ensures list { IfErr result (λ refused. refused.seat.list ≡ seat.list) }
         ensures item { IfErr result (λ refused. refused.item ≡ item_of (Give item)) }
         ensures why { IfErr result (λ refused. IsRequestWhy refused.why) }
@@ -191,6 +193,7 @@ impl<T: Marked, L: Line<T>, G: Gate, N: Ledger> QueueRef<'_, T, L, G, N> {
         ensures now { limit ≡ 0 → IfOk result (λ ended. EndedAs ⊥ T.mark_of seat Poll ended) }
         ensures timed { 0 < limit → IfOk result (λ ended. EndedAs ⊤ T.mark_of seat Take ended) }
         ensures number { IfErr result (λ refused. refused.seat.number ≡ seat.number) }
+        ensures past { IfErr result (λ refused. refused.seat.past ≡ seat.past) }
         ensures list { IfErr result (λ refused. refused.seat.list ≡ seat.list) }
         ensures item { IfErr result (λ refused. refused.item ≡ item_of Take) }
         ensures why { IfErr result (λ refused. IsRequestWhy refused.why) }

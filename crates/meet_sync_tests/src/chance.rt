@@ -2,17 +2,17 @@
 //! history, which has each recorded call of each thread once.
 
 ghost use Rattle.std.specs.Prelude.{◌≡◌, vec_len};
+ghost use Rattle.meet_place.specs.Ledgers.{AreOf};
 
 use crate::plays::ended;
 use meet_history::{Kind, Order, check};
 use meet_shop::{Ask, Chance, Idle, Shop, Told, gates, keep};
-use meet_sync::{Back, Chronicle, NewQueue, Seat};
-use meet_tickets::Deed;
+use meet_sync::{Back, Blanks, Chronicle, Ledgers, NewQueue, Seat};
+use meet_tickets::{Base, Deed};
 use std::alloc::Global;
 use std::marker::Brand;
 use std::process::Abort;
 use std::sync::Wait;
-use std::sync::ledger::{Blank, Ledger};
 use std::test::*;
 use std::thread;
 use std::thread::Threads;
@@ -45,7 +45,7 @@ fn request(chance: &mut Chance, seats: u64, item: u64) -> Ask {
 }
 
 /// A seat makes so many calls of chance: how many were recorded.
-fn walk<N: Ledger, R: Wait>(
+fn walk<N: Ledgers, R: Wait>(
     rt: &R,
     shop: &Shop<Idle, N>,
     first: Back<Deed, N>,
@@ -72,7 +72,7 @@ fn walk<N: Ledger, R: Wait>(
 }
 
 /// The seats, and how many of their calls were recorded in all.
-fn summed<N: Ledger>(
+fn summed<N: Ledgers>(
     alloc: Global,
     walked: Vec<(Back<Deed, N>, u64)>,
 ) -> Result<(Vec<Back<Deed, N>>, u64), &'static str> {
@@ -86,7 +86,7 @@ fn summed<N: Ledger>(
 }
 
 /// Each seat makes its calls in a thread of its own.
-fn walk_all<N: Ledger + Send + Sync, R: Threads + Wait + Sync>(
+fn walk_all<N: Ledgers + Send + Sync, R: Threads + Wait + Sync>(
     rt: &R,
     alloc: Global,
     shop: &Shop<Idle, N>,
@@ -104,7 +104,7 @@ fn walk_all<N: Ledger + Send + Sync, R: Threads + Wait + Sync>(
 }
 
 /// How many seats have an open ticket.
-fn held<N: Ledger>(backs: &[Back<Deed, N>]) -> u64 {
+fn held<N: Ledgers>(backs: &[Back<Deed, N>]) -> u64 {
     let mut held = 0u64;
     for back in backs {
         if let Back::Held(_) = back {
@@ -122,15 +122,14 @@ struct Walked {
 }
 
 /// A shop is made, its seats make their calls, and it is closed.
-fn walking<N: Ledger + Send + Sync, R: Threads + Wait + Sync>(
+fn walking<N: Ledgers + Send + Sync, R: Threads + Wait + Sync>(
     rt: &R,
     alloc: Global,
     order: Order,
     parts: NewQueue<Idle>,
 ) -> Result<Walked, &'static str>
-    requires name { parts.blank.name ≡ N.name }
-    requires parts { parts.blank.parts ≡ N.parts }
-    requires one_each { parts.blank.parts ≡ vec_len parts.gates }
+    requires ledgers { AreOf N.name N.folds N.parts parts.blanks }
+    requires one_each { N.parts ≡ vec_len parts.gates }
 {
     let (shop, made) = match Shop::<Idle, N>::with_cap(alloc, order, parts, 1_048_576) {
         Ok(made) => made,
@@ -161,8 +160,8 @@ fn wanders<R: Abort + Threads + Wait + Sync>(
     threads: u64,
 ) -> Result<(), Fail> {
     let gates = gates::<Idle>(alloc, threads)?;
-    let blank = Blank::new(gates.len() as u64);
-    let parts = NewQueue { gates, blank };
+    let blanks = Blanks::new(gates.len() as u64);
+    let parts = NewQueue { gates, blanks };
     let Walked {
         chronicle,
         recorded,
@@ -170,7 +169,12 @@ fn wanders<R: Abort + Threads + Wait + Sync>(
     } = walking::<Brand, _>(rt, alloc, order, parts)?;
     let records = chronicle.records.as_slice();
     assert_eq!(rt; records.len() as u64, recorded);
-    let standing = match check(alloc, Kind { order, bound: None }, records) {
+    let standing = match check(
+        alloc,
+        Kind { order, bound: None },
+        &Base::empty(alloc),
+        records,
+    ) {
         Ok(standing) => standing,
         Err(_) => return Err("the records aren't legal".into()),
     };

@@ -1,17 +1,17 @@
 //! How queues end: without a seat and then with it, with tickets open, and with items left.
 
 ghost use Rattle.std.specs.Prelude.{◌≡◌, vec_len};
+ghost use Rattle.meet_place.specs.Ledgers.{AreOf};
 
 use crate::plays::{Found, Seats, Story, ask_all, ended, given, play, seated, tells};
 use meet_history::{Order, Standing};
 use meet_shop::{Ask, Idle, Open, Row, Shop, Told, gates, keep};
-use meet_sync::{Back, Chronicle, LeftStanding, NewQueue};
+use meet_sync::{Back, Blanks, Chronicle, Ledgers, LeftStanding, NewQueue};
 use meet_tickets::Deed;
 use std::alloc::Global;
 use std::marker::Brand;
 use std::process::Abort;
 use std::sync::Wait;
-use std::sync::ledger::{Blank, Ledger};
 use std::test::*;
 
 /// A taker that waited was met and hasn't collected, another has; a giver was cut; and three givers wait.
@@ -132,7 +132,7 @@ struct Late {
 }
 
 /// A shop is closed without a seat, and then with it.
-fn closed_late<N: Ledger>(
+fn closed_late<N: Ledgers>(
     alloc: Global,
     shop: Shop<Idle, N>,
     backs: Vec<Back<Deed, N>>,
@@ -162,7 +162,7 @@ fn closed_late<N: Ledger>(
 }
 
 /// The same, where the last seat is the one that comes late.
-fn last_is_late<N: Ledger>(
+fn last_is_late<N: Ledgers>(
     alloc: Global,
     shop: Shop<Idle, N>,
     first: Seats<N>,
@@ -182,15 +182,14 @@ fn last_is_late<N: Ledger>(
 }
 
 /// A shop is made, its seats ask, and it is closed so.
-fn falls_short<N: Ledger, R: Abort + Wait>(
+fn falls_short<N: Ledgers, R: Abort + Wait>(
     rt: &R,
     alloc: Global,
     parts: NewQueue<Idle>,
     story: Story<'_>,
 ) -> Result<Late, &'static str>
-    requires name { parts.blank.name ≡ N.name }
-    requires parts { parts.blank.parts ≡ N.parts }
-    requires one_each { parts.blank.parts ≡ vec_len parts.gates }
+    requires ledgers { AreOf N.name N.folds N.parts parts.blanks }
+    requires one_each { N.parts ≡ vec_len parts.gates }
 {
     let (shop, made) = match Shop::<Idle, N>::with_cap(alloc, story.order, parts, story.cap) {
         Ok(made) => made,
@@ -222,8 +221,8 @@ fn seat_is_missing<R: Abort + Wait>(rt: &R, alloc: Global, order: Order) -> Resu
         left: &[(2, 5, LeftStanding::Ready)],
     };
     let gates = gates::<Idle>(alloc, story.seats)?;
-    let blank = Blank::new(gates.len() as u64);
-    let parts = NewQueue { gates, blank };
+    let blanks = Blanks::new(gates.len() as u64);
+    let parts = NewQueue { gates, blanks };
     let Late {
         have,
         made,

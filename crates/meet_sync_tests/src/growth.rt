@@ -2,21 +2,21 @@
 //! `bin/refuse` runs these tests with each allocation refused in turn.
 
 ghost use Rattle.std.specs.Prelude.{◌≡◌, vec_len, IfErr};
+ghost use Rattle.meet_place.specs.Ledgers.{AreOf};
 
-use crate::plays::{Found, ended, has};
+use crate::plays::{Found, checkpoint, ended, has};
 use meet_cells::ParkGate;
 use meet_history::{Kind, Order, check};
 use meet_shop::{Ask, Came, Shop, Told, gates};
 use meet_sync::{
-    Back, Chronicle, DrainedItems, LeftStanding, NewQueue, QueueFault, Seat, SeatRefused,
-    SyncQueue, TransferQueue,
+    Back, Blanks, Chronicle, DrainedItems, Ledgers, LeftStanding, NewQueue, QueueFault, Seat,
+    SeatRefused, SyncQueue, TransferQueue,
 };
-use meet_tickets::{Deed, Refusal, Refused};
+use meet_tickets::{Base, Deed, Refusal, Refused};
 use std::alloc::Global;
 use std::marker::Brand;
 use std::process::Abort;
 use std::sync::Wait;
-use std::sync::ledger::{Blank, Ledger};
 use std::test::*;
 
 /// A seat's turn: how often it asks this, and what it is told each time.
@@ -35,15 +35,14 @@ struct Day<'a> {
 }
 
 /// A shop of this order, with at most so many records, or as many as a new one, and its seats.
-fn shop<N: Ledger>(
+fn shop<N: Ledgers>(
     alloc: Global,
     order: Order,
     cap: Option<u64>,
     parts: NewQueue<ParkGate>,
 ) -> Result<(Shop<ParkGate, N>, Vec<Seat<Deed, N>>), Refused<NewQueue<ParkGate>>>
-    requires name { parts.blank.name ≡ N.name }
-    requires parts { parts.blank.parts ≡ N.parts }
-    requires one_each { parts.blank.parts ≡ vec_len parts.gates }
+    requires ledgers { AreOf N.name N.folds N.parts parts.blanks }
+    requires one_each { N.parts ≡ vec_len parts.gates }
     ensures back { IfErr result (λ refused. refused.back ≡ parts) }
 {
     if let Some(cap) = cap {
@@ -59,16 +58,15 @@ fn shop<N: Ledger>(
     }
 }
 
-/// The same, at the second try where there was no memory at first: then the gates and the blank ledger came back.
-fn made<N: Ledger>(
+/// The same, at the second try where there was no memory at first: then the gates and the blank ledgers came back.
+fn made<N: Ledgers>(
     rt: &impl Abort,
     alloc: Global,
     parts: NewQueue<ParkGate>,
     day: Day<'_>,
 ) -> (Shop<ParkGate, N>, Vec<Seat<Deed, N>>)
-    requires name { parts.blank.name ≡ N.name }
-    requires parts { parts.blank.parts ≡ N.parts }
-    requires one_each { parts.blank.parts ≡ vec_len parts.gates }
+    requires ledgers { AreOf N.name N.folds N.parts parts.blanks }
+    requires one_each { N.parts ≡ vec_len parts.gates }
 {
     let count = parts.gates.len();
     match shop::<N>(alloc, day.order, day.cap, parts) {
@@ -93,7 +91,7 @@ fn brought(ask: Ask) -> Option<u64> {
 }
 
 /// A seat asks, once more where there was no memory: then the seat and the item came back as they were.
-fn bears<N: Ledger, R: Abort + Wait>(
+fn bears<N: Ledgers, R: Abort + Wait>(
     rt: &R,
     shop: &Shop<ParkGate, N>,
     seat: Back<Deed, N>,
@@ -109,7 +107,7 @@ fn bears<N: Ledger, R: Abort + Wait>(
 }
 
 /// A seat has its turn.
-fn takes_turn<N: Ledger, R: Abort + Wait>(
+fn takes_turn<N: Ledgers, R: Abort + Wait>(
     rt: &R,
     shop: &Shop<ParkGate, N>,
     seat: Seat<Deed, N>,
@@ -126,7 +124,7 @@ fn takes_turn<N: Ledger, R: Abort + Wait>(
 }
 
 /// A seat drains a shop of up to two items.
-fn drain<N: Ledger, R: Wait>(
+fn drain<N: Ledgers, R: Wait>(
     rt: &R,
     alloc: Global,
     shop: &Shop<ParkGate, N>,
@@ -141,7 +139,7 @@ fn drain<N: Ledger, R: Wait>(
 
 /// A seat that has no receipt drains these items, at the second try where there was no memory at first: then the seat
 /// came back as it was.
-fn drains<N: Ledger, R: Abort + Wait>(
+fn drains<N: Ledgers, R: Abort + Wait>(
     rt: &R,
     alloc: Global,
     shop: &Shop<ParkGate, N>,
@@ -171,7 +169,7 @@ fn drains<N: Ledger, R: Abort + Wait>(
 }
 
 /// How many receipts these seats have, which are numbered from 0.
-fn receipts_of<N: Ledger>(rt: &impl Abort, seats: &[Back<Deed, N>]) -> usize {
+fn receipts_of<N: Ledgers>(rt: &impl Abort, seats: &[Back<Deed, N>]) -> usize {
     let mut receipts = 0usize;
     for (number, back) in seats.iter().enumerate() {
         assert_eq!(rt; back.number().number() as usize, number);
@@ -181,7 +179,7 @@ fn receipts_of<N: Ledger>(rt: &impl Abort, seats: &[Back<Deed, N>]) -> usize {
 }
 
 /// A queue that wasn't closed for want of memory, and its seats.
-fn open<Q: Drop, B: Drop, N: Ledger>(
+fn open<Q: Drop, B: Drop, N: Ledgers>(
     rt: &impl Abort,
     fault: QueueFault<Q, B, N>,
 ) -> (Q, Vec<Back<Deed, N>>) {
@@ -192,7 +190,7 @@ fn open<Q: Drop, B: Drop, N: Ledger>(
 }
 
 /// A shop is closed, at the second try where there was no memory at first: then the queue and the seats came back.
-fn ends<N: Ledger>(
+fn ends<N: Ledgers>(
     rt: &impl Abort,
     alloc: Global,
     shop: Shop<ParkGate, N>,
@@ -235,15 +233,14 @@ fn list<X: Drop>(rt: &impl Abort, alloc: Global, count: usize) -> Vec<X> {
 }
 
 /// A queue is made, has its day, and is closed: what it leaves.
-fn lives<N: Ledger, R: Abort + Wait>(
+fn lives<N: Ledgers, R: Abort + Wait>(
     rt: &R,
     alloc: Global,
     parts: NewQueue<ParkGate>,
     day: Day<'_>,
 ) -> Chronicle<u64>
-    requires name { parts.blank.name ≡ N.name }
-    requires parts { parts.blank.parts ≡ N.parts }
-    requires one_each { parts.blank.parts ≡ vec_len parts.gates }
+    requires ledgers { AreOf N.name N.folds N.parts parts.blanks }
+    requires one_each { N.parts ≡ vec_len parts.gates }
 {
     let mut backs = list(rt, alloc, parts.gates.len());
     let (shop, mut seats) = made::<N>(rt, alloc, parts, day);
@@ -257,15 +254,23 @@ fn lives<N: Ledger, R: Abort + Wait>(
     ends(rt, alloc, shop, backs)
 }
 
-/// The records are legal, each seat has one for each time that it asked, and these items are left: so calls that were
-/// refused wrote nothing.
+/// The records are legal, some of them are left once they are erased, each seat has one for each time that it asked, and
+/// these items are left: so calls that were refused wrote nothing.
 fn tells(rt: &impl Abort, alloc: Global, chronicle: Chronicle<u64>, day: Day<'_>) {
     let kind = Kind {
         order: day.order,
         bound: None,
     };
     let records = chronicle.records.as_slice();
-    assert!(rt; check(alloc, kind, records).is_ok() || check(alloc, kind, records).is_ok());
+    assert!(rt;
+        check(alloc, kind, &Base::empty(alloc), records).is_ok()
+            || check(alloc, kind, &Base::empty(alloc), records).is_ok()
+    );
+    let erased = match chronicle.erased(alloc) {
+        Ok(erased) => erased,
+        Err(_) => chronicle.erased(alloc).expect(rt, "it isn't erased"),
+    };
+    assert!(rt; erased.len() <= records.len());
     let mut count = day.drained.len() as u64;
     for (list, turn) in chronicle.lists.iter().zip(day.turns) {
         assert_eq!(rt; list.len() as u64, turn.0);
@@ -276,6 +281,81 @@ fn tells(rt: &impl Abort, alloc: Global, chronicle: Chronicle<u64>, day: Day<'_>
     has(rt, chronicle.left, day.left);
 }
 
+/// A seat that has one receipt makes a checkpoint of one record, at the second try where there was no memory at first:
+/// then the seat came back as it was.
+fn folds<N: Ledgers, R: Abort + Wait>(
+    rt: &R,
+    shop: &Shop<ParkGate, N>,
+    seat: Seat<Deed, N>,
+) -> Back<Deed, N> {
+    let (seat, gone) = match checkpoint(rt, shop, seat) {
+        Ok(made) => made,
+        Err(refused) => {
+            let SeatRefused { why, seat, item } = refused;
+            assert!(rt; why == Refusal::Memory);
+            assert_eq!(rt; (seat.receipts().len(), seat.folded()), (1, 0));
+            assert_eq!(rt; item, None);
+            match checkpoint(rt, shop, seat) {
+                Ok(made) => made,
+                Err(_) => panic!(rt; "nothing is folded away"),
+            }
+        }
+    };
+    assert_eq!(rt; (gone, seat.folded()), (1, 1));
+    Back::Free(seat)
+}
+
+/// A queue of this order is made, its one seat asks and folds the record away, and it is closed: what it leaves.
+fn cuts<N: Ledgers, R: Abort + Wait>(
+    rt: &R,
+    alloc: Global,
+    parts: NewQueue<ParkGate>,
+    day: Day<'_>,
+) -> Chronicle<u64>
+    requires ledgers { AreOf N.name N.folds N.parts parts.blanks }
+    requires one_each { N.parts ≡ vec_len parts.gates }
+{
+    let mut backs = list(rt, alloc, parts.gates.len());
+    let (shop, mut seats) = made::<N>(rt, alloc, parts, day);
+    let seat = seats.pop().expect(rt, "no seat");
+    let turn = *day.turns.first().expect(rt, "no turn");
+    let back = match takes_turn(rt, &shop, seat, turn) {
+        Back::Free(seat) => folds(rt, &shop, seat),
+        Back::Held(_) => panic!(rt; "it waits"),
+    };
+    backs.push(back).expect(rt, "no room");
+    ends(rt, alloc, shop, backs)
+}
+
+/// So is one whose seat polls in vain.
+fn forgets<R: Abort + Wait>(rt: &R, alloc: Global, order: Order) {
+    let day = Day {
+        order,
+        cap: None,
+        turns: &[(1, Ask::Poll, Told::Failed(None))],
+        drained: &[],
+        left: &[],
+    };
+    let gates = match gates::<ParkGate>(alloc, 1) {
+        Ok(gates) => gates,
+        Err(_) => gates::<ParkGate>(alloc, 1).expect(rt, "memory"),
+    };
+    let blanks = Blanks::new(gates.len() as u64);
+    let chronicle = cuts::<Brand, R>(rt, alloc, NewQueue { gates, blanks }, day);
+    assert_eq!(rt; (chronicle.base.gone, chronicle.records.len()), (1, 0));
+    match chronicle.erased(alloc) {
+        Ok(_) => panic!(rt; "it is erased"),
+        Err(why) => assert!(rt; why == Refusal::HasBase),
+    }
+}
+
+#[test]
+fn a_seat_that_makes_a_checkpoint(rt: HostRuntime) {
+    forgets(&rt, rt.alloc(), Order::Fair);
+    forgets(&rt, rt.alloc(), Order::Unfair);
+    forgets(&rt, rt.alloc(), Order::Transfer);
+}
+
 /// A queue has this day.
 fn passes<R: Abort + Wait>(rt: &R, alloc: Global, day: Day<'_>) {
     let count = day.turns.len() as u64 + 1;
@@ -283,8 +363,8 @@ fn passes<R: Abort + Wait>(rt: &R, alloc: Global, day: Day<'_>) {
         Ok(gates) => gates,
         Err(_) => gates::<ParkGate>(alloc, count).expect(rt, "memory"),
     };
-    let blank = Blank::new(gates.len() as u64);
-    let chronicle = lives::<Brand, R>(rt, alloc, NewQueue { gates, blank }, day);
+    let blanks = Blanks::new(gates.len() as u64);
+    let chronicle = lives::<Brand, R>(rt, alloc, NewQueue { gates, blanks }, day);
     tells(rt, alloc, chronicle, day);
 }
 

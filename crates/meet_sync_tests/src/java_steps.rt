@@ -1,18 +1,18 @@
 //! What happens at a queue, step by step: what seats ask of it and call, what they drain, and what it shows.
 
 ghost use Rattle.std.specs.Prelude.{◌≡◌, vec_len};
+ghost use Rattle.meet_place.specs.Ledgers.{AreOf};
 
 use crate::plays::{NOTHING, Seats, Story, ask_all, closed, seated, tells};
 use meet_history::Order;
 use meet_line::Line;
 use meet_shop::{Ask, Call, Idle, Shop, Told, called, gates, keep};
-use meet_sync::{Back, Chronicle, Gate, NewQueue, Seat, SyncQueue, TransferQueue};
+use meet_sync::{Back, Blanks, Chronicle, Gate, Ledgers, NewQueue, Seat, SyncQueue, TransferQueue};
 use meet_tickets::Deed;
 use std::alloc::Global;
 use std::marker::Brand;
 use std::process::Abort;
 use std::sync::Wait;
-use std::sync::ledger::{Blank, Ledger};
 use std::test::*;
 use std::time::Clock;
 
@@ -47,7 +47,7 @@ pub enum Step<'a> {
 }
 
 /// What a synchronous queue shows.
-fn shown_by<L: Line<u64>, G, N: Ledger>(queue: &SyncQueue<u64, L, G, N>, probe: Probe) -> Probe {
+fn shown_by<L: Line<u64>, G, N: Ledgers>(queue: &SyncQueue<u64, L, G, N>, probe: Probe) -> Probe {
     match probe {
         Probe::Size(_) => Probe::Size(queue.size()),
         Probe::IsEmpty(_) => Probe::IsEmpty(queue.is_empty()),
@@ -59,7 +59,7 @@ fn shown_by<L: Line<u64>, G, N: Ledger>(queue: &SyncQueue<u64, L, G, N>, probe: 
 }
 
 /// What a transfer queue shows.
-fn shown_within<G, N: Ledger, R: Wait>(
+fn shown_within<G, N: Ledgers, R: Wait>(
     rt: &R,
     queue: &TransferQueue<u64, G, N>,
     probe: Probe,
@@ -76,7 +76,7 @@ fn shown_within<G, N: Ledger, R: Wait>(
 }
 
 /// What a queue shows.
-fn shown<G, N: Ledger, R: Wait>(rt: &R, shop: &Shop<G, N>, probe: Probe) -> Probe {
+fn shown<G, N: Ledgers, R: Wait>(rt: &R, shop: &Shop<G, N>, probe: Probe) -> Probe {
     match shop {
         Shop::Fair(queue) => shown_by(queue, probe),
         Shop::Unfair(queue) => shown_by(queue, probe),
@@ -85,7 +85,7 @@ fn shown<G, N: Ledger, R: Wait>(rt: &R, shop: &Shop<G, N>, probe: Probe) -> Prob
 }
 
 /// A seat drains up to so many items: those that it took.
-pub fn drains<G: Gate, N: Ledger, R: Wait>(
+pub fn drains<G: Gate, N: Ledgers, R: Wait>(
     rt: &R,
     alloc: Global,
     shop: &Shop<G, N>,
@@ -107,7 +107,7 @@ pub fn drains<G: Gate, N: Ledger, R: Wait>(
 }
 
 /// A seat makes a whole call: what it is told.
-fn calls<G: Gate, N: Ledger, R: Wait + Clock>(
+fn calls<G: Gate, N: Ledgers, R: Wait + Clock>(
     rt: &R,
     shop: &Shop<G, N>,
     place: &mut Option<Back<Deed, N>>,
@@ -124,7 +124,7 @@ fn calls<G: Gate, N: Ledger, R: Wait + Clock>(
 }
 
 /// One step is made, and comes to what it should.
-fn step_once<G: Gate + Drop, N: Ledger, R: Abort + Wait + Clock>(
+fn step_once<G: Gate + Drop, N: Ledgers, R: Abort + Wait + Clock>(
     rt: &R,
     alloc: Global,
     shop: &Shop<G, N>,
@@ -155,7 +155,7 @@ fn step_once<G: Gate + Drop, N: Ledger, R: Abort + Wait + Clock>(
 }
 
 /// Steps are made, one after another.
-fn step_all<G: Gate + Drop, N: Ledger, R: Abort + Wait + Clock>(
+fn step_all<G: Gate + Drop, N: Ledgers, R: Abort + Wait + Clock>(
     rt: &R,
     alloc: Global,
     shop: &Shop<G, N>,
@@ -168,16 +168,15 @@ fn step_all<G: Gate + Drop, N: Ledger, R: Abort + Wait + Clock>(
 }
 
 /// A shop is made, steps are made there, and it is closed.
-fn stepping<N: Ledger, R: Abort + Wait + Clock>(
+fn stepping<N: Ledgers, R: Abort + Wait + Clock>(
     rt: &R,
     alloc: Global,
     order: Order,
     parts: NewQueue<Idle>,
     steps: &[Step<'_>],
 ) -> Result<Chronicle<u64>, &'static str>
-    requires name { parts.blank.name ≡ N.name }
-    requires parts { parts.blank.parts ≡ N.parts }
-    requires one_each { parts.blank.parts ≡ vec_len parts.gates }
+    requires ledgers { AreOf N.name N.folds N.parts parts.blanks }
+    requires one_each { N.parts ≡ vec_len parts.gates }
 {
     let (shop, made) = match Shop::<Idle, N>::with_cap(alloc, order, parts, 100) {
         Ok(made) => made,
@@ -203,8 +202,8 @@ pub fn happens<R: Abort + Wait + Clock>(
     steps: &[Step<'_>],
 ) -> Result<(), Fail> {
     let gates = gates::<Idle>(alloc, 4)?;
-    let blank = Blank::new(gates.len() as u64);
-    let parts = NewQueue { gates, blank };
+    let blanks = Blanks::new(gates.len() as u64);
+    let parts = NewQueue { gates, blanks };
     let chronicle = stepping::<Brand, _>(rt, alloc, order, parts, steps)?;
     let story = Story {
         order,

@@ -1,16 +1,19 @@
 //! Seats ask a queue, one after another, and then it is closed: its records are checked once more, and what is left.
 
 ghost use Rattle.std.specs.Prelude.{◌≡◌, vec_len};
+ghost use Rattle.meet_place.specs.Ledgers.{AreOf};
 
+use crate::laws::obeys;
 use meet_history::{Kind, Order, Standing, check};
 use meet_shop::{Ask, Idle, Open, Row, Shop, Told, gates, keep};
-use meet_sync::{Back, Chronicle, Gate, Left, LeftStanding, NewQueue, Seat};
-use meet_tickets::Deed;
+use meet_sync::{
+    Back, Blanks, Chronicle, Gate, Ledgers, Left, LeftStanding, NewQueue, Seat, SeatRefused,
+};
+use meet_tickets::{Base, Deed};
 use std::alloc::Global;
 use std::marker::Brand;
 use std::process::Abort;
 use std::sync::Wait;
-use std::sync::ledger::{Blank, Ledger};
 use std::test::*;
 
 /// An item that is left: its giver's ticket, its number, and how it stood in the queue.
@@ -41,7 +44,7 @@ pub const NOTHING: Standing = Standing {
 };
 
 /// The seats, each ready to ask.
-pub fn seated<N: Ledger>(
+pub fn seated<N: Ledgers>(
     alloc: Global,
     made: Vec<Seat<Deed, N>>,
 ) -> Result<Seats<N>, &'static str> {
@@ -53,7 +56,7 @@ pub fn seated<N: Ledger>(
 }
 
 /// All seats, to be given back, the last first.
-pub fn given<N: Ledger>(alloc: Global, all: Seats<N>) -> Result<Vec<Back<Deed, N>>, &'static str> {
+pub fn given<N: Ledgers>(alloc: Global, all: Seats<N>) -> Result<Vec<Back<Deed, N>>, &'static str> {
     let mut seats = all;
     let mut backs = Vec::new(alloc);
     for _ in 0..seats.len() {
@@ -65,7 +68,7 @@ pub fn given<N: Ledger>(alloc: Global, all: Seats<N>) -> Result<Vec<Back<Deed, N
 }
 
 /// A seat asks: what it is told.
-fn asks<G: Gate + Drop, N: Ledger, R: Wait>(
+fn asks<G: Gate + Drop, N: Ledgers, R: Wait>(
     rt: &R,
     shop: &Shop<G, N>,
     seat: &mut Option<Back<Deed, N>>,
@@ -82,7 +85,7 @@ fn asks<G: Gate + Drop, N: Ledger, R: Wait>(
 }
 
 /// Seats ask, one after another, and are told this.
-pub fn ask_all<G: Gate + Drop, N: Ledger, R: Abort + Wait>(
+pub fn ask_all<G: Gate + Drop, N: Ledgers, R: Abort + Wait>(
     rt: &R,
     shop: &Shop<G, N>,
     seats: &mut Seats<N>,
@@ -94,6 +97,32 @@ pub fn ask_all<G: Gate + Drop, N: Ledger, R: Abort + Wait>(
             None => Told::Unasked,
         };
         assert_eq!(rt; told, *wanted, "seat {number}");
+    }
+}
+
+/// A seat makes a checkpoint of a shop.
+pub fn checkpoint<G: Gate, N: Ledgers, R: Wait>(
+    rt: &R,
+    shop: &Shop<G, N>,
+    seat: Seat<Deed, N>,
+) -> Result<(Seat<Deed, N>, u64), SeatRefused<u64, N>> {
+    match shop {
+        Shop::Fair(queue) => queue.checkpoint(rt, seat),
+        Shop::Unfair(queue) => queue.checkpoint(rt, seat),
+        Shop::Transfer(queue) => queue.checkpoint(rt, seat),
+    }
+}
+
+/// A seat lets go of its receipts for what is folded away.
+pub fn trim<G: Gate, N: Ledgers, R: Wait>(
+    rt: &R,
+    shop: &Shop<G, N>,
+    seat: Seat<Deed, N>,
+) -> Seat<Deed, N> {
+    match shop {
+        Shop::Fair(queue) => queue.trim(rt, seat),
+        Shop::Unfair(queue) => queue.trim(rt, seat),
+        Shop::Transfer(queue) => queue.trim(rt, seat),
     }
 }
 
@@ -129,17 +158,23 @@ pub fn tells(rt: &impl Abort, alloc: Global, chronicle: Chronicle<u64>, story: S
         order: story.order,
         bound: None,
     };
-    let found = check(alloc, kind, chronicle.records.as_slice());
+    let found = check(
+        alloc,
+        kind,
+        &Base::empty(alloc),
+        chronicle.records.as_slice(),
+    );
     assert_eq!(rt; found, Ok(story.standing));
     assert_eq!(rt; chronicle.lists.len() as u64, story.seats);
     are_of_seats(rt, &chronicle);
+    obeys(rt, alloc, &chronicle, kind);
     let count = chronicle.records.len();
     has(rt, chronicle.left, story.left);
     count
 }
 
 /// A shop is closed with these seats: what it leaves.
-pub fn ended<G: Gate + Drop, N: Ledger>(
+pub fn ended<G: Gate + Drop, N: Ledgers>(
     alloc: Global,
     shop: Shop<G, N>,
     backs: Vec<Back<Deed, N>>,
@@ -158,7 +193,7 @@ pub fn ended<G: Gate + Drop, N: Ledger>(
 }
 
 /// A shop is closed with all its seats.
-pub fn closed<G: Gate + Drop, N: Ledger>(
+pub fn closed<G: Gate + Drop, N: Ledgers>(
     alloc: Global,
     shop: Shop<G, N>,
     seats: Seats<N>,
@@ -173,15 +208,14 @@ pub fn closed<G: Gate + Drop, N: Ledger>(
 }
 
 /// A shop is made, its seats ask, and it is closed.
-fn playing<N: Ledger, R: Abort + Wait>(
+fn playing<N: Ledgers, R: Abort + Wait>(
     rt: &R,
     alloc: Global,
     parts: NewQueue<Idle>,
     story: Story<'_>,
 ) -> Result<Chronicle<u64>, &'static str>
-    requires name { parts.blank.name ≡ N.name }
-    requires parts { parts.blank.parts ≡ N.parts }
-    requires one_each { parts.blank.parts ≡ vec_len parts.gates }
+    requires ledgers { AreOf N.name N.folds N.parts parts.blanks }
+    requires one_each { N.parts ≡ vec_len parts.gates }
 {
     let (shop, made) = match Shop::<Idle, N>::with_cap(alloc, story.order, parts, story.cap) {
         Ok(made) => made,
@@ -199,15 +233,24 @@ fn playing<N: Ledger, R: Abort + Wait>(
     }
 }
 
+/// A story takes place: what it leaves.
+pub fn played<R: Abort + Wait>(
+    rt: &R,
+    alloc: Global,
+    story: Story<'_>,
+) -> Result<Chronicle<u64>, &'static str> {
+    let gates = gates::<Idle>(alloc, story.seats)?;
+    let blanks = Blanks::new(gates.len() as u64);
+    let parts = NewQueue { gates, blanks };
+    playing::<Brand, _>(rt, alloc, parts, story)
+}
+
 /// A story takes place: how many records it leaves.
 pub fn play<R: Abort + Wait>(
     rt: &R,
     alloc: Global,
     story: Story<'_>,
 ) -> Result<usize, &'static str> {
-    let gates = gates::<Idle>(alloc, story.seats)?;
-    let blank = Blank::new(gates.len() as u64);
-    let parts = NewQueue { gates, blank };
-    let chronicle = playing::<Brand, _>(rt, alloc, parts, story)?;
+    let chronicle = played(rt, alloc, story)?;
     Ok(tells(rt, alloc, chronicle, story))
 }

@@ -1,20 +1,20 @@
 //! Items that can't be let go pass through a queue, and come out of it where it ends.
 
 ghost use Rattle.std.specs.Prelude.{◌≡◌, vec_len};
+ghost use Rattle.meet_place.specs.Ledgers.{AreOf};
 
 use crate::plays::{Found, Seats, given, seated};
 use meet_line::Line;
 use meet_shop::{Ask, Idle, gates};
 use meet_sync::{
-    Answer, Asked, Back, Chronicle, FairLine, FollowedUp, Left, LeftStanding, NewQueue, Pending,
-    Request, Seat, SeatRefused, StackLine, Struck, SyncQueue,
+    Answer, Asked, Back, Blanks, Chronicle, FairLine, FollowedUp, Ledgers, Left, LeftStanding,
+    NewQueue, Pending, Request, Seat, SeatRefused, StackLine, Struck, SyncQueue,
 };
 use meet_tickets::{Deed, Marked, SeatNo};
 use std::alloc::Global;
 use std::marker::Brand;
 use std::process::Abort;
 use std::sync::Wait;
-use std::sync::ledger::{Blank, Ledger};
 use std::test::*;
 
 /// An item that can't be let go: its type isn't `Drop`.
@@ -50,7 +50,7 @@ type Sealed<L, N> = SyncQueue<Seal, L, Idle, N>;
 /// A seat, and the serial number of the item that came out by its call.
 type Came<N> = (Back<Deed, N>, Option<u64>);
 
-fn refused<N: Ledger>(refused: SeatRefused<Seal, N>) -> Came<N> {
+fn refused<N: Ledgers>(refused: SeatRefused<Seal, N>) -> Came<N> {
     let SeatRefused { why: _, seat, item } = refused;
     (Back::Free(seat), broken_if_there(item))
 }
@@ -64,21 +64,21 @@ fn answered(answer: Answer<Seal>) -> Option<u64> {
     }
 }
 
-fn asked<N: Ledger>(asked: Asked<Seal, N>) -> Came<N> {
+fn asked<N: Ledgers>(asked: Asked<Seal, N>) -> Came<N> {
     match asked {
         Asked::Settled(seat, answer) => (Back::Free(seat), answered(answer)),
         Asked::Parked(pending) => (Back::Held(pending), None),
     }
 }
 
-fn struck<N: Ledger>(struck: Struck<N>) -> Came<N> {
+fn struck<N: Ledgers>(struck: Struck<N>) -> Came<N> {
     match struck {
         Struck::Cut(seat, _) => (Back::Free(seat), None),
         Struck::Flagged(seat) => (Back::Free(seat), None),
     }
 }
 
-fn requests<L: Line<Seal>, N: Ledger, R: Wait>(
+fn requests<L: Line<Seal>, N: Ledgers, R: Wait>(
     rt: &R,
     queue: &Sealed<L, N>,
     seat: Seat<Deed, N>,
@@ -90,7 +90,7 @@ fn requests<L: Line<Seal>, N: Ledger, R: Wait>(
     }
 }
 
-fn interrupts<L: Line<Seal>, N: Ledger, R: Wait>(
+fn interrupts<L: Line<Seal>, N: Ledgers, R: Wait>(
     rt: &R,
     queue: &Sealed<L, N>,
     seat: Seat<Deed, N>,
@@ -102,7 +102,7 @@ fn interrupts<L: Line<Seal>, N: Ledger, R: Wait>(
     }
 }
 
-fn follows<L: Line<Seal>, N: Ledger, R: Wait>(
+fn follows<L: Line<Seal>, N: Ledgers, R: Wait>(
     rt: &R,
     queue: &Sealed<L, N>,
     pending: Pending<Deed, N>,
@@ -116,7 +116,7 @@ fn follows<L: Line<Seal>, N: Ledger, R: Wait>(
 }
 
 /// A seat without a ticket asks.
-fn asks_free<L: Line<Seal>, N: Ledger, R: Wait>(
+fn asks_free<L: Line<Seal>, N: Ledgers, R: Wait>(
     rt: &R,
     queue: &Sealed<L, N>,
     seat: Seat<Deed, N>,
@@ -135,7 +135,7 @@ fn asks_free<L: Line<Seal>, N: Ledger, R: Wait>(
 }
 
 /// A seat asks, or follows its ticket up.
-fn asks<L: Line<Seal>, N: Ledger, R: Wait>(
+fn asks<L: Line<Seal>, N: Ledgers, R: Wait>(
     rt: &R,
     queue: &Sealed<L, N>,
     back: Back<Deed, N>,
@@ -151,7 +151,7 @@ fn asks<L: Line<Seal>, N: Ledger, R: Wait>(
 type Row = (u64, Ask, Option<u64>);
 
 /// The seat of this slot asks: the item that comes out.
-fn asks_in<L: Line<Seal>, N: Ledger, R: Wait>(
+fn asks_in<L: Line<Seal>, N: Ledgers, R: Wait>(
     rt: &R,
     queue: &Sealed<L, N>,
     slot: &mut Option<Back<Deed, N>>,
@@ -168,7 +168,7 @@ fn asks_in<L: Line<Seal>, N: Ledger, R: Wait>(
 }
 
 /// Seats ask, one after another, and these items come out.
-fn ask_all<L: Line<Seal>, N: Ledger, R: Abort + Wait>(
+fn ask_all<L: Line<Seal>, N: Ledgers, R: Abort + Wait>(
     rt: &R,
     queue: &Sealed<L, N>,
     seats: &mut Seats<N>,
@@ -201,7 +201,7 @@ fn has(rt: &impl Abort, list: Vec<Left<Seal>>, wanted: &[Found]) {
 }
 
 /// A queue is closed with these seats, and leaves this.
-fn leaves<L: Line<Seal>, N: Ledger>(
+fn leaves<L: Line<Seal>, N: Ledgers>(
     rt: &impl Abort,
     alloc: Global,
     queue: Sealed<L, N>,
@@ -225,16 +225,15 @@ fn leaves<L: Line<Seal>, N: Ledger>(
 }
 
 /// A queue is made, its seats ask, and it is closed and leaves this.
-fn passing<L: Line<Seal>, N: Ledger, R: Abort + Wait>(
+fn passing<L: Line<Seal>, N: Ledgers, R: Abort + Wait>(
     rt: &R,
     alloc: Global,
     parts: NewQueue<Idle>,
     rows: &[Row],
     left: &[Found],
 )
-    requires name { parts.blank.name ≡ N.name }
-    requires parts { parts.blank.parts ≡ N.parts }
-    requires one_each { parts.blank.parts ≡ vec_len parts.gates }
+    requires ledgers { AreOf N.name N.folds N.parts parts.blanks }
+    requires one_each { N.parts ≡ vec_len parts.gates }
 {
     let (queue, made) = match Sealed::<L, N>::with_cap(alloc, parts, 100) {
         Ok(made) => made,
@@ -254,8 +253,8 @@ fn pass<L: Line<Seal>, R: Abort + Wait>(
     left: &[Found],
 ) -> Result<(), &'static str> {
     let gates = gates::<Idle>(alloc, 4)?;
-    let blank = Blank::new(gates.len() as u64);
-    passing::<L, Brand, _>(rt, alloc, NewQueue { gates, blank }, rows, left);
+    let blanks = Blanks::new(gates.len() as u64);
+    passing::<L, Brand, _>(rt, alloc, NewQueue { gates, blanks }, rows, left);
     Ok(())
 }
 

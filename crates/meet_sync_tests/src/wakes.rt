@@ -1,17 +1,17 @@
 //! Whose gates are woken, and whose not.
 
 ghost use Rattle.std.specs.Prelude.{◌≡◌, vec_len};
+ghost use Rattle.meet_place.specs.Ledgers.{AreOf};
 
 use crate::java_steps::drains;
 use crate::plays::{ask_all, closed, seated};
 use meet_history::Order;
 use meet_shop::{Ask, FlagGate, Flags, Row, Shop, Told, keep};
-use meet_sync::{Chronicle, NewQueue, Seat};
+use meet_sync::{Blanks, Chronicle, Ledgers, NewQueue, Seat};
 use meet_tickets::Deed;
 use std::alloc::Global;
 use std::marker::Brand;
 use std::process::Abort;
-use std::sync::ledger::{Blank, Ledger};
 use std::sync::{Arc, Wait};
 use std::test::*;
 
@@ -27,7 +27,7 @@ struct Day<'a> {
 }
 
 /// The seats do what they do, and the shop is closed.
-fn dealt<N: Ledger, R: Abort + Wait>(
+fn dealt<N: Ledgers, R: Abort + Wait>(
     rt: &R,
     alloc: Global,
     shop: Shop<FlagGate, N>,
@@ -52,16 +52,15 @@ fn dealt<N: Ledger, R: Abort + Wait>(
 }
 
 /// A shop of this order is made, and the seats do what they do.
-fn dealing<N: Ledger, R: Abort + Wait>(
+fn dealing<N: Ledgers, R: Abort + Wait>(
     rt: &R,
     alloc: Global,
     order: Order,
     parts: NewQueue<FlagGate>,
     day: Day<'_>,
 ) -> Result<Chronicle<u64>, &'static str>
-    requires name { parts.blank.name ≡ N.name }
-    requires parts { parts.blank.parts ≡ N.parts }
-    requires one_each { parts.blank.parts ≡ vec_len parts.gates }
+    requires ledgers { AreOf N.name N.folds N.parts parts.blanks }
+    requires one_each { N.parts ≡ vec_len parts.gates }
 {
     match Shop::<FlagGate, N>::with_cap(alloc, order, parts, 100) {
         Ok((shop, seats)) => dealt(rt, alloc, shop, seats, day),
@@ -78,8 +77,8 @@ fn wakes<R: Abort + Wait>(rt: &R, alloc: Global, order: Order, day: Day<'_>) -> 
         gates.push(FlagGate::new(Arc::try_clone(&flags)?))?;
         all_flags.push(flags)?;
     }
-    let blank = Blank::new(gates.len() as u64);
-    let parts = NewQueue { gates, blank };
+    let blanks = Blanks::new(gates.len() as u64);
+    let parts = NewQueue { gates, blanks };
     dealing::<Brand, _>(rt, alloc, order, parts, day)?;
     for (flags, wanted) in all_flags.iter().zip(day.woken) {
         assert_eq!(rt; flags.is_raised(), wanted);

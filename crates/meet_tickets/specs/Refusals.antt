@@ -9,7 +9,7 @@ use Rattle.meet_tickets.specs.declared.refusals.Refusal.TheVariants.{Memory, His
 use Rattle.meet_tickets.specs.declared.refusals.Refusal.TheVariants.{NoSuchSeat, NotOpen, Differs, SeatMissing}
 use Rattle.meet_tickets.specs.declared.refusals.Refusal.TheVariants.{Contended, Worn, BadSizes, PolicyNeedsBuffer}
 use Rattle.meet_tickets.specs.declared.refusals.Refusal.TheVariants.{NoThread, BadLine, BadTrace, ReadFault}
-use Rattle.meet_tickets.specs.declared.refusals.Refusal.TheVariants.{WriteFault}
+use Rattle.meet_tickets.specs.declared.refusals.Refusal.TheVariants.{WriteFault, HasBase}
 
 -- its number
 abbrev pub number_of : Refusal → ℕ
@@ -30,6 +30,7 @@ number_of BadLine = 14
 number_of BadTrace = 15
 number_of ReadFault = 16
 number_of WriteFault = 17
+number_of HasBase = 18
 
 -- its name, as scripts and faults tell it
 abbrev pub name_of : Refusal → List ℕ
@@ -50,6 +51,7 @@ name_of BadLine = codes "BadLine"
 name_of BadTrace = codes "BadTrace"
 name_of ReadFault = codes "ReadFault"
 name_of WriteFault = codes "WriteFault"
+name_of HasBase = codes "HasBase"
 
 -- why a place with this many seats, whose next ticket is `next`, refuses a request of this seat: the first that applies
 abbrev pub refusal_of : {X : Type 0} → (count next : ℕ) → Seats X → (seat : ℕ) → Option Refusal

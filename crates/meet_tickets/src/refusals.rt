@@ -45,10 +45,12 @@ pub enum Refusal {
     ReadFault,
     /// A write failed.
     WriteFault,
+    /// Records were folded away.
+    HasBase,
 }
 
 impl Refusal {
-    /// The refusal's number, 1 to 17.
+    /// The refusal's number, 1 to 18.
     pub fn number(&self) -> u64
         ensures { result ≡ number_of self.now }
     {
@@ -70,6 +72,7 @@ impl Refusal {
             Refusal::BadTrace => 15,
             Refusal::ReadFault => 16,
             Refusal::WriteFault => 17,
+            Refusal::HasBase => 18,
         }
     }
 
@@ -95,6 +98,7 @@ impl Refusal {
             Refusal::BadTrace => "BadTrace",
             Refusal::ReadFault => "ReadFault",
             Refusal::WriteFault => "WriteFault",
+            Refusal::HasBase => "HasBase",
         }
     }
 }

@@ -2,7 +2,7 @@
 
 ghost use Rattle.std.specs.Prelude.{◌≡◌, ℕ, ◌<◌, ◌≤◌, ◌↔◌, length, None, IsTrue, IsOk, IfOk, IfErr, OnOk};
 ghost use Rattle.meet_tickets.specs.Meeting.{end_of, partner};
-ghost use Rattle.meet_tickets.specs.BySeat.{beginning, IsFree, Fits, moment_after};
+ghost use Rattle.meet_tickets.specs.BySeat.{IsFree, Fits, moment_after};
 ghost use Rattle.meet_tickets.specs.Limits.{most_seats};
 ghost use Rattle.meet_tickets.specs.declared.refusals.Refusal.TheVariants.{Memory};
 ghost use Rattle.meet_history.specs.Checking.{IsFaulty, IsUntimely, HasRoom, subject_of, moment_at};
@@ -12,9 +12,9 @@ use crate::checker::{Standing, Why};
 use line::MarkLine;
 use meet_line::SeatTable;
 use meet_tickets::{Deed, Hold, Kind, Record, Refusal, SeatNo, Side, Ticket};
-use std::alloc::Global;
 use std::marker::Model;
 
+mod base;
 mod endings;
 mod line;
 mod requests;
@@ -48,24 +48,6 @@ impl Model for CheckedPlace {
 }
 
 impl CheckedPlace {
-    /// An empty place of this kind. The only refusal is Memory.
-    pub(super) fn new(alloc: Global, kind: Kind) -> Result<Self, Refusal>
-        ensures kind { IfOk result (λ place. place.kind ≡ kind) }
-        ensures moment { IfOk result (λ place. moment_at place ≡ beginning) }
-        ensures memory { IfErr result (λ why. why ≡ Memory) }
-    {
-        let seats = match SeatTable::new(alloc, 0) {
-            Ok(seats) => seats,
-            Err(_) => return Err(Refusal::Memory),
-        };
-        Ok(CheckedPlace {
-            kind,
-            last: 0,
-            line: MarkLine::new(alloc, kind.order.end()),
-            seats,
-        })
-    }
-
     /// Sees that the table has this seat. The only refusal is Memory.
     #[inline(always)]
     fn seat(&mut self, seat: SeatNo) -> Result<(), Refusal>

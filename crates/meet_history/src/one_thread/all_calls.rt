@@ -1,29 +1,40 @@
 //! The calls of one thread, all at once.
 
-ghost use Rattle.std.specs.Prelude.{◌≡◌, IsTrue, All, IfOk, IfErr};
-ghost use Rattle.meet_tickets.specs.ByLists.{IsLegal};
+ghost use Rattle.std.specs.Prelude.{◌≡◌, ◌+◌, ◌^◌, ◌<◌, length, IsTrue, All, IfOk, IfErr};
+ghost use Rattle.meet_tickets.specs.Bases.{IsWellFormed, IsLegalOn};
 ghost use Rattle.meet_tickets.specs.declared.refusals.Refusal.TheVariants.{Memory};
-ghost use Rattle.meet_history.specs.OneThread.{replies, records};
+ghost use Rattle.meet_history.specs.OneThread.{replies, records, start, turns};
+ghost use Rattle.meet_history.specs.Standings.{IsFolded};
 ghost use Rattle.meet_history.specs.Served.{serves};
 ghost use Rattle.meet_history.specs.Limits.{IsInLimits};
 
 use super::{Call, Reply, Setup, Stepper};
-use meet_tickets::{Deed, Record, Refusal};
+use meet_tickets::{Base, Deed, Record, Refusal};
 use std::alloc::Global;
 
-/// The replies to these calls, one after another, on a place of this setup, and the records that they write. The only
-/// refusal is Memory. It asks that the setup is in its limits, as what `Setup::new` answers is, and that the place
-/// serves each call's verb, which `is_served` says.
-pub fn run_all(
-    alloc: Global,
-    setup: Setup,
-    calls: &[Call],
-) -> Result<(Vec<Reply>, Vec<Record<Deed>>), Refusal>
+/// What came of one thread's calls.
+#[derive(Drop)]
+pub struct Run {
+    /// The replies, in order.
+    pub replies: Vec<Reply>,
+    /// What stands for the records that were folded away.
+    pub base: Base,
+    /// The records since, in order.
+    pub records: Vec<Record<Deed>>,
+}
+
+/// The replies to these calls, one after another, on a place of this setup, and the records that they write; those that
+/// checkpoints folded away are in the base. The only refusal is Memory. It asks that the setup is in its limits, as
+/// what `Setup::new` answers is, and that the place serves each call's verb, which `is_served` says.
+pub fn run_all(alloc: Global, setup: Setup, calls: &[Call]) -> Result<Run, Refusal>
     requires verbs { All (λ call. IsTrue (serves setup.kind.order call.verb)) calls.now }
     requires limits { IsInLimits setup }
-    ensures replies { IfOk result (λ all. all.0.items ≡ replies setup calls.now) }
-    ensures records { IfOk result (λ all. all.1.items ≡ records setup calls.now) }
-    ensures legal { IfOk result (λ all. IsLegal setup.kind all.1.items) }
+    ensures replies { IfOk result (λ run. run.replies.items ≡ replies setup calls.now) }
+    ensures records { IfOk result (λ run. IsFolded setup.kind (records setup calls.now) run.base run.records.items) }
+    ensures gone { IfOk result (λ run. run.base.gone ≡ (turns setup (start setup) calls.now).place.gone) }
+    ensures well_formed { IfOk result (λ run. IsWellFormed setup.kind run.base) }
+    ensures legal { IfOk result (λ run. IsLegalOn setup.kind run.base run.records.items) }
+    ensures few { IfOk result (λ run. run.base.gone + length run.records.items < 2 ^ 64) }
     ensures memory { IfErr result (λ why. why ≡ Memory) }
 {
     let mut stepper = Stepper::new(alloc, setup)?;
@@ -31,5 +42,10 @@ pub fn run_all(
     for call in calls {
         stepper.answer(*call, &mut replies)?;
     }
-    Ok((replies, stepper.into_records()))
+    let (base, records) = stepper.into_parts();
+    Ok(Run {
+        replies,
+        base,
+        records,
+    })
 }

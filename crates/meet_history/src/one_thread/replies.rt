@@ -33,6 +33,8 @@ pub enum Outcome {
     Count(u64),
     /// The mark of the first item, if there is one.
     Peeked(Option<u64>),
+    /// So many records were folded away since the first.
+    Based(u64),
     /// The call was refused, and nothing changed.
     Refused(Refusal),
 }

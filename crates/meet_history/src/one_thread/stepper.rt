@@ -1,6 +1,6 @@
 //! A place that one thread uses, call by call.
 
-ghost use Rattle.std.specs.Prelude.{◌≡◌, ◌≢◌, None, [], ◌++◌, ◌<◌, length, vec_len, IsTrue, IsOk, IfOk, IfErr, OnOk};
+ghost use Rattle.std.specs.Prelude.{◌≡◌, ◌≢◌, None, [], ◌+◌, ◌^◌, ◌++◌, ◌<◌, length, vec_len, IsTrue, IsOk, IfOk, IfErr, OnOk};
 ghost use Rattle.std.specs.Prelude.{OnErr};
 ghost use Rattle.std.specs.Vec.{vec_capacity};
 ghost use Rattle.meet_history.specs.Stepping.{reply_of, unrecorded, back_of};
@@ -11,7 +11,7 @@ use super::{Call, Outcome, Reply, Setup, Verb};
 use crate::checker::Standing;
 use meet_book::{Book, Receipt};
 use meet_queues::{AnyQueue, DualAnswer, DualCall, QueueAnswer, QueueCall};
-use meet_tickets::{Deed, Record, Refusal, SeatNo};
+use meet_tickets::{Base, Deed, Record, Refusal, SeatNo};
 use std::alloc::Global;
 use std::marker::Model;
 
@@ -23,25 +23,27 @@ pub struct Stepper {
     alloc: Global,
     setup: Setup,
     book: Book<AnyQueue>,
+    cut: bool,
 }
 
 impl Model for Stepper {
     ghost use Rattle.std.specs.Prelude.{◌≡◌};
     ghost use Rattle.meet_line.specs.Queue.{count_of};
     ghost use Rattle.meet_history.specs.Stepping.{Stepping};
-    ghost use Rattle.meet_tickets.specs.Bases.{no_base};
 
     ghost Value = { Stepping };
 
     ghost view = { λ s. record {
       setup = s.setup;
       queue = s.book.object.queue;
+      base = s.book.base;
+      cut = s.cut;
       records = s.book.records;
       room = s.book.room;
     } };
 
     ghost invariant = { λ s. (s.book.object.kind ≡ s.setup.kind) × (count_of s.book.object.queue ≡ s.setup.seats)
-        × (s.book.cap ≡ s.setup.cap) × (s.book.base ≡ no_base) };
+        × (s.book.cap ≡ s.setup.cap) };
 }
 
 /// The reply to a call that was refused; want of memory has none.
@@ -101,11 +103,12 @@ fn counted(seat: SeatNo, number: u64) -> Reply
 }
 
 impl Stepper {
-    ghost use Rattle.meet_tickets.specs.ByLists.{IsLegal};
+    ghost use Rattle.meet_tickets.specs.Bases.{IsWellFormed, IsLegalOn};
     ghost use Rattle.meet_calls.specs.DualSteps.{dual_need, dual_refusal};
-    ghost use Rattle.meet_history.specs.OneThread.{start, turn, standing_of};
-    ghost use Rattle.meet_history.specs.Served.{serves, IsOne};
-    ghost use Rattle.meet_history.specs.Stepping.{place_of, Takes, TakesTurn, LacksMemory, HasRoom, StaysButForRoom};
+    ghost use Rattle.meet_history.specs.OneThread.{start, turn, turn_of, standing_of};
+    ghost use Rattle.meet_history.specs.Served.{serves, IsOne, IsAnswered};
+    ghost use Rattle.meet_history.specs.Stepping.{place_of, HasWritten, Takes, TakesTurn, LacksMemory, HasRoom, StaysButForRoom};
+    ghost use Rattle.meet_history.specs.declared.one_thread.verbs.Verb.TheVariants.{Checkpoint};
     ghost use Rattle.meet_history.specs.Stepping.{turn_of_call, refusal_at};
     ghost use Rattle.meet_calls.specs.QueueSteps.{dual_call, queue_need, queue_refusal};
     ghost use Rattle.meet_history.specs.Limits.{IsInLimits};
@@ -115,12 +118,17 @@ impl Stepper {
         requires { IsInLimits setup }
         ensures place { IfOk result (λ stepper. place_of stepper ≡ start setup) }
         ensures setup { IfOk result (λ stepper. stepper.setup ≡ setup) }
-        ensures records { IfOk result (λ stepper. stepper.records ≡ []) }
+        ensures written { IfOk result (λ stepper. HasWritten stepper []) }
         ensures memory { IfErr result (λ why. why ≡ Memory) }
     {
         let queue = AnyQueue::new(alloc, setup.kind, setup.seats, setup.first)?;
         let book = Book::new(alloc, queue, setup.cap);
-        Ok(Stepper { alloc, setup, book })
+        Ok(Stepper {
+            alloc,
+            setup,
+            book,
+            cut: false,
+        })
     }
 
     /// Makes a call of the queue; an ending is of the seat's open ticket. The reply tells the record, where there is
@@ -208,8 +216,32 @@ impl Stepper {
         }
     }
 
-    /// Makes a call, and puts its replies behind `replies`. The only refusal is Memory, and for a call with one reply
-    /// never where there is room for it, for two records and for a place in the line; then nothing has changed, and
+    /// Folds the records so far away, and tells how many were folded away since the first. The only refusal is Memory;
+    /// then nothing has changed.
+    fn checkpoint(&mut self, seat: SeatNo) -> Result<Reply, Refusal>
+        ensures turn { IfOk result (TakesTurn (turn_of self.old.setup (place_of self.old) seat Checkpoint) self.old
+            self.new) }
+        ensures unchanged { IfErr result (λ _. StaysButForRoom self.old self.new) }
+        ensures memory { IfErr result (λ why. why ≡ Memory) }
+    {
+        if seat.number() >= self.setup.seats {
+            return Ok(refused(seat, Refusal::NoSuchSeat));
+        }
+        let _led = self.book.records().len();
+        match self.book.cut() {
+            Ok(gone) => {
+                self.cut = true;
+                Ok(Reply {
+                    seat,
+                    outcome: Outcome::Based(gone),
+                })
+            }
+            Err(why) => refused_unless_memory(seat, why),
+        }
+    }
+
+    /// Makes a call, and puts its replies behind `replies`. The only refusal is Memory, and for a call that is one step
+    /// never where there is room for its reply, for two records and for a place in the line; then nothing has changed, and
     /// the replies so far stay.
     pub fn answer(&mut self, call: Call, replies: &mut Vec<Reply>) -> Result<(), Refusal>
         requires served { IsTrue (serves self.old.setup.kind.order call.verb) }
@@ -229,7 +261,7 @@ impl Stepper {
         if replies.reserve(1).is_err() {
             return Err(Refusal::Memory);
         }
-        match self.reply(Call { seat, verb }) {
+        match self.reply_to(Call { seat, verb }) {
             Ok(reply) => {
                 push_reserved(replies, reply);
                 Ok(())
@@ -238,11 +270,34 @@ impl Stepper {
         }
     }
 
-    /// How many records were written.
-    pub fn count(&self) -> u64
-        ensures { result ≡ length self.now.records }
+    /// The reply to a call that isn't a drain.
+    fn reply_to(&mut self, call: Call) -> Result<Reply, Refusal>
+        requires served { IsTrue (serves self.old.setup.kind.order call.verb) }
+        requires few { IsAnswered call.verb }
+        ensures turn { IfOk result (TakesTurn (turn self.old.setup (place_of self.old) call) self.old self.new) }
+        ensures unchanged { IfErr result (λ _. StaysButForRoom self.old self.new) }
+        ensures memory { IfErr result (λ why. why ≡ Memory) }
+        ensures enough { IsOne call.verb → HasRoom self.old → IsOk result }
     {
-        self.book.records().len() as u64
+        let Call { seat, verb } = call;
+        match verb {
+            Verb::Checkpoint => self.checkpoint(seat),
+            _ => self.reply(Call { seat, verb }),
+        }
+    }
+
+    /// How many records were written, those that were folded away included.
+    pub fn count(&self) -> u64
+        ensures { result ≡ self.now.base.gone + length self.now.records }
+    {
+        self.book.written()
+    }
+
+    /// Whether a checkpoint was made.
+    pub fn is_cut(&self) -> bool
+        ensures { result ≡ self.now.cut }
+    {
+        self.cut
     }
 
     /// Where the place's tickets and items are.
@@ -257,17 +312,22 @@ impl Stepper {
         }
     }
 
-    /// The records, in order. They are legal.
-    pub fn into_records(self) -> Vec<Record<Deed>>
-        ensures records { result.items ≡ self.records }
-        ensures legal { IsLegal self.setup.kind self.records }
+    /// The base, and the records since, in order. They are legal.
+    pub fn into_parts(self) -> (Base, Vec<Record<Deed>>)
+        ensures base { result.0 ≡ self.base }
+        ensures records { result.1.items ≡ self.records }
+        ensures well_formed { IsWellFormed self.setup.kind self.base }
+        ensures legal { IsLegalOn self.setup.kind self.base self.records }
+        ensures few { self.base.gone + length self.records < 2 ^ 64 }
     {
+        let _written = self.count();
         let Stepper {
             alloc: _,
             setup: _,
             book,
+            cut: _,
         } = self;
-        let (_, _, records) = book.into_parts();
-        records
+        let (_, base, records) = book.into_parts();
+        (base, records)
     }
 }

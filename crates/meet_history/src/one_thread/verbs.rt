@@ -45,6 +45,8 @@ pub enum Verb {
     Peek,
     /// `LinkedTransferQueue.getWaitingConsumerCount`.
     Consumers,
+    /// The records so far are folded away.
+    Checkpoint,
 }
 
 /// Whether a place of this order serves the verb: a transfer queue serves all, a synchronous queue all but those that

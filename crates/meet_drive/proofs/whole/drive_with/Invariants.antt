@@ -1,5 +1,8 @@
 use Rattle.meet_drive.proofs.whole.drive_with.Given as goal
 
 -- the ledger of the queue that is made
-abbrev pub ghosts-driving : goal.ghosts-driving
-ghosts-driving g a = record { name = a.parts.blank.name; parts = a.parts.blank.parts }
+abbrev pub ghosts-driving-N-Ledger : goal.ghosts-driving-N-Ledger
+ghosts-driving-N-Ledger g a = record { name = a.parts.blanks.records.name; parts = a.parts.blanks.records.parts }
+
+abbrev pub ghosts-driving-N-Ledgers : goal.ghosts-driving-N-Ledgers
+ghosts-driving-N-Ledgers g a = record { folds = a.parts.blanks.folds.name }

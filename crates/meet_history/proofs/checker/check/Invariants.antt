@@ -7,5 +7,5 @@ abbrev pub invariant-loop-entry : goal.invariant-loop-entry
 invariant-loop-entry l = record {
   kind : l.checker.place.kind ≡ l.fn.kind;
   sound : l.checker.fault ≡ None;
-  seen : HasSeen l.checker (take l.entry-index l.records);
+  seen : HasSeen l.fn.base l.checker (take l.entry-index l.records);
 }

@@ -1,12 +1,12 @@
 //! The line of a history's marks, met at the end of its place.
 
-ghost use Rattle.std.specs.Prelude.{◌≡◌, ◌≢◌, ◌+◌, ◌<◌, ◌==◌, [], ◌∷◌, ◌++◌, find, length, All, OnOk, IsOk, IfErr};
+ghost use Rattle.std.specs.Prelude.{◌≡◌, ◌≢◌, ◌+◌, ◌<◌, ◌==◌, [], ◌∷◌, ◌++◌, find, length, All, OnOk, IsOk, IfOk, IfErr};
 ghost use Rattle.std.specs.Prelude.{◌↔◌, None, is_some, AllPairs, IsTrue, if◌then◌else◌};
 ghost use Rattle.meet_tickets.specs.Meeting.{partner, kept_count, count_on, IsAlone};
 ghost use Rattle.meet_tickets.specs.declared.places.Side.TheVariants.{Giver};
 ghost use Rattle.meet_tickets.specs.BySeat.{unmet, without_first};
 ghost use Rattle.meet_tickets.specs.declared.refusals.Refusal.TheVariants.{Memory};
-ghost use Rattle.meet_history.specs.Marks.{met_end, entries_of, room_of, one_if_gives, one_if_kept, count_if_gives, count_if_kept};
+ghost use Rattle.meet_history.specs.Marks.{met_end, entries_of, room_of, IsNewest, one_if_gives, one_if_kept, count_if_gives, count_if_kept};
 
 use meet_line::{FairLine, Line, StackLine, is_alone, meet};
 use meet_tickets::{End, Entry, Refusal, Side, Ticket};
@@ -67,6 +67,29 @@ impl MarkLine {
             kept: 0,
             newest: 0,
         }
+    }
+
+    /// The line of these entries, whose tickets rise, and which are of one side. The only refusal is Memory.
+    pub(crate) fn of(alloc: Global, end: End, entries: &[Entry<u64>]) -> Result<Self, Refusal>
+        requires rises { AllPairs (λ e f. e.ticket < f.ticket) entries.now }
+        requires one_side { AllPairs (λ e f. is_some e.item ≡ is_some f.item) entries.now }
+        requires named { All (λ e. 0 < e.ticket) entries.now }
+        ensures end { IfOk result (λ marks. marks.end ≡ end) }
+        ensures entries { IfOk result (λ marks. marks.entries ≡ entries.now) }
+        ensures newest { IfOk result (λ marks. IsNewest entries.now marks.newest) }
+        ensures memory { IfErr result (λ why. why ≡ Memory) }
+    {
+        let mut marks = MarkLine::new(alloc, end);
+        for entry in entries {
+            marks.reserve()?;
+            marks.push_back(Entry {
+                ticket: entry.ticket,
+                seat: entry.seat,
+                item: entry.item,
+                waits: entry.waits,
+            });
+        }
+        Ok(marks)
     }
 
     /// Makes room for an entry more. The only refusal is Memory.

@@ -1,6 +1,7 @@
-use Rattle.std.proofs.Common.{rules, arith, ◌≡◌, length, ap}
-use Rattle.meet_place.specs.Backs.{list_of}
-use Rattle.meet_place.proofs.Lists.{receipts_in-push, moves_plain}
+use Rattle.std.proofs.Common.{rules, arith, ◌≡◌, ap}
+use Rattle.std.proofs.lemmas.List.Sums.{sum_by_push}
+use Rattle.meet_place.specs.Backs.{share_of, folded_of}
+use Rattle.meet_place.proofs.Lists.{moves_plain}
 use Rattle.meet_place.proofs.backs.take_apart.Goals as goal
 
 pub loop-back-preserved : goal.loop-back-preserved
@@ -18,8 +19,13 @@ loop-back-preserved g c =
       parts = omega (arith, c.part-bare.ensures.share.0);
       bound = omega (arith, c.part-bare.ensures.share.0, c.merge.ensures.apart);
       amount = rw c.push_reserved.ensures.items
-          (let n = receipts_in-push list_of c.loop-back.bares.items c.part-bare.result.0 in
-          let same : length (list_of c.part-bare.result.0) ≡ length (list_of c.in-Some.back) =
-          ap (λ b. length (list_of b)) c.part-bare.ensures.seat in
+          (let n = sum_by_push share_of c.loop-back.bares.items c.part-bare.result.0 in
+          let same : share_of c.part-bare.result.0 ≡ share_of c.in-Some.back =
+          ap share_of c.part-bare.ensures.seat in
           omega (arith, c.part-bare.ensures.share.1));
+      folds = rw c.push_reserved.ensures.items
+          (let n = sum_by_push folded_of c.loop-back.bares.items c.part-bare.result.0 in
+          let same : folded_of c.part-bare.result.0 ≡ folded_of c.in-Some.back =
+          ap folded_of c.part-bare.ensures.seat in
+          omega (arith, c.part-bare.ensures.share.2));
     }

@@ -1,7 +1,7 @@
-use Rattle.std.proofs.Common.{◌≡◌, ◌+◌, ◌≤◌, ◌++◌, vec_len, map}
+use Rattle.std.proofs.Common.{◌≡◌, ◌+◌, ◌≤◌, ◌++◌, vec_len}
 use Rattle.std.specs.Vec.{vec_capacity}
 use Rattle.std.specs.Vec.Iter.{into_iter_len, into_iter_items}
-use Rattle.meet_place.specs.Backs.{list_of, receipts_in}
+use Rattle.meet_place.specs.Backs.{shares_in, folded_in}
 use Rattle.meet_place.proofs.backs.take_apart.Given as goal
 
 abbrev pub invariant-loop-back : goal.invariant-loop-back
@@ -13,5 +13,6 @@ invariant-loop-back g l = record {
   seats : l.bares.items ++ into_iter_items l.back-iterator ≡ l.fn.seats.items;
   parts : l.whole.parts ≡ vec_len l.bares;
   bound : vec_len l.bares ≤ g.N.Ledger.parts;
-  amount : l.whole.amount ≡ receipts_in (map list_of l.bares.items);
+  amount : l.whole.amount ≡ shares_in l.bares.items;
+  folds : l.whole.folds ≡ folded_in l.bares.items;
 }

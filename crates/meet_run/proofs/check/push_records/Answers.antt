@@ -1,3 +1,4 @@
+use Rattle.meet_tickets.specs.Bases.{no_base}
 use Rattle.std.proofs.Common.{◌+◌, ◌-◌, ◌++◌, ◌∷◌, [], length-append, arith, refl, sym, ◌∙◌}
 use Rattle.std.proofs.lemmas.Bool.{false≢true}
 use Rattle.meet_run.specs.Reading.{lines_of}
@@ -16,7 +17,7 @@ loop-entry-preserved g c =
         all,
         read-more past c.loop-entry.read (g.R.Read.remaining c.args.reader.now) (g.R.Read.remaining c.loop-entry.reader) (g.R.Read.remaining c.next_record.new.reader) c.in-Read.entry all before.pushed.1 c.in-Read.ensures.next.0 refl,
         omega (arith, before.pushed.2, length-append past (c.in-Read.entry ∷ [])),
-        c.push.ensures.seen (λ is. false≢true (sym c.if-is_memory.false ∙ c.is_memory.ensures.1 is)) past before.pushed.3,
+        c.push.ensures.seen (λ is. false≢true (sym c.if-is_memory.false ∙ c.is_memory.ensures.1 is)) no_base past before.pushed.3,
       );
       kind = c.push.ensures.kind ∙ before.kind;
       uses = uses-more (g.R.Read.remaining c.args.reader.now) (g.R.Read.remaining c.loop-entry.reader) (g.R.Read.remaining c.next_record.new.reader) c.args.turns.now c.loop-entry.turns c.next_record.new.turns before.uses c.next_record.ensures.uses;

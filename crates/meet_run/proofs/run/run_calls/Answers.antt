@@ -36,13 +36,13 @@ pub returns-in-Ok-close-clause-script : goal.returns-in-Ok-close-clause-script
 returns-in-Ok-close-clause-script g c =
     let invariant = c.loop-call.invariant in
     runs-closed c.args.setup (g.R.Read.remaining c.args.reader.now) (g.R.Read.remaining c.loop-call.reader) (g.W.Write.contents c.args.writer.now) (g.W.Write.contents c.loop-call.writer) c.loop-call.read (place_of c.loop-call.stepper) invariant.ran (g.W.Write.contents c.close.new.writer) c.in-Ended.ensures.next.0
-    (subst (λ s. Appends (g.W.Write.contents c.loop-call.writer) (g.W.Write.contents c.close.new.writer) (last_line (place_of c.loop-call.stepper).records (standing_of s (place_of c.loop-call.stepper)))) invariant.setup c.in-Ok-close.ensures.written)
+    (subst (λ s. Appends (g.W.Write.contents c.loop-call.writer) (g.W.Write.contents c.close.new.writer) (last_line ((place_of c.loop-call.stepper).gone + (place_of c.loop-call.stepper).records) (standing_of s (place_of c.loop-call.stepper)))) invariant.setup c.in-Ok-close.ensures.written)
 
 pub returns-in-Err-close-clause-script : goal.returns-in-Err-close-clause-script
 returns-in-Err-close-clause-script g c =
     let invariant = c.loop-call.invariant in
     runs-unclosed c.args.setup (g.R.Read.remaining c.args.reader.now) (g.R.Read.remaining c.loop-call.reader) (g.W.Write.contents c.args.writer.now) (g.W.Write.contents c.loop-call.writer) c.loop-call.read (place_of c.loop-call.stepper) invariant.ran (g.W.Write.contents c.close.new.writer) c.cut_short-in-Err-close.result c.in-Err-close.why c.in-Ended.ensures.next.0
-    (subst (λ s. AppendsPrefix (g.W.Write.contents c.loop-call.writer) (g.W.Write.contents c.close.new.writer) (last_line (place_of c.loop-call.stepper).records (standing_of s (place_of c.loop-call.stepper)))) invariant.setup c.close.ensures.prefix)
+    (subst (λ s. AppendsPrefix (g.W.Write.contents c.loop-call.writer) (g.W.Write.contents c.close.new.writer) (last_line ((place_of c.loop-call.stepper).gone + (place_of c.loop-call.stepper).records) (standing_of s (place_of c.loop-call.stepper)))) invariant.setup c.close.ensures.prefix)
     (λ memory. c.close.ensures.memory (c.in-Err-close.is ∙ ap (λ w. Err w) memory)) c.cut_short-in-Err-close.ensures c.in-Err-close.ensures.why
 
 pub returns-in-Faulty-clause-script : goal.returns-in-Faulty-clause-script

@@ -1,9 +1,6 @@
-use Rattle.std.proofs.Common.{◌≡◌, ◌+◌, ◌++◌, ap, subst, sym, ◌∙◌, arith}
-use Rattle.std.specs.Prelude.{IfSome, Some, None}
+use Rattle.std.proofs.Common.{◌≡◌, ◌+◌, ◌++◌, [], refl, ap, subst, ◌∙◌, arith}
 use Rattle.meet_history.specs.OneThread.{Turn, turn}
-use Rattle.meet_history.specs.Stepping.{place_of}
-use Rattle.meet_run.specs.Reading.{lines_of}
-use Rattle.meet_run.specs.Traces.{LeavesRecords}
+use Rattle.meet_history.specs.Stepping.{place_of, HasWritten}
 use Rattle.meet_run.proofs.LineLemmas.{uses-more, uses-none}
 use Rattle.meet_run.proofs.Recorded.{recorded-none, recorded-more, recorded-end, recorded-fault}
 use Rattle.meet_run.proofs.trace.record_calls.Goals as goal
@@ -11,7 +8,7 @@ use Rattle.meet_run.proofs.trace.record_calls.Goals as goal
 pub loop-call-init : goal.loop-call-init
 loop-call-init g c = record {
   setup = c.in_ok-stepper.ensures.setup;
-  recorded = recorded-none c.args.setup (g.R.Read.remaining c.args.reader.now) (place_of c.in_ok-stepper.stepper) c.in_ok-stepper.stepper.records c.in_ok-stepper.ensures.place c.in_ok-stepper.ensures.records;
+  recorded = ([], c.in_ok-stepper.ensures.written, recorded-none c.args.setup (g.R.Read.remaining c.args.reader.now) (place_of c.in_ok-stepper.stepper) c.in_ok-stepper.ensures.place);
   uses = uses-none (g.R.Read.remaining c.args.reader.now) c.args.turns.now c.args.turns.now (omega arith);
   few = omega arith;
   room = c.requires.room;
@@ -28,7 +25,11 @@ loop-call-preserved g c =
     let takes = c.in_ok-answer-in-Read.ensures.takes in
     record {
       setup = takes.setup ∙ invariant.setup;
-      recorded = recorded-more c.args.setup (place_of c.loop-call.stepper) c.loop-call.stepper.records c.loop-call.read (g.R.Read.remaining c.args.reader.now) (g.R.Read.remaining c.loop-call.reader) (g.R.Read.remaining c.next_call.new.reader) c.in-Read.call (place_of c.answer.new.self) c.answer.new.self.records invariant.recorded c.in-Read.ensures.next.0 (takes.place ∙ ap (λ (t : Turn). t.place) same) (takes.records ∙ ap (λ (t : Turn). c.loop-call.stepper.records ++ t.records) same);
+      recorded = (
+        invariant.recorded.0 ++ (turn c.args.setup (place_of c.loop-call.stepper) c.in-Read.call).records,
+        subst (λ (t : Turn). HasWritten c.answer.new.self (invariant.recorded.0 ++ t.records)) same (takes.written invariant.recorded.0 invariant.recorded.1),
+        recorded-more c.args.setup (place_of c.loop-call.stepper) invariant.recorded.0 c.loop-call.read (g.R.Read.remaining c.args.reader.now) (g.R.Read.remaining c.loop-call.reader) (g.R.Read.remaining c.next_call.new.reader) c.in-Read.call (place_of c.answer.new.self) invariant.recorded.2 c.in-Read.ensures.next.0 (takes.place ∙ ap (λ (t : Turn). t.place) same),
+      );
       uses = uses-more (g.R.Read.remaining c.args.reader.now) (g.R.Read.remaining c.loop-call.reader) (g.R.Read.remaining c.next_call.new.reader) c.args.turns.now c.loop-call.turns c.next_call.new.turns c.loop-call.invariant.uses c.next_call.ensures.uses;
       few = omega (arith, invariant.few, c.in-Read.ensures.next.1);
       room = c.next_call.ensures.room;
@@ -36,13 +37,15 @@ loop-call-preserved g c =
 
 pub returns-in-Ended-clause-records : goal.returns-in-Ended-clause-records
 returns-in-Ended-clause-records g c =
-    subst (λ rs. IfSome (g.R.Read.remaining c.args.reader.now) (λ rest. LeavesRecords c.args.setup (lines_of rest) rs None)) (sym c.into_records.ensures.records)
-    (recorded-end c.args.setup (place_of c.loop-call.stepper) c.loop-call.stepper.records c.loop-call.read (g.R.Read.remaining c.args.reader.now) (g.R.Read.remaining c.loop-call.reader) c.loop-call.invariant.recorded c.in-Ended.ensures.next.0)
+    let was = c.loop-call.invariant.recorded in
+    rw (c.left_by.ensures.cut, c.left_by.ensures.base, c.left_by.ensures.records, c.left_by.ensures.fault)
+    (recorded-end c.args.setup (place_of c.loop-call.stepper) was.0 c.loop-call.read (g.R.Read.remaining c.args.reader.now) (g.R.Read.remaining c.loop-call.reader) c.loop-call.stepper c.loop-call.invariant.setup refl was.1 was.2 c.in-Ended.ensures.next.0)
 
 pub returns-in-Faulty-clause-records : goal.returns-in-Faulty-clause-records
 returns-in-Faulty-clause-records g c =
-    subst (λ rs. IfSome (g.R.Read.remaining c.args.reader.now) (λ rest. LeavesRecords c.args.setup (lines_of rest) rs (Some (c.loop-call.read + 1)))) (sym c.into_records-in-Faulty.ensures.records)
-    (recorded-fault c.args.setup (place_of c.loop-call.stepper) c.loop-call.stepper.records c.loop-call.read (g.R.Read.remaining c.args.reader.now) (g.R.Read.remaining c.loop-call.reader) c.loop-call.invariant.recorded c.in-Faulty.ensures.next.0)
+    let was = c.loop-call.invariant.recorded in
+    rw (c.left_by-in-Faulty.ensures.cut, c.left_by-in-Faulty.ensures.base, c.left_by-in-Faulty.ensures.records, c.left_by-in-Faulty.ensures.fault)
+    (recorded-fault c.args.setup (place_of c.loop-call.stepper) was.0 c.loop-call.read (g.R.Read.remaining c.args.reader.now) (g.R.Read.remaining c.loop-call.reader) c.loop-call.stepper c.loop-call.invariant.setup refl was.1 was.2 c.in-Faulty.ensures.next.0)
 
 pub returns-in-Faulty-clause-uses : goal.returns-in-Faulty-clause-uses
 returns-in-Faulty-clause-uses g c =

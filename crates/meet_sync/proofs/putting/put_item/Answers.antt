@@ -4,7 +4,7 @@ use Rattle.meet_sync.proofs.putting.put_item.Goals as goal
 
 pub returns-in-Kept-clause-ended : goal.returns-in-Kept-clause-ended
 returns-in-Kept-clause-ended g c = (
-  c.in-Ok.ensures.number ∙ c.reserve.ensures.number,
+  (c.in-Ok.ensures.number ∙ c.reserve.ensures.number, c.in-Ok.ensures.past ∙ c.reserve.ensures.past),
   (
     c.in-Kept.field-0,
     GiveKept (g.T.Marked.mark_of c.args.item),
@@ -16,7 +16,7 @@ returns-in-Kept-clause-ended g c = (
 
 pub returns-in-Meets-clause-ended : goal.returns-in-Meets-clause-ended
 returns-in-Meets-clause-ended g c = (
-  c.in-Ok.ensures.number ∙ c.reserve.ensures.number,
+  (c.in-Ok.ensures.number ∙ c.reserve.ensures.number, c.in-Ok.ensures.past ∙ c.reserve.ensures.past),
   (
     c.in-Meets.field-0,
     GiveMeets (g.T.Marked.mark_of c.args.item) c.in-Meets.with,

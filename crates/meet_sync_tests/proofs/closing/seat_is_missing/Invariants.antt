@@ -1,4 +1,7 @@
 use Rattle.meet_sync_tests.proofs.closing.seat_is_missing.Given as goal
 
-abbrev pub ghosts-falls_short : goal.ghosts-falls_short
-ghosts-falls_short a call = record { name = call.parts.blank.name; parts = call.parts.blank.parts }
+abbrev pub ghosts-falls_short-N-Ledger : goal.ghosts-falls_short-N-Ledger
+ghosts-falls_short-N-Ledger a call = record { name = call.parts.blanks.records.name; parts = call.parts.blanks.records.parts }
+
+abbrev pub ghosts-falls_short-N-Ledgers : goal.ghosts-falls_short-N-Ledgers
+ghosts-falls_short-N-Ledgers a call = record { folds = call.parts.blanks.folds.name }

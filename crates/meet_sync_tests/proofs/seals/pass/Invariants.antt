@@ -1,4 +1,7 @@
 use Rattle.meet_sync_tests.proofs.seals.pass.Given as goal
 
-abbrev pub ghosts-passing : goal.ghosts-passing
-ghosts-passing a call = record { name = call.parts.blank.name; parts = call.parts.blank.parts }
+abbrev pub ghosts-passing-N-Ledger : goal.ghosts-passing-N-Ledger
+ghosts-passing-N-Ledger a call = record { name = call.parts.blanks.records.name; parts = call.parts.blanks.records.parts }
+
+abbrev pub ghosts-passing-N-Ledgers : goal.ghosts-passing-N-Ledgers
+ghosts-passing-N-Ledgers a call = record { folds = call.parts.blanks.folds.name }

@@ -4,4 +4,4 @@ use Rattle.meet_history.proofs.checker.Checker.standing.Goals as goal
 
 pub returns-in-None-clause-standing : goal.returns-in-None-clause-standing
 returns-in-None-clause-standing c =
-    rw (← c.self.view_is) (λ past seen. c.standing.ensures.standing ∙ standing-taken _ past c.in-None.is c.standing.ensures.beyond seen)
+    rw (← c.self.view_is) (λ base past seen. c.standing.ensures.standing ∙ standing-taken base _ past c.in-None.is c.standing.ensures.beyond seen)

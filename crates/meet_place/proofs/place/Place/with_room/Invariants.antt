@@ -14,5 +14,6 @@ invariant-loop-gate g l = record {
   padded_room : vec_len l.fn.parts.gates ≤ vec_capacity l.padded;
   parts : l.rest.parts + vec_len l.padded ≡ vec_len l.fn.parts.gates;
   amount : l.rest.amount ≡ 0;
+  folds : l.rest.folds ≡ 0;
   fresh : AreFresh l.seats.items;
 }

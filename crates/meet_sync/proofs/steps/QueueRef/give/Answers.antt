@@ -6,7 +6,7 @@ use Rattle.meet_sync.proofs.steps.QueueRef.give.Goals as goal
 pub returns-in-Waits-clause-asked : goal.returns-in-Waits-clause-asked
 returns-in-Waits-clause-asked g c =
     rw c.new.ensures (
-      c.in-Ok.ensures.number,
+      (c.in-Ok.ensures.number, c.in-Ok.ensures.past),
       ap (λ m. Some m) c.mark-mark.ensures,
       (
         GiveWaits (g.T.Marked.mark_of c.args.item),
@@ -17,7 +17,7 @@ returns-in-Waits-clause-asked g c =
 
 pub returns-in-Meets-clause-asked : goal.returns-in-Meets-clause-asked
 returns-in-Meets-clause-asked g c = (
-  c.in-Ok.ensures.number,
+  (c.in-Ok.ensures.number, c.in-Ok.ensures.past),
   (
     tt,
     (
@@ -32,7 +32,7 @@ returns-in-Meets-clause-asked g c = (
 pub returns-in-EntryInterrupted-clause-asked : goal.returns-in-EntryInterrupted-clause-asked
 returns-in-EntryInterrupted-clause-asked g c =
     let step = rw c.in-EntryInterrupted.is at rw c.told_gave-answer.ensures at c.in-Ok.ensures.step in (
-      c.in-Ok.ensures.number,
+      (c.in-Ok.ensures.number, c.in-Ok.ensures.past),
       (
         ap (λ i. Some i) step.3.2,
         (

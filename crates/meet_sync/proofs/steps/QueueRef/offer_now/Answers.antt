@@ -4,7 +4,7 @@ use Rattle.meet_sync.proofs.steps.QueueRef.offer_now.Goals as goal
 
 pub returns-in-Meets-clause-asked : goal.returns-in-Meets-clause-asked
 returns-in-Meets-clause-asked g c = (
-  c.in-Ok.ensures.number,
+  (c.in-Ok.ensures.number, c.in-Ok.ensures.past),
   (
     tt,
     (
@@ -19,7 +19,7 @@ returns-in-Meets-clause-asked g c = (
 pub returns-in-Fails-clause-asked : goal.returns-in-Fails-clause-asked
 returns-in-Fails-clause-asked g c =
     let step = rw c.in-Fails.is at rw c.told_offered-answer.ensures at c.in-Ok.ensures.step in (
-      c.in-Ok.ensures.number,
+      (c.in-Ok.ensures.number, c.in-Ok.ensures.past),
       (
         ap (λ i. Some i) step.3.1,
         (

@@ -4,7 +4,7 @@ use Rattle.meet_sync.proofs.steps.QueueRef.poll_now.Goals as goal
 
 pub returns-in-Meets-clause-asked : goal.returns-in-Meets-clause-asked
 returns-in-Meets-clause-asked g c = (
-  c.in-Ok.ensures.number,
+  (c.in-Ok.ensures.number, c.in-Ok.ensures.past),
   (
     tt,
     (
@@ -18,7 +18,7 @@ returns-in-Meets-clause-asked g c = (
 
 pub returns-in-Fails-clause-asked : goal.returns-in-Fails-clause-asked
 returns-in-Fails-clause-asked g c = (
-  c.in-Ok.ensures.number,
+  (c.in-Ok.ensures.number, c.in-Ok.ensures.past),
   (
     refl,
     (

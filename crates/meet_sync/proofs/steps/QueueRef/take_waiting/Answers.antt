@@ -6,7 +6,7 @@ use Rattle.meet_sync.proofs.steps.QueueRef.take_waiting.Goals as goal
 pub returns-in-Waits-clause-asked : goal.returns-in-Waits-clause-asked
 returns-in-Waits-clause-asked g c =
     rw c.new.ensures (
-      c.in-Ok.ensures.number,
+      (c.in-Ok.ensures.number, c.in-Ok.ensures.past),
       refl,
       (
         TakeWaits,
@@ -17,7 +17,7 @@ returns-in-Waits-clause-asked g c =
 
 pub returns-in-Meets-clause-asked : goal.returns-in-Meets-clause-asked
 returns-in-Meets-clause-asked g c = (
-  c.in-Ok.ensures.number,
+  (c.in-Ok.ensures.number, c.in-Ok.ensures.past),
   (
     tt,
     (
@@ -31,7 +31,7 @@ returns-in-Meets-clause-asked g c = (
 
 pub returns-in-EntryInterrupted-clause-asked : goal.returns-in-EntryInterrupted-clause-asked
 returns-in-EntryInterrupted-clause-asked g c = (
-  c.in-Ok.ensures.number,
+  (c.in-Ok.ensures.number, c.in-Ok.ensures.past),
   (
     refl,
     (

@@ -1,13 +1,12 @@
 use Rattle.std.proofs.Common.{◌∙◌, ◌≡◌, ◌+◌, ◌<◌, sym, ap, subst, length, false, true, Option, None, Some, arith}
 use Rattle.std.specs.Prelude.{nat_lt}
 use Rattle.std.proofs.lemmas.Result.{IfErr-weaker}
-use Rattle.meet_tickets.specs.Bases.{Based}
 use Rattle.meet_tickets.specs.declared.records.Deed.{Deed}
 use Rattle.meet_book.specs.Received.{Received}
 use Rattle.meet_calls.specs.DualSteps.{dual_need, dual_owed}
 use Rattle.meet_calls.specs.QueueSteps.{QueueStep, dual_call, queue_need, queue_refusal}
 use Rattle.meet_history.proofs.Calling.{refusal_at-is, admitted-at, place-admits, refused-needs, refused-so, memory-alone, most-needed, has-reply}
-use Rattle.meet_history.proofs.Telling.{takes-refused, takes-made, numbered-on, told-refused, call-count}
+use Rattle.meet_history.proofs.Telling.{takes-refused, takes-made, told-refused, call-count}
 use Rattle.meet_history.proofs.one_thread.stepper.Stepper.make.Goals.{in-Some, in-None}
 use Rattle.meet_history.proofs.one_thread.stepper.Stepper.make.Goals as goal
 
@@ -21,8 +20,8 @@ returns-in-Err-clause-turn c =
     let needs : 0 < queue_need call = refused-needs (queue_need call) _ own c.in-Err.ensures.ending in
     let same = c.in-Err.ensures.unchanged in
     rw (← c.self.view_is) (told-refused c.refused_unless_memory.result _ _ _ c.refused_unless_memory.ensures.reply c.refused_unless_memory.ensures.other
-    (λ other. takes-refused setup book.object.queue c.step.new.self.object.queue book.records c.step.new.self.records book.room c.step.new.self.room c.args.seat call why (λ i. (same i).object.queue) (λ i. (same i).records)
-    (sym (refusal_at-is setup book.object.queue book.cap (length book.records) c.args.seat (dual_call call) c.self.invariant.2 c.self.invariant.1 needs) ∙ refused-so _ why c.in-Err.ensures.why other)))
+    (λ other. takes-refused setup book.object.queue c.step.new.self.object.queue book.base c.step.new.self.base c.self.inside.cut book.records c.step.new.self.records book.room c.step.new.self.room c.args.seat call why (λ i. (same i).object.queue) (λ i. (same i).base) (λ i. (same i).records)
+    (sym (refusal_at-is setup book.object.queue book.base.gone c.self.inside.cut book.cap (length book.records) c.args.seat (dual_call call) c.self.invariant.2 c.self.invariant.1 needs) ∙ refused-so _ why c.in-Err.ensures.why other)))
 
 pub returns-in-Err-clause-memory : goal.returns-in-Err-clause-memory
 returns-in-Err-clause-memory c =
@@ -35,9 +34,9 @@ returns-in-Err-clause-memory c =
     let same = c.in-Err.ensures.unchanged in
     rw (← c.self.view_is) (IfErr-weaker c.refused_unless_memory.result _ _ (λ given is. record {
       memory = is.0;
-      alone = sym (refusal_at-is setup book.object.queue book.cap (length book.records) c.args.seat (dual_call call) c.self.invariant.2 c.self.invariant.1 needs)
+      alone = sym (refusal_at-is setup book.object.queue book.base.gone c.self.inside.cut book.cap (length book.records) c.args.seat (dual_call call) c.self.invariant.2 c.self.invariant.1 needs)
           ∙ memory-alone book.object.queue c.args.seat (dual_call call) (nat_lt book.cap (length book.records + dual_owed book.object.queue + dual_need (dual_call call))) why needs c.in-Err.ensures.why is.1;
-      unchanged = λ i. record { setup = setup; queue = (same i).object.queue; records = (same i).records; room = c.step.new.self.room };
+      unchanged = λ i. record { setup = setup; queue = (same i).object.queue; base = (same i).base; cut = c.self.inside.cut; records = (same i).records; room = c.step.new.self.room };
     }) c.refused_unless_memory.ensures.memory)
 
 pub returns-in-Err-clause-enough : goal.returns-in-Err-clause-enough
@@ -55,20 +54,19 @@ returns-in-Err-clause-enough c =
 pub invariant_of-self-2 : goal.invariant_of-self-2
 invariant_of-self-2 c =
     let count = call-count c.self.inside.book.object.kind c.self.inside.book.object.queue c.step.new.self.object.queue c.args.seat c.args.call c.in-Ok.made.0 c.in-Ok.ensures.step.1 in
-    (c.in-Ok.ensures.step.0 ∙ c.self.invariant.0, count ∙ c.self.invariant.1, c.step.ensures.cap ∙ c.self.invariant.2, c.step.ensures.base ∙ c.self.invariant.3)
+    (c.in-Ok.ensures.step.0 ∙ c.self.invariant.0, count ∙ c.self.invariant.1, c.step.ensures.cap ∙ c.self.invariant.2)
 
 pub returns-clause-turn : goal.returns-clause-turn
 returns-clause-turn c =
     let book = c.self.inside.book in
     let setup = c.self.inside.setup in
     let call = c.args.call in
-    let none : book.base.gone ≡ 0 = ap (λ (b : Based). b.gone) c.self.invariant.3 in
-    let made = λ (receipt : Option (Received Deed)) (is : c.in-Ok.made.1 ≡ receipt). takes-made setup book.object.queue c.step.new.self.object.queue book.records c.step.new.self.records book.room c.step.new.self.room c.args.seat call c.in-Ok.made.0 c.in-Ok.made.1 receipt is
-    (admitted-at setup book.object.queue book.cap (length book.records) c.args.seat (dual_call call) c.self.invariant.2 c.self.invariant.1 c.in-Ok.ensures.admitted)
+    let made = λ (receipt : Option (Received Deed)) (is : c.in-Ok.made.1 ≡ receipt). takes-made setup book.object.queue c.step.new.self.object.queue book.base c.step.new.self.base c.self.inside.cut book.records c.step.new.self.records book.room c.step.new.self.room c.args.seat call c.in-Ok.made.0 c.in-Ok.made.1 receipt c.step.ensures.base is
+    (admitted-at setup book.object.queue book.base.gone c.self.inside.cut book.cap (length book.records) c.args.seat (dual_call call) c.self.invariant.2 c.self.invariant.1 c.in-Ok.ensures.admitted)
     (place-admits _ _ c.in-Ok.ensures.admitted)
     (subst (λ k. QueueStep (λ m. m) k book.object.queue c.args.seat call c.in-Ok.made.0 c.step.new.self.object.queue) c.self.invariant.0 c.in-Ok.ensures.step.1)
     c.in-Ok.ensures.record
-    (numbered-on book.base.gone (length book.records) c.in-Ok.made.1 none c.in-Ok.ensures.place)
+    c.in-Ok.ensures.place
     c.in-Ok.ensures.records in
     elim c.match-receipt.branch [
       | in-Some w ↦ rw (w.result-is, w.reply_of.ensures, ← c.self.view_is) (made (Some w.in-Some.receipt) w.in-Some.is)

@@ -1,0 +1,167 @@
+//! The two ledgers of a place: of its records, and of those that were folded away. They go together in all that follows.
+
+ghost use Rattle.std.specs.Prelude.{◌≡◌, ◌+◌, ◌<◌, ◌≤◌, ℕ};
+ghost use Rattle.meet_place.specs.Ledgers.{AreOf};
+
+use std::marker::{Brand, Model, PhantomData};
+use std::sync::ledger;
+use std::sync::ledger::{Blank, Ledger, Share};
+
+/// Tells the two ledgers of one place from those of others: as a ledger it is that of the place's records, and beside it
+/// is that of the records that were folded away.
+pub trait Ledgers: Ledger {
+    /// The name of the ledger of what was folded away.
+    ghost folds: { ℕ };
+}
+
+impl Ledgers for Brand {
+    ghost folds = { 0 };
+}
+
+/// The ledger of what was folded away. No value of it is made.
+pub struct Folds<N> {
+    of: PhantomData<N>,
+}
+
+impl<N: Ledgers> Ledger for Folds<N> {
+    ghost name = { N.folds };
+
+    ghost parts = { N.parts };
+}
+
+/// Two new ledgers, which no type stands for yet, with a part for each seat.
+#[derive(Drop)]
+pub struct Blanks {
+    pub records: Blank,
+    pub folds: Blank,
+}
+
+impl Blanks {
+    /// Two ledgers for so many seats.
+    pub fn new(seats: u64) -> Self
+        ensures { (result.records.parts ≡ seats) × (result.folds.parts ≡ seats) }
+    {
+        Blanks {
+            records: Blank::new(seats),
+            folds: Blank::new(seats),
+        }
+    }
+
+    /// The totals of both, and a share that has all parts.
+    pub(crate) fn open<N: Ledgers>(self) -> (Totals<N>, Stake<N>)
+        requires { AreOf N.name N.folds N.parts self }
+        ensures totals { (result.0.total ≡ 0) × (result.0.folds ≡ 0) }
+        ensures share { (result.1.parts ≡ N.parts) × (result.1.amount ≡ 0) × (result.1.folds ≡ 0) }
+    {
+        let Blanks { records, folds } = self;
+        let (total, share) = records.open::<N>();
+        let (gone, part) = folds.open::<Folds<N>>();
+        let totals = Totals {
+            records: total,
+            gone,
+        };
+        let stake = Stake {
+            records: share,
+            gone: part,
+        };
+        (totals, stake)
+    }
+}
+
+/// Parts of both ledgers, as many of the one as of the other, with what they count.
+#[derive(Drop)]
+pub struct Stake<N: Ledgers> {
+    records: Share<N>,
+    gone: Share<Folds<N>>,
+}
+
+impl<N: Ledgers> Model for Stake<N> {
+    ghost use Rattle.std.specs.Prelude.{◌≡◌};
+    ghost use Rattle.meet_place.specs.Ledgers.{Staked};
+
+    ghost Value = { Staked };
+
+    ghost view = { λ s. record { parts = s.records.parts; amount = s.records.amount; folds = s.gone.amount } };
+
+    ghost invariant = { λ s. s.gone.parts ≡ s.records.parts };
+}
+
+impl<N: Ledgers> Stake<N> {
+    /// Takes another share in.
+    pub(crate) fn merge(&mut self, other: Stake<N>)
+        ensures parts { self.new.parts ≡ self.old.parts + other.parts }
+        ensures amount { self.new.amount ≡ self.old.amount + other.amount }
+        ensures folds { self.new.folds ≡ self.old.folds + other.folds }
+        ensures apart { self.new.parts ≤ N.parts }
+    {
+        let Stake { records, gone } = other;
+        self.records.merge(records);
+        self.gone.merge(gone);
+    }
+
+    /// Splits so much off.
+    pub(crate) fn split_off(&mut self, parts: u64, amount: u64, folds: u64) -> Stake<N>
+        requires has_parts { parts ≤ self.old.parts }
+        requires has_amount { amount ≤ self.old.amount }
+        requires has_folds { folds ≤ self.old.folds }
+        requires left_backed { parts ≡ self.old.parts → (amount ≡ self.old.amount) × (folds ≡ self.old.folds) }
+        requires given_backed { 0 < parts }
+        ensures share { (result.parts ≡ parts) × (result.amount ≡ amount) × (result.folds ≡ folds) }
+        ensures parts_left { self.new.parts + parts ≡ self.old.parts }
+        ensures amount_left { self.new.amount + amount ≡ self.old.amount }
+        ensures folds_left { self.new.folds + folds ≡ self.old.folds }
+    {
+        Stake {
+            records: self.records.split_off(parts, amount),
+            gone: self.gone.split_off(parts, folds),
+        }
+    }
+}
+
+/// How many records all shares count together, and how many of these were folded away.
+#[derive(Drop)]
+pub struct Totals<N: Ledgers> {
+    records: ledger::Book<N>,
+    gone: ledger::Book<Folds<N>>,
+}
+
+impl<N: Ledgers> Model for Totals<N> {
+    ghost use Rattle.meet_place.specs.Ledgers.{Totalled};
+
+    ghost Value = { Totalled };
+
+    ghost view = { λ t. record { total = t.records.total; folds = t.gone.total } };
+}
+
+impl<N: Ledgers> Totals<N> {
+    /// Counts so many records more, and adds them to a share.
+    pub(crate) fn add(&mut self, share: &mut Stake<N>, amount: u64)
+        requires { 0 < share.old.parts }
+        ensures totals { self.new ≡ record self.old { total = self.old.total + amount } }
+        ensures share { share.new ≡ record share.old { amount = share.old.amount + amount } }
+    {
+        self.records.add(&mut share.records, amount);
+    }
+
+    /// Counts so many more that were folded away, and adds them to a share.
+    pub(crate) fn fold(&mut self, share: &mut Stake<N>, amount: u64)
+        requires { 0 < share.old.parts }
+        ensures totals { self.new ≡ record self.old { folds = self.old.folds + amount } }
+        ensures share { share.new ≡ record share.old { folds = share.old.folds + amount } }
+        ensures bound { share.new.folds ≤ self.new.folds }
+    {
+        self.gone.add(&mut share.gone, amount);
+        self.gone.audit(&mut share.gone);
+    }
+
+    /// Changes nothing, and tells how the share stands to the totals.
+    pub(crate) fn audit(&mut self, share: &mut Stake<N>)
+        ensures totals { self.new ≡ self.old }
+        ensures share { share.new ≡ share.old }
+        ensures bound { (share.old.amount ≤ self.old.total) × (share.old.folds ≤ self.old.folds) }
+        ensures whole { share.old.parts ≡ N.parts → (share.old.amount ≡ self.old.total) × (share.old.folds ≡ self.old.folds) }
+    {
+        self.records.audit(&mut share.records);
+        self.gone.audit(&mut share.gone);
+    }
+}

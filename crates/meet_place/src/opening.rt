@@ -1,0 +1,55 @@
+//! What the places that threads share have in common at their beginning: seats with their ledger, and how the lock is
+//! taken.
+
+ghost use Rattle.std.specs.Prelude.{◌≡◌, ◌≤◌, [], vec_len};
+ghost use Rattle.std.specs.Vec.{vec_capacity};
+ghost use Rattle.meet_tickets.specs.Limits.{most_seats};
+ghost use Rattle.meet_place.specs.Ledgers.{AreOf};
+ghost use Rattle.meet_place.specs.Seats.{AreFresh};
+
+use crate::ledgers::{Blanks, Ledgers, Stake, Totals};
+use crate::place::seat_of;
+use crate::seats::Seat;
+use std::alloc::Global;
+use std::sync::{Mutex, MutexGuard, Wait};
+use std::thread;
+
+/// How often a thread tries the lock before it sleeps: our choice, of which nothing is promised.
+const LOCK_TURNS: u64 = 4;
+
+/// Takes a lock, once no other thread has it, and holds it until the guard is let go.
+pub fn hold<'a, T, R: Wait>(rt: &R, lock: &'a Mutex<T>) -> MutexGuard<'a, T> {
+    for _ in 0..LOCK_TURNS {
+        if let Some(guard) = lock.try_lock() {
+            return guard;
+        }
+        thread::yield_now();
+    }
+    lock.lock(rt)
+}
+
+/// The totals of two new ledgers, a share of them that has no part, and so many seats, numbered from 0. The empty list has
+/// room for them.
+pub fn open_seats<D: Copy, N: Ledgers>(
+    alloc: Global,
+    blanks: Blanks,
+    count: usize,
+    mut seats: Vec<Seat<D, N>>,
+) -> (Totals<N>, Stake<N>, Vec<Seat<D, N>>)
+    requires limit { count ≤ most_seats }
+    requires ledgers { AreOf N.name N.folds N.parts blanks }
+    requires one_each { N.parts ≡ count }
+    requires empty { seats.items ≡ [] }
+    requires room { count ≤ vec_capacity seats }
+    ensures total { (result.0.total ≡ 0) × (result.0.folds ≡ 0) }
+    ensures rest { (result.1.parts ≡ 0) × (result.1.amount ≡ 0) × (result.1.folds ≡ 0) }
+    ensures count { vec_len result.2 ≡ count }
+    ensures numbers { AreFresh result.2.items }
+{
+    let (total, mut rest) = blanks.open::<N>();
+    for at in 0..count {
+        let number = seat_of(at);
+        seats.push_reserved(Seat::new(alloc, number, rest.split_off(1, 0, 0)));
+    }
+    (total, rest, seats)
+}

@@ -1,0 +1,100 @@
+//! Checkpoints of a queue for threads: the records so far are folded into its base, and its seats can let go of their
+//! receipts for them. So a queue that lives long never fills for good.
+
+ghost use Rattle.std.specs.Prelude.{◌≡◌, ◌≤◌, ℕ, None, IfOk, IfErr};
+ghost use Rattle.meet_tickets.specs.Limits.{most_gone};
+ghost use Rattle.meet_place.specs.Seats.{Checkpoints, Trims};
+ghost use Rattle.meet_sync.specs.Told.{IsCutWhy};
+
+use crate::asked::SeatRefused;
+use crate::sync_queue::SyncQueue;
+use crate::transfer_queue::TransferQueue;
+use meet_book::Bases;
+use meet_line::Line;
+use meet_place::{Ledgers, Place, Seat};
+use meet_tickets::{Deed, Marked, Refusal};
+use std::sync::Wait;
+
+/// Folds the records of a place away, and counts them for the seat.
+fn cut<O: Bases, G, N: Ledgers, R: Wait>(
+    rt: &R,
+    place: &Place<O, G, N>,
+    seat: &mut Seat<O::Deed, N>,
+) -> Result<u64, Refusal>
+where
+    O::Base: Drop,
+    ensures gone { IfOk result (λ gone. gone ≤ most_gone) }
+    ensures counted { IfOk result (λ gone. (more : ℕ) × (more ≤ gone) × Checkpoints more seat.old seat.new) }
+    ensures why { IfErr result IsCutWhy }
+    ensures same { IfErr result (λ _. seat.new ≡ seat.old) }
+{
+    place.locked_cut(rt, seat)
+}
+
+impl<T: Marked, L: Line<T>, G, N: Ledgers> SyncQueue<T, L, G, N> {
+    /// Folds the records so far into the queue's base, under one hold of the lock, and answers how many were folded away
+    /// since the first; those of this time count for the seat. It writes no record. It refuses HistoryFull where these
+    /// would be more than 2^63 - 1, else Memory; then nothing has changed.
+    pub fn checkpoint<R: Wait>(
+        &self,
+        rt: &R,
+        mut seat: Seat<Deed, N>,
+    ) -> Result<(Seat<Deed, N>, u64), SeatRefused<T, N>>
+        ensures seat { IfOk result (λ made. (more : ℕ) × (more ≤ made.1) × Checkpoints more seat made.0) }
+        ensures gone { IfOk result (λ made. made.1 ≤ most_gone) }
+        ensures back { IfErr result (λ refused. refused.seat ≡ seat) }
+        ensures item { IfErr result (λ refused. refused.item ≡ None) }
+        ensures why { IfErr result (λ refused. IsCutWhy refused.why) }
+    {
+        match cut(rt, &self.place, &mut seat) {
+            Ok(gone) => Ok((seat, gone)),
+            Err(why) => Err(SeatRefused {
+                why,
+                seat,
+                item: None,
+            }),
+        }
+    }
+
+    /// Drops the seat's receipts for records that are folded away by now. It takes no memory.
+    pub fn trim<R: Wait>(&self, rt: &R, mut seat: Seat<Deed, N>) -> Seat<Deed, N>
+        ensures { (gone : ℕ) × Trims gone seat result }
+    {
+        self.place.trim(rt, &mut seat);
+        seat
+    }
+}
+
+impl<T: Marked, G, N: Ledgers> TransferQueue<T, G, N> {
+    /// Folds the records so far into the queue's base, under one hold of the lock, and answers how many were folded away
+    /// since the first; those of this time count for the seat. It writes no record. It refuses HistoryFull where these
+    /// would be more than 2^63 - 1, else Memory; then nothing has changed.
+    pub fn checkpoint<R: Wait>(
+        &self,
+        rt: &R,
+        mut seat: Seat<Deed, N>,
+    ) -> Result<(Seat<Deed, N>, u64), SeatRefused<T, N>>
+        ensures seat { IfOk result (λ made. (more : ℕ) × (more ≤ made.1) × Checkpoints more seat made.0) }
+        ensures gone { IfOk result (λ made. made.1 ≤ most_gone) }
+        ensures back { IfErr result (λ refused. refused.seat ≡ seat) }
+        ensures item { IfErr result (λ refused. refused.item ≡ None) }
+        ensures why { IfErr result (λ refused. IsCutWhy refused.why) }
+    {
+        match cut(rt, &self.place, &mut seat) {
+            Ok(gone) => Ok((seat, gone)),
+            Err(why) => Err(SeatRefused {
+                why,
+                seat,
+                item: None,
+            }),
+        }
+    }
+
+    /// Drops the seat's receipts for records that are folded away by now. It takes no memory.
+    pub fn trim<R: Wait>(&self, rt: &R, mut seat: Seat<Deed, N>) -> Seat<Deed, N>
+        ensures { (gone : ℕ) × Trims gone seat result }
+    {
+        self.place.trim(rt, &mut seat);
+        seat
+    }
+}

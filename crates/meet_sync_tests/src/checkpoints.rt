@@ -1,0 +1,221 @@
+//! Checkpoints and trims: a queue whose records are few goes on, and a seat lets go of its receipts.
+
+ghost use Rattle.std.specs.Prelude.{◌≡◌, vec_len, IfOk};
+ghost use Rattle.meet_tickets.specs.Bases.{no_base};
+ghost use Rattle.meet_place.specs.Ledgers.{AreOf};
+
+use crate::plays::{Seats, ask_all, checkpoint, closed, seated, trim};
+use meet_history::Order;
+use meet_line::FairLine;
+use meet_shop::{Ask, Idle, Shop, Told, gates, keep};
+use meet_sync::{Asked, Back, Blanks, Chronicle, Ledgers, NewQueue, Request, SyncQueue};
+use meet_tickets::{Deed, Refusal};
+use std::alloc::Global;
+use std::marker::Brand;
+use std::process::Abort;
+use std::sync::Wait;
+use std::test::*;
+
+/// What a queue with room for five records came to.
+type Came = Result<Chronicle<u64>, &'static str>;
+
+/// A free seat makes a checkpoint: so many records are folded away by then, and so many of them count for the seat.
+fn folds<N: Ledgers, R: Abort + Wait>(
+    rt: &R,
+    shop: &Shop<Idle, N>,
+    seats: &mut Seats<N>,
+    number: usize,
+    wanted: (u64, u64),
+) {
+    let Some(place) = seats.get_mut(number) else {
+        panic!(rt; "there is no such seat");
+    };
+    match place.take() {
+        Some(Back::Free(seat)) => match checkpoint(rt, shop, seat) {
+            Ok((seat, gone)) => {
+                assert_eq!(rt; (gone, seat.folded()), wanted);
+                *place = Some(Back::Free(seat));
+            }
+            Err(_) => panic!(rt; "nothing is folded away"),
+        },
+        _ => panic!(rt; "it isn't free"),
+    }
+}
+
+/// A free seat of so many receipts lets go of those whose records are folded away: so many are left, and so many gone.
+fn trims<N: Ledgers, R: Abort + Wait>(
+    rt: &R,
+    shop: &Shop<Idle, N>,
+    seats: &mut Seats<N>,
+    number: usize,
+    before: usize,
+    wanted: (usize, u64),
+) {
+    let Some(place) = seats.get_mut(number) else {
+        panic!(rt; "there is no such seat");
+    };
+    match place.take() {
+        Some(Back::Free(seat)) => {
+            assert_eq!(rt; seat.receipts().len(), before);
+            let seat = trim(rt, shop, seat);
+            assert_eq!(rt; (seat.receipts().len(), seat.trimmed()), wanted);
+            *place = Some(Back::Free(seat));
+        }
+        _ => panic!(rt; "it isn't free"),
+    }
+}
+
+/// Two givers wait, the records are folded away, a third waits, and a taker has no room until they are folded away
+/// again; then it meets the first, who follows up and lets go of the receipt that was folded away.
+fn folding<N: Ledgers, R: Abort + Wait>(rt: &R, shop: &Shop<Idle, N>, seats: &mut Seats<N>) {
+    let full = Told::Refused(Refusal::HistoryFull, None);
+    ask_all(
+        rt,
+        shop,
+        seats,
+        &[
+            (0, Ask::Give(1), Told::Parks(1)),
+            (1, Ask::Give(2), Told::Parks(2)),
+        ],
+    );
+    folds(rt, shop, seats, 2, (2, 2));
+    ask_all(
+        rt,
+        shop,
+        seats,
+        &[(2, Ask::Give(3), Told::Parks(3)), (3, Ask::Take, full)],
+    );
+    folds(rt, shop, seats, 4, (3, 1));
+    ask_all(
+        rt,
+        shop,
+        seats,
+        &[
+            (3, Ask::Take, Told::Got(1, 1)),
+            (0, Ask::Follow, Told::Done),
+        ],
+    );
+    trims(rt, shop, seats, 0, 2, (1, 1));
+}
+
+/// A fair queue with room for five records, and what it came to.
+fn five_records<N: Ledgers, R: Abort + Wait>(rt: &R, alloc: Global, parts: NewQueue<Idle>) -> Came
+    requires ledgers { AreOf N.name N.folds N.parts parts.blanks }
+    requires one_each { N.parts ≡ vec_len parts.gates }
+{
+    let (shop, made) = match Shop::<Idle, N>::with_cap(alloc, Order::Fair, parts, 5) {
+        Ok(made) => made,
+        Err(refused) => return Err(refused.why.name()),
+    };
+    match seated(alloc, made) {
+        Ok(mut seats) => {
+            folding(rt, &shop, &mut seats);
+            closed(alloc, shop, seats)
+        }
+        Err(why) => {
+            keep(shop);
+            Err(why)
+        }
+    }
+}
+
+/// A checkpoint where nothing was recorded leaves the base of no records.
+fn untouched<N: Ledgers, R: Abort + Wait>(rt: &R, alloc: Global, parts: NewQueue<Idle>) -> Came
+    requires ledgers { AreOf N.name N.folds N.parts parts.blanks }
+    requires one_each { N.parts ≡ vec_len parts.gates }
+{
+    let (queue, mut made) = match SyncQueue::<u64, FairLine<u64>, Idle, N>::with_cap(
+        alloc, parts, 5,
+    ) {
+        Ok(made) => made,
+        Err(_) => return Err("no queue"),
+    };
+    let Some(seat) = made.pop() else {
+        return Err("no seat");
+    };
+    let Ok((seat, 0)) = queue.checkpoint(rt, seat) else {
+        return Err("0 checkpoint");
+    };
+    let Ok(Asked::Parked(seat)) = queue.request(rt, seat, Request::Give(1)) else {
+        return Err("0 put 1");
+    };
+    let mut backs = Vec::new(alloc);
+    backs.push(Back::Held(seat)).map_err(|_| "memory")?;
+    match queue.close(alloc, backs) {
+        Ok(chronicle) => Ok(chronicle),
+        Err(fault) => Err(fault.why().name()),
+    }
+}
+
+/// Where no seat makes a checkpoint, nothing is folded away.
+fn whole<N: Ledgers, R: Wait>(rt: &R, alloc: Global, parts: NewQueue<Idle>) -> Came
+    requires ledgers { AreOf N.name N.folds N.parts parts.blanks }
+    requires one_each { N.parts ≡ vec_len parts.gates }
+    ensures { IfOk result (λ chronicle. chronicle.base ≡ no_base) }
+{
+    let (queue, mut made) = match SyncQueue::<u64, FairLine<u64>, Idle, N>::with_cap(
+        alloc, parts, 5,
+    ) {
+        Ok(made) => made,
+        Err(_) => return Err("no queue"),
+    };
+    let Some(seat) = made.pop() else {
+        return Err("no seat");
+    };
+    let Ok(Asked::Parked(seat)) = queue.request(rt, seat, Request::Give(1)) else {
+        return Err("0 put 1");
+    };
+    let Ok(mut backs) = Vec::with_capacity(alloc, 1) else {
+        return Err("memory");
+    };
+    backs.push_reserved(Back::Held(seat));
+    match queue.close(alloc, backs) {
+        Ok(chronicle) => Ok(chronicle),
+        Err(fault) => Err(fault.why().name()),
+    }
+}
+
+#[test]
+fn a_checkpoint_before_any_record(rt: HostRuntime) -> Result<(), Fail> {
+    let gates = gates::<Idle>(rt.alloc(), 1)?;
+    let blanks = Blanks::new(gates.len() as u64);
+    let chronicle = untouched::<Brand, _>(&rt, rt.alloc(), NewQueue { gates, blanks })?;
+    assert_eq!(&rt; chronicle.base.gone, 0);
+    assert_eq!(&rt; chronicle.base.last.number(), 0);
+    assert_eq!(&rt; chronicle.records.len(), 1);
+    assert!(&rt; chronicle.erased(rt.alloc()).is_ok());
+    Ok(())
+}
+
+#[test]
+fn without_a_checkpoint_all_is_there(rt: HostRuntime) -> Result<(), Fail> {
+    let gates = gates::<Idle>(rt.alloc(), 1)?;
+    let blanks = Blanks::new(gates.len() as u64);
+    let chronicle = whole::<Brand, _>(&rt, rt.alloc(), NewQueue { gates, blanks })?;
+    assert_eq!(&rt; chronicle.base.gone, 0);
+    assert_eq!(&rt; chronicle.records.len(), 1);
+    Ok(())
+}
+
+#[test]
+fn a_queue_of_five_records_goes_on(rt: HostRuntime) -> Result<(), Fail> {
+    let gates = gates::<Idle>(rt.alloc(), 5)?;
+    let blanks = Blanks::new(gates.len() as u64);
+    let chronicle = five_records::<Brand, _>(&rt, rt.alloc(), NewQueue { gates, blanks })?;
+    assert_eq!(&rt; chronicle.base.gone, 3);
+    assert_eq!(&rt; chronicle.base.last.number(), 3);
+    assert_eq!(&rt; chronicle.base.line.len(), 3);
+    assert_eq!(&rt; chronicle.records.len(), 2);
+    let places = chronicle.lists.first().map(|list| list.len());
+    assert_eq!(&rt; places, Some(1));
+    let Some(receipt) = chronicle.lists.first().and_then(|list| list.first()) else {
+        panic!(&rt; "the first seat has no receipt");
+    };
+    assert_eq!(&rt; receipt.place(), 5);
+    assert_eq!(&rt; chronicle.left.len(), 2);
+    match chronicle.erased(rt.alloc()) {
+        Ok(_) => panic!(&rt; "it is erased"),
+        Err(why) => assert_eq!(&rt; why, Refusal::HasBase),
+    }
+    Ok(())
+}
