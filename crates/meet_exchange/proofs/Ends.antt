@@ -10,7 +10,7 @@ use Rattle.meet_exchange.specs.declared.left.LeftIn.{LeftIn}
 use Rattle.meet_exchange.specs.Rounds.{IsHistory, in_slot, parts_of}
 use Rattle.meet_exchange.specs.Rebuild.{blank, posts_of, rebuilt_from}
 use Rattle.meet_exchange.specs.Closing.{Closing, AreParts, IsNewList, lists_of, put_all}
-use Rattle.meet_exchange.specs.Closed.{entry_at, numbered, IsLeft, TakenUpTo}
+use Rattle.meet_exchange.specs.Closed.{entry_at, AreAt, HasList, numbered, IsLeft, TakenUpTo}
 use Rattle.meet_exchange.proofs.Pigeons.{Among, all_there}
 use Rattle.meet_exchange.proofs.Rebuilding.{firsts, length-firsts, firsts_apart, firsts_below, seat_low, rebuilt}
 use Rattle.meet_exchange.proofs.Counting.{AllSeated, counted}
@@ -33,6 +33,18 @@ put_there n start rounds (p ∷ ps) lists parts long x (inl e) k = let low : p.0
     subst (λ z. in_slot k (entry_at (put_all ps (set lists p.0 p.1)) z) ≡ parts_of z k start (rounds k)) e
     (ap (in_slot k) (put_absent ps (set lists p.0 p.1) p.0 parts.2 ∙ get_or-set_same lists p.0 p.1 [] (omega arith)) ∙ parts.1 k)
 put_there n start rounds (p ∷ ps) lists parts long x (inr among) k = put_there n start rounds ps (set lists p.0 p.1) parts.3 (length-set lists p.0 p.1 ∙ long) x among k
+
+put_at : (n start : ℕ) (rounds : ℕ → List Round) (ps : List (ℕ × List Part)) (lists : List (List Part)) → AreParts n start rounds ps → length lists ≡ n → AreAt (put_all ps lists) ps
+put_at n start rounds [] lists parts long = tt
+put_at n start rounds (p ∷ ps) lists parts long = let low : p.0 < n = parts.0 in (
+  put_absent ps (set lists p.0 p.1) p.0 parts.2 ∙ get_or-set_same lists p.0 p.1 [] (omega arith),
+  put_at n start rounds ps (set lists p.0 p.1) parts.3 (length-set lists p.0 p.1 ∙ long),
+)
+
+has_first : (x : ℕ) (ps : List (ℕ × List Part)) → Among x (firsts ps) → HasList x ps
+has_first x [] among = absurd among
+has_first x (p ∷ ps) (inl e) = inl e
+has_first x (p ∷ ps) (inr among) = inr (has_first x ps among)
 
 new_numbered : (x i : ℕ) (lists : List (List Part)) → x < i → IsNewList x (numbered i lists)
 new_numbered x i [] l = tt
@@ -97,6 +109,12 @@ module _ {T : Type 0} (mark : T → ℕ) (plan : Plan) (vs : List Trail) (words 
 
   pub end_lists : (n start : ℕ) → plan.seats ≡ n → plan.start ≡ start → (x k : ℕ) → x < n → in_slot k (entry_at lists x) ≡ parts_of x k start (entry_at all k)
   end_lists n start e f x k l = placed x k (subst (λ z. x < z) (sym e) l) ∙ (λ i. parts_of x k (f i) (sym (same k) i))
+
+  pub end_own : AreAt lists told
+  end_own = put_at plan.seats plan.start closing.rounds told lists0 parts sized
+
+  pub end_each : (n : ℕ) → plan.seats ≡ n → (x : ℕ) → x < n → HasList x told
+  end_each n e x l = has_first x told (seats x (subst (λ z. x < z) (sym e) l))
 
   pub end_left : (slots start : ℕ) → plan.slots ≡ slots → plan.start ≡ start → (left : List (LeftIn T)) → TakenUpTo words values slots left → IsLeft mark start (entry_at all) slots left
   end_left slots start e f left taken = let P : ℕ → ℕ → (ℕ → List Round) → Type 0 = λ s n r. IsLeft mark s r n left in

@@ -4,7 +4,7 @@ use mathlib.Core.Logic.{dite}
 use mathlib.Core.Option.{some, some-injective, some-ne-none}
 use native.Mathlib.Decide.{ℕ_discrete}
 use lib.ListN.{get_elem?}
-use Rattle.std.proofs.Common.{Option, Some, None, eqb, eq-eqb, ne_eqb, ◌/◌, ◌%◌, ◌≡◌, ℕ, zero, suc, ◌+◌, ◌<◌, ◌≤◌, Bool, true, false, get_or, set, get_or-set_other, get_or-set_same, List, [], ◌∷◌, ◌++◌, length, sym, refl, ap, ◌∙◌, subst, arith}
+use Rattle.std.proofs.Common.{Option, Some, None, eqb, eq-eqb, ne_eqb, ◌/◌, ◌%◌, ◌≡◌, ℕ, zero, suc, ◌+◌, ◌<◌, ◌≤◌, ◌⊎◌, inl, inr, Bool, true, false, get_or, set, get_or-set_other, get_or-set_same, List, [], ◌∷◌, ◌++◌, length, sym, refl, ap, ◌∙◌, subst, arith}
 use Rattle.atomic_table.specs.Seated.{TableId}
 use Rattle.meet_exchange.specs.declared.views.Trail.{Trail}
 use Rattle.meet_exchange.specs.declared.records.Part.{Part}
@@ -14,7 +14,7 @@ use Rattle.meet_exchange.specs.declared.left.LeftIn.{LeftIn}
 use Rattle.meet_exchange.specs.Closing.{IsSettled, AllSettled, lists_of, LastFits, Closing, put_all}
 use Rattle.meet_exchange.specs.Rounds.{left_in, in_slot}
 use Rattle.meet_exchange.specs.Rebuild.{posts_of, posts_among}
-use Rattle.meet_exchange.specs.Closed.{AreOf, seat_of, back_lists, Adds, TakenUpTo, AddsLeft, IsLeft, standing_of}
+use Rattle.meet_exchange.specs.Closed.{AreOf, AreAt, HasList, seat_of, back_lists, Adds, TakenUpTo, AddsLeft, IsLeft, standing_of}
 
 pub lists_snoc : (vs : List Trail) (v : Trail) → lists_of (vs ++ v ∷ []) ≡ lists_of vs ++ (v.number, v.list) ∷ []
 lists_snoc [] v = refl
@@ -72,3 +72,38 @@ posts_snoc k (x ∷ ls) l = let e = posts_snoc k ls l in omega arith
 pub back_snoc : {T : Type 0} (bs : List (Back T)) (b : Back T) → back_lists (bs ++ b ∷ []) ≡ back_lists bs ++ ((seat_of b).number, (seat_of b).list) ∷ []
 back_snoc [] b = refl
 back_snoc (x ∷ bs) b = ap (λ l. ((seat_of x).number, (seat_of x).list) ∷ l) (back_snoc bs b)
+
+pub at_snoc : (lists : List (List Part)) (ps : List (ℕ × List Part)) (p : ℕ × List Part) → AreAt lists (ps ++ p ∷ []) → AreAt lists ps × AreAt lists (p ∷ [])
+at_snoc lists [] p at = (tt, at)
+at_snoc lists (q ∷ ps) p at = let h = at_snoc lists ps p at.1 in ((at.0, h.0), h.1)
+
+pub snoc_at : (lists : List (List Part)) (ps : List (ℕ × List Part)) (p : ℕ × List Part) → AreAt lists ps → AreAt lists (p ∷ []) → AreAt lists (ps ++ p ∷ [])
+snoc_at lists [] p at last = last
+snoc_at lists (q ∷ ps) p at last = (at.0, snoc_at lists ps p at.1 last)
+
+pub has_snoc : (x : ℕ) (ps : List (ℕ × List Part)) (p : ℕ × List Part) → HasList x (ps ++ p ∷ []) → HasList x ps ⊎ (p.0 ≡ x)
+has_snoc x [] p (inl e) = inr e
+has_snoc x [] p (inr h) = absurd h
+has_snoc x (q ∷ ps) p (inl e) = inl (inl e)
+has_snoc x (q ∷ ps) p (inr h) = deeper (has_snoc x ps p h) where
+  deeper : HasList x ps ⊎ (p.0 ≡ x) → HasList x (q ∷ ps) ⊎ (p.0 ≡ x)
+  deeper (inl t) = inl (inr t)
+  deeper (inr e) = inr e
+
+pub snoc_has : (x : ℕ) (ps : List (ℕ × List Part)) (p : ℕ × List Part) → HasList x ps ⊎ (p.0 ≡ x) → HasList x (ps ++ p ∷ [])
+snoc_has x [] p (inl h) = absurd h
+snoc_has x [] p (inr e) = inl e
+snoc_has x (q ∷ ps) p (inl (inl e)) = inl e
+snoc_has x (q ∷ ps) p (inl (inr h)) = inr (snoc_has x ps p (inl h))
+snoc_has x (q ∷ ps) p (inr e) = inr (snoc_has x ps p (inr e))
+
+-- the last of what is given back moves to the trails that are gathered
+pub moved_at : (lists : List (List Part)) (ps qs : List (ℕ × List Part)) (p : ℕ × List Part) → AreAt lists (ps ++ p ∷ []) → AreAt lists qs → AreAt lists ps × AreAt lists (qs ++ p ∷ [])
+moved_at lists ps qs p at rest = let h = at_snoc lists ps p at in (h.0, snoc_at lists qs p rest h.1)
+
+pub moved_has : (x : ℕ) (ps qs : List (ℕ × List Part)) (p : ℕ × List Part) → HasList x (ps ++ p ∷ []) ⊎ HasList x qs → HasList x ps ⊎ HasList x (qs ++ p ∷ [])
+moved_has x ps qs p (inl h) = split (has_snoc x ps p h) where
+  split : HasList x ps ⊎ (p.0 ≡ x) → HasList x ps ⊎ HasList x (qs ++ p ∷ [])
+  split (inl t) = inl t
+  split (inr e) = inr (snoc_has x qs p (inr e))
+moved_has x ps qs p (inr h) = inr (snoc_has x qs p (inl h))

@@ -44,9 +44,9 @@ module _ {T : Type 0} (mark : T → ℕ) (plan : Plan) where
 
   -- a look, also one by a step that fails
   pub looked : (s : St) (r : Rule s) (id k : ℕ) (v : Trail) (found : ℕ) → k < plan.slots → get_elem? s.views id ≡ some (v ∷ [])
-      → Rule (record { words = set s.words k (get_or s.words k 0); homes = s.homes; views = set s.views id (saw v found ∷ []) })
+      → Rule (record { words = set s.words k (get_or s.words k 0); homes = s.homes; views = set s.views id (saw v k found ∷ []) })
   looked s r id k v found inside at = let mine = (r.each_token id (v ∷ []) at).0 in
-      turned mark plan s r id k (get_or s.words k 0) v (saw v found) (r.cells k) s.homes inside at (r.each_slot k inside) (λ j _. refl) (record {
+      turned mark plan s r id k (get_or s.words k 0) v (saw v k found) (r.cells k) s.homes inside at (r.each_slot k inside) (λ j _. refl) (record {
         number = refl;
         list = mine.list k;
         hand = mine.hand k;
@@ -65,7 +65,7 @@ module _ {T : Type 0} (mark : T → ℕ) (plan : Plan) where
       → Allows Rule slots id me k (λ n. n) (Sees (step slots k 0 0 none) me)
   looks slots id k me inside one = opened slots id k (λ n. n) (Sees (step slots k 0 0 none)) me (top me.0) me.1 (λ i. (one i, me.1))
       (λ s r _ at _. let found : ℕ = get_or s.words k 0 in let fits = r.each_slot k inside in let word = fits.word_is in let little = code_small (r.cells k).stage in let low = fits.owner_fits in let few : plan.seats ≤ most_seats = r.few in
-      let bound : plan.start + length (r.cells k).past ≤ last_round = fits.round_fits in (saw (top me.0) found ∷ [], keeps, tt, looked s r id k (top me.0) found inside at, (omega arith, refl)))
+      let bound : plan.start + length (r.cells k).past ≤ last_round = fits.round_fits in (saw (top me.0) k found ∷ [], keeps, tt, looked s r id k (top me.0) found inside at, (omega arith, refl)))
 
   -- a compare-exchange that finds the word that it expects
   abbrev Hits : ℕ → M → ℕ → ℕ → ℕ → (M → Type 0) → Type 0
@@ -76,7 +76,7 @@ module _ {T : Type 0} (mark : T → ℕ) (plan : Plan) where
       → Allows Rule slots id (v ∷ [], c) k (λ n. either (eqb n old) new n) (Tries hit (step slots k old new said) (v ∷ [], c))
   tries slots id k old new said v c hit inside hits s r _ at _ = let found : ℕ = get_or s.words k 0 in dite (ℕ_discrete found old)
       (λ e. let h = hits s r at e in (h.0, h.1, h.2, subst (λ b. Rule (stepped s k (either b new found) id c h.0 h.1)) (sym (eq-eqb found old e)) h.3, (λ _. h.4, λ ne. absurd (ne e))))
-      (λ ne. (saw v found ∷ [], keeps, tt, subst (λ b. Rule (stepped s k (either b new found) id c (saw v found ∷ []) keeps)) (sym (ne_eqb found old ne)) (looked s r id k v found inside at), (λ e. absurd (ne e), λ _. refl)))
+      (λ ne. (saw v k found ∷ [], keeps, tt, subst (λ b. Rule (stepped s k (either b new found) id c (saw v k found ∷ []) keeps)) (sym (ne_eqb found old ne)) (looked s r id k v found inside at), (λ e. absurd (ne e), λ _. refl)))
 
   claims_at : (slots id k old new number : ℕ) (v : Trail) → k < plan.slots → v.hand ≡ Nothing → v.number ≡ number → old % 8 ≡ 0 → new ≡ (old + 1) + 8 * number
       → Allows Rule slots id (v ∷ [], []) k (λ n. either (eqb n old) new n) (Claims (step slots k old new none) (v ∷ [], []))

@@ -27,7 +27,7 @@ module _ {T : Type 0} (mark : T → ℕ) (v : SeatView) (k : ℕ) where
   Posts seen item (Posted p) = HasRound seen × StandsAt k (number_in seen) (mark item) p
       × Went v p.seat (part k (number_in seen) (DeedPosted (mark item)) ∷ []) []
   Posts seen item (Swapped s x) = ⊥
-  Posts seen item (Contended s x w) = HasRound seen × (w ≢ seen) × (x ≡ item) × (2 ≤ s.room) × Went v s [] (w ∷ [])
+  Posts seen item (Contended s x w) = HasRound seen × (w ≢ seen) × (x ≡ item) × (2 ≤ s.room) × Went v s [] ((k, w) ∷ [])
   Posts seen item (Worn s x) = (number_in seen ≡ last_round) × (x ≡ item) × (2 ≤ s.room) × Went v s [] []
   Posts seen item (Memory s x) = ⊥
 
@@ -35,7 +35,7 @@ module _ {T : Type 0} (mark : T → ℕ) (v : SeatView) (k : ℕ) where
   abbrev pub Swaps : (seen : ℕ) → T → Offered T → Type 0
   Swaps seen item (Posted p) = ⊥
   Swaps seen item (Swapped s x) = Went v s (part k (number_in seen) (DeedSwapped (mark item) (mark x)) ∷ []) []
-  Swaps seen item (Contended s x w) = (w ≢ seen) × (x ≡ item) × (2 ≤ s.room) × Went v s [] (w ∷ [])
+  Swaps seen item (Contended s x w) = (w ≢ seen) × (x ≡ item) × (2 ≤ s.room) × Went v s [] ((k, w) ∷ [])
   Swaps seen item (Worn s x) = ⊥
   Swaps seen item (Memory s x) = ⊥
 
@@ -43,14 +43,14 @@ module _ {T : Type 0} (mark : T → ℕ) (v : SeatView) (k : ℕ) where
   -- free nor posted, or the other word that the step after the look found
   abbrev pub Looked : (seen : ℕ) → T → Offered T → Type 0
   Looked seen item (Posted p) = HasRound seen × StandsAt k (number_in seen) (mark item) p
-      × Went v p.seat (part k (number_in seen) (DeedPosted (mark item)) ∷ []) (seen ∷ [])
+      × Went v p.seat (part k (number_in seen) (DeedPosted (mark item)) ∷ []) ((k, seen) ∷ [])
   Looked seen item (Swapped s x) = (code_in seen ≡ 2)
-      × Went v s (part k (number_in seen) (DeedSwapped (mark item) (mark x)) ∷ []) (seen ∷ [])
+      × Went v s (part k (number_in seen) (DeedSwapped (mark item) (mark x)) ∷ []) ((k, seen) ∷ [])
   Looked seen item (Contended s x w) = (x ≡ item) × (2 ≤ s.room)
-      × (((w ≡ seen) × (code_in seen ≢ 0) × (code_in seen ≢ 2) × Went v s [] (seen ∷ []))
-      ⊎ ((w ≢ seen) × (HasRound seen ⊎ (code_in seen ≡ 2)) × Went v s [] (seen ∷ w ∷ [])))
+      × (((w ≡ seen) × (code_in seen ≢ 0) × (code_in seen ≢ 2) × Went v s [] ((k, seen) ∷ []))
+      ⊎ ((w ≢ seen) × (HasRound seen ⊎ (code_in seen ≡ 2)) × Went v s [] ((k, seen) ∷ (k, w) ∷ [])))
   Looked seen item (Worn s x) = (code_in seen ≡ 0) × (number_in seen ≡ last_round) × (x ≡ item) × (2 ≤ s.room)
-      × Went v s [] (seen ∷ [])
+      × Went v s [] ((k, seen) ∷ [])
   Looked seen item (Memory s x) = ⊥
 
   -- of an offer: Memory before the look, with nothing changed, or else as the look saw it
@@ -61,12 +61,12 @@ module _ {T : Type 0} (mark : T → ℕ) (v : SeatView) (k : ℕ) where
   -- of the collecting of an offer in the round r with the mark a: got, or a look that saw no answer
   abbrev pub Collects : (r a : ℕ) → Gathered T → Type 0
   Collects r a (Got s x) = Went v s (part k r (Collected (mark x)) ∷ []) []
-  Collects r a (NotYet p) = StandsAt k r a p × (w : ℕ) × (code_in w ≢ 4) × Went v p.seat [] (w ∷ [])
+  Collects r a (NotYet p) = StandsAt k r a p × (w : ℕ) × (code_in w ≢ 4) × Went v p.seat [] ((k, w) ∷ [])
 
   -- of its withdrawal: back, or a step that saw it posted no more
   abbrev pub Withdraws : (r a : ℕ) → Returned T → Type 0
   Withdraws r a (Back s x) = (mark x ≡ a) × Went v s (part k r Withdrawn ∷ []) []
-  Withdraws r a (Late p) = StandsAt k r a p × (w : ℕ) × (code_in w ≢ 2) × Went v p.seat [] (w ∷ [])
+  Withdraws r a (Late p) = StandsAt k r a p × (w : ℕ) × (code_in w ≢ 2) × Went v p.seat [] ((k, w) ∷ [])
 
 -- not refused for memory
 abbrev pub IsServed : {T : Type 0} → Offered T → Type 0

@@ -1,5 +1,6 @@
 -- The end of an arena: its rounds, each seat's list, and what is left (our choice).
-use Rattle.std.specs.Prelude.{◌≡◌, ℕ, zero, suc, ◌+◌, ◌==◌, Bool, true, false, List, [], ◌∷◌, ◌++◌, length}
+use Rattle.std.specs.Prelude.{◌≡◌, ℕ, zero, suc, ◌+◌, ◌==◌, ◌⊎◌, Bool, true, false, List, [], ◌∷◌, ◌++◌}
+use Rattle.std.specs.Prelude.{length}
 use Rattle.std.specs.Prelude.{Option, Some, None, slice_index_or, slice_index}
 use mathlib.Core.Option.{some}
 use lib.ListN.{get_elem?}
@@ -16,7 +17,7 @@ use Rattle.meet_exchange.specs.declared.left.Standing.TheVariants.{Offered, Read
 use Rattle.meet_exchange.specs.Words.{code_in, number_in}
 use Rattle.meet_exchange.specs.Rounds.{left_in}
 use Rattle.meet_exchange.specs.Rule.{top}
-use Rattle.meet_exchange.specs.Closing.{IsSettled}
+use Rattle.meet_exchange.specs.Closing.{IsSettled, lists_of}
 use Rattle.meet_exchange.specs.Seats.{SeatView}
 
 module _ {T : Type 0} where
@@ -45,10 +46,30 @@ module _ {T : Type 0} where
 abbrev pub entry_at : {A : Type 0} → List (List A) → ℕ → List A
 entry_at lists i = slice_index_or lists i []
 
+-- each list of these, which have their seats' numbers, is the one of that index
+abbrev pub AreAt : List (List Part) → List (ℕ × List Part) → Type 0
+AreAt lists [] = Unit {0}
+AreAt lists (p ∷ ps) = (entry_at lists p.0 ≡ p.1) × AreAt lists ps
+
+-- a list of the seat x is among them
+abbrev pub HasList : ℕ → List (ℕ × List Part) → Type 0
+HasList x [] = ⊥
+HasList x (p ∷ ps) = (p.0 ≡ x) ⊎ HasList x ps
+
 -- lists with the numbers of their seats, from i on
 abbrev pub numbered : (i : ℕ) → List (List Part) → List (ℕ × List Part)
 numbered i [] = []
 numbered i (list ∷ lists) = (i, list) ∷ numbered (suc i) lists
+
+-- ## What is gathered
+
+-- the lists that have the lists of all these trails at their seats' numbers have those of all these backs
+abbrev pub Covers : {T : Type 0} → List Trail → List (Back T) → Type 0
+Covers vs bs = (lists : List (List Part)) → AreAt lists (lists_of vs) → AreAt lists (back_lists bs)
+
+-- each seat that has a trail among these is given back
+abbrev pub AreBack : {T : Type 0} → List Trail → List (Back T) → Type 0
+AreBack vs bs = (x : ℕ) → HasList x (lists_of vs) → HasList x (back_lists bs)
 
 -- ## What is left
 

@@ -20,13 +20,13 @@ pub record ArenaView : Type 0 where
   pub start : ℕ
 
 -- a seat: which arena it is of, its number, its parts in order, how many more its list has room for, and all words that
--- it saw, by a look or by a step that failed
+-- it saw, by a look or by a step that failed, each with its slot
 pub record SeatView : Type 0 where
   pub arena : TableId
   pub number : ℕ
   pub list : List Part
   pub room : ℕ
-  pub seen : List ℕ
+  pub seen : List (ℕ × ℕ)
 
 -- a seat whose item was posted: the slot, the round, and the item's mark
 pub record PendingView : Type 0 where
@@ -36,7 +36,7 @@ pub record PendingView : Type 0 where
   pub mark : ℕ
 
 -- the seat s is the seat v once it has done these parts more, and seen these words more
-pub record Went (v s : SeatView) (parts : List Part) (words : List ℕ) : Type 0 where
+pub record Went (v s : SeatView) (parts : List Part) (words : List (ℕ × ℕ)) : Type 0 where
   pub arena : s.arena ≡ v.arena
   pub number : s.number ≡ v.number
   pub list : s.list ≡ v.list ++ parts

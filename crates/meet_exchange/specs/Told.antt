@@ -23,9 +23,9 @@ Word T = Step (Option T)
 abbrev pub Told : Type 0 → Type 1
 Told T = Word T → Token T → ℕ → Token T → Type 0
 
--- it saw a word more; it has this in hand; it did this, and has this in hand
-abbrev pub saw : Trail → ℕ → Trail
-saw v w = record v { seen = v.seen ++ w ∷ [] }
+-- it saw a word of the slot k more; it has this in hand; it did this, and has this in hand
+abbrev pub saw : Trail → (k w : ℕ) → Trail
+saw v k w = record v { seen = v.seen ++ (k, w) ∷ [] }
 
 abbrev pub holds_now : Trail → InHand → Trail
 holds_now v h = record v { hand = h }
@@ -60,7 +60,7 @@ module _ {T : Type 0} (mark : T → ℕ) where
 module _ {T : Type 0} where
   -- a look
   abbrev pub Looks : Told T
-  Looks st m found n = n ≡ (saw (top m.0) found ∷ [], m.1)
+  Looks st m found n = n ≡ (saw (top m.0) st.word found ∷ [], m.1)
 
   -- of a load
   abbrev pub Sees : Told T

@@ -10,6 +10,8 @@ use Rattle.meet_exchange.specs.declared.waiting.Exchanged.{Exchanged}
 use Rattle.meet_exchange.specs.declared.waiting.Exchanged.TheVariants.{Swapped, TimedOut, Worn, Memory}
 use Rattle.meet_exchange.specs.declared.waiting.Next.{Next}
 use Rattle.meet_exchange.specs.declared.waiting.Next.TheVariants.{Goes, Ends}
+use Rattle.meet_tickets.specs.Limits.{last_round}
+use Rattle.meet_exchange.specs.Words.{code_in, number_in}
 use Rattle.meet_exchange.specs.Rounds.{part}
 use Rattle.meet_exchange.specs.Seats.{SeatView, PendingView, Went}
 
@@ -24,11 +26,16 @@ abbrev pub IsSwap : (a b : ℕ) → List Part → Type 0
 IsSwap a b ps = (k : ℕ) × (r : ℕ) × ((ps ≡ part k r (DeedSwapped a b) ∷ [])
     ⊎ (ps ≡ part k r (Posted a) ∷ part k r (Collected b) ∷ []))
 
+-- since it was the seat v, the last word that the seat s saw is that of a slot that is free in its last round
+abbrev pub SawWorn : (v s : SeatView) → Type 0
+SawWorn v s = (words : List (ℕ × ℕ)) × (k : ℕ) × (w : ℕ) × (code_in w ≡ 0) × (number_in w ≡ last_round)
+    × (s.seen ≡ v.seen ++ words ++ (k, w) ∷ [])
+
 -- of an exchange of the seat v, with an item of the mark a
 module _ (v : SeatView) (a : ℕ) where
   -- the seat s, after tries and then these parts
   abbrev pub HasTried : SeatView → List Part → Type 0
-  HasTried s parts = (tries : List Part) × (words : List ℕ) × AreTries a tries × Went v s (tries ++ parts) words
+  HasTried s parts = (tries : List Part) × (words : List (ℕ × ℕ)) × AreTries a tries × Went v s (tries ++ parts) words
 
   -- its offer stands
   abbrev pub HasPosted : PendingView → Type 0
@@ -42,12 +49,13 @@ module _ {T : Type 0} (mark : T → ℕ) (v : SeatView) (a : ℕ) where
   IsGoing (Stays p) = HasPosted v a p
 
   -- swapped after some tries, and the item is the other seat's; or the own item is back, and nothing is left of it.
-  -- It times out only where it has a limit
+  -- It times out only where it has a limit, is worn only where it saw so last, and wants memory only where its list
+  -- has no room for an offer
   abbrev pub EndsAs : (limit : Option ℕ) → Exchanged T → Type 0
   EndsAs limit (Swapped s x) = (last : List Part) × IsSwap a (mark x) last × HasTried v a s last
   EndsAs limit (TimedOut s x) = (limit ≡ None → ⊥) × (mark x ≡ a) × HasTried v a s []
-  EndsAs limit (Worn s x) = (mark x ≡ a) × HasTried v a s []
-  EndsAs limit (Memory s x) = (mark x ≡ a) × HasTried v a s []
+  EndsAs limit (Worn s x) = (mark x ≡ a) × HasTried v a s [] × SawWorn v s
+  EndsAs limit (Memory s x) = (mark x ≡ a) × HasTried v a s [] × (s.room < 2)
 
   -- where there is no limit, none comes
   abbrev pub GoesOn : (limit : Option ℕ) → Next T → Type 0

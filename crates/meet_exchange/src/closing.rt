@@ -7,7 +7,7 @@ ghost use Rattle.meet_tickets.specs.declared.refusals.Refusal.TheVariants.{Memor
 ghost use Rattle.meet_exchange.specs.Rounds.{IsHistory, in_slot, parts_of};
 ghost use Rattle.meet_exchange.specs.Rebuild.{blank as nothing_known, posts_of};
 ghost use Rattle.meet_exchange.specs.Closing.{AllSettled, lists_of, put_all};
-ghost use Rattle.meet_exchange.specs.Closed.{AreOf, IsLeft, back_lists, entry_at};
+ghost use Rattle.meet_exchange.specs.Closed.{AreOf, AreAt, AreBack, Covers, HasList, IsLeft, back_lists, entry_at};
 
 use crate::arena::Arena;
 use crate::left::{LeftIn, take_left};
@@ -94,6 +94,8 @@ fn gather<T: Marked>(
     ensures lists { map (λ l. l.items) lists.new.items
         ≡ put_all (lists_of master.new.me.0) (map (λ l. l.items) lists.old.items) }
     ensures count { length lists.new.items ≡ length lists.old.items }
+    ensures own { Covers master.new.me.0 seats.items }
+    ensures back { AreBack master.new.me.0 seats.items }
     ensures posts { (k : ℕ) → posts_of k (lists_of master.new.me.0) ≡ posts_of k (back_lists seats.items) }
 {
     while let Some(back) = seats.pop() {
@@ -149,8 +151,9 @@ fn room_for<T>(alloc: Global, slots: usize, seats: u64, backs: &[Back<T>]) -> Op
 
 impl<T: Marked> Arena<T> {
     /// Ends the arena: takes all seats back, in whatever order, and answers the rounds of each slot, what each seat
-    /// did, and the items that no seat has. It refuses SeatMissing exactly where fewer seats are given back than were made,
-    /// then Memory; then all comes back, and it can be called again.
+    /// did, which is the list of the seat that is given back, and the items that no seat has. It refuses SeatMissing
+    /// exactly where fewer seats are given back than were made, then Memory; then all comes back, and it can be called
+    /// again.
     pub fn close(self, alloc: Global, seats: Vec<Back<T>>) -> Result<Closed<T>, CloseFault<T>>
         requires place { AreOf self.id seats.items }
         ensures slots { IfOk result (λ c. length c.slots.items ≡ self.slots) }
@@ -160,6 +163,8 @@ impl<T: Marked> Arena<T> {
         ensures lists { IfOk result (λ c. (x k : ℕ) → x < self.seats
             → in_slot k (entry_at (map (λ list. list.items) c.lists.items) x)
             ≡ parts_of x k self.start (entry_at (map (λ rounds. rounds.items) c.slots.items) k)) }
+        ensures own { IfOk result (λ c. AreAt (map (λ list. list.items) c.lists.items) (back_lists seats.items)) }
+        ensures each { IfOk result (λ _. (x : ℕ) → x < self.seats → HasList x (back_lists seats.items)) }
         ensures left { IfOk result (λ c. IsLeft T.mark_of self.start
             (entry_at (map (λ rounds. rounds.items) c.slots.items)) self.slots c.left.items) }
         ensures missing { IfErr result (λ fault. fault.why ≡ SeatMissing ↔ (vec_len seats < self.seats)) }

@@ -28,7 +28,7 @@ pub(crate) fn look<T: Marked>(board: &Board<T>, token: &mut Token<T>, slot: usiz
     requires one { token.old.me.0 ≡ top token.old.me.0 ∷ [] }
     ensures place { (token.new.table_id ≡ token.old.table_id) × (token.new.id ≡ token.old.id) }
     ensures round { number_in result ≤ last_round }
-    ensures told { token.new.me ≡ (saw (top token.old.me.0) result ∷ [], token.old.me.1) }
+    ensures told { token.new.me ≡ (saw (top token.old.me.0) slot result ∷ [], token.old.me.1) }
 {
     board.load::<Look>(token, slot)
 }
@@ -48,7 +48,7 @@ pub(crate) fn claim<T: Marked>(
     ensures place { (token.new.table_id ≡ token.old.table_id) × (token.new.id ≡ token.old.id) }
     ensures claimed { result ≡ seen → token.new.me
         ≡ (holds_now (top token.old.me.0) (At slot (number_in seen) Claimed) ∷ [], (slot, None) ∷ []) }
-    ensures missed { result ≢ seen → token.new.me ≡ (saw (top token.old.me.0) result ∷ [], []) }
+    ensures missed { result ≢ seen → token.new.me ≡ (saw (top token.old.me.0) slot result ∷ [], []) }
 {
     board.compare_exchange::<Claim>(token, slot, seen, seen + 1 + 8 * number.number())
 }
@@ -95,7 +95,7 @@ pub(crate) fn withdraw<T: Marked>(
     ensures back { IfOk result (λ x. (T.mark_of x ≡ mark)
         × (token.new.me ≡ (did (top token.old.me.0) (part slot round Withdrawn) Nothing ∷ [], []))) }
     ensures late { IfErr result (λ found. (code_in found ≢ 2)
-        × (token.new.me ≡ (saw (top token.old.me.0) found ∷ [], []))) }
+        × (token.new.me ≡ (saw (top token.old.me.0) slot found ∷ [], []))) }
 {
     let _ = mark;
     let posted = word(POSTED, number, round);
@@ -127,7 +127,7 @@ pub(crate) fn swap<T: Marked>(
       [],
     )) }
     ensures missed { IfErr result (λ e. (e.0 ≡ item) × (e.1 ≢ seen)
-        × (token.new.me ≡ (saw (top token.old.me.0) e.1 ∷ [], []))) }
+        × (token.new.me ≡ (saw (top token.old.me.0) slot e.1 ∷ [], []))) }
 {
     let given = Some(item);
     let found = board.compare_exchange_with::<Take>(token, slot, seen, seen + 1, &given);
@@ -156,7 +156,7 @@ pub(crate) fn collect<T: Marked>(
     ensures got { IfOk result (λ x. token.new.me
         ≡ (did (top token.old.me.0) (part slot round (Collected (T.mark_of x))) Nothing ∷ [], [])) }
     ensures not_yet { IfErr result (λ found. (code_in found ≢ 4)
-        × (token.new.me ≡ (saw (top token.old.me.0) found ∷ [], []))) }
+        × (token.new.me ≡ (saw (top token.old.me.0) slot found ∷ [], []))) }
 {
     let _ = mark;
     let answered = word(ANSWERED, number, round);

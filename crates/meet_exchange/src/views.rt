@@ -18,12 +18,13 @@ pub enum InHand {
     At { slot: u64, round: u64, duty: Duty },
 }
 
-/// What the rule knows of one seat: its parts so far, what it has in hand, and all words that it saw.
+/// What the rule knows of one seat: its parts so far, what it has in hand, and all words that it saw, each with
+/// its slot.
 pub struct Trail {
     pub number: u64,
     pub list: LinkedList<Part>,
     pub hand: InHand,
-    pub seen: LinkedList<u64>,
+    pub seen: LinkedList<(usize, u64)>,
 }
 
 /// The view of a token: the trails that it has, one but while an arena is made or closed.

@@ -24,7 +24,7 @@ fn last_seat(rt: &impl Abort, arena: &Arena<u64>, seats: &mut Vec<Seat<u64>>) ->
 }
 
 /// An arena of so many slots and seats, and the last three of these, from the last on.
-pub fn last_three(rt: &impl Abort, alloc: Global, slots: usize, seats: u64) -> Opened
+fn last_three(rt: &impl Abort, alloc: Global, slots: usize, seats: u64) -> Opened
     ensures slots { result.0.slots ≡ slots }
     ensures last { result.1.arena ≡ result.0.id }
     ensures other { result.2.arena ≡ result.0.id }
@@ -37,6 +37,36 @@ pub fn last_three(rt: &impl Abort, alloc: Global, slots: usize, seats: u64) -> O
     let other = last_seat(rt, &arena, &mut seats);
     let first = last_seat(rt, &arena, &mut seats);
     (arena, last, other, first)
+}
+
+/// The first two of an arena's new seats; the others are let go.
+fn first_two(rt: &impl Abort, arena: &Arena<u64>, all: Vec<Seat<u64>>) -> (Seat<u64>, Seat<u64>)
+    requires { AreNew arena.now.id 0 all.items }
+    ensures first { result.0.arena ≡ arena.now.id }
+    ensures second { result.1.arena ≡ arena.now.id }
+{
+    let mut seats = all;
+    for _ in 2..seats.len() {
+        let _let_go = last_seat(rt, arena, &mut seats);
+    }
+    let second = last_seat(rt, arena, &mut seats);
+    let first = last_seat(rt, arena, &mut seats);
+    (first, second)
+}
+
+/// An arena of so many slots and seats, the last of these, and the first two.
+pub fn last_and_first(rt: &impl Abort, alloc: Global, slots: usize, seats: u64) -> Opened
+    ensures slots { result.0.slots ≡ slots }
+    ensures last { result.1.arena ≡ result.0.id }
+    ensures first { result.2.arena ≡ result.0.id }
+    ensures second { result.3.arena ≡ result.0.id }
+{
+    let Ok((arena, mut seats)) = Arena::<u64>::new(alloc, slots, seats) else {
+        panic!(rt; "no arena")
+    };
+    let last = last_seat(rt, &arena, &mut seats);
+    let (first, second) = first_two(rt, &arena, seats);
+    (arena, last, first, second)
 }
 
 /// An arena of so many slots, and its three seats, in the order of their numbers.

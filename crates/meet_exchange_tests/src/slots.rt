@@ -3,7 +3,7 @@
 ghost use Rattle.std.specs.Prelude.{◌≡◌, ◌<◌};
 
 use crate::shared::{
-    gets, is_contended, is_early, is_late, last_three, opened, posts, swaps, withdraws,
+    gets, is_contended, is_early, is_late, last_and_first, opened, posts, swaps, withdraws,
 };
 use meet_exchange::{Arena, Offered, Part, SlotDeed};
 use meet_tickets::Refusal;
@@ -48,11 +48,16 @@ fn each_slot_by_itself(rt: HostRuntime) -> Result<(), Fail> {
 
 #[test]
 fn the_seats_of_a_wide_arena(rt: HostRuntime) -> Result<(), Fail> {
-    let (arena, last, one, two) = last_three(&rt, rt.alloc(), 1, 40_001);
-    assert_eq!(rt; last.number().number(), 40_000);
+    let (arena, last, zero, one) = last_and_first(&rt, rt.alloc(), 1, 40_001);
+    let numbers = (
+        last.number().number(),
+        zero.number().number(),
+        one.number().number(),
+    );
+    assert_eq!(rt; numbers, (40_000, 0, 1));
     let _last = posts(&rt, &arena, last, 0, 5, 320_002);
-    let _one = swaps(&rt, &arena, one, 0, (6, 5), 320_004);
-    let _two = is_contended(&rt, &arena, two, 0, 7, 320_004);
+    let _zero = swaps(&rt, &arena, zero, 0, (6, 5), 320_004);
+    let _one = is_contended(&rt, &arena, one, 0, 7, 320_004);
     Ok(())
 }
 

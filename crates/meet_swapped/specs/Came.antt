@@ -15,12 +15,12 @@ use Rattle.meet_swapped.specs.declared.parcels.Parcel.{Parcel}
 abbrev pub Came : PendingView → (s : SeatView) → Parcel → Type 0
 Came p s parcel = Went p.seat s (part p.slot p.round (Collected parcel.mark) ∷ []) []
     ⊎ ((parcel.mark ≡ p.mark) × (w : ℕ) × (code_in w ≢ 4)
-    × Went p.seat s (part p.slot p.round Withdrawn ∷ []) (w ∷ []))
+    × Went p.seat s (part p.slot p.round Withdrawn ∷ []) ((p.slot, w) ∷ []))
 
 -- the offer q is the offer p, which stands: one look saw no answer, and then its parcel was posted no more
 abbrev pub Stands : (p q : PendingView) → Type 0
 Stands p q = StandsAt p.slot p.round p.mark q
-    × (w : ℕ) × (u : ℕ) × (code_in w ≢ 4) × (code_in u ≢ 2) × Went p.seat q.seat [] (w ∷ u ∷ [])
+    × (w : ℕ) × (u : ℕ) × (code_in w ≢ 4) × (code_in u ≢ 2) × Went p.seat q.seat [] ((p.slot, w) ∷ (p.slot, u) ∷ [])
 
 -- a seat of this arena, which has so many slots
 abbrev pub IsOf : TableId → (slots : ℕ) → Back Parcel → Type 0
