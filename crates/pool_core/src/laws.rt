@@ -1,0 +1,53 @@
+//! Laws about the histories of pools, and what follows for their books.
+
+ghost use Rattle.std.specs.Prelude.{◌≡◌, ℕ, ◌+◌, ◌≤◌, ◌++◌, ◌∷◌, List, None};
+ghost use Rattle.meet_tickets.specs.declared.records.Record.{Record as Entered};
+ghost use Rattle.pool_core.specs.declared.settings.Settings.{Settings as Made};
+ghost use Rattle.pool_core.specs.declared.deeds.PoolDeed.{PoolDeed as Told};
+ghost use Rattle.pool_core.specs.declared.deeds.PoolDeed.TheVariants.{Finished};
+ghost use Rattle.pool_core.specs.Histories.{Based, IsLegalOn, moment_of_base};
+ghost use Rattle.pool_core.specs.Standings.{jobs_in, standings, standing_count, brought};
+ghost use Rattle.pool_core.specs.Bases.{IsWellFormed};
+ghost use Rattle.pool_core.specs.Worked.{RanOn};
+ghost use Rattle.pool_core.specs.Placed.{PoolStep, pool_refusal, pool_need};
+
+use crate::calls::{PoolAnswer, PoolCall};
+use crate::deeds::PoolDeed;
+use crate::pool::PoolCore;
+use meet_book::{Book, Receipt};
+use meet_tickets::{Marked, SeatNo};
+
+/// After a well-formed base and legal records the job of each ticket has as many standings as jobs of it were on the
+/// base or were executed since, and never more than one. It does nothing.
+pub fn jobs_have_one_standing()
+    ensures count { (s : Made) (b : Based) (records : List (Entered (Told ℕ))) → IsWellFormed s b
+        → IsLegalOn s b records → (ticket : ℕ) → standing_count (standings s b records) ticket
+        ≡ standing_count (jobs_in (moment_of_base s b).pool) ticket + brought records ticket }
+    ensures once { (s : Made) (b : Based) (records : List (Entered (Told ℕ))) → IsWellFormed s b → IsLegalOn s b records
+        → (ticket : ℕ) → standing_count (standings s b records) ticket ≤ 1 }
+{}
+
+/// Each answer that is recorded follows a record of the same seat that it runs the job of this ticket, with none of
+/// that seat in between; or the base says that it runs it. It does nothing.
+pub fn answers_follow_starts()
+    ensures { (s : Made) (b : Based) (front : List (Entered (Told ℕ))) (seat ticket answer : ℕ)
+        (rest : List (Entered (Told ℕ)))
+        → IsLegalOn s b (front ++ record { seat = seat; ticket = ticket; deed = Finished answer } ∷ rest)
+        → RanOn s b front seat ticket }
+{}
+
+/// A worker's step on a book, which is never refused in a state that the call names.
+pub fn work<J: Marked>(
+    book: &mut Book<PoolCore<J>>,
+    seat: SeatNo,
+    call: PoolCall<J>,
+) -> (PoolAnswer<J>, Option<Receipt<PoolDeed<u64>>>)
+    requires worker { pool_need call ≡ 0 }
+    requires state { pool_refusal book.old.object seat call ≡ None }
+    ensures { PoolStep book.old.object seat call result.0 book.new.object }
+{
+    match book.step(seat, call) {
+        Ok(made) => made,
+        Err(_) => unreachable!(),
+    }
+}

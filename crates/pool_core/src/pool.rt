@@ -1,0 +1,344 @@
+//! The core of a pool.
+
+ghost use Rattle.std.specs.Prelude.{◌≡◌, ◌≢◌, ◌+◌, ◌-◌, ◌<◌, ◌≤◌, false, Some, None, IsOk, IfOk, IfErr, OnOk, OnErr};
+ghost use Rattle.std.specs.Prelude.{length, sum_by, slice_set, slice_index_or, position, not, map, replicate, count_by};
+ghost use Rattle.meet_tickets.specs.Refusals.{IsWhy};
+ghost use Rattle.meet_tickets.specs.declared.refusals.Refusal.TheVariants.{Memory, HistoryFull};
+ghost use Rattle.meet_tickets.specs.Meeting.{kept_count};
+ghost use Rattle.pool_core.specs.Limits.{most_together};
+ghost use Rattle.pool_core.specs.Pools.{HasNoJob, is_there, stage_owes, cut_stage};
+ghost use Rattle.pool_core.specs.declared.stages.Stage.TheVariants.{Absent};
+
+use crate::answers::Counters;
+use crate::line::JobLine;
+use crate::placing::Place;
+use crate::settings::{Policy, PoolQueue, Settings, Sizes};
+use crate::stages::{Stage, Task};
+use meet_tickets::{LAST_TICKET, Refusal, SeatNo, Side, Ticket};
+use std::alloc::{AllocError, Global};
+use std::marker::Model;
+use std::mem;
+
+mod bases;
+mod ending;
+mod executing;
+mod leaving;
+mod waking;
+mod working;
+
+/// The core of a pool: its line, its workers' stages, its counts and its next ticket; how many jobs more may be kept
+/// without growth, and a list for those that `shutdown_now` hands back.
+#[derive(Drop)]
+pub struct PoolCore<J> {
+    alloc: Global,
+    settings: Settings,
+    shut: bool,
+    line: JobLine<J>,
+    workers: Vec<Stage<J>>,
+    largest: u64,
+    done: u64,
+    back: u64,
+    dropped: u64,
+    ran: u64,
+    next: u64,
+    room: u64,
+    list: Vec<Task<J>>,
+}
+
+impl<J> Model for PoolCore<J> {
+    ghost use Rattle.pool_core.specs.Shown.{Shown};
+    ghost use Rattle.pool_core.specs.Inside.{shown, IsWell};
+
+    ghost Value = { Shown J };
+
+    ghost view = { λ p. shown p };
+
+    ghost invariant = { λ p. IsWell p };
+}
+
+impl<J> PoolCore<J> {
+    ghost use Rattle.pool_core.specs.Histories.{nobody};
+    ghost use Rattle.pool_core.specs.Pools.{working, free, owed, is_there, bound_of, worker_of};
+    ghost use Rattle.pool_core.specs.Steps.{placing, may_keep};
+    ghost use Rattle.pool_core.specs.Sound.{IsSound};
+    ghost use Rattle.pool_core.specs.Calls.{settings_refusal, execute_refusal, shutdown_refusal, is_running};
+
+    /// A pool that nobody works in. It refuses what doesn't fit (`settings_refusal`), and else Memory alone.
+    pub fn new(
+        alloc: Global,
+        sizes: Sizes,
+        queue: PoolQueue,
+        policy: Policy,
+    ) -> Result<Self, Refusal>
+        ensures fresh { IfOk result (λ made. made.pool ≡ nobody (replicate sizes.maximum Absent)) }
+        ensures settings { IfOk result (λ made. made.settings
+            ≡ record { sizes = sizes; queue = queue; policy = policy }) }
+        ensures next { IfOk result (λ made. made.next ≡ 1) }
+        ensures room { IfOk result (λ made. made.room ≡ 0) }
+        ensures fits { IfOk result (λ _. settings_refusal (record { sizes = sizes; queue = queue; policy = policy })
+            ≡ None) }
+        ensures why { IfErr result (IsWhy (settings_refusal
+            (record { sizes = sizes; queue = queue; policy = policy }))) }
+    {
+        let settings = Settings {
+            sizes,
+            queue,
+            policy,
+        };
+        if let Some(why) = settings.refusal() {
+            return Err(why);
+        }
+        let mut line = JobLine::new(alloc, settings.queue.end());
+        match line.reserve(settings.sizes.maximum) {
+            Ok(()) => {}
+            Err(why) => {
+                line.destroy_empty();
+                return Err(why);
+            }
+        }
+        match nobody_works(alloc, settings.sizes.maximum) {
+            Ok(workers) => Ok(PoolCore {
+                alloc,
+                settings,
+                shut: false,
+                line,
+                workers,
+                largest: 0,
+                done: 0,
+                back: 0,
+                dropped: 0,
+                ran: 0,
+                next: 1,
+                room: 0,
+                list: Vec::new(alloc),
+            }),
+            Err(_) => {
+                line.destroy_empty();
+                Err(Refusal::Memory)
+            }
+        }
+    }
+
+    /// What it was made with.
+    pub fn settings(&self) -> &Settings
+        ensures { result.now ≡ self.now.settings }
+    {
+        &self.settings
+    }
+
+    /// What the pool counts.
+    pub fn counters(&self) -> Counters
+        ensures { result ≡ record {
+          workers = working self.now.pool;
+          running = count_by is_running self.now.pool.workers;
+          kept = kept_count self.now.pool.line;
+          done = self.now.pool.done;
+          largest = self.now.pool.largest;
+        } }
+    {
+        Counters {
+            workers: self.workers(),
+            running: self.running(),
+            kept: self.line.kept(),
+            done: self.done,
+            largest: self.largest,
+        }
+    }
+
+    /// Whether it is shut.
+    pub fn is_shut(&self) -> bool
+        ensures { result ≡ self.now.pool.shut }
+    {
+        self.shut
+    }
+
+    /// How many workers there are.
+    pub fn workers(&self) -> u64
+        ensures { result ≡ working self.now.pool }
+    {
+        self.workers.iter().filter(|stage| stage.is_there()).count() as u64
+    }
+
+    /// How many workers run a job.
+    pub fn running(&self) -> u64
+        ensures { result ≡ count_by is_running self.now.pool.workers }
+    {
+        self.workers
+            .iter()
+            .filter(|stage| stage.is_running())
+            .count() as u64
+    }
+
+    /// The least number that no worker has.
+    pub fn free(&self) -> Option<u64>
+        ensures { result ≡ free self.now.pool }
+    {
+        match first_absent(&self.workers) {
+            Some(index) => Some(index as u64),
+            None => None,
+        }
+    }
+
+    /// The number of the worker whose seat this is; the callers' seats come first.
+    pub fn worker_of(&self, seat: SeatNo) -> u64
+        ensures { result ≡ worker_of self.now.settings seat }
+    {
+        seat.number().saturating_sub(self.settings.sizes.callers)
+    }
+
+    /// How many jobs are kept.
+    pub fn kept(&self) -> u64
+        ensures { result ≡ kept_count self.now.pool.line }
+    {
+        self.line.kept()
+    }
+
+    /// How many records may still be needed.
+    pub fn owed(&self) -> u64
+        ensures { result ≡ owed self.now.pool }
+    {
+        self.stays_sound();
+        let workers = owed_by(&self.workers);
+        workers + 3 * self.line.kept()
+    }
+
+    /// Whether one job more may be kept.
+    fn may_keep(&self) -> bool
+        ensures { result ≡ may_keep self.now.settings self.now.pool.line }
+    {
+        match self.settings.queue {
+            PoolQueue::Hand(_) => false,
+            PoolQueue::Unbounded => true,
+            PoolQueue::Bounded(most) => self.line.kept() < most,
+        }
+    }
+
+    /// Where a new job goes.
+    pub(crate) fn place(&self) -> Place
+        ensures { result ≡ placing self.now.settings self.now.pool }
+    {
+        let workers = self.workers();
+        let few = workers < self.settings.sizes.core;
+        let met = self.line.has_partner(Side::Giver);
+        let keeps = self.may_keep();
+        let more = workers < self.settings.sizes.maximum;
+        if self.shut {
+            Place::ToPolicy
+        } else if few {
+            Place::ToNew
+        } else if met {
+            Place::ToTaker
+        } else if keeps {
+            Place::ToLine
+        } else if more {
+            Place::ToNew
+        } else {
+            Place::ToPolicy
+        }
+    }
+
+    /// Whether a seat's job is admitted, or why it is refused: NoSuchSeat or TicketsSpent, the first that applies.
+    pub fn admit_execute(&self, seat: SeatNo) -> Result<(), Refusal>
+        ensures admitted { IfOk result (λ _. execute_refusal self.now seat ≡ None) }
+        ensures why { IfErr result (λ why. execute_refusal self.now seat ≡ Some why) }
+        ensures own { IfErr result (λ why. (why ≢ Memory) × (why ≢ HistoryFull)) }
+    {
+        if seat.number() >= self.settings.sizes.callers {
+            return Err(Refusal::NoSuchSeat);
+        }
+        let owed = self.owed();
+        self.stays_sound();
+        if LAST_TICKET + 1 - self.next < owed + 6 {
+            Err(Refusal::TicketsSpent)
+        } else {
+            Ok(())
+        }
+    }
+
+    /// Makes room for this many jobs more that are kept. The only refusal is Memory, and never where there is so much.
+    pub fn reserve(&mut self, jobs: u64) -> Result<(), Refusal>
+        ensures same { self.new ≡ record self.old { room = self.new.room } }
+        ensures room { OnOk result (jobs ≤ self.new.room) }
+        ensures more { self.old.room ≤ self.new.room }
+        ensures unchanged { OnErr result (self.new ≡ self.old) }
+        ensures memory { IfErr result (λ why. why ≡ Memory) }
+        ensures enough { jobs ≤ self.old.room → IsOk result }
+    {
+        if jobs <= self.room {
+            return Ok(());
+        }
+        self.line.reserve(jobs)?;
+        let Some(listed) = self.line.kept().checked_add(jobs) else {
+            return Err(Refusal::Memory);
+        };
+        if self.list.reserve(listed as usize).is_err() {
+            return Err(Refusal::Memory);
+        }
+        self.room = jobs;
+        Ok(())
+    }
+
+    /// What is always true of a pool. It does nothing.
+    pub fn stays_sound(&self)
+        ensures sound { IsSound self.now.settings self.now.pool self.now.next }
+        ensures tickets { owed self.now.pool + self.now.next ≤ LAST_TICKET + 1 }
+    {
+        let _ = &self.line;
+    }
+}
+
+/// The worker of this number comes to another stage. What it leaves has no job in it.
+fn set_stage<J>(workers: &mut Vec<Stage<J>>, worker: u64, stage: Stage<J>)
+    requires there { worker < length workers.old.items }
+    requires no_job { HasNoJob (slice_index_or workers.old.items worker Absent) }
+    ensures { workers.new.items ≡ slice_set workers.old.items worker stage }
+{
+    match mem::replace(&mut workers[worker as usize], stage) {
+        Stage::Absent | Stage::Waiting(_) | Stage::Cut(_) | Stage::Running(_) => {}
+        Stage::Starting(first) => match first {
+            None => {}
+            Some(_) => unreachable!(),
+        },
+        Stage::HandedOver(_, _) => unreachable!(),
+    }
+}
+
+/// Takes what the worker of this number does out; it is absent then.
+fn take_stage<J>(workers: &mut Vec<Stage<J>>, worker: u64) -> Stage<J>
+    requires { worker < length workers.old.items }
+    ensures was { result ≡ slice_index_or workers.old.items worker Absent }
+    ensures workers { workers.new.items ≡ slice_set workers.old.items worker Absent }
+{
+    mem::replace(&mut workers[worker as usize], Stage::Absent)
+}
+
+/// The first index at which no worker is.
+fn first_absent<J>(workers: &[Stage<J>]) -> Option<usize>
+    ensures { result ≡ position (λ stage. not (is_there stage)) workers.now }
+{
+    workers.iter().position(|stage| !stage.is_there())
+}
+
+/// How many records workers may still need.
+fn owed_by<J>(workers: &[Stage<J>]) -> u64
+    requires { length workers.now ≤ most_together }
+    ensures { result ≡ sum_by stage_owes workers.now }
+{
+    let mut owed = 0;
+    for stage in workers {
+        owed += stage.owes();
+    }
+    owed
+}
+
+/// So many numbers that no worker has.
+fn nobody_works<J>(alloc: Global, count: u64) -> Result<Vec<Stage<J>>, AllocError>
+    requires { count ≤ most_together }
+    ensures { IfOk result (λ workers. workers.items ≡ replicate count Absent) }
+{
+    let mut workers = Vec::with_capacity(alloc, count as usize)?;
+    for _ in 0..count {
+        workers.push_reserved(Stage::Absent);
+    }
+    Ok(workers)
+}

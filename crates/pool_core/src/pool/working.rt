@@ -1,0 +1,338 @@
+//! The workers' steps. None of them takes memory.
+
+ghost use Rattle.std.specs.Prelude.{◌≡◌, ◌≢◌, ◌+◌, ◌-◌, ◌<◌, ◌≤◌, true, false, Some, None, IfOk, IfErr, length};
+ghost use Rattle.std.specs.Prelude.{slice_index_or, slice_set};
+ghost use Rattle.pool_core.specs.Pools.{HasNoJob};
+ghost use Rattle.pool_core.specs.Calls.{is_starting, is_jobless, IsHanded, IsHandedTask};
+ghost use Rattle.pool_core.specs.declared.stages.Stage.TheVariants.{Absent};
+ghost use Rattle.meet_tickets.specs.declared.refusals.Refusal.TheVariants.{NoSuchSeat, Memory, HistoryFull};
+
+use crate::answers::{FollowedUp, IdleEnd, Ready};
+use crate::pool::{PoolCore, set_stage};
+use crate::stages::{Stage, Task};
+use meet_tickets::{Entry, Refusal, SeatNo, Side, Ticket};
+use std::mem;
+
+impl<J> PoolCore<J> {
+    ghost use Rattle.pool_core.specs.Pools.{stage_of};
+    ghost use Rattle.pool_core.specs.Steps.{oldest, may_expire};
+    ghost use Rattle.pool_core.specs.Calls.{Step, FollowStep, IdleStep, StartStep, is_worker, worker_refusal};
+    ghost use Rattle.pool_core.specs.Calls.{is_at_queue, is_running, ready_deed};
+    ghost use Rattle.pool_core.specs.declared.deeds.PoolDeed.TheVariants.{Finished, Leaves, StartFailed};
+
+    /// The worker whose seat this is; NoSuchSeat for another seat.
+    fn worker_at(&self, seat: SeatNo) -> Result<u64, Refusal>
+        ensures worker { IfOk result (λ worker. seat ≡ self.now.settings.sizes.callers + worker) }
+        ensures there { IfOk result (λ worker. worker < length self.now.pool.workers) }
+        ensures is { IfOk result (λ _. is_worker self.now.settings seat ≡ true) }
+        ensures is_not { IfErr result (λ _. is_worker self.now.settings seat ≡ false) }
+        ensures why { IfErr result (λ why. why ≡ NoSuchSeat) }
+    {
+        let callers = self.settings.sizes.callers;
+        if seat.number() < callers {
+            return Err(Refusal::NoSuchSeat);
+        }
+        let worker = seat.number() - callers;
+        if worker >= self.settings.sizes.maximum {
+            return Err(Refusal::NoSuchSeat);
+        }
+        Ok(worker)
+    }
+
+    /// Whether the worker's `ready` or `start_failed` is admitted, or why it is refused.
+    pub fn admit_starting(&self, seat: SeatNo) -> Result<(), Refusal>
+        ensures admitted { IfOk result (λ _. worker_refusal is_starting self.now seat ≡ None) }
+        ensures why { IfErr result (λ why. worker_refusal is_starting self.now seat ≡ Some why) }
+        ensures own { IfErr result (λ why. (why ≢ Memory) × (why ≢ HistoryFull)) }
+    {
+        let worker = self.worker_at(seat)?;
+        if self.workers[worker as usize].is_starting() {
+            Ok(())
+        } else {
+            Err(Refusal::NotOpen)
+        }
+    }
+
+    /// Whether the worker's `follow` or `idle_end` is admitted, or why it is refused.
+    pub fn admit_at_queue(&self, seat: SeatNo) -> Result<(), Refusal>
+        ensures admitted { IfOk result (λ _. worker_refusal is_at_queue self.now seat ≡ None) }
+        ensures why { IfErr result (λ why. worker_refusal is_at_queue self.now seat ≡ Some why) }
+        ensures own { IfErr result (λ why. (why ≢ Memory) × (why ≢ HistoryFull)) }
+    {
+        let worker = self.worker_at(seat)?;
+        if self.workers[worker as usize].is_at_queue() {
+            Ok(())
+        } else {
+            Err(Refusal::NotOpen)
+        }
+    }
+
+    /// Whether the worker's `finish` is admitted, or why it is refused.
+    pub fn admit_finish(&self, seat: SeatNo) -> Result<(), Refusal>
+        ensures admitted { IfOk result (λ _. worker_refusal is_running self.now seat ≡ None) }
+        ensures why { IfErr result (λ why. worker_refusal is_running self.now seat ≡ Some why) }
+        ensures own { IfErr result (λ why. (why ≢ Memory) × (why ≢ HistoryFull)) }
+    {
+        let worker = self.worker_at(seat)?;
+        if self.workers[worker as usize].is_running() {
+            Ok(())
+        } else {
+            Err(Refusal::NotOpen)
+        }
+    }
+
+    /// Whether the worker's `leave` is admitted, or why it is refused.
+    pub fn admit_leave(&self, seat: SeatNo) -> Result<(), Refusal>
+        ensures admitted { IfOk result (λ _. worker_refusal is_jobless self.now seat ≡ None) }
+        ensures why { IfErr result (λ why. worker_refusal is_jobless self.now seat ≡ Some why) }
+        ensures own { IfErr result (λ why. (why ≢ Memory) × (why ≢ HistoryFull)) }
+    {
+        let worker = self.worker_at(seat)?;
+        if self.workers[worker as usize].is_jobless() {
+            Ok(())
+        } else {
+            Err(Refusal::NotOpen)
+        }
+    }
+
+    /// The worker's job answered this: the job is done, and the worker starts again, with none.
+    pub fn finish(&mut self, seat: SeatNo, answer: u64) -> Result<Ticket, Refusal>
+        ensures step { IfOk result (λ ticket. Step self.old seat ticket (Finished answer) self.new) }
+        ensures room { self.old.room ≤ self.new.room }
+        ensures admitted { IfOk result (λ _. worker_refusal is_running self.old seat ≡ None) }
+        ensures why { IfErr result (λ why. worker_refusal is_running self.old seat ≡ Some why) }
+        ensures unchanged { IfErr result (λ _. self.new ≡ self.old) }
+    {
+        let worker = self.worker_at(seat)?;
+        let ticket = match &self.workers[worker as usize] {
+            Stage::Running(ticket) => *ticket,
+            _ => return Err(Refusal::NotOpen),
+        };
+        set_stage(&mut self.workers, worker, Stage::Starting(None));
+        self.done += 1;
+        Ok(ticket)
+    }
+
+    /// A worker that starts without a job ends.
+    pub fn leave(&mut self, seat: SeatNo) -> Result<Ticket, Refusal>
+        ensures step { IfOk result (λ ticket. Step self.old seat ticket Leaves self.new) }
+        ensures room { self.old.room ≤ self.new.room }
+        ensures admitted { IfOk result (λ _. worker_refusal is_jobless self.old seat ≡ None) }
+        ensures why { IfErr result (λ why. worker_refusal is_jobless self.old seat ≡ Some why) }
+        ensures unchanged { IfErr result (λ _. self.new ≡ self.old) }
+    {
+        let worker = self.worker_at(seat)?;
+        if !self.workers[worker as usize].is_jobless() {
+            return Err(Refusal::NotOpen);
+        }
+        set_stage(&mut self.workers, worker, Stage::Absent);
+        Ok(no_ticket())
+    }
+
+    /// A worker couldn't be started, and ends; its first job comes back.
+    pub fn start_failed(&mut self, seat: SeatNo) -> Result<(Ticket, Option<J>), Refusal>
+        ensures step { IfOk result (λ told. StartStep self.old seat told.0 told.1 self.new) }
+        ensures room { self.old.room ≤ self.new.room }
+        ensures admitted { IfOk result (λ _. worker_refusal is_starting self.old seat ≡ None) }
+        ensures why { IfErr result (λ why. worker_refusal is_starting self.old seat ≡ Some why) }
+        ensures unchanged { IfErr result (λ _. self.new ≡ self.old) }
+    {
+        let worker = self.worker_at(seat)?;
+        if !self.workers[worker as usize].is_starting() {
+            return Err(Refusal::NotOpen);
+        }
+        if self.workers[worker as usize].is_jobless() {
+            set_stage(&mut self.workers, worker, Stage::Absent);
+            return Ok((no_ticket(), None));
+        }
+        let Task { ticket, job } = take_first(&mut self.workers, worker);
+        self.back += 1;
+        Ok((ticket, Some(job)))
+    }
+
+    /// The follow-up of the worker's take.
+    pub fn follow(&mut self, seat: SeatNo) -> Result<(Ticket, FollowedUp<J>), Refusal>
+        ensures step { IfOk result (λ told. FollowStep self.old seat told.0 told.1 self.new) }
+        ensures room { self.old.room ≤ self.new.room }
+        ensures admitted { IfOk result (λ _. worker_refusal is_at_queue self.old seat ≡ None) }
+        ensures why { IfErr result (λ why. worker_refusal is_at_queue self.old seat ≡ Some why) }
+        ensures unchanged { IfErr result (λ _. self.new ≡ self.old) }
+    {
+        let worker = self.worker_at(seat)?;
+        let Some(take) = self.workers[worker as usize].take() else {
+            return Err(Refusal::NotOpen);
+        };
+        if self.workers[worker as usize].is_waiting() {
+            return Ok((take, FollowedUp::NotYet));
+        }
+        if self.workers[worker as usize].is_cut() {
+            set_stage(&mut self.workers, worker, Stage::Absent);
+            return Ok((take, FollowedUp::Exit));
+        }
+        let Task { ticket, job } = take_handed(&mut self.workers, worker);
+        set_stage(&mut self.workers, worker, Stage::Running(ticket));
+        Ok((take, FollowedUp::Run(ticket, job)))
+    }
+
+    /// The keep-alive of a worker's take ran out: where it still stands in the line, the worker ends if there are more
+    /// than `core` or core workers time out too, and else stays.
+    pub fn idle_end(&mut self, seat: SeatNo) -> Result<(Ticket, IdleEnd), Refusal>
+        ensures step { IfOk result (λ told. IdleStep self.old seat told.0 told.1 self.new) }
+        ensures room { self.old.room ≤ self.new.room }
+        ensures admitted { IfOk result (λ _. worker_refusal is_at_queue self.old seat ≡ None) }
+        ensures why { IfErr result (λ why. worker_refusal is_at_queue self.old seat ≡ Some why) }
+        ensures unchanged { IfErr result (λ _. self.new ≡ self.old) }
+    {
+        let worker = self.worker_at(seat)?;
+        let Some(take) = self.workers[worker as usize].take() else {
+            return Err(Refusal::NotOpen);
+        };
+        if !self.workers[worker as usize].is_waiting() {
+            return Ok((take, IdleEnd::Late));
+        }
+        if !self.may_expire() {
+            return Ok((take, IdleEnd::Stay));
+        }
+        self.line.remove_take(take);
+        set_stage(&mut self.workers, worker, Stage::Absent);
+        Ok((take, IdleEnd::Exit))
+    }
+
+    /// Whether a worker that waited too long ends.
+    fn may_expire(&self) -> bool
+        ensures { result ≡ may_expire self.now.settings self.now.pool }
+    {
+        self.settings.sizes.core_timeout || self.workers() > self.settings.sizes.core
+    }
+
+    /// A worker that starts runs its first job, or the kept one that came first; else it exits where the pool is shut,
+    /// and else it waits.
+    pub fn ready(&mut self, seat: SeatNo) -> Result<(Ticket, Ready<J>), Refusal>
+        ensures step { IfOk result (λ told. Step self.old seat told.0 (ready_deed told.1) self.new) }
+        ensures room { self.old.room ≤ self.new.room }
+        ensures admitted { IfOk result (λ _. worker_refusal is_starting self.old seat ≡ None) }
+        ensures why { IfErr result (λ why. worker_refusal is_starting self.old seat ≡ Some why) }
+        ensures unchanged { IfErr result (λ _. self.new ≡ self.old) }
+    {
+        let worker = self.worker_at(seat)?;
+        if !self.workers[worker as usize].is_starting() {
+            return Err(Refusal::NotOpen);
+        }
+        if !self.workers[worker as usize].is_jobless() {
+            return Ok(self.run_first(seat, worker));
+        }
+        if self.line.has_partner(Side::Taker) {
+            return Ok(self.run_kept(seat, worker));
+        }
+        Ok(self.find_none(seat, worker))
+    }
+
+    /// It runs the job that it starts with.
+    fn run_first(&mut self, seat: SeatNo, worker: u64) -> (Ticket, Ready<J>)
+        requires worker { seat ≡ self.old.settings.sizes.callers + worker }
+        requires there { worker < length self.old.pool.workers }
+        requires starting { is_starting (slice_index_or self.old.pool.workers worker Absent) ≡ true }
+        requires first { is_jobless (slice_index_or self.old.pool.workers worker Absent) ≡ false }
+        ensures step { Step self.old seat result.0 (ready_deed result.1) self.new }
+        ensures room { self.old.room ≤ self.new.room }
+    {
+        let Some(take) = Ticket::new(self.next) else {
+            unreachable!()
+        };
+        let Task { ticket, job } = take_first(&mut self.workers, worker);
+        set_stage(&mut self.workers, worker, Stage::Running(ticket));
+        self.next += 1;
+        (take, Ready::Run(ticket, job))
+    }
+
+    /// It runs the kept job that came first.
+    fn run_kept(&mut self, seat: SeatNo, worker: u64) -> (Ticket, Ready<J>)
+        requires worker { seat ≡ self.old.settings.sizes.callers + worker }
+        requires there { worker < length self.old.pool.workers }
+        requires jobless { slice_index_or self.old.pool.workers worker Absent ≡ Stage.Starting None }
+        requires kept { oldest self.old.settings self.old.pool ≢ None }
+        ensures step { Step self.old seat result.0 (ready_deed result.1) self.new }
+        ensures room { self.old.room ≤ self.new.room }
+    {
+        let Some(take) = Ticket::new(self.next) else {
+            unreachable!()
+        };
+        let Some(oldest) = self.line.partner(Side::Taker) else {
+            unreachable!()
+        };
+        let Entry {
+            ticket,
+            seat: _,
+            item,
+            waits: _,
+        } = oldest;
+        let job = item.unwrap();
+        set_stage(&mut self.workers, worker, Stage::Running(ticket));
+        self.next += 1;
+        self.room = self.room.saturating_add(1);
+        (take, Ready::Run(ticket, job))
+    }
+
+    /// It finds no job.
+    fn find_none(&mut self, seat: SeatNo, worker: u64) -> (Ticket, Ready<J>)
+        requires worker { seat ≡ self.old.settings.sizes.callers + worker }
+        requires there { worker < length self.old.pool.workers }
+        requires jobless { slice_index_or self.old.pool.workers worker Absent ≡ Stage.Starting None }
+        requires none { oldest self.old.settings self.old.pool ≡ None }
+        ensures step { Step self.old seat result.0 (ready_deed result.1) self.new }
+        ensures room { self.old.room ≤ self.new.room }
+    {
+        let Some(take) = Ticket::new(self.next) else {
+            unreachable!()
+        };
+        self.next += 1;
+        if self.shut {
+            set_stage(&mut self.workers, worker, Stage::Absent);
+            return (take, Ready::Exit);
+        }
+        set_stage(&mut self.workers, worker, Stage::Waiting(take));
+        self.line.push_take(Entry {
+            ticket: take,
+            seat,
+            item: None,
+            waits: true,
+        });
+        (take, Ready::Waits)
+    }
+}
+
+/// The ticket of a record that has none.
+fn no_ticket() -> Ticket
+    ensures { result ≡ 0 }
+{
+    Ticket::new(0).unwrap()
+}
+
+/// Takes the job that a worker starts with out of its hands.
+fn take_first<J>(workers: &mut Vec<Stage<J>>, worker: u64) -> Task<J>
+    requires there { worker < length workers.old.items }
+    requires starting { is_starting (slice_index_or workers.old.items worker Absent) ≡ true }
+    requires first { is_jobless (slice_index_or workers.old.items worker Absent) ≡ false }
+    ensures was { slice_index_or workers.old.items worker Absent ≡ Stage.Starting (Some result) }
+    ensures workers { workers.new.items ≡ slice_set workers.old.items worker Absent }
+{
+    match mem::replace(&mut workers[worker as usize], Stage::Absent) {
+        Stage::Starting(first) => first.unwrap(),
+        Stage::Absent | Stage::Waiting(_) | Stage::Cut(_) | Stage::Running(_) => unreachable!(),
+        Stage::HandedOver(_, _) => unreachable!(),
+    }
+}
+
+/// Takes the job that a worker was handed out of its hands.
+fn take_handed<J>(workers: &mut Vec<Stage<J>>, worker: u64) -> Task<J>
+    requires there { worker < length workers.old.items }
+    requires handed { IsHanded (slice_index_or workers.old.items worker Absent) }
+    ensures was { IsHandedTask (slice_index_or workers.old.items worker Absent) result }
+    ensures workers { workers.new.items ≡ slice_set workers.old.items worker Absent }
+{
+    match mem::replace(&mut workers[worker as usize], Stage::Absent) {
+        Stage::HandedOver(_, task) => task,
+        Stage::Starting(_) => unreachable!(),
+        Stage::Absent | Stage::Waiting(_) | Stage::Cut(_) | Stage::Running(_) => unreachable!(),
+    }
+}
