@@ -1,0 +1,10 @@
+pub mod Fitting
+pub mod Founded
+pub mod Placing
+pub mod SeatsTaken
+pub mod Ticketed
+pub mod Lists
+pub mod Lying
+pub mod Rising
+pub mod Unstarted
+pub mod Worthy

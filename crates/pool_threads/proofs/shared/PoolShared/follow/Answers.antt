@@ -1,0 +1,17 @@
+use Rattle.std.proofs.Common.{subst}
+use Rattle.std.specs.Prelude.{option_to_list}
+use Rattle.meet_place.specs.Seats.{Adds}
+use Rattle.pool_core.specs.Placed.{pool_record}
+use Rattle.pool_core.specs.declared.calls.PoolCall.TheVariants.{Follow}
+use Rattle.pool_threads.proofs.Fitting.{refused_fits, follow_fits}
+use Rattle.pool_threads.proofs.shared.PoolShared.follow.Goals as goal
+use Rattle.pool_threads.proofs.shared.PoolShared.follow.Goals.{in-Err, in-Ok+in-Followed}
+
+pub returns : goal.returns
+returns g c = elim c.match-step.branch [
+  | in-Err b ↦ rw b.result-is (refused_fits c.args.seat c.step.new.self b.in-Err.ensures.same.0)
+  | in-Ok+in-Followed b ↦ rw b.result-is
+      (follow_fits c.args.seat c.step.new.self b.in-Followed._ticket c.step.ensures.number c.step.ensures.room b.in-Followed.answer _
+      (subst (λ x. Adds c.args.seat.list c.step.new.self.list (option_to_list (pool_record (λ y. y) c.args.seat.number Follow x))) b.in-Followed.is b.in-Ok.ensures.adds)
+      b.after_follow.ensures.next)
+]

@@ -1,0 +1,87 @@
+//! Jobs, and what becomes of one that is handed in.
+
+ghost use Rattle.std.specs.Prelude.{◌≡◌, ℕ, IfSome};
+
+use meet_tickets::Ticket;
+
+/// What the jobs of a pool are worth, by their tags.
+pub trait Work {
+    /// The answer that a job of this tag gives.
+    ghost worth: { ℕ → ℕ };
+}
+
+/// What a job does once.
+pub trait Call<W: Work> {
+    /// The job's tag.
+    ghost tag_of: { Self → ℕ };
+
+    /// The job's tag.
+    fn tag(&self) -> u64
+        ensures { result ≡ tag_of self.now };
+
+    /// Does it, and answers what its tag is worth.
+    fn make(self) -> u64
+        ensures { result ≡ W.worth (tag_of self) };
+}
+
+/// A job, known by its tag.
+#[derive(Drop)]
+pub struct Job<C> {
+    tag: u64,
+    call: C,
+}
+
+impl<C> Job<C> {
+    /// The job of this call.
+    pub fn new<W: Work>(call: C) -> Self
+    where
+        C: Call<W>,
+        ensures tag { result.tag ≡ C.tag_of call }
+        ensures call { result.call ≡ call }
+    {
+        let tag = call.tag();
+        Job { tag, call }
+    }
+
+    /// Its tag.
+    pub fn tag(&self) -> u64
+        ensures { result ≡ self.now.tag }
+    {
+        self.tag
+    }
+
+    /// What it does.
+    pub fn into_call(self) -> C
+        ensures { result ≡ self.call }
+    {
+        let Job { tag: _, call } = self;
+        call
+    }
+
+    /// Does it, if it is of its tag; all are that were made by `new`. It answers what its tag is worth.
+    pub fn run<W: Work>(self) -> Option<u64>
+    where
+        C: Call<W> + Drop,
+        ensures { IfSome result (λ answer. answer ≡ W.worth self.tag) }
+    {
+        let Job { tag, call } = self;
+        if call.tag() != tag {
+            return None;
+        }
+        Some(call.make())
+    }
+}
+
+/// What became of a job that was handed in.
+#[derive(Drop)]
+pub enum Executed<C> {
+    Handed(u64),
+    Started(u64),
+    Kept,
+    KeptStart(u64),
+    Aborted(Job<C>),
+    CallerRuns(Job<C>),
+    Dropped(Job<C>),
+    /// The kept job that came first, of this ticket, is dropped, and the new one is kept.
+    DroppedOldest(Ticket, Job<C>),
+}

@@ -1,0 +1,153 @@
+//! A pool from its parts.
+
+ghost use Rattle.std.specs.Prelude.{◌≡◌, ◌+◌, ◌<◌, ◌≤◌, [], ◌∷◌, All, IfOk, IfErr, IfSome, vec_len, replicate, map};
+ghost use Rattle.std.specs.Prelude.{None, false, ℕ};
+ghost use Rattle.std.specs.Vec.{vec_capacity};
+ghost use Rattle.meet_tickets.specs.Limits.{most_seats};
+ghost use Rattle.meet_tickets.specs.Refusals.{IsWhy};
+ghost use Rattle.meet_tickets.specs.declared.refusals.Refusal.TheVariants.{Memory};
+ghost use Rattle.meet_place.specs.Ledgers.{AreOf};
+ghost use Rattle.meet_place.specs.Seats.{AreFresh};
+ghost use Rattle.pool_core.specs.Calls.{settings_refusal};
+ghost use Rattle.pool_threads.specs.Mirrored.{given_tag, away};
+
+use crate::home::{Home, Made};
+use crate::jobs::{Job, Work};
+use crate::pool::Pool;
+use crate::shared::PoolShared;
+use crate::worth::WorkerSeat;
+use crossbeam_utils::CachePadded;
+use meet_place::{Blanks, Ledgers, Seat, Shared, open_seats};
+use meet_tickets::{MOST_RECORDS, Refusal};
+use pool_core::{Policy, PoolDeed, PoolQueue, Sizes, book_of_pool};
+use std::alloc::Global;
+use std::collections::VecDeque;
+use std::sync::{Arc, Condvar, Mutex};
+
+/// What a pool is made of.
+#[derive(Drop)]
+pub struct NewPool<G, S> {
+    pub sizes: Sizes,
+    pub queue: PoolQueue,
+    pub policy: Policy,
+    /// A gate for each worker.
+    pub gates: Vec<G>,
+    pub starter: S,
+    /// Two ledgers with a part for each caller and each worker.
+    pub blanks: Blanks,
+}
+
+/// So many places for jobs, all empty.
+fn no_jobs<C>(alloc: Global, count: usize) -> Result<Vec<Option<Job<C>>>, Refusal>
+    ensures none { IfOk result (λ given. map given_tag given.items ≡ replicate count None) }
+    ensures memory { IfErr result (λ why. why ≡ Memory) }
+{
+    let mut given = match Vec::with_capacity(alloc, count) {
+        Ok(given) => given,
+        Err(_) => return Err(Refusal::Memory),
+    };
+    for _at in 0..count {
+        given.push_reserved(None);
+    }
+    Ok(given)
+}
+
+/// The seats of workers, each where it lies while its worker isn't there. The empty list has room for them.
+fn workers_of<W: Work, N: Ledgers>(
+    seats: Vec<Seat<PoolDeed<u64>, N>>,
+    empty: Vec<Option<WorkerSeat<W, N>>>,
+) -> Vec<Option<WorkerSeat<W, N>>>
+    requires empty { empty.items ≡ [] }
+    requires room { vec_len seats ≤ vec_capacity empty }
+    requires new { All (λ seat. seat.list ≡ []) seats.items }
+    ensures { away result.items ≡ replicate (vec_len seats) false }
+{
+    let mut workers = empty;
+    for seat in seats {
+        workers.push_reserved(Some(WorkerSeat::new(seat)));
+    }
+    workers
+}
+
+/// These gates, each on a cache line of its own.
+fn padded<G>(alloc: Global, gates: Vec<G>) -> Result<Vec<CachePadded<G>>, Refusal>
+where
+    G: Drop,
+    ensures { IfErr result (λ why. why ≡ Memory) }
+{
+    let mut padded = Vec::new(alloc);
+    for gate in gates {
+        if padded.push(CachePadded::new(gate)).is_err() {
+            return Err(Refusal::Memory);
+        }
+    }
+    Ok(padded)
+}
+
+impl<W: Work, C: Drop, G: Drop, S: Drop, N: Ledgers> Pool<W, C, G, S, N> {
+    /// A pool without a job, and a seat for each caller, numbered from 0. It refuses what doesn't fit
+    /// (`settings_refusal`), and else Memory alone.
+    pub fn new(
+        alloc: Global,
+        parts: NewPool<G, S>,
+    ) -> Result<(Self, Vec<Seat<PoolDeed<u64>, N>>), Refusal>
+        requires ledgers { AreOf N.name N.folds N.parts parts.blanks }
+        requires one_each { N.parts ≡ parts.sizes.callers + parts.sizes.maximum }
+        ensures count { IfOk result (λ made. vec_len made.1 ≡ parts.sizes.callers) }
+        ensures numbers { IfOk result (λ made. AreFresh made.1.items) }
+        ensures fits { IfOk result (λ _. settings_refusal
+            (record { sizes = parts.sizes; queue = parts.queue; policy = parts.policy }) ≡ None) }
+        ensures why { IfErr result (IsWhy (settings_refusal
+            (record { sizes = parts.sizes; queue = parts.queue; policy = parts.policy }))) }
+    {
+        let NewPool {
+            sizes,
+            queue,
+            policy,
+            gates,
+            starter,
+            blanks,
+        } = parts;
+        let book = book_of_pool::<u64>(alloc, sizes, queue, policy, MOST_RECORDS)?;
+        book.probe().stays_sound();
+        let callers = sizes.callers as usize;
+        let maximum = sizes.maximum as usize;
+        let given = no_jobs(alloc, maximum)?;
+        let gates = padded(alloc, gates)?;
+        let Ok(room) = Vec::with_capacity(alloc, callers + maximum) else {
+            return Err(Refusal::Memory);
+        };
+        let Ok(workers) = Vec::with_capacity(alloc, maximum) else {
+            return Err(Refusal::Memory);
+        };
+        let (total, rest, mut seats) = open_seats(alloc, blanks, callers + maximum, room);
+        let Ok(others) = seats.split_off(callers) else {
+            return Err(Refusal::Memory);
+        };
+        let shared = PoolShared {
+            shared: Shared::new(book, total, rest),
+            kept: VecDeque::new(alloc),
+            given,
+            seats: workers_of(others, workers),
+        };
+        let home = Home {
+            shared: Mutex::new(shared),
+            gates,
+            moved: Condvar::new(),
+            made: Made::new(callers + maximum),
+            callers: sizes.callers,
+            keep_alive: sizes.keep_alive,
+        };
+        match Arc::new(alloc, home) {
+            Ok(home) => Ok((
+                Pool {
+                    home,
+                    starter,
+                    alloc,
+                },
+                seats,
+            )),
+            Err(_) => Err(Refusal::Memory),
+        }
+    }
+}

@@ -1,0 +1,211 @@
+//! A pool.
+
+ghost use Rattle.std.specs.Prelude.{◌≡◌, ◌≢◌, ◌+◌, ◌<◌, ◌≤◌, ◌⊎◌, ℕ, [], ◌∷◌, length, map, option_to_list, IsOk, IfOk};
+ghost use Rattle.std.specs.Prelude.{IfErr, IfSome, OnOk, vec_len, Some, None, List};
+ghost use Rattle.meet_tickets.specs.declared.refusals.Refusal.TheVariants.{NoThread};
+ghost use Rattle.meet_place.specs.Seats.{SameSeat};
+ghost use Rattle.pool_core.specs.declared.answers.Executed.TheVariants as answer;
+ghost use Rattle.pool_threads.specs.Told.{answer_told, IsItself, Starts};
+ghost use Rattle.pool_threads.specs.Outcomes.{Handed, IsUnstarted, IsBack, answer_of, ItemFits};
+
+use crate::home::Home;
+use crate::jobs::{Call, Executed, Job, Work};
+use crate::outcomes::{Begun, Outcome, PoolRefused};
+use crate::shared::Placed;
+use crate::workers::{Starter, Worker, start};
+use crate::worth::WorkerSeat;
+use meet_cells::Gate;
+use meet_place::{Ledgers, Seat, hold};
+use meet_tickets::{Refusal, Refused};
+use pool_core::PoolDeed;
+use std::alloc::Global;
+use std::sync::{Arc, Wait};
+use std::thread::Threads;
+use std::time::Clock;
+
+/// A pool of workers, each a thread of its own.
+#[derive(Drop)]
+pub struct Pool<W: Work, C, G, S, N: Ledgers> {
+    pub(crate) home: Arc<Home<W, C, G, N>, Global>,
+    pub(crate) starter: S,
+    pub(crate) alloc: Global,
+}
+
+/// The worker that is to be woken.
+fn wakes<C>(executed: &Executed<C>) -> Option<u64> {
+    match executed {
+        Executed::Handed(w) => Some(*w),
+        _ => None,
+    }
+}
+
+/// The tag of the job that a worker was started with, which is this; none where it was started without one.
+fn first_of<C>(executed: &Executed<C>, tag: u64) -> Option<u64>
+    ensures started { (w : ℕ) → answer_told executed.now ≡ answer.Started w → result ≡ Some tag }
+    ensures kept { (w : ℕ) → answer_told executed.now ≡ answer.KeptStart w → result ≡ None }
+{
+    match executed {
+        Executed::Started(_) => Some(tag),
+        _ => None,
+    }
+}
+
+/// The job of this tag comes back, if it is this one.
+fn back_of<C: Drop>(job: Option<Job<C>>, tag: u64) -> Begun<C>
+    ensures { IsBack (Some tag) result }
+{
+    match job {
+        Some(job) => {
+            if job.tag() == tag {
+                Begun::NoThread(Some(job))
+            } else {
+                Begun::Stands
+            }
+        }
+        None => Begun::Stands,
+    }
+}
+
+/// Runs a job that is the caller's to run.
+fn outcome_of<W: Work, C: Call<W> + Drop>(executed: Executed<C>) -> Outcome<C>
+    ensures told { (job : Job C) → IsItself job executed → answer_of job.tag result ≡ answer_told executed }
+    ensures item { (job : Job C) → IsItself job executed → ItemFits (W.worth (C.tag_of job.call)) job result }
+{
+    match executed {
+        Executed::Handed(w) => Outcome::Handed(w),
+        Executed::Started(w) => Outcome::Started(w),
+        Executed::Kept => Outcome::Kept,
+        Executed::KeptStart(w) => Outcome::KeptStart(w),
+        Executed::Aborted(job) => Outcome::Aborted(job),
+        Executed::CallerRuns(job) => Outcome::RanHere(job.into_call().make()),
+        Executed::Dropped(job) => Outcome::Dropped(job),
+        Executed::DroppedOldest(ticket, job) => Outcome::DroppedOldest(ticket, job),
+    }
+}
+
+impl<W: Work, C: Drop, G: Gate + Drop, S, N: Ledgers> Pool<W, C, G, S, N> {
+    /// Hands a job in under one hold of the lock, and wakes the worker that it was handed to.
+    fn hand<R: Wait>(
+        &self,
+        rt: &R,
+        seat: &mut Seat<PoolDeed<u64>, N>,
+        job: Job<C>,
+    ) -> Result<Placed<C, WorkerSeat<W, N>>, Refused<Job<C>>>
+        requires room { 0 < seat.old.room }
+        ensures handed { IfOk result (λ placed. Handed seat.old seat.new job.tag (answer_told placed.executed)) }
+        ensures itself { IfOk result (λ placed. IsItself job placed.executed) }
+        ensures worker { IfOk result (λ placed. IfSome placed.worker (λ worker. (w : ℕ)
+            × Starts (answer_told placed.executed) w × (4 ≤ worker.room))) }
+        ensures why { IfErr result (λ refused. refused.why ≢ NoThread) }
+        ensures back { IfErr result (λ refused. refused.back ≡ job) }
+        ensures same { IfErr result (λ _. seat.new ≡ seat.old) }
+    {
+        let mut shared = hold(rt, &self.home.shared);
+        let placed = shared.execute(seat, job);
+        drop(shared);
+        if let Ok(placed) = &placed {
+            self.wake(wakes(&placed.executed));
+        }
+        placed
+    }
+
+    /// Wakes a worker, if one is given and is there.
+    fn wake(&self, worker: Option<u64>) {
+        if let Some(w) = worker {
+            let at = w as usize;
+            if at < self.home.gates.len() {
+                self.home.gates[at].wake();
+            }
+        }
+    }
+
+    /// A worker couldn't be started, with a job of this tag, if one is given: its job. Where the pool has another for
+    /// it, which it never has, the record of its start stands.
+    fn failed<R: Wait>(&self, rt: &R, seat: WorkerSeat<W, N>, first: Option<u64>) -> Begun<C>
+        requires room { 0 < seat.room }
+        ensures { IsBack first result }
+    {
+        let mut shared = hold(rt, &self.home.shared);
+        let job = shared.start_failed(seat);
+        drop(shared);
+        self.home.moved.notify_all();
+        match first {
+            None => Begun::NoThread(None),
+            Some(tag) => back_of(job, tag),
+        }
+    }
+}
+
+impl<W: Work, C: Call<W> + Drop, G: Gate + Drop, S: Starter, N: Ledgers> Pool<W, C, G, S, N> {
+    /// Starts a worker, with a job of this tag, if one is given.
+    fn begin<R>(&self, rt: &R, seat: WorkerSeat<W, N>, first: Option<u64>) -> Begun<C>
+    where
+        R: Threads + Wait + Clock + Copy + Send + 'static,
+        W: Send + Sync + 'static,
+        C: Send + 'static,
+        G: Send + Sync + 'static,
+        N: Send + Sync + 'static,
+        requires room { 4 ≤ seat.room }
+        ensures { IsBack first result }
+    {
+        let Ok(home) = Arc::try_clone(&self.home) else {
+            return self.failed(rt, seat, first);
+        };
+        match start(rt, self.alloc, &self.starter, Worker::new(home, seat)) {
+            Ok(()) => Begun::Stands,
+            Err(worker) => self.failed(rt, worker.into_seat(), first),
+        }
+    }
+
+    /// Hands a job in. It refuses Memory, what the core refuses, or NoThread, which leaves the job's own record; the
+    /// job comes back exactly where that says that a worker was started with it, and else it is kept.
+    pub fn execute<R>(
+        &self,
+        rt: &R,
+        mut seat: Seat<PoolDeed<u64>, N>,
+        job: Job<C>,
+    ) -> Result<(Seat<PoolDeed<u64>, N>, Outcome<C>), PoolRefused<C, N>>
+    where
+        R: Threads + Wait + Clock + Copy + Send + 'static,
+        W: Send + Sync + 'static,
+        C: Send + 'static,
+        G: Send + Sync + 'static,
+        N: Send + Sync + 'static,
+        ensures handed { IfOk result (λ done. Handed seat done.0 job.tag (answer_of job.tag done.1)) }
+        ensures item { IfOk result (λ done. ItemFits (W.worth (C.tag_of job.call)) job done.1) }
+        ensures unstarted { IfErr result (λ refused. refused.why ≡ NoThread
+            → IsUnstarted seat refused.seat job refused.job) }
+        ensures back { IfErr result (λ refused. refused.why ≢ NoThread
+            → SameSeat seat refused.seat × (refused.seat.list ≡ seat.list) × (refused.job ≡ Some job)) }
+    {
+        let tag = job.tag();
+        if seat.reserve(1).is_err() {
+            return Err(PoolRefused {
+                why: Refusal::Memory,
+                seat,
+                job: Some(job),
+            });
+        }
+        let Placed { executed, worker } = match self.hand(rt, &mut seat, job) {
+            Ok(placed) => placed,
+            Err(refused) => {
+                return Err(PoolRefused {
+                    why: refused.why,
+                    seat,
+                    job: Some(refused.back),
+                });
+            }
+        };
+        if let Some(worker) = worker {
+            let first = first_of(&executed, tag);
+            if let Begun::NoThread(job) = self.begin(rt, worker, first) {
+                return Err(PoolRefused {
+                    why: Refusal::NoThread,
+                    seat,
+                    job,
+                });
+            }
+        }
+        Ok((seat, outcome_of::<W, C>(executed)))
+    }
+}

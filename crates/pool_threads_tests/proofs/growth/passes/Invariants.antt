@@ -1,0 +1,8 @@
+use Rattle.pool_threads_tests.proofs.growth.passes.Given as goal
+
+-- the ledgers of the pool that is made
+abbrev pub ghosts-lives-N-Ledger : goal.ghosts-lives-N-Ledger
+ghosts-lives-N-Ledger g a = record { name = a.parts.blanks.records.name; parts = a.parts.blanks.records.parts }
+
+abbrev pub ghosts-lives-N-Ledgers : goal.ghosts-lives-N-Ledgers
+ghosts-lives-N-Ledgers g a = record { folds = a.parts.blanks.folds.name }

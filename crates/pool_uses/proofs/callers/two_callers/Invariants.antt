@@ -1,0 +1,8 @@
+use Rattle.pool_uses.proofs.callers.two_callers.Given as goal
+
+-- the ledgers of the pool that is made
+abbrev pub ghosts-play-N-Ledger : goal.ghosts-play-N-Ledger
+ghosts-play-N-Ledger g a = record { name = a.parts.blanks.records.name; parts = a.parts.blanks.records.parts }
+
+abbrev pub ghosts-play-N-Ledgers : goal.ghosts-play-N-Ledgers
+ghosts-play-N-Ledgers g a = record { folds = a.parts.blanks.folds.name }

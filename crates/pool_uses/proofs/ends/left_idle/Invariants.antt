@@ -1,0 +1,8 @@
+use Rattle.pool_uses.proofs.ends.left_idle.Given as goal
+
+-- the ledgers of the pool that is made
+abbrev pub ghosts-play_idle-N-Ledger : goal.ghosts-play_idle-N-Ledger
+ghosts-play_idle-N-Ledger g a = record { name = a.parts.blanks.records.name; parts = a.parts.blanks.records.parts }
+
+abbrev pub ghosts-play_idle-N-Ledgers : goal.ghosts-play_idle-N-Ledgers
+ghosts-play_idle-N-Ledgers g a = record { folds = a.parts.blanks.folds.name }

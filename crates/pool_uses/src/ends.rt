@@ -1,0 +1,245 @@
+//! How pools and their workers end.
+
+ghost use Rattle.std.specs.Prelude.{◌≡◌, ◌+◌};
+ghost use Rattle.meet_place.specs.Ledgers.{AreOf};
+ghost use Rattle.pool_uses.specs.Parts.{IsOneEach};
+
+use crate::ItsTag;
+use crate::chores::{Before, Chore, Flags};
+use crate::pools::{
+    AtOnce, OurSeat, Ours, answers, closed, handed, last, made, one_worker, stopped,
+};
+use meet_cells::{Gate, ParkGate};
+use meet_place::Ledgers;
+use meet_tickets::Order;
+use pool_core::{Policy, PoolQueue};
+use pool_threads::{Job, NewPool, Outcome, PoolFault, ThreadStarter};
+use std::alloc::Global;
+use std::collections::VecDeque;
+use std::marker::Brand;
+use std::sync::{Arc, Wait};
+use std::test::Fail;
+use std::thread;
+use std::thread::Threads;
+use std::time::{Clock, Duration};
+
+/// Tries to close a pool without its caller's seat: the pool, how many seats it has, and how many were made.
+fn unclosed<N, C, R, G, S>(
+    rt: &R,
+    alloc: Global,
+    pool: Ours<C, G, S, N>,
+) -> Result<(Ours<C, G, S, N>, usize, usize), Fail>
+where
+    N: Ledgers,
+    C: Drop,
+    R: Wait,
+    G: Gate + Drop,
+    S: Drop,
+{
+    match pool.close(rt, alloc, Vec::new(alloc)) {
+        Ok(_) => Err("closed".into()),
+        Err(fault) => match fault {
+            PoolFault::SeatMissing {
+                have,
+                made,
+                pool,
+                seats: _,
+            } => Ok((pool, have, made)),
+            _ => Err("another fault".into()),
+        },
+    }
+}
+
+/// Closes a pool without its caller's seat, and then with it: how many seats it had, and were made, the first time.
+fn play_missing<N, R>(
+    rt: &R,
+    alloc: Global,
+    parts: NewPool<ParkGate, ThreadStarter>,
+) -> Result<(usize, usize), Fail>
+where
+    N: Ledgers,
+    R: Wait + Copy,
+    requires ledgers { AreOf N.name N.folds N.parts parts.blanks }
+    requires one_each { N.parts ≡ parts.sizes.callers + parts.sizes.maximum }
+{
+    let (pool, mut seats) = made::<N, Chore<R>, ParkGate, ThreadStarter>(alloc, parts)?;
+    let seat = last(&mut seats)?;
+    let (pool, have, made) = unclosed(rt, alloc, pool)?;
+    closed(rt, alloc, pool, seat)?;
+    Ok((have, made))
+}
+
+/// The same, with whatever ledgers.
+fn without_its_seat<R: Wait + Copy>(
+    rt: &R,
+    alloc: Global,
+    parts: NewPool<ParkGate, ThreadStarter>,
+) -> Result<(usize, usize), Fail>
+    requires one_each { IsOneEach parts.sizes parts.blanks }
+{
+    play_missing::<Brand, R>(rt, alloc, parts)
+}
+
+#[test]
+fn a_seat_is_missing(rt: HostRuntime) -> Result<(), Fail> {
+    let alloc = rt.alloc();
+    let (queue, starter) = (PoolQueue::Unbounded, ThreadStarter::new());
+    let parts = one_worker(alloc, 1, queue, Policy::Abort, ParkGate::new(), starter)?;
+    assert_eq!(rt; without_its_seat(&rt, alloc, parts)?, (1, 2));
+    Ok(())
+}
+
+/// Starts a worker with a job, and then looks at the pool often, once that is done: how often it had one worker, and not
+/// another number.
+fn play_idle<N, R>(
+    rt: &R,
+    alloc: Global,
+    parts: NewPool<AtOnce, ThreadStarter>,
+) -> Result<u64, Fail>
+where
+    N: Ledgers + Send + Sync + 'static,
+    R: Threads + Wait + Clock + Copy + Send + 'static,
+    requires ledgers { AreOf N.name N.folds N.parts parts.blanks }
+    requires one_each { N.parts ≡ parts.sizes.callers + parts.sizes.maximum }
+{
+    let (pool, mut seats) = made::<N, Chore<R>, AtOnce, ThreadStarter>(alloc, parts)?;
+    let seat = last(&mut seats)?;
+    let (seat, _started) = handed(rt, &pool, seat, Chore::new(1))?;
+    for _ in 0..10_000 {
+        if pool.counters(rt).done == 1 {
+            break;
+        }
+        thread::sleep(rt, Duration::from_millis(1));
+    }
+    let mut there = 0u64;
+    for _ in 0..1_000 {
+        let counters = pool.counters(rt);
+        if counters.workers == 1 && counters.done == 1 {
+            there = there.saturating_add(1);
+        }
+        thread::sleep(rt, Duration::from_millis(1));
+    }
+    let (seat, _none) = stopped(rt, &pool, seat)?;
+    pool.await_end(rt);
+    closed(rt, alloc, pool, seat)?;
+    Ok(there)
+}
+
+/// The same, with whatever ledgers.
+fn left_idle<R>(rt: &R, alloc: Global, parts: NewPool<AtOnce, ThreadStarter>) -> Result<u64, Fail>
+where
+    R: Threads + Wait + Clock + Copy + Send + 'static,
+    requires one_each { IsOneEach parts.sizes parts.blanks }
+{
+    play_idle::<Brand, R>(rt, alloc, parts)
+}
+
+#[test]
+fn an_idle_worker_stays(rt: HostRuntime) -> Result<(), Fail> {
+    let alloc = rt.alloc();
+    let (queue, starter) = (PoolQueue::Hand(Order::Fair), ThreadStarter::new());
+    let parts = one_worker(alloc, 0, queue, Policy::Abort, AtOnce {}, starter)?;
+    assert_eq!(rt; left_idle(&rt, alloc, parts)?, 1_000);
+    Ok(())
+}
+
+/// What came of three jobs, of which the third takes the second's place, and of a shutdown that hands back what is kept.
+#[derive(Clone, Copy, PartialEq, Debug)]
+struct Came {
+    /// The tag of the job that was dropped.
+    dropped: Option<u64>,
+    /// How many jobs were kept before the shutdown, and behind it.
+    kept: (u64, u64),
+    /// How many jobs came back, and the tag of the first.
+    back: (usize, Option<u64>),
+    /// How often a worker's records tell the answers 1, 2 and 3.
+    answers: (usize, usize, usize),
+    left: usize,
+}
+
+fn dropped<C>(outcome: &Outcome<C>) -> Option<u64> {
+    match outcome {
+        Outcome::DroppedOldest(_, job) => Some(job.tag()),
+        _ => None,
+    }
+}
+
+fn first_tag<C>(jobs: &VecDeque<Job<C>>) -> Option<u64> {
+    match jobs.front() {
+        Some(job) => Some(job.tag()),
+        None => None,
+    }
+}
+
+/// Hands three jobs in, shuts the pool down at once while its worker runs the first, and lets that end.
+fn play_stopped<N, R>(
+    rt: &R,
+    alloc: Global,
+    parts: NewPool<ParkGate, ThreadStarter>,
+) -> Result<Came, Fail>
+where
+    N: Ledgers + Send + Sync + 'static,
+    R: Threads + Wait + Clock + Copy + Send + 'static,
+    requires ledgers { AreOf N.name N.folds N.parts parts.blanks }
+    requires one_each { N.parts ≡ parts.sizes.callers + parts.sizes.maximum }
+{
+    let flags = Flags::new(alloc)?;
+    let one = Chore {
+        tag: 1,
+        before: Before::Go(*rt, Arc::try_clone(&flags)?),
+    };
+    let (pool, mut seats) = made::<N, Chore<R>, ParkGate, ThreadStarter>(alloc, parts)?;
+    let seat = last(&mut seats)?;
+    let (seat, _started) = handed(rt, &pool, seat, one)?;
+    let (seat, _kept) = handed(rt, &pool, seat, Chore::new(2))?;
+    let (seat, third) = handed(rt, &pool, seat, Chore::new(3))?;
+    let kept = pool.counters(rt).kept;
+    let (seat, back) = stopped(rt, &pool, seat)?;
+    let then = pool.counters(rt).kept;
+    flags.set();
+    pool.await_end(rt);
+    let chronicle = closed(rt, alloc, pool, seat)?;
+    Ok(Came {
+        dropped: dropped(&third),
+        kept: (kept, then),
+        back: (back.len(), first_tag(&back)),
+        answers: (
+            answers(&chronicle, 1),
+            answers(&chronicle, 2),
+            answers(&chronicle, 3),
+        ),
+        left: chronicle.left.len(),
+    })
+}
+
+/// The same, with whatever ledgers.
+fn stopped_at_once<R>(
+    rt: &R,
+    alloc: Global,
+    parts: NewPool<ParkGate, ThreadStarter>,
+) -> Result<Came, Fail>
+where
+    R: Threads + Wait + Clock + Copy + Send + 'static,
+    requires one_each { IsOneEach parts.sizes parts.blanks }
+{
+    play_stopped::<Brand, R>(rt, alloc, parts)
+}
+
+#[test]
+fn kept_jobs_come_back(rt: HostRuntime) -> Result<(), Fail> {
+    let alloc = rt.alloc();
+    let (queue, starter) = (PoolQueue::Bounded(1), ThreadStarter::new());
+    let parts = one_worker(
+        alloc,
+        1,
+        queue,
+        Policy::DiscardOldest,
+        ParkGate::new(),
+        starter,
+    )?;
+    let came = stopped_at_once(&rt, alloc, parts)?;
+    assert_eq!(rt; (came.dropped, came.kept), (Some(2), (1, 0)));
+    assert_eq!(rt; came.back, (1, Some(3)));
+    assert_eq!(rt; (came.answers, came.left), ((1, 0, 0), 0));
+    Ok(())
+}

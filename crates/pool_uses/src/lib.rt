@@ -1,0 +1,90 @@
+//! Boxed closures as jobs of a pool.
+#![tactic(auto)]
+
+ghost use Rattle.std.specs.Prelude.{◌≡◌, ℕ, ◌<◌, IfSome};
+ghost use Rattle.meet_place.specs.Seats.{SameSeat};
+
+#[cfg(test)]
+mod callers;
+#[cfg(test)]
+mod chores;
+#[cfg(test)]
+mod ends;
+#[cfg(test)]
+mod meeting;
+#[cfg(test)]
+mod pools;
+#[cfg(test)]
+mod starts;
+
+use meet_place::{Ledgers, Seat};
+use pool_core::PoolDeed;
+use pool_threads::{Call, Job, PoolShared, Work};
+use std::sync::{Mutex, Wait};
+
+/// Each job is worth its tag.
+pub struct ItsTag;
+
+impl Work for ItsTag {
+    ghost worth = { λ tag. tag };
+}
+
+/// A boxed function.
+pub type JobFn = Box<dyn FnOnce() -> u64 + Send>;
+
+/// A boxed function that answers its tag.
+#[derive(Drop)]
+pub struct Boxed {
+    tag: u64,
+    call: JobFn,
+    ghost ready: { JobFn.pre call },
+    ghost worthy: { (answer : ℕ) → JobFn.post call answer → answer ≡ tag },
+}
+
+impl Boxed {
+    pub fn new(tag: u64, call: JobFn) -> Self
+        requires ready { JobFn.pre call }
+        requires worthy { (answer : ℕ) → JobFn.post call answer → answer ≡ tag }
+        ensures { result.tag ≡ tag }
+    {
+        Boxed { tag, call }
+    }
+}
+
+impl Call<ItsTag> for Boxed {
+    ghost tag_of = { λ job. job.tag };
+
+    fn tag(&self) -> u64 {
+        self.tag
+    }
+
+    fn make(self) -> u64 {
+        let Boxed { tag: _, call } = self;
+        call()
+    }
+}
+
+/// Hands a boxed function in, under the lock of a pool.
+pub fn hand<N: Ledgers, R: Wait>(
+    rt: &R,
+    lock: &Mutex<PoolShared<ItsTag, Boxed, N>>,
+    seat: &mut Seat<PoolDeed<u64>, N>,
+    tag: u64,
+    call: JobFn,
+) -> bool
+    requires room { 0 < seat.old.room }
+    requires ready { JobFn.pre call }
+    requires worthy { (answer : ℕ) → JobFn.post call answer → answer ≡ tag }
+    ensures same { SameSeat seat.old seat.new }
+{
+    let job = Job::new::<ItsTag>(Boxed::new(tag, call));
+    let mut shared = lock.lock(rt);
+    shared.execute(seat, job).is_ok()
+}
+
+/// Runs a boxed function.
+pub fn run(job: Job<Boxed>) -> Option<u64>
+    ensures { IfSome result (λ answer. answer ≡ job.tag) }
+{
+    job.run::<ItsTag>()
+}
