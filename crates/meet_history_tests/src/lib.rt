@@ -7,3 +7,5 @@ mod calls;
 mod growth;
 #[cfg(test)]
 mod pushes;
+#[cfg(test)]
+mod stories;

@@ -28,3 +28,5 @@ mod places;
 mod probes;
 #[cfg(test)]
 mod sizes;
+#[cfg(test)]
+mod stories;

@@ -130,6 +130,7 @@ fn of_a_transfer_queue_with_a_bound(rt: HostRuntime) -> Result<(), Fail> {
     let mut queue: Transfer<Parcel> = Transfer::with_bound(rt.alloc(), 2, 1, 4)
         .ok()
         .ok_or("memory")?;
+    looks(&rt, &queue, None, false, Some(4));
     plays(&rt, &mut queue, &[(1, Ask::Take, Told::Waits(1))])?;
     counts_kept(&rt, &queue, [2, 1, 1, 0, 0, 0, 1, 9223372036854775806]);
     looks(&rt, &queue, None, true, Some(4));

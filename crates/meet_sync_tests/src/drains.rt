@@ -1,16 +1,17 @@
 //! Drains and probes of queues for threads, in one thread.
 
 ghost use Rattle.std.specs.Prelude.{◌≡◌, vec_len};
+ghost use Rattle.meet_place.specs.Ledgers.{AreOf};
 
 use meet_shop::{Idle, gates, keep};
 use meet_sync::{
-    Asked, Back, DrainedItems, Ended, NewQueue, QueueFault, Request, Seat, TransferQueue,
+    Asked, Back, Blanks, DrainedItems, End, Ended, Ledgers, NewQueue, QueueFault, Request, Seat,
+    SeatRefused, TransferQueue,
 };
 use meet_tickets::Deed;
 use std::alloc::Global;
 use std::marker::Brand;
 use std::sync::Wait;
-use std::sync::ledger::{Blank, Ledger};
 use std::test::*;
 
 /// A transfer queue of numbers.
@@ -20,7 +21,7 @@ type Store<N> = TransferQueue<u64, Idle, N>;
 type Shown = (u64, Option<u64>, u64, bool);
 
 /// What a transfer queue shows now.
-fn shown<N: Ledger, R: Wait>(rt: &R, store: &Store<N>) -> Shown {
+fn shown<N: Ledgers, R: Wait>(rt: &R, store: &Store<N>) -> Shown {
     (
         store.size(rt),
         store.peek_mark(rt),
@@ -40,20 +41,29 @@ struct Day {
     records: usize,
 }
 
+/// The seat of a put whose item is kept.
+fn kept<N: Ledgers>(
+    put: Result<Ended<u64, N>, SeatRefused<u64, N>>,
+) -> Result<Seat<Deed, N>, &'static str> {
+    match put {
+        Ok(ended) => match ended.end {
+            End::Kept => Ok(ended.seat),
+            _ => Err("the item isn't kept"),
+        },
+        Err(_) => Err("put"),
+    }
+}
+
 /// One seat puts two items and another drains them, up to three; then it drains nothing, and waits.
-fn trade<N: Ledger, R: Wait>(
+fn trade<N: Ledgers, R: Wait>(
     rt: &R,
     alloc: Global,
     store: &Store<N>,
     giver: Seat<Deed, N>,
     taker: Seat<Deed, N>,
 ) -> Result<(Day, Back<Deed, N>, Back<Deed, N>), &'static str> {
-    let Ok(Ended { seat: giver, .. }) = store.put(rt, giver, 4) else {
-        return Err("put");
-    };
-    let Ok(Ended { seat: giver, .. }) = store.put(rt, giver, 5) else {
-        return Err("put");
-    };
+    let giver = kept(store.put(rt, giver, 4))?;
+    let giver = kept(store.put(rt, giver, 5))?;
     let first = shown(rt, store);
     let Ok(DrainedItems { seat: taker, items }) = store.drain(rt, alloc, taker, 3) else {
         return Err("drain");
@@ -80,8 +90,32 @@ fn trade<N: Ledger, R: Wait>(
     Ok((day, Back::Free(giver), Back::Held(taker)))
 }
 
+/// A seat waits for an item that nobody has.
+fn wait_there<N: Ledgers, R: Wait>(
+    rt: &R,
+    alloc: Global,
+    store: &Store<N>,
+    giver: Seat<Deed, N>,
+    taker: Seat<Deed, N>,
+) -> Result<(Day, Back<Deed, N>, Back<Deed, N>), &'static str> {
+    let first = shown(rt, store);
+    if store.remaining_capacity() != 2_147_483_647 {
+        return Err("capacity");
+    }
+    let Ok(Asked::Parked(taker)) = store.request(rt, taker, Request::Take) else {
+        return Err("take");
+    };
+    let day = Day {
+        shown: [first, shown(rt, store), shown(rt, store)],
+        items: Vec::new(alloc),
+        nothing: 0,
+        records: 0,
+    };
+    Ok((day, Back::Free(giver), Back::Held(taker)))
+}
+
 /// Closes a queue: how many records it has, or none where it isn't closed.
-fn closed<N: Ledger>(alloc: Global, store: Store<N>, backs: Vec<Back<Deed, N>>) -> Option<usize> {
+fn closed<N: Ledgers>(alloc: Global, store: Store<N>, backs: Vec<Back<Deed, N>>) -> Option<usize> {
     match store.close(alloc, backs) {
         Ok(chronicle) => Some(chronicle.records.len()),
         Err(fault) => {
@@ -104,15 +138,15 @@ fn closed<N: Ledger>(alloc: Global, store: Store<N>, backs: Vec<Back<Deed, N>>) 
     }
 }
 
-/// A day at a new queue of two seats, which is closed.
-fn a_day<N: Ledger, R: Wait>(
+/// A day at a new queue of two seats, which is closed: one on which items are put, or one on which nobody gives.
+fn a_day<N: Ledgers, R: Wait>(
     rt: &R,
     alloc: Global,
     parts: NewQueue<Idle>,
+    gives: bool,
 ) -> Result<Day, &'static str>
-    requires name { parts.blank.name ≡ N.name }
-    requires parts { parts.blank.parts ≡ N.parts }
-    requires one_each { parts.blank.parts ≡ vec_len parts.gates }
+    requires ledgers { AreOf N.name N.folds N.parts parts.blanks }
+    requires one_each { N.parts ≡ vec_len parts.gates }
 {
     let mut backs = Vec::with_capacity(alloc, 2).map_err(|_| "memory")?;
     let (store, mut seats) = match Store::<N>::new(alloc, parts) {
@@ -120,7 +154,10 @@ fn a_day<N: Ledger, R: Wait>(
         Err(refused) => return Err(refused.why.name()),
     };
     let made = match (seats.pop(), seats.pop()) {
-        (Some(taker), Some(giver)) => trade(rt, alloc, &store, giver, taker),
+        (Some(taker), Some(giver)) => match gives {
+            true => trade(rt, alloc, &store, giver, taker),
+            false => wait_there(rt, alloc, &store, giver, taker),
+        },
         _ => Err("seats"),
     };
     let (mut day, giver, taker) = match made {
@@ -140,13 +177,25 @@ fn a_day<N: Ledger, R: Wait>(
 #[test]
 fn two_are_drained(rt: HostRuntime) -> Result<(), Fail> {
     let gates = gates::<Idle>(rt.alloc(), 2)?;
-    let blank = Blank::new(gates.len() as u64);
-    let day = a_day::<Brand, _>(&rt, rt.alloc(), NewQueue { gates, blank })?;
+    let blanks = Blanks::new(gates.len() as u64);
+    let day = a_day::<Brand, _>(&rt, rt.alloc(), NewQueue { gates, blanks }, true)?;
     assert_eq!(rt; day.shown[0], (2, Some(4), 0, false));
     assert_eq!(rt; day.shown[1], (0, None, 0, false));
     assert_eq!(rt; day.shown[2], (0, None, 1, true));
     assert_eq!(rt; day.items.as_slice(), [4, 5].as_slice());
     assert_eq!(rt; day.nothing, 0);
     assert_eq!(rt; day.records, 5);
+    Ok(())
+}
+
+/// A queue in which nobody gives has no size, whoever waits there.
+#[test]
+fn a_taker_waits(rt: HostRuntime) -> Result<(), Fail> {
+    let gates = gates::<Idle>(rt.alloc(), 2)?;
+    let blanks = Blanks::new(gates.len() as u64);
+    let day = a_day::<Brand, _>(&rt, rt.alloc(), NewQueue { gates, blanks }, false)?;
+    assert_eq!(rt; day.shown[0], (0, None, 0, false));
+    assert_eq!(rt; day.shown[1], (0, None, 1, true));
+    assert_eq!(rt; day.records, 1);
     Ok(())
 }

@@ -1,16 +1,16 @@
 //! How long a timed call waits, in two threads, over a gate that tells when somebody waits there.
 
 ghost use Rattle.std.specs.Prelude.{◌≡◌, vec_len};
+ghost use Rattle.meet_place.specs.Ledgers.{AreOf};
 
 use crate::plays::{NOTHING, Story, ended, tells};
 use meet_history::Order;
 use meet_shop::{Call, Came, FlagGate, Flags, Shop, Told, called, keep};
-use meet_sync::{Back, Chronicle, NewQueue, Seat};
+use meet_sync::{Back, Blanks, Chronicle, Ledgers, NewQueue, Seat};
 use meet_tickets::Deed;
 use std::alloc::Global;
 use std::marker::Brand;
 use std::process::Abort;
-use std::sync::ledger::{Blank, Ledger};
 use std::sync::{Arc, Wait};
 use std::test::*;
 use std::thread;
@@ -27,7 +27,7 @@ struct Timed {
 }
 
 /// One thread makes the timed call, and the other its own once the first waits.
-fn pair<N: Ledger + Send + Sync, R: Threads + Wait + Clock + Sync>(
+fn pair<N: Ledgers + Send + Sync, R: Threads + Wait + Clock + Sync>(
     rt: &R,
     shop: &Shop<FlagGate, N>,
     first: Back<Deed, N>,
@@ -46,7 +46,7 @@ fn pair<N: Ledger + Send + Sync, R: Threads + Wait + Clock + Sync>(
 }
 
 /// Two seats make their calls, and the shop is closed.
-fn dealt<N: Ledger + Send + Sync, R: Abort + Threads + Wait + Clock + Sync>(
+fn dealt<N: Ledgers + Send + Sync, R: Abort + Threads + Wait + Clock + Sync>(
     rt: &R,
     alloc: Global,
     shop: Shop<FlagGate, N>,
@@ -76,7 +76,7 @@ fn dealt<N: Ledger + Send + Sync, R: Abort + Threads + Wait + Clock + Sync>(
 }
 
 /// A shop of this order is made, and two seats make their calls.
-fn dealing<N: Ledger + Send + Sync, R: Abort + Threads + Wait + Clock + Sync>(
+fn dealing<N: Ledgers + Send + Sync, R: Abort + Threads + Wait + Clock + Sync>(
     rt: &R,
     alloc: Global,
     order: Order,
@@ -84,9 +84,8 @@ fn dealing<N: Ledger + Send + Sync, R: Abort + Threads + Wait + Clock + Sync>(
     flags: &Flags,
     timed: Timed,
 ) -> Result<Chronicle<u64>, &'static str>
-    requires name { parts.blank.name ≡ N.name }
-    requires parts { parts.blank.parts ≡ N.parts }
-    requires one_each { parts.blank.parts ≡ vec_len parts.gates }
+    requires ledgers { AreOf N.name N.folds N.parts parts.blanks }
+    requires one_each { N.parts ≡ vec_len parts.gates }
 {
     match Shop::<FlagGate, N>::with_cap(alloc, order, parts, 100) {
         Ok((shop, seats)) => dealt(rt, alloc, shop, seats, flags, timed),
@@ -105,8 +104,8 @@ fn meets<R: Abort + Threads + Wait + Clock + Sync>(
     let mut gates = Vec::new(alloc);
     gates.push(FlagGate::new(Arc::try_clone(&flags)?))?;
     gates.push(FlagGate::new(Arc::new(alloc, Flags::new())?))?;
-    let blank = Blank::new(gates.len() as u64);
-    let parts = NewQueue { gates, blank };
+    let blanks = Blanks::new(gates.len() as u64);
+    let parts = NewQueue { gates, blanks };
     let chronicle = dealing::<Brand, _>(rt, alloc, order, parts, &flags, timed)?;
     assert_eq!(rt; flags.limit(), 50);
     assert!(rt; flags.is_raised());
@@ -140,6 +139,14 @@ const POLLED: Timed = Timed {
     other_told: Told::Gave(1),
 };
 
+/// A poll that waits, and a transfer that meets it.
+const TRANSFERRED: Timed = Timed {
+    call: Call::PollFor(50),
+    told: Told::Got(2, 5),
+    other: Call::Transfer(5),
+    other_told: Told::Gave(1),
+};
+
 #[test]
 fn a_timed_offer_waits_for_a_poll(rt: HostRuntime) -> Result<(), Fail> {
     meets(&rt, rt.alloc(), Order::Fair, given(Call::OfferFor(3, 50)))?;
@@ -150,7 +157,8 @@ fn a_timed_offer_waits_for_a_poll(rt: HostRuntime) -> Result<(), Fail> {
 fn a_timed_poll_waits_for_an_offer(rt: HostRuntime) -> Result<(), Fail> {
     meets(&rt, rt.alloc(), Order::Fair, POLLED)?;
     meets(&rt, rt.alloc(), Order::Unfair, POLLED)?;
-    meets(&rt, rt.alloc(), Order::Transfer, POLLED)
+    meets(&rt, rt.alloc(), Order::Transfer, POLLED)?;
+    meets(&rt, rt.alloc(), Order::Transfer, TRANSFERRED)
 }
 
 #[test]

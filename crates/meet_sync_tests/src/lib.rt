@@ -4,6 +4,8 @@
 #[cfg(test)]
 mod chance;
 #[cfg(test)]
+mod checkpoints;
+#[cfg(test)]
 mod closing;
 #[cfg(test)]
 mod drains;
@@ -21,6 +23,8 @@ mod java_synchronous_waits;
 mod java_transfer;
 #[cfg(test)]
 mod java_transfer_waits;
+#[cfg(test)]
+mod laws;
 #[cfg(test)]
 mod plays;
 #[cfg(test)]

@@ -78,6 +78,7 @@ const TAKEN_BACK: [Row; 9] = [
 
 #[test]
 fn a_ticket_is_taken_back(rt: HostRuntime) -> Result<(), Fail> {
+    told(&rt, rt.alloc(), Order::Fair, &TAKEN_BACK[..3], 3)?;
     told(&rt, rt.alloc(), Order::Fair, &TAKEN_BACK, 8)?;
     told(&rt, rt.alloc(), Order::Unfair, &TAKEN_BACK, 8)?;
     told(&rt, rt.alloc(), Order::Transfer, &TAKEN_BACK, 8)

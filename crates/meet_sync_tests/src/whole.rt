@@ -1,18 +1,18 @@
 //! Whole calls over each gate: of one thread, which find nobody; of two, which meet; and one that is cut.
 
 ghost use Rattle.std.specs.Prelude.{◌≡◌, vec_len};
+ghost use Rattle.meet_place.specs.Ledgers.{AreOf};
 
 use crate::plays::{NOTHING, Story, ended, tells};
 use meet_cells::ParkGate;
 use meet_history::Order;
 use meet_shop::{Ask, Call, Eager, Fresh, Idle, Shop, Told, called, gates, keep};
-use meet_sync::{Back, Chronicle, NewQueue, Seat};
-use meet_tickets::Deed;
+use meet_sync::{Back, Blanks, Chronicle, Ledgers, NewQueue, Seat};
+use meet_tickets::{Cause, Deed};
 use std::alloc::Global;
 use std::marker::Brand;
 use std::process::Abort;
 use std::sync::Wait;
-use std::sync::ledger::{Blank, Ledger};
 use std::test::*;
 use std::thread;
 use std::thread::Threads;
@@ -32,7 +32,7 @@ pub enum Deal<'a> {
 }
 
 /// Two seats, with what they are given back.
-struct Both<N: Ledger> {
+struct Both<N: Ledgers> {
     first: Back<Deed, N>,
     second: Back<Deed, N>,
     /// How often the first was told that its item was taken, or whether it was cut.
@@ -42,7 +42,7 @@ struct Both<N: Ledger> {
 }
 
 /// A seat calls, one call after another, and is told this.
-fn calls<G: Fresh, N: Ledger, R: Abort + Wait + Clock>(
+fn calls<G: Fresh, N: Ledgers, R: Abort + Wait + Clock>(
     rt: &R,
     shop: &Shop<G, N>,
     first: Back<Deed, N>,
@@ -58,7 +58,7 @@ fn calls<G: Fresh, N: Ledger, R: Abort + Wait + Clock>(
 }
 
 /// The give that waits, of each queue.
-fn giving<G, N: Ledger>(shop: &Shop<G, N>, item: u64) -> Call {
+fn giving<G, N: Ledgers>(shop: &Shop<G, N>, item: u64) -> Call {
     match shop {
         Shop::Fair(_) => Call::Put(item),
         Shop::Unfair(_) => Call::Put(item),
@@ -67,7 +67,7 @@ fn giving<G, N: Ledger>(shop: &Shop<G, N>, item: u64) -> Call {
 }
 
 /// Gives 1 and so on: how many were taken.
-fn give_all<G: Fresh, N: Ledger, R: Wait + Clock>(
+fn give_all<G: Fresh, N: Ledgers, R: Wait + Clock>(
     rt: &R,
     shop: &Shop<G, N>,
     first: Back<Deed, N>,
@@ -88,7 +88,7 @@ fn give_all<G: Fresh, N: Ledger, R: Wait + Clock>(
 }
 
 /// Takes so often by this call: the sum of what it took.
-fn take_all<G: Fresh, N: Ledger, R: Wait + Clock>(
+fn take_all<G: Fresh, N: Ledgers, R: Wait + Clock>(
     rt: &R,
     shop: &Shop<G, N>,
     first: Back<Deed, N>,
@@ -108,7 +108,7 @@ fn take_all<G: Fresh, N: Ledger, R: Wait + Clock>(
 }
 
 /// One thread gives what the other takes.
-fn meet<G: Fresh + Sync, N: Ledger + Send + Sync, R: Threads + Wait + Clock + Sync>(
+fn meet<G: Fresh + Sync, N: Ledgers + Send + Sync, R: Threads + Wait + Clock + Sync>(
     rt: &R,
     shop: &Shop<G, N>,
     giver: Back<Deed, N>,
@@ -132,7 +132,7 @@ fn meet<G: Fresh + Sync, N: Ledger + Send + Sync, R: Threads + Wait + Clock + Sy
 }
 
 /// One thread gives by a call, and the other takes by one.
-fn pair<G: Fresh + Sync, N: Ledger + Send + Sync, R: Threads + Wait + Clock + Sync>(
+fn pair<G: Fresh + Sync, N: Ledgers + Send + Sync, R: Threads + Wait + Clock + Sync>(
     rt: &R,
     shop: &Shop<G, N>,
     giver: Back<Deed, N>,
@@ -165,7 +165,7 @@ fn pair<G: Fresh + Sync, N: Ledger + Send + Sync, R: Threads + Wait + Clock + Sy
 }
 
 /// One thread calls, and the other interrupts it: it is cut where it waits, or flagged before it does.
-fn cut<G: Fresh + Sync, N: Ledger + Send + Sync, R: Threads + Wait + Clock + Sync>(
+fn cut<G: Fresh + Sync, N: Ledgers + Send + Sync, R: Threads + Wait + Clock + Sync>(
     rt: &R,
     shop: &Shop<G, N>,
     caller: Back<Deed, N>,
@@ -201,7 +201,7 @@ fn cut<G: Fresh + Sync, N: Ledger + Send + Sync, R: Threads + Wait + Clock + Syn
 }
 
 /// Two seats do this.
-fn strike_deal<G: Fresh + Sync, N: Ledger + Send + Sync, R: Abort + Threads + Wait + Clock + Sync>(
+fn strike_deal<G: Fresh + Sync, N: Ledgers + Send + Sync, R: Abort + Threads + Wait + Clock + Sync>(
     rt: &R,
     shop: &Shop<G, N>,
     first: Back<Deed, N>,
@@ -229,7 +229,7 @@ struct Came {
 }
 
 /// Two seats do this, and the shop is closed.
-fn dealt_by<G: Fresh + Sync, N: Ledger + Send + Sync, R: Abort + Threads + Wait + Clock + Sync>(
+fn dealt_by<G: Fresh + Sync, N: Ledgers + Send + Sync, R: Abort + Threads + Wait + Clock + Sync>(
     rt: &R,
     alloc: Global,
     shop: Shop<G, N>,
@@ -264,21 +264,33 @@ fn dealt_by<G: Fresh + Sync, N: Ledger + Send + Sync, R: Abort + Threads + Wait 
 }
 
 /// A shop of this order is made, and two seats do this.
-fn dealing<G: Fresh + Sync, N: Ledger + Send + Sync, R: Abort + Threads + Wait + Clock + Sync>(
+fn dealing<G: Fresh + Sync, N: Ledgers + Send + Sync, R: Abort + Threads + Wait + Clock + Sync>(
     rt: &R,
     alloc: Global,
     order: Order,
     parts: NewQueue<G>,
     dealt: Deal<'_>,
 ) -> Result<Came, &'static str>
-    requires name { parts.blank.name ≡ N.name }
-    requires parts { parts.blank.parts ≡ N.parts }
-    requires one_each { parts.blank.parts ≡ vec_len parts.gates }
+    requires ledgers { AreOf N.name N.folds N.parts parts.blanks }
+    requires one_each { N.parts ≡ vec_len parts.gates }
 {
     match Shop::<G, N>::with_cap(alloc, order, parts, 1_048_576) {
         Ok((shop, seats)) => dealt_by(rt, alloc, shop, seats, dealt),
         Err(refused) => Err(refused.why.name()),
     }
+}
+
+/// What comes of two seats over gates of this kind that do this.
+fn comes_of<G: Fresh + Sync, R: Abort + Threads + Wait + Clock + Sync>(
+    rt: &R,
+    alloc: Global,
+    order: Order,
+    dealt: Deal<'_>,
+) -> Result<Came, &'static str> {
+    let gates = gates::<G>(alloc, 2)?;
+    let blanks = Blanks::new(gates.len() as u64);
+    let parts = NewQueue { gates, blanks };
+    dealing::<G, Brand, _>(rt, alloc, order, parts, dealt)
 }
 
 /// Two seats over gates of this kind do this: how many items were given, the sum of what was taken, and the records.
@@ -288,14 +300,11 @@ pub fn trade<G: Fresh + Sync, R: Abort + Threads + Wait + Clock + Sync>(
     order: Order,
     dealt: Deal<'_>,
 ) -> Result<(u64, u64, usize), &'static str> {
-    let gates = gates::<G>(alloc, 2)?;
-    let blank = Blank::new(gates.len() as u64);
-    let parts = NewQueue { gates, blank };
     let Came {
         given,
         taken,
         chronicle,
-    } = dealing::<G, Brand, _>(rt, alloc, order, parts, dealt)?;
+    } = comes_of::<G, _>(rt, alloc, order, dealt)?;
     let story = Story {
         order,
         seats: 2,
@@ -309,20 +318,20 @@ pub fn trade<G: Fresh + Sync, R: Abort + Threads + Wait + Clock + Sync>(
 
 /// Nobody is there: calls fail, or their time runs out.
 const ALONE: [(Call, Told); 6] = [
-    (Call::Offer(5), Told::Failed(Some(5))),
+    (Call::Offer(3), Told::Failed(Some(3))),
     (Call::Poll, Told::Failed(None)),
     (Call::OfferFor(6, 0), Told::Failed(Some(6))),
-    (Call::OfferFor(7, 1), Told::TimedOut(Some(7))),
+    (Call::OfferFor(3, 50), Told::TimedOut(Some(3))),
     (Call::PollFor(0), Told::Failed(None)),
     (Call::PollFor(1), Told::TimedOut(None)),
 ];
 
 /// The same of a transfer queue, in which an offer is kept.
 const KEPT: [(Call, Told); 12] = [
-    (Call::TryTransfer(5), Told::Failed(Some(5))),
+    (Call::TryTransfer(4), Told::Failed(Some(4))),
     (Call::Poll, Told::Failed(None)),
     (Call::TransferFor(6, 0), Told::Failed(Some(6))),
-    (Call::TransferFor(7, 1), Told::TimedOut(Some(7))),
+    (Call::TransferFor(4, 50), Told::TimedOut(Some(4))),
     (Call::PollFor(0), Told::Failed(None)),
     (Call::PollFor(1), Told::TimedOut(None)),
     (Call::Put(10), Told::Kept),
@@ -354,6 +363,54 @@ fn nobody_is_there(rt: HostRuntime) -> Result<(), Fail> {
     alone::<Idle, _>(&rt, rt.alloc())?;
     alone::<Eager, _>(&rt, rt.alloc())?;
     alone::<ParkGate, _>(&rt, rt.alloc())
+}
+
+/// Calls of one seat at gates whose time is up at once, of which these deeds are recorded.
+fn writes<R: Abort + Threads + Wait + Clock + Sync>(
+    rt: &R,
+    alloc: Global,
+    order: Order,
+    calls: &[(Call, Told)],
+    wanted: &[Deed],
+) -> Result<(), Fail> {
+    let Came {
+        given: _,
+        taken: _,
+        chronicle,
+    } = comes_of::<Idle, _>(rt, alloc, order, Deal::Calls(calls))?;
+    assert_eq!(rt; chronicle.records.len(), wanted.len());
+    for (entry, deed) in chronicle.records.iter().zip(wanted) {
+        assert_eq!(rt; entry.deed, *deed);
+    }
+    Ok(())
+}
+
+/// An offer that waits for 50 milliseconds, and what it writes.
+const OFFERED: [(Call, Told); 1] = [(Call::OfferFor(3, 50), Told::TimedOut(Some(3)))];
+
+const OFFERED_DEEDS: [Deed; 2] = [Deed::GiveWaits(3), Deed::Withdrawn(Cause::Expired)];
+
+/// A poll without time.
+const POLLED: [(Call, Told); 1] = [(Call::PollFor(0), Told::Failed(None))];
+
+const POLLED_DEEDS: [Deed; 1] = [Deed::TakeFails];
+
+/// A transfer that waits for 50 milliseconds.
+const TRANSFERRED: [(Call, Told); 1] = [(Call::TransferFor(4, 50), Told::TimedOut(Some(4)))];
+
+const TRANSFERRED_DEEDS: [Deed; 2] = [Deed::GiveWaits(4), Deed::Withdrawn(Cause::Expired)];
+
+#[test]
+fn what_a_call_writes_whose_time_is_up(rt: HostRuntime) -> Result<(), Fail> {
+    writes(&rt, rt.alloc(), Order::Fair, &OFFERED, &OFFERED_DEEDS)?;
+    writes(&rt, rt.alloc(), Order::Fair, &POLLED, &POLLED_DEEDS)?;
+    writes(
+        &rt,
+        rt.alloc(),
+        Order::Transfer,
+        &TRANSFERRED,
+        &TRANSFERRED_DEEDS,
+    )
 }
 
 /// So many are given and taken by this call, over gates of this kind: each once.

@@ -1,0 +1,7 @@
+use Rattle.std.proofs.Common.{All, IsTrue}
+use Rattle.meet_history.specs.Served.{serves}
+use Rattle.meet_history_tests.proofs.stories.calls_of.Given as goal
+
+-- the place has the verbs of the calls so far
+abbrev pub invariant-loop-number : goal.invariant-loop-number
+invariant-loop-number l = All (λ call. IsTrue (serves l.fn.order call.verb)) l.calls.items
