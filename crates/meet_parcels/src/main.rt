@@ -1,20 +1,22 @@
-//! Parcels between threads: one thread transfers them, another takes them. Then the queue is closed, and its records are
-//! counted on standard output, or, as `meet_parcels trace`, written there as a trace, which `meet check` accepts.
+//! Parcels between threads: one thread transfers them, another takes them. Then the queue is closed, and what came, what
+//! came back and its records are counted on standard output; or, as `meet_parcels trace`, the records are written there
+//! as a trace, which `meet check` accepts.
 #![tactic(auto)]
 
 mod passing;
+#[cfg(test)]
+mod plans;
 
 use meet_cells::ParkGate;
 use meet_history::{Kind, Order};
 use meet_run::write_trace;
-use meet_sync::{Chronicle, NewQueue};
-use meet_tickets::{Deed, Record, Refusal};
-use passing::{Parcel, pass};
+use meet_sync::{Blanks, NewQueue};
+use meet_tickets::{MOST_RECORDS, Refusal};
+use passing::{Passed, Plan, pass};
 use std::alloc::Global;
 use std::marker::Brand;
 use std::process::ExitCode;
 use std::sync::Wait;
-use std::sync::ledger::Blank;
 use std::thread::Threads;
 use std::time::Clock;
 use std::{env, io};
@@ -25,16 +27,24 @@ const TRANSFER: Kind = Kind {
     bound: None,
 };
 
-/// Passes five parcels between two threads: what the queue leaves.
-fn pass_five<R>(rt: &R, alloc: Global) -> Result<Chronicle<Parcel>, Refusal>
+/// Five parcels, all of which are taken: a thread waits a minute at most for the other.
+const FIVE: Plan = Plan {
+    gives: 5,
+    takes: 5,
+    patience: 60_000,
+    cap: MOST_RECORDS,
+};
+
+/// Passes parcels between two threads: what came of it.
+fn pass_by_plan<R>(rt: &R, alloc: Global, plan: Plan) -> Result<Passed, Refusal>
 where
     R: Threads + Wait + Clock + Sync,
 {
     let mut gates = Vec::new(alloc);
     gates.push(ParkGate::new()).map_err(|_| Refusal::Memory)?; // a gate for each seat
     gates.push(ParkGate::new()).map_err(|_| Refusal::Memory)?;
-    let blank = Blank::new(gates.len() as u64);
-    pass::<Brand, R>(rt, alloc, NewQueue { gates, blank }, 5)
+    let blanks = Blanks::new(gates.len() as u64);
+    pass::<Brand, R>(rt, alloc, NewQueue { gates, blanks }, plan)
 }
 
 /// Whether the trace is asked for, which any word of the command line does.
@@ -43,20 +53,31 @@ fn is_trace_wanted(rt: &HostRuntime) -> io::Result<bool> {
     Ok(words.len() > 1) // the first is the program's name
 }
 
-/// Writes on standard output how many records there are, or the records as a trace.
-fn tell(rt: &HostRuntime, records: &[Record<Deed>]) -> Result<(), Refusal> {
+/// Writes on standard output what came of it, or the records as a trace; a thread that was refused is told as that.
+fn tell(rt: &HostRuntime, passed: &Passed) -> Result<(), Refusal> {
+    let records = passed.chronicle.records.as_slice();
     match is_trace_wanted(rt) {
-        Ok(true) => write_trace(rt.alloc(), TRANSFER, records, &mut rt.stdout()),
+        Ok(true) => write_trace(rt.alloc(), TRANSFER, records, &mut rt.stdout())?,
         Ok(false) => {
-            println!(rt; "five parcels, {} records", records.len()).map_err(|_| Refusal::WriteFault)
+            println!(rt;
+                "{} parcels came, {} came back, {} records",
+                passed.came.parcels,
+                passed.back.parcels,
+                records.len()
+            )
+            .map_err(|_| Refusal::WriteFault)?
         }
-        Err(_) => Err(Refusal::ReadFault),
+        Err(_) => return Err(Refusal::ReadFault),
+    }
+    match passed.refused {
+        None => Ok(()),
+        Some(why) => Err(why),
     }
 }
 
 fn main(rt: HostRuntime) -> ExitCode {
-    let told = match pass_five(&rt, rt.alloc()) {
-        Ok(chronicle) => tell(&rt, chronicle.records.as_slice()),
+    let told = match pass_by_plan(&rt, rt.alloc(), FIVE) {
+        Ok(passed) => tell(&rt, &passed),
         Err(why) => Err(why),
     };
     match told {

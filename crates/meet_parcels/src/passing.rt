@@ -1,16 +1,16 @@
 //! Two threads at a transfer queue.
 
 ghost use Rattle.std.specs.Prelude.{◌≡◌, None, IfOk, vec_len};
+ghost use Rattle.meet_place.specs.Ledgers.{AreOf};
 ghost use Rattle.meet_tickets.specs.Bases.{IsLegalOn};
 ghost use Rattle.meet_calls.specs.QueueSteps.{bounded_kind};
 
 use meet_cells::ParkGate;
-use meet_sync::{Back, Chronicle, End, NewQueue, Seat, TransferQueue};
+use meet_sync::{Back, Chronicle, End, Ledgers, NewQueue, Seat, TransferQueue};
 use meet_tickets::{Deed, Marked, Refusal};
 use std::alloc::Global;
 use std::mem::ManuallyDrop;
 use std::sync::Wait;
-use std::sync::ledger::Ledger;
 use std::thread;
 use std::thread::Threads;
 use std::time::Clock;
@@ -30,72 +30,167 @@ impl Marked for Parcel {
     }
 }
 
+/// What the threads are to do.
+#[derive(Clone, Copy)]
+pub struct Plan {
+    /// How many parcels are given, each once the one before it was taken or came back.
+    pub gives: u64,
+    /// How many are taken.
+    pub takes: u64,
+    /// How long a thread waits for the other each time, in milliseconds.
+    pub patience: u64,
+    /// How many records the queue takes, 1 to 1,048,576.
+    pub cap: u64,
+}
+
+/// Parcels that a thread has in hand: how many, and their weight.
+#[derive(Clone, Copy, PartialEq, Debug)]
+pub struct Hand {
+    pub parcels: u64,
+    pub grams: u64,
+}
+
+impl Hand {
+    /// None.
+    const EMPTY: Hand = Hand {
+        parcels: 0,
+        grams: 0,
+    };
+
+    /// These, and the one that a call ended with, if it did.
+    fn with(self, parcel: Option<Parcel>) -> Hand {
+        match parcel {
+            Some(parcel) => Hand {
+                parcels: self.parcels.saturating_add(1),
+                grams: self.grams.saturating_add(parcel.grams),
+            },
+            None => self,
+        }
+    }
+}
+
+/// What came of a plan.
+#[derive(Drop)]
+pub struct Passed {
+    /// What the taker took.
+    pub came: Hand,
+    /// What came back to the giver.
+    pub back: Hand,
+    /// Why a thread stopped before its end, if one did.
+    pub refused: Option<Refusal>,
+    /// What the queue leaves.
+    pub chronicle: Chronicle<Parcel>,
+}
+
 /// The queue that the threads share.
 type Counter<N> = TransferQueue<Parcel, ParkGate, N>;
 
-/// How long a thread waits for the other, in milliseconds.
-const PATIENCE: u64 = 60_000;
+/// What a thread comes back with, whatever happened: its seat, without which the queue can't be closed; what it has in
+/// hand; and why it stopped before its end, if it did.
+#[derive(Drop)]
+struct Part<N: Ledgers> {
+    seat: Seat<Deed, N>,
+    hand: Hand,
+    refused: Option<Refusal>,
+}
 
-/// Transfers so many parcels, each once the one before it was taken: the seat, or why one was refused.
-fn send<N: Ledger, R: Wait + Clock>(
+/// The parcel that a call ended with: the one that was taken, or that came back.
+fn parcel_of(end: End<Parcel>) -> Option<Parcel> {
+    match end {
+        End::Got(_, parcel) => Some(parcel),
+        End::Failed(back) => back,
+        End::EntryInterrupted(back) => back,
+        End::Interrupted(back) => back,
+        End::TimedOut(back) => back,
+        End::Gave(_) => None,
+        End::Kept => None,
+        End::Done => None,
+    }
+}
+
+/// Transfers parcels, each once the one before it was taken or came back. Those that came back are in hand then.
+fn send<N: Ledgers, R: Wait + Clock>(
     rt: &R,
     counter: &Counter<N>,
     first: Seat<Deed, N>,
-    parcels: u64,
-) -> Result<Seat<Deed, N>, Refusal> {
+    plan: Plan,
+) -> Part<N> {
     let mut seat = first;
-    for mark in 1..=parcels {
+    let mut hand = Hand::EMPTY;
+    for mark in 1..=plan.gives {
         let parcel = Parcel { mark, grams: 250 };
-        match counter.transfer_for(rt, seat, parcel, PATIENCE) {
-            Ok(ended) => seat = ended.seat, // ended.end: End::Gave(with), End::Done, End::TimedOut(Some(parcel)), ..
-            Err(refused) => return Err(refused.why), // refused.seat and refused.item are those that went in
+        match counter.transfer_for(rt, seat, parcel, plan.patience) {
+            Ok(ended) => {
+                seat = ended.seat;
+                hand = hand.with(parcel_of(ended.end)); // End::Gave(with), End::Done, End::TimedOut(Some(parcel)), ..
+            }
+            Err(refused) => {
+                return Part {
+                    seat: refused.seat,
+                    hand: hand.with(refused.item), // the parcel that went in
+                    refused: Some(refused.why),
+                };
+            }
         }
     }
-    Ok(seat)
+    Part {
+        seat,
+        hand,
+        refused: None,
+    }
 }
 
-/// Takes so many parcels: the seat and their weight, or why a take was refused.
-fn receive<N: Ledger, R: Wait + Clock>(
+/// Takes parcels, which are in hand then.
+fn receive<N: Ledgers, R: Wait + Clock>(
     rt: &R,
     counter: &Counter<N>,
     first: Seat<Deed, N>,
-    parcels: u64,
-) -> Result<(Seat<Deed, N>, u64), Refusal> {
+    plan: Plan,
+) -> Part<N> {
     let mut seat = first;
-    let mut grams = 0u64;
-    for _ in 0..parcels {
-        match counter.poll_for(rt, seat, PATIENCE) {
+    let mut hand = Hand::EMPTY;
+    for _ in 0..plan.takes {
+        match counter.poll_for(rt, seat, plan.patience) {
             Ok(ended) => {
-                if let End::Got(_, parcel) = ended.end {
-                    grams = grams.saturating_add(parcel.grams);
-                }
                 seat = ended.seat;
+                hand = hand.with(parcel_of(ended.end)); // End::Got(with, parcel), End::TimedOut(None), ..
             }
-            Err(refused) => return Err(refused.why),
+            Err(refused) => {
+                return Part {
+                    seat: refused.seat,
+                    hand,
+                    refused: Some(refused.why),
+                };
+            }
         }
     }
-    Ok((seat, grams))
+    Part {
+        seat,
+        hand,
+        refused: None,
+    }
 }
 
-/// Passes so many parcels between two threads, over a queue of these parts, which has two seats: what the queue leaves.
-/// Its records are a legal history, whatever the threads' order.
+/// Passes parcels between two threads, over a queue of these parts, which has two seats: what came of it. It is refused
+/// only where the queue can't be made or closed, for want of memory or of a sound cap. Its records are a legal history,
+/// whatever the threads' order.
 pub fn pass<N, R>(
     rt: &R,
     alloc: Global,
     parts: NewQueue<ParkGate>,
-    parcels: u64,
-) -> Result<Chronicle<Parcel>, Refusal>
+    plan: Plan,
+) -> Result<Passed, Refusal>
 where
-    N: Ledger + Send + Sync,
+    N: Ledgers + Send + Sync,
     R: Threads + Wait + Clock + Sync,
-    requires name { parts.blank.name ≡ N.name }
-    requires parts { parts.blank.parts ≡ N.parts }
-    requires one_each { parts.blank.parts ≡ vec_len parts.gates }
+    requires ledgers { AreOf N.name N.folds N.parts parts.blanks }
+    requires one_each { N.parts ≡ vec_len parts.gates }
     requires two { vec_len parts.gates ≡ 2 }
-    ensures { IfOk result (λ c. IsLegalOn (bounded_kind None) c.base c.records.items) }
+    ensures { IfOk result (λ passed. IsLegalOn (bounded_kind None) passed.chronicle.base passed.chronicle.records.items) }
 {
     let mut backs = Vec::with_capacity(alloc, 2).map_err(|_| Refusal::Memory)?;
-    let (counter, mut seats) = match TransferQueue::<Parcel, ParkGate, N>::new(alloc, parts) {
+    let made = TransferQueue::<Parcel, ParkGate, N>::with_cap(alloc, parts, plan.cap);
+    let (counter, mut seats) = match made {
         Ok(made) => made,
         Err(refused) => return Err(refused.why),
     };
@@ -104,15 +199,18 @@ where
     let shared = &counter;
     let (sent, received) = thread::join(
         rt,
-        move || send(rt, shared, giver, parcels),
-        move || receive(rt, shared, taker, parcels),
+        move || send(rt, shared, giver, plan),
+        move || receive(rt, shared, taker, plan),
     );
-    if let (Ok(giver), Ok((taker, _grams))) = (sent, received) {
-        backs.push_reserved(Back::Free(giver));
-        backs.push_reserved(Back::Free(taker));
-    }
+    backs.push_reserved(Back::Free(sent.seat));
+    backs.push_reserved(Back::Free(received.seat));
     match counter.close(alloc, backs) {
-        Ok(chronicle) => Ok(chronicle), // chronicle.records, chronicle.lists, chronicle.left
+        Ok(chronicle) => Ok(Passed {
+            came: received.hand,
+            back: sent.hand,
+            refused: sent.refused.or(received.refused),
+            chronicle,
+        }), // chronicle.records, chronicle.lists, chronicle.left
         Err(fault) => {
             let why = fault.why();
             let _kept = ManuallyDrop::new(fault);

@@ -48,12 +48,10 @@ pub fn keep_book(rt: &HostRuntime, seat_0: SeatNo, seat_1: SeatNo, seat_2: SeatN
     };
     let mut book: Book<Dual<Parcel, FairLine<Parcel>>> = queue_book(alloc, 3, 1, 1_000)?; // at most 1,000 records
     let (_, receipt) = book.step(seat_0, DualCall::Give(item))?; // DualAnswer::Gave(..), Some(receipt)
-    let receipt = receipt.ok_or(Refusal::HistoryFull)?; // receipt.place(), its number, and receipt.entry()
-    println!(rt;
-        "record {} of t{}",
-        receipt.place(),
-        receipt.entry().ticket.number()
-    )?;
+    if let Some(receipt) = receipt {
+        let entry = receipt.entry(); // the record; receipt.place() is its number
+        println!(rt; "record {} of t{}", receipt.place(), entry.ticket.number())?;
+    }
     if let Some((parcel, receipt)) = take_on_record(&mut book, seat_1)? {
         println!(rt; "record {} brought {}", receipt.place(), parcel.mark)?;
     }
