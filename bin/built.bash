@@ -1,6 +1,16 @@
 # What the commands of this folder share: where the repository is, and its proved programs.
 top=$(cd "$(dirname "${BASH_SOURCE[0]}")/.." && pwd)
 
+# Where the first word asks for help: tells what the command that runs is for, as the head of its file does, and ends.
+help_if_asked() {
+    case ${1:-} in
+    -h | --help)
+        awk 'NR > 1 { if (!/^#/) exit; sub(/^# ?/, ""); print }' "$0"
+        exit 0
+        ;;
+    esac
+}
+
 # Ends with status 70 where the toolchain isn't there.
 need_rt() {
     command -v rt >/dev/null && return
