@@ -18,7 +18,6 @@ use crate::seats::{Back, Inner};
 use crate::steps::{Board, Token};
 use meet_tickets::{Marked, Refusal};
 use std::alloc::Global;
-use std::error::Error;
 use std::fmt;
 use std::fmt::{Debug, Display, Formatter, Write};
 
@@ -33,8 +32,8 @@ pub struct Closed<T> {
     pub left: Vec<LeftIn<T>>,
 }
 
-/// Why an arena was not closed: SeatMissing or Memory. The arena and the seats come back. As an error its text is the
-/// name of the refusal.
+/// Why an arena was not closed: SeatMissing or Memory. The arena and the seats come back. Its text is the name of the
+/// refusal. It is no error type: a `?` hands it on whole or doesn't compile.
 #[derive(Drop)]
 pub struct CloseFault<T: Marked> {
     /// The reason.
@@ -64,7 +63,14 @@ impl<T: Marked> Debug for CloseFault<T> {
     }
 }
 
-impl<T: Marked + Drop> Error for CloseFault<T> {}
+impl<T: Marked + Drop> CloseFault<T> {
+    /// The reason alone. The arena and the seats are let go: match the fault to keep them.
+    pub fn into_why(self) -> Refusal
+        ensures { result ≡ self.why }
+    {
+        self.why
+    }
+}
 
 /// Puts a list at its seat's number.
 fn put(lists: &mut Vec<Vec<Part>>, number: usize, list: Vec<Part>)

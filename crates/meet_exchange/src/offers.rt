@@ -32,8 +32,8 @@ pub enum Offered<T> {
 
 impl<T: Marked> Arena<T> {
     /// Offers an item in a slot: looks once, and where the slot is free or has an item posted, tries once to claim it
-    /// or to take that item. Before it looks it makes room for two entries in the seat's list, so that what ends the offer
-    /// takes no memory.
+    /// or to take that item. Before it looks it makes room for two entries in the seat's list, so that what ends the
+    /// offer takes no memory.
     pub fn offer(&self, seat: Seat<T>, slot: usize, item: T) -> Offered<T>
         requires place { seat.arena ≡ self.now.id }
         requires slot { slot < self.now.slots }

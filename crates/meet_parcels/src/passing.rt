@@ -186,13 +186,14 @@ where
     requires ledgers { AreOf N.name N.folds N.parts parts.blanks }
     requires one_each { N.parts ≡ vec_len parts.gates }
     requires two { vec_len parts.gates ≡ 2 }
-    ensures { IfOk result (λ passed. IsLegalOn (bounded_kind None) passed.chronicle.base passed.chronicle.records.items) }
+    ensures { IfOk result (λ passed.
+        IsLegalOn (bounded_kind None) passed.chronicle.base passed.chronicle.records.items) }
 {
     let mut backs = Vec::with_capacity(alloc, 2).map_err(|_| Refusal::Memory)?;
     let made = TransferQueue::<Parcel, ParkGate, N>::with_cap(alloc, parts, plan.cap);
     let (counter, mut seats) = match made {
         Ok(made) => made,
-        Err(refused) => return Err(refused.why),
+        Err(refused) => return Err(refused.into_why()), // the gates and the ledgers are let go
     };
     let taker = seats.pop().unwrap();
     let giver = seats.pop().unwrap();

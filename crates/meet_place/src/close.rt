@@ -13,7 +13,6 @@ use crate::settling::{SeatRoom, Settled, Unsettled, settle};
 use meet_book::{Book, Leaves, Object, Receipt, Same};
 use meet_tickets::{Record, Refusal, SeatNo};
 use std::alloc::Global;
-use std::error::Error;
 use std::fmt;
 use std::fmt::{Debug, Display, Formatter, Write};
 
@@ -30,7 +29,8 @@ pub struct Closed<O: Leaves> {
     pub left: Vec<O::Left>,
 }
 
-/// Why a place was not closed. As an error its text is the name of the refusal that it is.
+/// Why a place was not closed. Its text is the name of the refusal that it is. It holds what comes back, so it is no
+/// error type: a `?` hands it on whole or doesn't compile.
 #[derive(Drop)]
 pub enum CloseFault<O: Object, G, N: Ledgers> {
     /// Fewer seats were given back than were made. The place and the seats come back.
@@ -92,11 +92,18 @@ impl<O: Object, G, N: Ledgers> Debug for CloseFault<O, G, N> {
     }
 }
 
-impl<O: Object + Drop, G: Drop, N: Ledgers> Error for CloseFault<O, G, N>
+impl<O: Object + Drop, G: Drop, N: Ledgers> CloseFault<O, G, N>
 where
     O::Base: Drop,
     O::Deed: Drop,
-{}
+{
+    /// The reason alone. The place or its book, and the seats, are let go: match the fault to keep them.
+    pub fn into_why(self) -> Refusal
+        ensures { result ≡ why_of self }
+    {
+        self.why()
+    }
+}
 
 impl<O: Leaves, G: Drop, N: Ledgers> Place<O, G, N>
 where

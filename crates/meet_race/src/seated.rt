@@ -138,7 +138,7 @@ where
     };
     let (queue, seats) = match Fair::<G, N>::new(alloc, parts) {
         Ok(made) => made,
-        Err(refused) => return Err(refused.why),
+        Err(refused) => return Err(refused.into_why()), // the gates and the ledgers are let go
     };
     let slots = slots_of::<N>(seats, slots);
     let timed = run_timed(rt, &queue, slots.as_slice(), each);

@@ -9,7 +9,7 @@ mod parcels;
 
 use anyhow::Result;
 use endings::end_offer;
-use meet_exchange::{Arena, Back, Closed, Offered};
+use meet_exchange::{Arena, Back, CloseFault, Closed, Offered};
 use meet_tickets::Refusal;
 use parcels::Parcel;
 
@@ -102,6 +102,6 @@ fn main(rt: HostRuntime) -> Result<()> {
     let mut backs = Vec::new(alloc);
     backs.push(zero)?;
     backs.push(one)?;
-    let closed = arena.close(alloc, backs).map_err(|fault| fault.why)?;
+    let closed = arena.close(alloc, backs).map_err(CloseFault::into_why)?; // what comes back at a fault is let go
     tell(&rt, &closed)
 }

@@ -155,8 +155,8 @@ where
     )
 }
 
-/// Runs a round at places. It refuses NoThread where a thread can't be started, ReadFault where the clock can't be read,
-/// or Memory.
+/// Runs a round at places. It refuses NoThread where a thread can't be started, ReadFault where the clock can't be
+/// read, or Memory.
 pub fn run_places<R>(rt: &R, alloc: Global, race: Race) -> Result<Finish, Refusal>
 where
     R: Threads + Wait + Clock + Sync,

@@ -139,7 +139,7 @@ where
     let passed = start.elapsed(rt).map_err(|_| Refusal::ReadFault)?;
     let backs = worked.map_err(|_| Refusal::Memory)?;
     if let Err(fault) = arena.close(alloc, backs) {
-        return Err(fault.why);
+        return Err(fault.into_why()); // the arena and the seats are let go
     }
     Finish::of(total.into_inner(), passed.as_nanos())
 }

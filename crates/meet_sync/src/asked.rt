@@ -6,6 +6,8 @@ ghost use Rattle.meet_sync.specs.Ending.{end_of};
 
 use meet_place::{Ledgers, Pending, Seat};
 use meet_tickets::{Deed, Refusal, Ticket};
+use std::fmt;
+use std::fmt::{Debug, Display, Formatter, Write};
 
 /// A request that a queue settles, or that waits.
 #[derive(Drop)]
@@ -42,7 +44,8 @@ pub enum Asked<T, N: Ledgers> {
     Parked(Pending<Deed, N>),
 }
 
-/// A call that was refused: nothing was written, and the seat and the item come back.
+/// A call that was refused: nothing was written, and the seat and the item come back. Its text is the name of the
+/// reason. It is no error type, and no `From` makes it a `Refusal`: a `?` hands it on whole or doesn't compile.
 #[derive(Drop)]
 pub struct SeatRefused<T, N: Ledgers> {
     /// Why.
@@ -51,6 +54,35 @@ pub struct SeatRefused<T, N: Ledgers> {
     pub seat: Seat<Deed, N>,
     /// The item that the call brought.
     pub item: Option<T>,
+}
+
+/// The name of the reason.
+impl<T, N: Ledgers> Display for SeatRefused<T, N> {
+    ghost use Rattle.std.specs.Prelude.{Some};
+    ghost use Rattle.meet_tickets.specs.Refusals.{name_of};
+
+    ghost output = { λ refused. Some (name_of refused.why) };
+
+    fn fmt<W: Write>(&self, f: &mut Formatter<W>) -> fmt::Result {
+        f.write_str(self.why.name())
+    }
+}
+
+/// The reason alone: what comes back need not be such as can be shown.
+impl<T, N: Ledgers> Debug for SeatRefused<T, N> {
+    fn fmt<W: Write>(&self, f: &mut Formatter<W>) -> fmt::Result {
+        write!(f, "SeatRefused({})", self.why)
+    }
+}
+
+impl<T: Drop, N: Ledgers> SeatRefused<T, N> {
+    /// The reason alone. The seat and the item are let go: match the refusal to keep them, since a queue is closed
+    /// with all of its seats.
+    pub fn into_why(self) -> Refusal
+        ensures { result ≡ self.why }
+    {
+        self.why
+    }
 }
 
 /// The answer to a follow-up.

@@ -17,7 +17,6 @@ use meet_place::{Back, CloseFault, Closed, Ledgers};
 use meet_tickets::{Base, Deed, Marked, Record, Refusal, SeatNo};
 use meet_transfer::Unbounded;
 use std::alloc::Global;
-use std::error::Error;
 use std::fmt;
 use std::fmt::{Debug, Display, Formatter, Write};
 
@@ -34,7 +33,8 @@ pub struct Chronicle<T> {
     pub left: Vec<Left<T>>,
 }
 
-/// Why a queue was not closed. As an error its text is the name of the refusal that it is.
+/// Why a queue was not closed. Its text is the name of the refusal that it is. It holds what comes back, so it is no
+/// error type: a `?` hands it on whole or doesn't compile.
 #[derive(Drop)]
 pub enum QueueFault<Q, B, N: Ledgers> {
     /// Fewer seats were given back than were made. The queue and the seats come back.
@@ -96,14 +96,21 @@ impl<Q, B, N: Ledgers> Debug for QueueFault<Q, B, N> {
     }
 }
 
-impl<Q: Drop, B: Drop, N: Ledgers> Error for QueueFault<Q, B, N> {}
+impl<Q: Drop, B: Drop, N: Ledgers> QueueFault<Q, B, N> {
+    /// The reason alone. The queue or its book, and the seats, are let go: match the fault to keep them.
+    pub fn into_why(self) -> Refusal
+        ensures { result ≡ why_of self }
+    {
+        self.why()
+    }
+}
 
 impl<T: Marked, L: Line<T>, G: Drop, N: Ledgers> SyncQueue<T, L, G, N> {
     /// Ends the queue: takes all seats back, free or with an open ticket, in whatever order, compares the records with
     /// the seats' receipts, and takes out what is left. So the threads' calls, however they interleaved, have one legal
     /// history, in which each seat's calls stand once, in the seat's order, and no others. It refuses SeatMissing
-    /// exactly where fewer seats are given back than were made, then Memory, then Differs, which can't come unless a
-    /// seat was called at another queue.
+    /// exactly where fewer seats are given back than were made, then Memory, then Differs, at the least seat whose
+    /// receipts aren't its records.
     pub fn close(
         self,
         alloc: Global,
@@ -171,8 +178,8 @@ impl<T: Marked, G: Drop, N: Ledgers> TransferQueue<T, G, N> {
     /// Ends the queue: takes all seats back, free or with an open ticket, in whatever order, compares the records with
     /// the seats' receipts, and takes out what is left. So the threads' calls, however they interleaved, have one legal
     /// history, in which each seat's calls stand once, in the seat's order, and no others. It refuses SeatMissing
-    /// exactly where fewer seats are given back than were made, then Memory, then Differs, which can't come unless a
-    /// seat was called at another queue.
+    /// exactly where fewer seats are given back than were made, then Memory, then Differs, at the least seat whose
+    /// receipts aren't its records.
     pub fn close(
         self,
         alloc: Global,

@@ -7,8 +7,7 @@ use std::error::Error;
 use std::fmt;
 use std::fmt::{Debug, Display, Formatter, Write};
 
-/// Each reason for which a call of this workspace is refused. `Differs` to `NoThread` are named for places that
-/// aren't here yet; no call answers them.
+/// Each reason for which a call of this workspace is refused. As an error its text is its name.
 #[derive(Clone, Copy, PartialEq, Eq, Hash, Debug)]
 pub enum Refusal {
     /// Memory was wanted and not there.
@@ -117,8 +116,8 @@ impl Display for Refusal {
 
 impl Error for Refusal {}
 
-/// A refusal, with what was handed in. A `?` makes it a `Refusal` where the item may be let go: match it to keep the
-/// item.
+/// A refusal, with what was handed in. It is no error type, and no `From` makes it a `Refusal`: so a `?` hands it on
+/// whole or doesn't compile, and nothing that was handed in is let go in silence.
 #[derive(Drop)]
 pub struct Refused<I> {
     /// Why the call is refused.
@@ -146,13 +145,11 @@ impl<I> Debug for Refused<I> {
     }
 }
 
-impl<I: Drop> Error for Refused<I> {}
-
-impl<I: Drop> From<Refused<I>> for Refusal {
-    ghost from_gives = { λ refused why. why ≡ refused.why };
-
-    /// The reason. The item is let go; match the refusal to keep it.
-    fn from(refused: Refused<I>) -> Refusal {
-        refused.why
+impl<I: Drop> Refused<I> {
+    /// The reason alone. What was handed in is let go: match the refusal to keep it.
+    pub fn into_why(self) -> Refusal
+        ensures { result ≡ self.why }
+    {
+        self.why
     }
 }

@@ -12,7 +12,7 @@ use crate::telling::{
 use anyhow::Result;
 use meet_core::Dual;
 use meet_line::{FairLine, Line, Polled};
-use meet_tickets::{Refusal, SeatNo};
+use meet_tickets::{Refusal, Refused, SeatNo};
 
 /// `SynchronousQueue.poll` of this seat: the parcel of the giver that is met, or none where nobody is met. It refuses
 /// what `Dual::poll` does.
@@ -37,19 +37,18 @@ pub fn hand_over(rt: &HostRuntime, seat_0: SeatNo, seat_1: SeatNo) -> Result<()>
         grams: 250,
     };
     let mut queue: Dual<Parcel, FairLine<Parcel>> = Dual::new(alloc, 3, 1)?; // seats 0 to 2, first ticket 1
-    let gave = queue.give(seat_0, item)?; // Gave::Waits(ticket), Gave::Meets(ticket, with), ..
+    // A refusal would bring the parcel back; `into_why` lets it go.
+    let gave = queue.give(seat_0, item).map_err(Refused::into_why)?; // Gave::Waits(ticket), Gave::Meets(..), ..
     let ticket = tell_gave(rt, gave)?;
     let took = queue.take(seat_1)?; // Took::Meets(ticket, with, item), Took::Waits(ticket), ..
     tell_took(rt, took)?;
     let followed = queue.follow_up(seat_0, ticket)?; // Followed::Done, Followed::Got(with, item), ..
     tell_followed(rt, followed)?;
-    let gave = queue.give(
-        seat_0,
-        Parcel {
-            mark: 6,
-            grams: 250,
-        },
-    )?;
+    let item = Parcel {
+        mark: 6,
+        grams: 250,
+    };
+    let gave = queue.give(seat_0, item).map_err(Refused::into_why)?;
     let ticket = tell_gave(rt, gave)?;
     let back = queue.cancel(seat_0, ticket)?; // TakenBack::Back(Some(item)), TakenBack::Late, ..
     tell_back(rt, back)?;
@@ -62,13 +61,11 @@ pub fn poll_twice(rt: &HostRuntime, seat_0: SeatNo, seat_1: SeatNo) -> Result<()
     let mut queue: Dual<Parcel, FairLine<Parcel>> = Dual::new(rt.alloc(), 3, 1)?;
     let taken = take_now(&mut queue, seat_1)?;
     tell_taken(rt, taken)?;
-    let gave = queue.give(
-        seat_0,
-        Parcel {
-            mark: 7,
-            grams: 250,
-        },
-    )?;
+    let item = Parcel {
+        mark: 7,
+        grams: 250,
+    };
+    let gave = queue.give(seat_0, item).map_err(Refused::into_why)?;
     tell_gave(rt, gave)?;
     let taken = take_now(&mut queue, seat_1)?;
     tell_taken(rt, taken)

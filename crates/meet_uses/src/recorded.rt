@@ -13,7 +13,7 @@ use meet_calls::{DualAnswer, DualCall};
 use meet_core::Dual;
 use meet_line::{FairLine, Line, Polled};
 use meet_queues::queue_book;
-use meet_tickets::{Deed, Refusal, SeatNo};
+use meet_tickets::{Deed, Refusal, Refused, SeatNo};
 
 /// `SynchronousQueue.poll` of this seat, on record: the parcel of the giver that is met, and the receipt for the record
 /// that names it, or none where nobody is met. It refuses what `Book::step` does.
@@ -26,7 +26,7 @@ pub fn take_on_record<L: Line<Parcel>>(
     ensures nobody { IfOk result (λ made. IsNone made ↔ (partner L.end book.old.object.line Taker ≡ None)) }
     ensures named { IfOk result (λ made. IfSome made (λ taken. Names seat taken.0 taken.1.entry)) }
 {
-    let (answer, receipt) = book.step(seat, DualCall::Poll)?;
+    let (answer, receipt) = book.step(seat, DualCall::Poll).map_err(Refused::into_why)?;
     let Some(receipt) = receipt else {
         unreachable!()
     };
@@ -47,7 +47,9 @@ pub fn keep_book(rt: &HostRuntime, seat_0: SeatNo, seat_1: SeatNo, seat_2: SeatN
         grams: 250,
     };
     let mut book: Book<Dual<Parcel, FairLine<Parcel>>> = queue_book(alloc, 3, 1, 1_000)?; // at most 1,000 records
-    let (_, receipt) = book.step(seat_0, DualCall::Give(item))?; // DualAnswer::Gave(..), Some(receipt)
+    // A refusal would bring the call back, and the parcel in it; `into_why` lets both go.
+    let given = book.step(seat_0, DualCall::Give(item));
+    let (_, receipt) = given.map_err(Refused::into_why)?; // DualAnswer::Gave(..), Some(receipt)
     if let Some(receipt) = receipt {
         let entry = receipt.entry(); // the record; receipt.place() is its number
         println!(rt; "record {} of t{}", receipt.place(), entry.ticket.number())?;
@@ -55,13 +57,12 @@ pub fn keep_book(rt: &HostRuntime, seat_0: SeatNo, seat_1: SeatNo, seat_2: SeatN
     if let Some((parcel, receipt)) = take_on_record(&mut book, seat_1)? {
         println!(rt; "record {} brought {}", receipt.place(), parcel.mark)?;
     }
-    let _ = book.step(
-        seat_2,
-        DualCall::Give(Parcel {
-            mark: 12,
-            grams: 250,
-        }),
-    )?;
+    let item = Parcel {
+        mark: 12,
+        grams: 250,
+    };
+    let given = book.step(seat_2, DualCall::Give(item));
+    let _ = given.map_err(Refused::into_why)?;
     let taken = book.drain(alloc, seat_1, 10)?; // up to ten items, an answer and a receipt for each
     println!(rt; "drained {}", taken.len())?;
     let records = book.records(); // the records since the book was cut last
