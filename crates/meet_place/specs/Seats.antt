@@ -13,7 +13,8 @@ pub record SeatView (D : Type 0) : Type 0 where
   pub list : List (Received D)
   pub room : ℕ
 
--- a seat whose ticket is open: its number, what it has behind it, the receipts that it has in order, the ticket, and the mark that its request brought
+-- a seat whose ticket is open: its number, what it has behind it, the receipts that it has in order, the ticket, and
+-- the mark that its request brought
 pub record PendingView (D : Type 0) : Type 0 where
   pub number : ℕ
   pub past : Past
@@ -59,6 +60,15 @@ module _ {D : Type 0} where
     pub folded : new.past.folded ≡ old.past.folded
     pub room : length new.list + new.room ≡ length old.list + old.room
 
+  -- the same, of a seat whose ticket is open: that stays open
+  pub record TrimsPending (gone : ℕ) (old new : PendingView D) : Type 0 where
+    pub number : new.number ≡ old.number
+    pub ticket : new.ticket ≡ old.ticket
+    pub mark : new.mark ≡ old.mark
+    pub list : new.list ≡ filter (is_since gone) old.list
+    pub share : new.past.trimmed + length new.list ≡ old.past.trimmed + length old.list
+    pub folded : new.past.folded ≡ old.past.folded
+
   -- a checkpoint of the seat folded so many records away, and changed nothing else of it
   pub record Checkpoints (more : ℕ) (old new : SeatView D) : Type 0 where
     pub folded : new.past.folded ≡ old.past.folded + more
@@ -68,6 +78,7 @@ module _ {D : Type 0} where
     pub room : new.room ≡ old.room
 
 -- polls that do this were made, whose receipts came to the list's end, and whose answers are these, both in their order
-abbrev pub DrainedAs : {A D : Type 0} → (List (A × Received D) → Type 0) → (old new : List (Received D)) → List A → Type 0
+abbrev pub DrainedAs : {A D : Type 0} → (List (A × Received D) → Type 0) → (old new : List (Received D)) → List A
+    → Type 0
 DrainedAs {A} {D} DoSo old new answers = (got : List (A × Received D)) × DoSo got
     × (new ≡ old ++ map (λ one. one.1) got) × (answers ≡ map (λ one. one.0) got)

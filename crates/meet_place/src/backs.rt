@@ -159,7 +159,8 @@ pub(crate) fn put_together<D: Copy + Drop, N: Ledgers>(
 ) -> Vec<Back<D, N>>
     requires room { vec_len bares ≤ vec_capacity seats }
     requires empty { seats.items ≡ [] }
-    requires share { (whole.parts ≡ vec_len bares) × (whole.amount ≡ shares_in bares.items) × (whole.folds ≡ folded_in bares.items) }
+    requires share { (whole.parts ≡ vec_len bares) × (whole.amount ≡ shares_in bares.items)
+        × (whole.folds ≡ folded_in bares.items) }
     requires fits { whole.amount < 2 ^ 64 }
     ensures seats { result.items ≡ bares.items }
 {

@@ -157,8 +157,8 @@ impl Watch for Woken {
 impl<O: Drains, G: Gate, N: Ledgers> Place<O, G, N> {
     /// `BlockingQueue.drainTo` of a seat: up to `max` of the items that are there, one recorded poll after another, all
     /// under one hold. It looks how many they are, makes room for as many, the lock being free, and then takes up to as
-    /// many: so items that come in between are left. The givers are woken once the lock is free again. It refuses Memory
-    /// where that room isn't there, else what the book's `drain` does; then the seat's list is as it was.
+    /// many: so items that come in between are left. The givers are woken once the lock is free again. It refuses
+    /// Memory where that room isn't there, else what the book's `drain` does; then the seat's list is as it was.
     pub fn locked_drain<R: Wait>(
         &self,
         rt: &R,

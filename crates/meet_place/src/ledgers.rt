@@ -1,4 +1,5 @@
-//! The two ledgers of a place: of its records, and of those that were folded away. They go together in all that follows.
+//! The two ledgers of a place: of its records, and of those that were folded away. They go together in all that
+//! follows.
 
 ghost use Rattle.std.specs.Prelude.{◌≡◌, ◌+◌, ◌<◌, ◌≤◌, ℕ};
 ghost use Rattle.meet_place.specs.Ledgers.{AreOf};
@@ -7,8 +8,8 @@ use std::marker::{Brand, Model, PhantomData};
 use std::sync::ledger;
 use std::sync::ledger::{Blank, Ledger, Share};
 
-/// Tells the two ledgers of one place from those of others: as a ledger it is that of the place's records, and beside it
-/// is that of the records that were folded away.
+/// Tells the two ledgers of one place from those of others: as a ledger it is that of the place's records, and beside
+/// it is that of the records that were folded away.
 pub trait Ledgers: Ledger {
     /// The name of the ledger of what was folded away.
     ghost folds: { ℕ };
@@ -159,7 +160,8 @@ impl<N: Ledgers> Totals<N> {
         ensures totals { self.new ≡ self.old }
         ensures share { share.new ≡ share.old }
         ensures bound { (share.old.amount ≤ self.old.total) × (share.old.folds ≤ self.old.folds) }
-        ensures whole { share.old.parts ≡ N.parts → (share.old.amount ≡ self.old.total) × (share.old.folds ≡ self.old.folds) }
+        ensures whole { share.old.parts ≡ N.parts
+            → (share.old.amount ≡ self.old.total) × (share.old.folds ≡ self.old.folds) }
     {
         self.records.audit(&mut share.records);
         self.gone.audit(&mut share.gone);

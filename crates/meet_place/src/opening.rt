@@ -28,8 +28,8 @@ pub fn hold<'a, T, R: Wait>(rt: &R, lock: &'a Mutex<T>) -> MutexGuard<'a, T> {
     lock.lock(rt)
 }
 
-/// The totals of two new ledgers, a share of them that has no part, and so many seats, numbered from 0. The empty list has
-/// room for them.
+/// The totals of two new ledgers, a share of them that has no part, and so many seats, numbered from 0. The empty list
+/// has room for them.
 pub fn open_seats<D: Copy, N: Ledgers>(
     alloc: Global,
     blanks: Blanks,

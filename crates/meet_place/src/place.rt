@@ -9,7 +9,7 @@ ghost use Rattle.meet_tickets.specs.Refusals.{IsWhy};
 ghost use Rattle.meet_book.specs.Booked.{Booked};
 ghost use Rattle.meet_book.specs.Booking.{cut_refusal};
 ghost use Rattle.meet_place.specs.Ledgers.{AreOf};
-ghost use Rattle.meet_place.specs.Seats.{Adds, AreFresh, Trims, Checkpoints};
+ghost use Rattle.meet_place.specs.Seats.{Adds, AreFresh, Trims, TrimsPending, Checkpoints};
 ghost use Rattle.meet_place.specs.Holds.{BookRefuses, sizes_refusal};
 
 use crate::ledgers::{Blanks, Ledgers};
@@ -147,8 +147,8 @@ impl<O: Object, G, N: Ledgers> Place<O, G, N> {
         self.gates.len()
     }
 
-    /// Takes the lock, once no other thread has it, and holds it until the guard is let go. A step is short, so it first
-    /// lets another thread run a few times, and sleeps only where the lock is held even then.
+    /// Takes the lock, once no other thread has it, and holds it until the guard is let go. A step is short, so it
+    /// first lets another thread run a few times, and sleeps only where the lock is held even then.
     pub fn hold<R: Wait>(&self, rt: &R) -> MutexGuard<'_, Shared<O, N>> {
         hold(rt, &self.shared)
     }
@@ -169,6 +169,15 @@ impl<O: Object, G, N: Ledgers> Place<O, G, N> {
     {
         let gone = self.hold(rt).gone_for(seat);
         seat.forget(gone);
+    }
+
+    /// The same with a seat whose ticket is open, and stays open.
+    pub fn trim_pending<R: Wait>(&self, rt: &R, pending: Pending<O::Deed, N>) -> Pending<O::Deed, N>
+        ensures { (base : O.Base) × TrimsPending (O.gone_of base) pending result }
+    {
+        let (mut seat, ticket, mark) = pending.into_parts();
+        self.trim(rt, &mut seat);
+        Pending::new(seat, ticket, mark)
     }
 
     /// The gates, and what the lock guarded.
@@ -195,9 +204,9 @@ impl<O: Bases, G, N: Ledgers> Place<O, G, N>
 where
     O::Base: Drop,
 {
-    /// A checkpoint of a seat: folds the records away, under one hold of the lock, and answers how many were folded away
-    /// since the first. Those of this time count for the seat. It refuses what the book's `cut` does; then nothing has
-    /// changed.
+    /// A checkpoint of a seat: folds the records away, under one hold of the lock, and answers how many were folded
+    /// away since the first. Those of this time count for the seat. It refuses what the book's `cut` does; then nothing
+    /// has changed.
     pub fn locked_cut<R: Wait>(&self, rt: &R, seat: &mut Seat<O::Deed, N>) -> Result<u64, Refusal>
         ensures gone { IfOk result (λ gone. (book : Booked O O.Base O.Deed)
             × (gone ≡ O.gone_of book.base + length book.records) × (cut_refusal (O.gone_of book.base) book ≡ None)

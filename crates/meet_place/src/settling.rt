@@ -68,8 +68,8 @@ pub struct Unsettled<O: Object, N: Ledgers> {
     pub seats: Vec<Back<O::Deed, N>>,
 }
 
-/// Takes all seats of a place back, and compares its records with their receipts. It takes no memory. Where they differ the
-/// book and the seats come back.
+/// Takes all seats of a place back, and compares its records with their receipts. It takes no memory. Where they differ
+/// the book and the seats come back.
 pub fn settle<O: Object, N: Ledgers>(
     shared: Shared<O, N>,
     mut seats: Vec<Back<O::Deed, N>>,

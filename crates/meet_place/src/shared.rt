@@ -14,8 +14,8 @@ use meet_tickets::{Refusal, Refused};
 use std::marker::Model;
 
 /// A book beside two ledgers: the total of the one is the number of the book's records, those that were folded away
-/// included, that of the other the number of these. Where none were, the base is that of no records. A contract sees it as
-/// the book.
+/// included, that of the other the number of these. Where none were, the base is that of no records. A contract sees it
+/// as the book.
 #[derive(Drop)]
 pub struct Shared<O: Object, N: Ledgers> {
     pub(crate) book: Book<O>,
@@ -146,9 +146,9 @@ impl<O: Bases, N: Ledgers> Shared<O, N>
 where
     O::Base: Drop,
 {
-    /// A checkpoint of a seat: folds the records away, as the book's `cut`, and counts them for the seat. It is refused as
-    /// `cut` is, and then nothing has changed. Where there never was a record, nothing is folded: the base of no records
-    /// stays.
+    /// A checkpoint of a seat: folds the records away, as the book's `cut`, and counts them for the seat. It is refused
+    /// as `cut` is, and then nothing has changed. Where there never was a record, nothing is folded: the base of no
+    /// records stays.
     pub fn cut(&mut self, seat: &mut Seat<O::Deed, N>) -> Result<u64, Refusal>
         ensures counted { IfOk result (λ _. Checkpoints (length self.old.records) seat.old seat.new) }
         ensures same { IfErr result (λ _. seat.new ≡ seat.old) }

@@ -4,6 +4,7 @@
 mod answers;
 mod asks;
 mod calls;
+mod checkpoints;
 mod drains;
 mod flags;
 mod numbers;

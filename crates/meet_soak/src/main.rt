@@ -1,6 +1,6 @@
-//! Rounds at queues for threads: in each, threads make calls of chance and are interrupted, and then every item is looked
-//! for. `meet_soak ROUNDS FIRST` holds so many rounds, whose numbers of chance begin at this one, by which a round that
-//! fails is found again.
+//! Rounds at queues for threads: in each, threads make calls of chance and are interrupted, and then every item is
+//! looked for. `meet_soak ROUNDS FIRST` holds so many rounds, whose numbers of chance begin at this one, by which a
+//! round that fails is found again.
 #![tactic(auto)]
 
 mod accounts;

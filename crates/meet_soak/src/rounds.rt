@@ -1,15 +1,16 @@
-//! A round: a queue, workers that make calls of chance, and one that interrupts them until they are done. Then the queue
-//! is closed, its records are checked once more, and every item is looked for.
+//! A round: a queue, workers that make calls of chance, and one that interrupts them until they are done. Then the
+//! queue is closed, its records are checked once more, and every item is looked for.
 
-ghost use Rattle.std.specs.Prelude.{◌≡◌, vec_len};
+ghost use Rattle.std.specs.Prelude.{◌≡◌, None, IfOk, vec_len};
+ghost use Rattle.meet_tickets.specs.Bases.{IsWellFormed};
 ghost use Rattle.meet_place.specs.Ledgers.{AreOf};
 
 use crate::accounts::Account;
 use crate::work::{Done, Round, interrupts, works};
 use meet_history::{Kind, check};
-use meet_shop::{Fresh, Open, Shop, gates, keep};
-use meet_sync::{Back, Blanks, Chronicle, Ledgers, NewQueue, Seat};
-use meet_tickets::{Base, Deed, MOST_RECORDS, Order};
+use meet_shop::{Fresh, Shop, gates, keep};
+use meet_sync::{Back, Blanks, Chronicle, Ledgers, NewQueue, QueueFault, Seat};
+use meet_tickets::{Deed, MOST_RECORDS, Order};
 use std::alloc::Global;
 use std::marker::Brand;
 use std::sync::atomic::{AtomicU64, Ordering};
@@ -115,32 +116,30 @@ fn are_same(one: Vec<u64>, other: Vec<u64>) -> Result<bool, &'static str> {
     Ok(one.as_slice() == other.as_slice())
 }
 
-/// The records are legal, each stands in a list, and every item that was given is there once: it came to somebody, or is
-/// left.
+/// The records are legal behind the base, each stands in a list, and every item that was given is there once: it came
+/// to somebody, or is left.
 fn finds_all(
     alloc: Global,
     order: Order,
     chronicle: Chronicle<u64>,
     account: Account,
-) -> Result<(), &'static str> {
+) -> Result<(), &'static str>
+    requires { IsWellFormed (record { order = order; bound = None }) chronicle.base }
+{
     let Account { given, came, fault } = account;
     if let Some(fault) = fault {
         return Err(fault);
     }
     let records = chronicle.records.as_slice();
-    if check(
-        alloc,
-        Kind { order, bound: None },
-        &Base::empty(alloc),
-        records,
-    )
-    .is_err()
-    {
+    let kind = Kind { order, bound: None };
+    if check(alloc, kind, &chronicle.base, records).is_err() {
         return Err("the records aren't legal");
     }
+    let gone = chronicle.base.gone;
     let mut listed = 0usize;
     for list in chronicle.lists.iter() {
-        listed = listed.saturating_add(list.len());
+        let since = list.iter().filter(|receipt| receipt.place() > gone);
+        listed = listed.saturating_add(since.count());
     }
     if listed != records.len() {
         return Err("a record stands in no list");
@@ -156,22 +155,36 @@ fn finds_all(
     }
 }
 
-/// A shop is closed with all its seats.
+/// What came of a queue that is closed, or why it isn't.
+fn judged<Q: Drop, B: Drop, N: Ledgers>(
+    alloc: Global,
+    order: Order,
+    closed: Result<Chronicle<u64>, QueueFault<Q, B, N>>,
+    account: Account,
+) -> Result<(), &'static str>
+    requires { IfOk closed (λ c. IsWellFormed (record { order = order; bound = None }) c.base) }
+{
+    match closed {
+        Ok(chronicle) => finds_all(alloc, order, chronicle, account),
+        Err(fault) => {
+            let why = fault.why();
+            keep(fault);
+            Err(why.name())
+        }
+    }
+}
+
+/// A shop is closed with all its seats, and what came of it.
 fn closed<G: Fresh, N: Ledgers>(
     alloc: Global,
     shop: Shop<G, N>,
     backs: Vec<Back<Deed, N>>,
-) -> Result<Chronicle<u64>, &'static str> {
-    match shop.close(alloc, backs) {
-        Ok(chronicle) => Ok(chronicle),
-        Err(open) => match open {
-            Open::Missing(_, _, shop, seats) => {
-                keep(shop);
-                keep(seats);
-                Err("a seat is missing")
-            }
-            Open::Other(why) => Err(why.name()),
-        },
+    account: Account,
+) -> Result<(), &'static str> {
+    match shop {
+        Shop::Fair(queue) => judged(alloc, Order::Fair, queue.close(alloc, backs), account),
+        Shop::Unfair(queue) => judged(alloc, Order::Unfair, queue.close(alloc, backs), account),
+        Shop::Transfer(queue) => judged(alloc, Order::Transfer, queue.close(alloc, backs), account),
     }
 }
 
@@ -212,10 +225,7 @@ fn held<G: Fresh + Sync, N: Ledgers + Send + Sync, R: Threads + Wait + Clock + S
         Err(refused) => return Err(refused.why.name()),
     };
     match worked(rt, alloc, &shop, made, round) {
-        Ok((backs, account)) => {
-            let chronicle = closed(alloc, shop, backs)?;
-            finds_all(alloc, round.order, chronicle, account)
-        }
+        Ok((backs, account)) => closed(alloc, shop, backs, account),
         Err(why) => {
             keep(shop);
             Err(why)

@@ -2,8 +2,8 @@
 
 use crate::accounts::Account;
 use meet_cells::ParkGate;
-use meet_shop::{Ask, Call, Chance, Shop, called};
-use meet_sync::{Back, Gate, Ledgers, Seat};
+use meet_shop::{Ask, Call, Chance, Shop, Told, called};
+use meet_sync::{Back, Gate, Ledgers, Seat, SeatRefused};
 use meet_tickets::{Deed, Order};
 use std::alloc::Global;
 use std::sync::Wait;
@@ -42,12 +42,16 @@ enum Act {
     Part(Ask),
     /// A drain of so many items.
     Drain(u64),
+    /// A checkpoint.
+    Fold,
+    /// It lets go of its receipts for what is folded away.
+    Trim,
 }
 
-/// What a seat does that has no open ticket, with this item. A timed call waits for 3 milliseconds at most, others until
-/// they are met or interrupted.
+/// What a seat does that has no open ticket, with this item. A timed call waits for 3 milliseconds at most, others
+/// until they are met or interrupted.
 fn act_of_chance(chance: &mut Chance, item: u64, seats: u64) -> Act {
-    match chance.below(16) {
+    match chance.below(18) {
         0 => Act::Whole(Call::Put(item)),
         1 => Act::Whole(Call::Transfer(item)),
         2 => Act::Whole(Call::Offer(item)),
@@ -63,15 +67,18 @@ fn act_of_chance(chance: &mut Chance, item: u64, seats: u64) -> Act {
         12 => Act::Part(Ask::Interrupt(chance.below(seats))),
         13 => Act::Part(Ask::Give(item)),
         14 => Act::Part(Ask::Give(item)),
+        15 => Act::Fold,
+        16 => Act::Trim,
         _ => Act::Part(Ask::Take),
     }
 }
 
 /// What a seat does that has an open ticket.
 fn ending_of_chance(chance: &mut Chance) -> Act {
-    match chance.below(4) {
+    match chance.below(5) {
         0 => Act::Part(Ask::Cancel),
         1 => Act::Part(Ask::Expire),
+        2 => Act::Trim,
         _ => Act::Part(Ask::Follow),
     }
 }
@@ -116,6 +123,26 @@ fn drains<G: Gate, N: Ledgers, R: Wait>(
     }
 }
 
+/// A seat makes a checkpoint.
+fn folds<G: Gate, N: Ledgers, R: Wait>(
+    rt: &R,
+    shop: &Shop<G, N>,
+    back: Back<Deed, N>,
+    account: &mut Account,
+) -> Back<Deed, N> {
+    match back {
+        Back::Free(seat) => match shop.checkpoint(rt, seat) {
+            Ok((seat, _gone)) => Back::Free(seat),
+            Err(refused) => {
+                let SeatRefused { why, seat, item: _ } = refused;
+                account.note(None, Told::Refused(why, None));
+                Back::Free(seat)
+            }
+        },
+        Back::Held(pending) => Back::Held(pending),
+    }
+}
+
 /// A seat does this.
 fn acts<G: Gate + Drop, N: Ledgers, R: Wait + Clock>(
     rt: &R,
@@ -137,6 +164,8 @@ fn acts<G: Gate + Drop, N: Ledgers, R: Wait + Clock>(
             back
         }
         Act::Drain(max) => drains(rt, alloc, shop, back, account, max),
+        Act::Fold => folds(rt, shop, back, account),
+        Act::Trim => shop.trim(rt, back),
     }
 }
 

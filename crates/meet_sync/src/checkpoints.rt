@@ -3,7 +3,7 @@
 
 ghost use Rattle.std.specs.Prelude.{◌≡◌, ◌≤◌, ℕ, None, IfOk, IfErr};
 ghost use Rattle.meet_tickets.specs.Limits.{most_gone};
-ghost use Rattle.meet_place.specs.Seats.{Checkpoints, Trims};
+ghost use Rattle.meet_place.specs.Seats.{Checkpoints, Trims, TrimsPending};
 ghost use Rattle.meet_sync.specs.Told.{IsCutWhy};
 
 use crate::asked::SeatRefused;
@@ -11,7 +11,7 @@ use crate::sync_queue::SyncQueue;
 use crate::transfer_queue::TransferQueue;
 use meet_book::Bases;
 use meet_line::Line;
-use meet_place::{Ledgers, Place, Seat};
+use meet_place::{Ledgers, Pending, Place, Seat};
 use meet_tickets::{Deed, Marked, Refusal};
 use std::sync::Wait;
 
@@ -32,9 +32,9 @@ where
 }
 
 impl<T: Marked, L: Line<T>, G, N: Ledgers> SyncQueue<T, L, G, N> {
-    /// Folds the records so far into the queue's base, under one hold of the lock, and answers how many were folded away
-    /// since the first; those of this time count for the seat. It writes no record. It refuses HistoryFull where these
-    /// would be more than 2^63 - 1, else Memory; then nothing has changed.
+    /// Folds the records so far into the queue's base, under one hold of the lock, and answers how many were folded
+    /// away since the first; those of this time count for the seat. It writes no record. It refuses HistoryFull where
+    /// these would be more than 2^63 - 1, else Memory; then nothing has changed.
     pub fn checkpoint<R: Wait>(
         &self,
         rt: &R,
@@ -62,13 +62,20 @@ impl<T: Marked, L: Line<T>, G, N: Ledgers> SyncQueue<T, L, G, N> {
     {
         self.place.trim(rt, &mut seat);
         seat
+    }
+
+    /// The same with a seat whose ticket is open, and stays open.
+    pub fn trim_pending<R: Wait>(&self, rt: &R, pending: Pending<Deed, N>) -> Pending<Deed, N>
+        ensures { (gone : ℕ) × TrimsPending gone pending result }
+    {
+        self.place.trim_pending(rt, pending)
     }
 }
 
 impl<T: Marked, G, N: Ledgers> TransferQueue<T, G, N> {
-    /// Folds the records so far into the queue's base, under one hold of the lock, and answers how many were folded away
-    /// since the first; those of this time count for the seat. It writes no record. It refuses HistoryFull where these
-    /// would be more than 2^63 - 1, else Memory; then nothing has changed.
+    /// Folds the records so far into the queue's base, under one hold of the lock, and answers how many were folded
+    /// away since the first; those of this time count for the seat. It writes no record. It refuses HistoryFull where
+    /// these would be more than 2^63 - 1, else Memory; then nothing has changed.
     pub fn checkpoint<R: Wait>(
         &self,
         rt: &R,
@@ -96,5 +103,12 @@ impl<T: Marked, G, N: Ledgers> TransferQueue<T, G, N> {
     {
         self.place.trim(rt, &mut seat);
         seat
+    }
+
+    /// The same with a seat whose ticket is open, and stays open.
+    pub fn trim_pending<R: Wait>(&self, rt: &R, pending: Pending<Deed, N>) -> Pending<Deed, N>
+        ensures { (gone : ℕ) × TrimsPending gone pending result }
+    {
+        self.place.trim_pending(rt, pending)
     }
 }

@@ -4,7 +4,7 @@ ghost use Rattle.std.specs.Prelude.{◌≡◌, vec_len, IfOk};
 ghost use Rattle.meet_tickets.specs.Bases.{no_base};
 ghost use Rattle.meet_place.specs.Ledgers.{AreOf};
 
-use crate::plays::{Seats, ask_all, checkpoint, closed, seated, trim};
+use crate::plays::{Seats, ask_all, closed, seated};
 use meet_history::Order;
 use meet_line::FairLine;
 use meet_shop::{Ask, Idle, Shop, Told, gates, keep};
@@ -31,7 +31,7 @@ fn folds<N: Ledgers, R: Abort + Wait>(
         panic!(rt; "there is no such seat");
     };
     match place.take() {
-        Some(Back::Free(seat)) => match checkpoint(rt, shop, seat) {
+        Some(Back::Free(seat)) => match shop.checkpoint(rt, seat) {
             Ok((seat, gone)) => {
                 assert_eq!(rt; (gone, seat.folded()), wanted);
                 *place = Some(Back::Free(seat));
@@ -42,31 +42,32 @@ fn folds<N: Ledgers, R: Abort + Wait>(
     }
 }
 
-/// A free seat of so many receipts lets go of those whose records are folded away: so many are left, and so many gone.
+/// A seat of so many receipts lets go of those whose records are folded away: so many are left.
 fn trims<N: Ledgers, R: Abort + Wait>(
     rt: &R,
     shop: &Shop<Idle, N>,
     seats: &mut Seats<N>,
     number: usize,
     before: usize,
-    wanted: (usize, u64),
+    left: usize,
 ) {
     let Some(place) = seats.get_mut(number) else {
         panic!(rt; "there is no such seat");
     };
     match place.take() {
-        Some(Back::Free(seat)) => {
-            assert_eq!(rt; seat.receipts().len(), before);
-            let seat = trim(rt, shop, seat);
-            assert_eq!(rt; (seat.receipts().len(), seat.trimmed()), wanted);
-            *place = Some(Back::Free(seat));
+        Some(back) => {
+            assert_eq!(rt; back.receipts().len(), before);
+            let back = shop.trim(rt, back);
+            assert_eq!(rt; back.receipts().len(), left);
+            *place = Some(back);
         }
-        _ => panic!(rt; "it isn't free"),
+        None => panic!(rt; "it isn't here"),
     }
 }
 
 /// Two givers wait, the records are folded away, a third waits, and a taker has no room until they are folded away
-/// again; then it meets the first, who follows up and lets go of the receipt that was folded away.
+/// again; then it meets the first, who follows up and lets go of the receipt that was folded away. The second lets go of
+/// its only one, and still waits.
 fn folding<N: Ledgers, R: Abort + Wait>(rt: &R, shop: &Shop<Idle, N>, seats: &mut Seats<N>) {
     let full = Told::Refused(Refusal::HistoryFull, None);
     ask_all(
@@ -95,7 +96,9 @@ fn folding<N: Ledgers, R: Abort + Wait>(rt: &R, shop: &Shop<Idle, N>, seats: &mu
             (0, Ask::Follow, Told::Done),
         ],
     );
-    trims(rt, shop, seats, 0, 2, (1, 1));
+    trims(rt, shop, seats, 0, 2, 1);
+    trims(rt, shop, seats, 1, 1, 0);
+    ask_all(rt, shop, seats, &[(1, Ask::Follow, Told::NotYet)]);
 }
 
 /// A fair queue with room for five records, and what it came to.
@@ -208,6 +211,8 @@ fn a_queue_of_five_records_goes_on(rt: HostRuntime) -> Result<(), Fail> {
     assert_eq!(&rt; chronicle.records.len(), 2);
     let places = chronicle.lists.first().map(|list| list.len());
     assert_eq!(&rt; places, Some(1));
+    let places = chronicle.lists.get(1).map(|list| list.len());
+    assert_eq!(&rt; places, Some(0));
     let Some(receipt) = chronicle.lists.first().and_then(|list| list.first()) else {
         panic!(&rt; "the first seat has no receipt");
     };

@@ -4,7 +4,7 @@
 ghost use Rattle.std.specs.Prelude.{◌≡◌, vec_len, IfErr};
 ghost use Rattle.meet_place.specs.Ledgers.{AreOf};
 
-use crate::plays::{Found, checkpoint, ended, has};
+use crate::plays::{Found, ended, has};
 use meet_cells::ParkGate;
 use meet_history::{Kind, Order, check};
 use meet_shop::{Ask, Came, Shop, Told, gates};
@@ -254,8 +254,8 @@ fn lives<N: Ledgers, R: Abort + Wait>(
     ends(rt, alloc, shop, backs)
 }
 
-/// The records are legal, some of them are left once they are erased, each seat has one for each time that it asked, and
-/// these items are left: so calls that were refused wrote nothing.
+/// The records are legal, some of them are left once they are erased, each seat has one for each time that it asked,
+/// and these items are left: so calls that were refused wrote nothing.
 fn tells(rt: &impl Abort, alloc: Global, chronicle: Chronicle<u64>, day: Day<'_>) {
     let kind = Kind {
         order: day.order,
@@ -288,14 +288,14 @@ fn folds<N: Ledgers, R: Abort + Wait>(
     shop: &Shop<ParkGate, N>,
     seat: Seat<Deed, N>,
 ) -> Back<Deed, N> {
-    let (seat, gone) = match checkpoint(rt, shop, seat) {
+    let (seat, gone) = match shop.checkpoint(rt, seat) {
         Ok(made) => made,
         Err(refused) => {
             let SeatRefused { why, seat, item } = refused;
             assert!(rt; why == Refusal::Memory);
             assert_eq!(rt; (seat.receipts().len(), seat.folded()), (1, 0));
             assert_eq!(rt; item, None);
-            match checkpoint(rt, shop, seat) {
+            match shop.checkpoint(rt, seat) {
                 Ok(made) => made,
                 Err(_) => panic!(rt; "nothing is folded away"),
             }

@@ -1,4 +1,5 @@
-//! What a chronicle tells of its tickets: each give counts once, by its fate, and what is left once it is erased is legal.
+//! What a chronicle tells of its tickets: each give counts once, by its fate, and what is left once it is erased is
+//! legal.
 
 use crate::plays::{Found, NOTHING, Story, played, tells};
 use meet_history::{Kind, Order, Standing, check};

@@ -6,9 +6,7 @@ ghost use Rattle.meet_place.specs.Ledgers.{AreOf};
 use crate::laws::obeys;
 use meet_history::{Kind, Order, Standing, check};
 use meet_shop::{Ask, Idle, Open, Row, Shop, Told, gates, keep};
-use meet_sync::{
-    Back, Blanks, Chronicle, Gate, Ledgers, Left, LeftStanding, NewQueue, Seat, SeatRefused,
-};
+use meet_sync::{Back, Blanks, Chronicle, Gate, Ledgers, Left, LeftStanding, NewQueue, Seat};
 use meet_tickets::{Base, Deed};
 use std::alloc::Global;
 use std::marker::Brand;
@@ -97,32 +95,6 @@ pub fn ask_all<G: Gate + Drop, N: Ledgers, R: Abort + Wait>(
             None => Told::Unasked,
         };
         assert_eq!(rt; told, *wanted, "seat {number}");
-    }
-}
-
-/// A seat makes a checkpoint of a shop.
-pub fn checkpoint<G: Gate, N: Ledgers, R: Wait>(
-    rt: &R,
-    shop: &Shop<G, N>,
-    seat: Seat<Deed, N>,
-) -> Result<(Seat<Deed, N>, u64), SeatRefused<u64, N>> {
-    match shop {
-        Shop::Fair(queue) => queue.checkpoint(rt, seat),
-        Shop::Unfair(queue) => queue.checkpoint(rt, seat),
-        Shop::Transfer(queue) => queue.checkpoint(rt, seat),
-    }
-}
-
-/// A seat lets go of its receipts for what is folded away.
-pub fn trim<G: Gate, N: Ledgers, R: Wait>(
-    rt: &R,
-    shop: &Shop<G, N>,
-    seat: Seat<Deed, N>,
-) -> Seat<Deed, N> {
-    match shop {
-        Shop::Fair(queue) => queue.trim(rt, seat),
-        Shop::Unfair(queue) => queue.trim(rt, seat),
-        Shop::Transfer(queue) => queue.trim(rt, seat),
     }
 }
 
