@@ -120,7 +120,7 @@ admitted setup p seat none = IsAdmitted-from setup.seats p.next p.seats seat (fi
     first_none (Some x) d e = cc
 
 -- what the test of the bound says
-may_keep-true : (bound : Option ℕ) (count : ℕ) → option_map_or (λ most. nat_lt count most) bound true ≡ true → MatchOption bound ⊤ (λ most. count < most)
+pub may_keep-true : (bound : Option ℕ) (count : ℕ) → option_map_or (λ most. nat_lt count most) bound true ≡ true → MatchOption bound ⊤ (λ most. count < most)
 may_keep-true None count e = tt
 may_keep-true (Some most) count e = ltb-true count most e
 
@@ -226,14 +226,14 @@ checkpoint_legal setup last p seat ready =
     (λ none. record { legal = tt; last_now = last; leads = refl; ready = record { below = ready.below; one_side = ready.one_side; within = ready.within } })
 
 -- only the puts and offers of a place that keeps items keep
-put_form-keeps : (order : Order) → put_form order ≡ keeping → keeps order ≡ true
+pub put_form-keeps : (order : Order) → put_form order ≡ keeping → keeps order ≡ true
 put_form-keeps order = by_test (keeps order)
   where
     by_test : (b : Bool) → cond b keeping waiting ≡ keeping → b ≡ true
     by_test true e = refl
     by_test false e = cc
 
-offer_form-keeps : (order : Order) → offer_form order ≡ keeping → keeps order ≡ true
+pub offer_form-keeps : (order : Order) → offer_form order ≡ keeping → keeps order ≡ true
 offer_form-keeps order = by_test (keeps order)
   where
     by_test : (b : Bool) → cond b keeping immediate ≡ keeping → b ≡ true

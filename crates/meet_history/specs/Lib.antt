@@ -1,3 +1,4 @@
+pub mod Called
 pub mod Checking
 pub mod Grounds
 pub mod Laid

@@ -15,7 +15,7 @@ pub use meet_queues::{
 };
 pub use meet_tickets::{Base, Kind, Order};
 pub use one_thread::{
-    Answer, Call, Outcome, Reply, Run, Setup, Stepper, Verb, is_served, one_thread_is_recorded,
-    run_all,
+    Answer, Call, Outcome, Reply, Run, Setup, Stepper, Verb, calls_have_one_deed, is_served,
+    legal_histories_are_made, one_thread_is_recorded, run_all,
 };
 pub use pieces::Piece;

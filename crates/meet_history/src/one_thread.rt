@@ -8,7 +8,7 @@ mod stepper;
 mod verbs;
 
 pub use all_calls::{Run, run_all};
-pub use laws::one_thread_is_recorded;
+pub use laws::{calls_have_one_deed, legal_histories_are_made, one_thread_is_recorded};
 pub use replies::{Answer, Outcome, Reply};
 pub use setup::Setup;
 pub use stepper::Stepper;

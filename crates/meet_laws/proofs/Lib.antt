@@ -5,6 +5,8 @@ pub mod Moves
 pub mod Nearest
 pub mod Told
 pub mod Couples
+pub mod Promised
+mod WorkedPromise
 pub mod Rows
 pub mod Filters
 pub mod Erased

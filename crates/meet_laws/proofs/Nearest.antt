@@ -51,7 +51,7 @@ nearest Back line e f rises is m apart = ⊎_elim here there (cases_eq m.0 (leng
         subst (λ (x : Entry ℕ). f.ticket < x.ticket) last (subst (λ (x : Entry ℕ). x.ticket < (get_or line (length line - 1) f).ticket) m.2 (rises m.0 (length line - 1) f (omega arith) (omega arith)))
 
 -- what a request names is the ticket that it finds
-names_found : (k : Kind) (s : State) (i t : ℕ) (d : Deed) (u : ℕ) → IsStep k s i t d → named_by d ≡ Some u → (e : Entry ℕ) × (met (end_of k.order) s.line ≡ Some e) × (e.ticket ≡ u)
+pub names_found : (k : Kind) (s : State) (i t : ℕ) (d : Deed) (u : ℕ) → IsStep k s i t d → named_by d ≡ Some u → (e : Entry ℕ) × (met (end_of k.order) s.line ≡ Some e) × (e.ticket ≡ u)
 names_found k s i t (GiveWaits m) u z n = absurd (cc)
 names_found k s i t (GiveMeets m v) u z n = let same : v ≡ u = cc in (z.1.0, partner-met (end_of k.order) s.line Giver z.1.0 z.1.1, z.1.2 ∙ same)
 names_found k s i t (GiveFails m) u z n = absurd (cc)
@@ -66,7 +66,7 @@ names_found k s i t (Withdrawn cause) u z n = absurd (cc)
 names_found k s i t (Interrupt j) u z n = absurd (cc)
 
 -- a fate in the line
-abbrev Stands : Fate → Type 0
+abbrev pub Stands : Fate → Type 0
 Stands x = (x ≡ Waiting) ⊎ (x ≡ Kept)
 
 unpast : (p : Bool) (x : Fate) → Stands (if p then Past else x) → Stands x

@@ -21,9 +21,10 @@ is_left gone r = not (gone r.ticket) && (not (interrupts r.deed) && not (is_refu
 abbrev pub erase : List (Record Deed) → List (Record Deed)
 erase history = filter (is_left (is_gone history)) history
 
--- what is left of a legal history is legal, under the same bound if there is one, and keeps the fate of each ticket that
--- is left
+-- what is left of a legal history is legal, under the same bound if there is one, and keeps the fate of each ticket
+-- that is left
 pub record IsErased (k : Kind) (history : List (Record Deed)) : Type 0 where
   pub legal : IsLegal k (erase history)
-  pub fates : (t : ℕ) → is_gone history t ≡ false → fate history t ≢ EntryRefused → fate (erase history) t ≡ fate history t
+  pub fates : (t : ℕ) → is_gone history t ≡ false → fate history t ≢ EntryRefused
+      → fate (erase history) t ≡ fate history t
   pub kept : (r : Record Deed) → Contains (erase history) r → fate (erase history) r.ticket ≡ fate history r.ticket

@@ -1,5 +1,6 @@
 -- What holds of the tickets' fates in every legal history. That each request is met at most once, and never after it
--- was taken back, is how fates move (Scherer, Lea and Scott 2006: a cancelled reservation is never matched).
+-- was taken back, is how fates move (Scherer, Lea and Scott 2006: a cancelled reservation is never matched); `Promise`
+-- says it whole.
 use Rattle.std.specs.Prelude.{◌≡◌, ◌≢◌, ◌⊎◌, ℕ, ◌<◌, Bool, true, false, Option, Some, None, List}
 use Rattle.std.specs.Prelude.{[], ◌∷◌, ◌++◌, Contains}
 use Rattle.std.specs.Option.{option_map_or}

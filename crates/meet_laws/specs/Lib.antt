@@ -3,4 +3,5 @@ pub mod Rows
 pub mod Erasing
 pub mod Gone
 pub mod Hearing
+pub mod Promise
 pub mod Tally

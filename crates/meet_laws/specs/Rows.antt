@@ -62,7 +62,8 @@ IsFate history t Past = ⊥
 
 -- the same after a base, whose entries count as requests; a ticket of the time before that isn't one of them is past
 abbrev pub IsFateOn : Based → List (Record Deed) → (ticket : ℕ) → Fate → Type 0
-IsFateOn b records t x = ((is_past b t ≡ true) × (x ≡ Past)) ⊎ ((is_past b t ≡ false) × IsFate (opening b ++ records) t x)
+IsFateOn b records t x = ((is_past b t ≡ true) × (x ≡ Past))
+    ⊎ ((is_past b t ≡ false) × IsFate (opening b ++ records) t x)
 
 -- each ticket has one fate: the one that its records tell, and no other
 abbrev pub HasOneFate : Based → List (Record Deed) → Type 0

@@ -7,6 +7,7 @@ ghost use Rattle.meet_tickets.specs.declared.records.Deed.{Deed};
 ghost use Rattle.meet_laws.specs.Laws.{FatesMove, AreMutual, IsInOrder};
 ghost use Rattle.meet_tickets.specs.ByLists.{IsLegal};
 ghost use Rattle.meet_laws.specs.Erasing.{IsErased};
+ghost use Rattle.meet_laws.specs.Promise.{KeepsPromise};
 ghost use Rattle.meet_laws.specs.Tally.{CountsOnce};
 ghost use Rattle.meet_laws.specs.Rows.{HasOneFate};
 
@@ -46,4 +47,18 @@ pub fn erased_is_legal()
 pub fn gives_count_once()
     ensures { (k : Kind) (base : Based) (records : List (Record Deed)) → IsWellFormed k base
         → IsLegalOn k base records → CountsOnce base records }
+{}
+
+/// Each ticket is met at most once, in the place's order, and never after it was withdrawn: whom a request meets stood
+/// in the line, and was the nearest there; and no ticket meets again once it met, or once it was cut or taken back. It
+/// does nothing.
+pub fn promise_is_kept()
+    ensures { (k : Kind) (base : Based) (records : List (Record Deed)) → IsWellFormed k base
+        → IsLegalOn k base records → KeepsPromise k base records }
+{}
+
+/// What a legal history begins with is legal. It does nothing.
+pub fn legal_begins_legal()
+    ensures { (k : Kind) (base : Based) (before after : List (Record Deed)) → IsLegalOn k base (before ++ after)
+        → IsLegalOn k base before }
 {}
