@@ -13,8 +13,8 @@ use Rattle.pool_core.specs.declared.answers.FollowedUp.TheVariants as followed
 use Rattle.pool_core.specs.declared.answers.IdleEnd.{IdleEnd}
 use Rattle.pool_core.specs.declared.answers.IdleEnd.TheVariants as idle
 use Rattle.pool_core.specs.declared.deeds.PoolDeed.{PoolDeed}
-use Rattle.pool_threads.specs.declared.shared.Next.{Next}
-use Rattle.pool_threads.specs.declared.shared.Next.TheVariants as next
+use Rattle.pool_threads.specs.declared.steps.Next.{Next}
+use Rattle.pool_threads.specs.declared.steps.Next.TheVariants as next
 use Rattle.pool_threads.specs.NextFits.{NextFits, ReadyNext, FollowNext, IdleNext}
 use Rattle.pool_threads.specs.Working.{IsAfter}
 use Rattle.pool_threads.specs.Worthy.{EndsRunning}

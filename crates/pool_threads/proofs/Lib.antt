@@ -1,5 +1,6 @@
 pub mod Fitting
 pub mod Founded
+pub mod Keeping
 pub mod Placing
 pub mod SeatsTaken
 pub mod Ticketed

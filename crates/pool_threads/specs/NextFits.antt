@@ -8,8 +8,8 @@ use Rattle.pool_core.specs.declared.answers.FollowedUp.TheVariants.{Run as Follo
 use Rattle.pool_core.specs.declared.answers.IdleEnd.{IdleEnd}
 use Rattle.pool_core.specs.declared.answers.IdleEnd.TheVariants.{Exit as IdleExits, Stay, Late}
 use Rattle.pool_core.specs.declared.deeds.PoolDeed.{PoolDeed}
-use Rattle.pool_threads.specs.declared.shared.Next.{Next}
-use Rattle.pool_threads.specs.declared.shared.Next.TheVariants as next
+use Rattle.pool_threads.specs.declared.steps.Next.{Next}
+use Rattle.pool_threads.specs.declared.steps.Next.TheVariants as next
 use Rattle.pool_threads.specs.Worthy.{EndsRunning}
 use Rattle.pool_threads.specs.Working.{IsAfter}
 

@@ -6,17 +6,18 @@ ghost use Rattle.meet_tickets.specs.Limits.{most_gone};
 ghost use Rattle.meet_place.specs.Seats.{Checkpoints, Trims, share_in};
 ghost use Rattle.pool_threads.specs.Told.{IsCutWhy};
 
-use crate::closing::SeatRefused;
 use crate::jobs::Work;
+use crate::ledgers::PoolLedgers;
 use crate::pool::Pool;
+use crate::refusals::SeatRefused;
 use crate::shared::PoolShared;
 use meet_cells::Gate;
-use meet_place::{Ledgers, Seat, hold};
+use meet_place::{Seat, hold};
 use meet_tickets::Refusal;
 use pool_core::PoolDeed;
 use std::sync::Wait;
 
-impl<W: Work, C: Drop, N: Ledgers> PoolShared<W, C, N> {
+impl<W: Work, C: Drop, N: PoolLedgers> PoolShared<W, C, N> {
     /// Folds the records away, counts them for the seat, and answers how many were folded away since the first. It
     /// refuses HistoryFull or Memory; then nothing has changed.
     fn cut(&mut self, seat: &mut Seat<PoolDeed<u64>, N>) -> Result<u64, Refusal>
@@ -37,7 +38,7 @@ impl<W: Work, C: Drop, N: Ledgers> PoolShared<W, C, N> {
     }
 }
 
-impl<W: Work, C: Drop, G: Gate + Drop, S: Drop, N: Ledgers> Pool<W, C, G, S, N> {
+impl<W: Work, C: Drop, G: Gate + Drop, S: Drop, N: PoolLedgers> Pool<W, C, G, S, N> {
     /// Folds the records so far into the pool's base, under one hold of the lock, and answers how many were folded away
     /// since the first; those of this time count for the seat. It writes no record. It refuses HistoryFull where these
     /// would be more than 2^63 - 1, else Memory; then nothing has changed.

@@ -23,15 +23,17 @@ ghost use Rattle.pool_threads.specs.Mirrored.{absent, tag_in, told_task};
 
 use crate::home::Home;
 use crate::jobs::{Job, Work};
+use crate::ledgers::PoolLedgers;
 use crate::pool::Pool;
+use crate::refusals::{PoolFault, SeatRefused};
 use crate::rooms::EndRoom;
 use crate::shared::PoolShared;
 use crate::worth::WorkerSeat;
-use meet_book::{Book, Receipt};
+use meet_book::Receipt;
 use meet_cells::Gate;
 use meet_place::{Back, Ledgers, Seat, Settled, Unsettled, hold, settle};
-use meet_tickets::{Record, Refusal, SeatNo, Ticket};
-use pool_core::{Counters, PoolBase, PoolCore, PoolDeed, Task};
+use meet_tickets::{Record, Refusal, Ticket};
+use pool_core::{Counters, PoolBase, PoolDeed, Task};
 use std::alloc::Global;
 use std::collections::VecDeque;
 use std::sync::{Arc, Mutex, Wait};
@@ -50,36 +52,6 @@ pub struct PoolChronicle<C> {
     pub left: Vec<(Ticket, Job<C>)>,
 }
 
-/// Why a pool was not closed.
-#[derive(Drop)]
-pub enum PoolFault<W: Work, C, G, S, N: Ledgers> {
-    /// Fewer seats were given back, or lie in the pool, than were made. The pool and the seats come back.
-    SeatMissing {
-        /// How many were given back, or lie in the pool.
-        have: usize,
-        /// How many were made.
-        made: usize,
-        pool: Pool<W, C, G, S, N>,
-        seats: Vec<Back<PoolDeed<u64>, N>>,
-    },
-    /// Memory was wanted and not there. The pool and the seats come back.
-    Memory {
-        pool: Pool<W, C, G, S, N>,
-        seats: Vec<Back<PoolDeed<u64>, N>>,
-    },
-    /// The records of a seat aren't those of its receipts. The book comes back, out of its lock; the seats of callers
-    /// and workers, in the order of their numbers; and the kept jobs, in theirs.
-    Differs {
-        /// The least such seat.
-        seat: SeatNo,
-        /// The first index at which they differ, counted from 0 among the seat's records.
-        index: u64,
-        book: Book<PoolCore<u64>>,
-        seats: Vec<Back<PoolDeed<u64>, N>>,
-        left: VecDeque<Job<C>>,
-    },
-}
-
 /// How many seats lie here.
 fn seats_in<S>(seats: &[Option<S>]) -> usize
     ensures { result ≡ count_by is_some seats.now }
@@ -87,7 +59,7 @@ fn seats_in<S>(seats: &[Option<S>]) -> usize
     seats.iter().filter(|slot| slot.is_some()).count()
 }
 
-impl<W: Work, C: Drop, N: Ledgers> PoolShared<W, C, N> {
+impl<W: Work, C: Drop, N: PoolLedgers> PoolShared<W, C, N> {
     /// How many seats of workers lie here: those of the workers that aren't there.
     fn seats_here(&self) -> usize
         ensures { result ≡ absent self.now.object.pool }
@@ -191,14 +163,14 @@ fn shared_out<T, R: Wait>(rt: &R, alloc: Global, first: T) -> Arc<T, Global> {
 
 /// Why a pool isn't closed in which so many seats of workers lie, of so many seats that were made: SeatMissing where
 /// seats are missing, and else Memory.
-fn unclosed<W: Work, C, G, S, N: Ledgers>(
+fn unclosed<W: Work, C, G, S, N: PoolLedgers>(
     pool: Pool<W, C, G, S, N>,
     seats: Vec<Back<PoolDeed<u64>, N>>,
     here: usize,
     made: usize,
 ) -> PoolFault<W, C, G, S, N>
     requires here { (core : CorePool ℕ) × (here ≡ absent core) }
-    ensures { FaultFits W.worth made seats.items result }
+    ensures { FaultFits N.settings W.worth made seats.items result }
 {
     let have = seats.len();
     if have < made && here < made - have {
@@ -213,14 +185,7 @@ fn unclosed<W: Work, C, G, S, N: Ledgers>(
     }
 }
 
-/// A call of a seat that was refused.
-#[derive(Drop)]
-pub struct SeatRefused<N: Ledgers> {
-    pub why: Refusal,
-    pub seat: Seat<PoolDeed<u64>, N>,
-}
-
-impl<W: Work, C: Drop, G: Gate + Drop, S: Drop, N: Ledgers> Pool<W, C, G, S, N> {
+impl<W: Work, C: Drop, G: Gate + Drop, S: Drop, N: PoolLedgers> Pool<W, C, G, S, N> {
     /// Shuts the pool down: no more jobs are taken, and workers that find none end.
     pub fn shutdown<R: Wait>(
         &self,
@@ -313,7 +278,8 @@ impl<W: Work, C: Drop, G: Gate + Drop, S: Drop, N: Ledgers> Pool<W, C, G, S, N> 
         ensures listed { IfOk result (λ c. AreListed c.base.gone c.records.items
             (map (λ list. list.items) c.lists.items)) }
         ensures first { IfOk result (λ c. c.base.gone ≡ 0 → c.base ≡ no_base) }
-        ensures left { IfOk result (λ c. (core : Shown ℕ) × LeadsTo (λ tag. tag) c.base c.records.items core
+        ensures left { IfOk result (λ c. (core : Shown ℕ) × (core.settings ≡ N.settings)
+            × LeadsTo (λ tag. tag) c.base c.records.items core
             × (map told_task c.left.items ≡ kept_tasks core.pool.line)) }
         ensures rises { IfOk result (λ c. AllPairs (λ a b. a.0 < b.0) c.left.items) }
         ensures count { IfOk result (λ c. vec_len c.lists ≡ N.parts) }
@@ -321,7 +287,7 @@ impl<W: Work, C: Drop, G: Gate + Drop, S: Drop, N: Ledgers> Pool<W, C, G, S, N> 
             × AreOrdered all ordered × (map (λ list. list.items) c.lists.items ≡ map list_of ordered)
             × (c.base.gone + length c.records.items ≡ shares_in all) × (c.base.gone ≡ folded_in all)) }
         ensures few { IfOk result (λ c. c.base.gone + length c.records.items < 2 ^ 64) }
-        ensures fault { IfErr result (λ fault. FaultFits W.worth N.parts seats.items fault) }
+        ensures fault { IfErr result (λ fault. FaultFits N.settings W.worth N.parts seats.items fault) }
     {
         let made = self.home.made.count();
         let held = hold(rt, &self.home.shared);

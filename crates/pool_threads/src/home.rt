@@ -4,10 +4,12 @@ ghost use Rattle.std.specs.Prelude.{◌≡◌, ◌+◌, ◌<◌, ◌≤◌, Some
 ghost use Rattle.meet_tickets.specs.Limits.{most_seats};
 ghost use Rattle.pool_threads.specs.NextFits.{NextFits};
 ghost use Rattle.pool_threads.specs.Worthy.{EndsRunning, EndsRunningWorth};
-ghost use Rattle.pool_threads.specs.declared.shared.WorkerCall.TheVariants.{Finish};
+ghost use Rattle.pool_threads.specs.declared.steps.WorkerCall.TheVariants.{Finish};
 
 use crate::jobs::{Call, Job, Work};
-use crate::shared::{Next, PoolShared, WorkerCall};
+use crate::ledgers::PoolLedgers;
+use crate::shared::PoolShared;
+use crate::steps::{Next, WorkerCall};
 use crate::worth::WorkerSeat;
 use crossbeam_utils::CachePadded;
 use meet_cells::{Gate, Turn};
@@ -19,7 +21,7 @@ use std::time::Clock;
 /// A pool's core under a lock, with the jobs and seats beside it; a gate for each worker; and how long a worker waits
 /// at it at a time, in milliseconds.
 #[derive(Drop)]
-pub struct Home<W: Work, C, G, N: Ledgers> {
+pub struct Home<W: Work, C, G, N: PoolLedgers> {
     pub(crate) shared: Mutex<PoolShared<W, C, N>>,
     pub(crate) gates: Vec<CachePadded<G>>,
     pub(crate) moved: Condvar,
@@ -68,7 +70,7 @@ impl<N: Ledgers> Made<N> {
     }
 }
 
-impl<W: Work, C: Drop, G, N: Ledgers> Home<W, C, G, N> {
+impl<W: Work, C: Drop, G, N: PoolLedgers> Home<W, C, G, N> {
     /// Makes a step of a worker under one hold of the lock. Who waits for the pool's end looks again where a worker has
     /// gone.
     fn step<R: Wait>(
@@ -89,7 +91,7 @@ impl<W: Work, C: Drop, G, N: Ledgers> Home<W, C, G, N> {
     }
 }
 
-impl<W: Work, C: Call<W> + Drop, G: Gate, N: Ledgers> Home<W, C, G, N> {
+impl<W: Work, C: Call<W> + Drop, G: Gate, N: PoolLedgers> Home<W, C, G, N> {
     /// Runs a job outside the lock, and records its answer. A job that isn't of its tag, which none is, is let go, and
     /// its worker is then missing in the end.
     fn perform<R: Wait>(

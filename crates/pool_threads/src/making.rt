@@ -13,6 +13,7 @@ ghost use Rattle.pool_threads.specs.Mirrored.{given_tag, away};
 
 use crate::home::{Home, Made};
 use crate::jobs::{Job, Work};
+use crate::ledgers::PoolLedgers;
 use crate::pool::Pool;
 use crate::shared::PoolShared;
 use crate::worth::WorkerSeat;
@@ -30,7 +31,7 @@ pub struct NewPool<G, S> {
     pub sizes: Sizes,
     pub queue: PoolQueue,
     pub policy: Policy,
-    /// A gate for each worker.
+    /// A gate for each worker, by its number.
     pub gates: Vec<G>,
     pub starter: S,
     /// Two ledgers with a part for each caller and each worker.
@@ -84,7 +85,7 @@ where
     Ok(padded)
 }
 
-impl<W: Work, C: Drop, G: Drop, S: Drop, N: Ledgers> Pool<W, C, G, S, N> {
+impl<W: Work, C: Drop, G: Drop, S: Drop, N: PoolLedgers> Pool<W, C, G, S, N> {
     /// A pool without a job, and a seat for each caller, numbered from 0. It refuses what doesn't fit
     /// (`settings_refusal`), and else Memory alone.
     pub fn new(
@@ -93,6 +94,8 @@ impl<W: Work, C: Drop, G: Drop, S: Drop, N: Ledgers> Pool<W, C, G, S, N> {
     ) -> Result<(Self, Vec<Seat<PoolDeed<u64>, N>>), Refusal>
         requires ledgers { AreOf N.name N.folds N.parts parts.blanks }
         requires one_each { N.parts ≡ parts.sizes.callers + parts.sizes.maximum }
+        requires gates { vec_len parts.gates ≡ parts.sizes.maximum }
+        requires settings { N.settings ≡ record { sizes = parts.sizes; queue = parts.queue; policy = parts.policy } }
         ensures count { IfOk result (λ made. vec_len made.1 ≡ parts.sizes.callers) }
         ensures numbers { IfOk result (λ made. AreFresh made.1.items) }
         ensures fits { IfOk result (λ _. settings_refusal

@@ -1,32 +1,28 @@
 //! What becomes of a job that a pool is handed.
 
 use crate::jobs::Job;
-use meet_place::{Ledgers, Seat};
-use meet_tickets::{Refusal, Ticket};
-use pool_core::PoolDeed;
+use meet_tickets::Ticket;
 
 /// What became of a job that a pool was handed.
 #[derive(Drop)]
 pub enum Outcome<C> {
+    /// It was handed to this worker, which waited.
     Handed(u64),
+    /// This worker was started with it.
     Started(u64),
+    /// It is kept.
     Kept,
+    /// It is kept, and this worker was started.
     KeptStart(u64),
+    /// It wasn't taken, and comes back: `ThreadPoolExecutor.AbortPolicy`.
     Aborted(Job<C>),
-    /// It was run here, and answered this.
+    /// It was run here, and answered this: `ThreadPoolExecutor.CallerRunsPolicy`.
     RanHere(u64),
+    /// It was dropped, and comes back: `ThreadPoolExecutor.DiscardPolicy`.
     Dropped(Job<C>),
-    /// The kept job that came first, of this ticket, was dropped, and the new one is kept.
+    /// The kept job that came first, of this ticket, was dropped and comes back, and the new one is kept:
+    /// `ThreadPoolExecutor.DiscardOldestPolicy`.
     DroppedOldest(Ticket, Job<C>),
-}
-
-/// A job was refused: the seat comes back, and the job. NoThread brings the job back exactly where its worker was
-/// started with it; else it is kept.
-#[derive(Drop)]
-pub struct PoolRefused<C, N: Ledgers> {
-    pub why: Refusal,
-    pub seat: Seat<PoolDeed<u64>, N>,
-    pub job: Option<Job<C>>,
 }
 
 /// How the start of a worker ended.

@@ -10,12 +10,14 @@ ghost use Rattle.pool_threads.specs.Outcomes.{Handed, IsUnstarted, IsBack, answe
 
 use crate::home::Home;
 use crate::jobs::{Call, Executed, Job, Work};
-use crate::outcomes::{Begun, Outcome, PoolRefused};
+use crate::ledgers::PoolLedgers;
+use crate::outcomes::{Begun, Outcome};
+use crate::refusals::PoolRefused;
 use crate::shared::Placed;
 use crate::workers::{Starter, Worker, start};
 use crate::worth::WorkerSeat;
 use meet_cells::Gate;
-use meet_place::{Ledgers, Seat, hold};
+use meet_place::{Seat, hold};
 use meet_tickets::{Refusal, Refused};
 use pool_core::PoolDeed;
 use std::alloc::Global;
@@ -25,7 +27,7 @@ use std::time::Clock;
 
 /// A pool of workers, each a thread of its own.
 #[derive(Drop)]
-pub struct Pool<W: Work, C, G, S, N: Ledgers> {
+pub struct Pool<W: Work, C, G, S, N: PoolLedgers> {
     pub(crate) home: Arc<Home<W, C, G, N>, Global>,
     pub(crate) starter: S,
     pub(crate) alloc: Global,
@@ -83,7 +85,7 @@ fn outcome_of<W: Work, C: Call<W> + Drop>(executed: Executed<C>) -> Outcome<C>
     }
 }
 
-impl<W: Work, C: Drop, G: Gate + Drop, S, N: Ledgers> Pool<W, C, G, S, N> {
+impl<W: Work, C: Drop, G: Gate + Drop, S, N: PoolLedgers> Pool<W, C, G, S, N> {
     /// Hands a job in under one hold of the lock, and wakes the worker that it was handed to.
     fn hand<R: Wait>(
         &self,
@@ -136,7 +138,7 @@ impl<W: Work, C: Drop, G: Gate + Drop, S, N: Ledgers> Pool<W, C, G, S, N> {
     }
 }
 
-impl<W: Work, C: Call<W> + Drop, G: Gate + Drop, S: Starter, N: Ledgers> Pool<W, C, G, S, N> {
+impl<W: Work, C: Call<W> + Drop, G: Gate + Drop, S: Starter, N: PoolLedgers> Pool<W, C, G, S, N> {
     /// Starts a worker, with a job of this tag, if one is given.
     fn begin<R>(&self, rt: &R, seat: WorkerSeat<W, N>, first: Option<u64>) -> Begun<C>
     where

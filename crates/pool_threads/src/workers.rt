@@ -4,9 +4,9 @@ ghost use Rattle.std.specs.Prelude.{◌≡◌, ◌<◌, IfErr};
 
 use crate::home::Home;
 use crate::jobs::{Call, Work};
+use crate::ledgers::PoolLedgers;
 use crate::worth::WorkerSeat;
 use meet_cells::Gate;
-use meet_place::Ledgers;
 use std::alloc::Global;
 use std::mem::ManuallyDrop;
 use std::sync::{Arc, Condvar, Mutex, Wait};
@@ -16,13 +16,13 @@ use std::{mem, thread};
 
 /// A worker that isn't started yet.
 #[derive(Drop)]
-pub struct Worker<W: Work, C, G, N: Ledgers> {
+pub struct Worker<W: Work, C, G, N: PoolLedgers> {
     home: Arc<Home<W, C, G, N>, Global>,
     seat: WorkerSeat<W, N>,
     ghost room: { 0 < seat.room },
 }
 
-impl<W: Work, C, G, N: Ledgers> Worker<W, C, G, N> {
+impl<W: Work, C, G, N: PoolLedgers> Worker<W, C, G, N> {
     /// The worker of this seat, whose list has room for a receipt.
     pub(crate) fn new(home: Arc<Home<W, C, G, N>, Global>, seat: WorkerSeat<W, N>) -> Self
         requires { 0 < seat.room }
@@ -45,7 +45,7 @@ impl<W: Work, C, G, N: Ledgers> Worker<W, C, G, N> {
     }
 }
 
-impl<W: Work, C: Call<W> + Drop, G: Gate + Drop, N: Ledgers> Worker<W, C, G, N> {
+impl<W: Work, C: Call<W> + Drop, G: Gate + Drop, N: PoolLedgers> Worker<W, C, G, N> {
     /// Works, from its start to its end. Then it lets the pool go.
     pub fn run<R: Wait + Clock>(self, rt: &R) {
         let Worker { home, seat } = self;
@@ -78,12 +78,12 @@ impl Starter for ThreadStarter {
 
 /// Where a worker waits for its thread.
 #[derive(Drop)]
-struct Desk<W: Work, C, G, N: Ledgers> {
+struct Desk<W: Work, C, G, N: PoolLedgers> {
     worker: Mutex<Option<Worker<W, C, G, N>>>,
     there: Condvar,
 }
 
-impl<W: Work, C: Call<W> + Drop, G: Gate + Drop, N: Ledgers> Desk<W, C, G, N> {
+impl<W: Work, C: Call<W> + Drop, G: Gate + Drop, N: PoolLedgers> Desk<W, C, G, N> {
     /// Waits for the worker, and runs it.
     fn serve<R: Wait + Clock>(&self, rt: &R) {
         let mut slot = self
@@ -118,7 +118,7 @@ where
     W: Work + Send + Sync + 'static,
     C: Call<W> + Drop + Send + 'static,
     G: Gate + Drop + Send + Sync + 'static,
-    N: Ledgers + Send + Sync + 'static,
+    N: PoolLedgers + Send + Sync + 'static,
     S: Starter,
     ensures { IfErr result (λ back. back ≡ worker) }
 {

@@ -90,6 +90,7 @@ impl<W: Work, N: Ledgers> WorkerSeat<W, N> {
             (option_to_list (pool_record (λ x. x) self.old.number call answer))) }
         ensures moves { IfOk result (λ answer. Moves (worker_of shared.old.object.settings self.old.number) call answer
             (jobs_of shared.old.object.pool) (jobs_of shared.new.object.pool)) }
+        ensures settings { shared.new.object.settings ≡ shared.old.object.settings }
         ensures same { IfErr result (λ _. (self.new ≡ self.old)
             × (jobs_of shared.new.object.pool ≡ jobs_of shared.old.object.pool)) }
     {

@@ -1,7 +1,7 @@
 //! A pool bears one refusal of memory: no job is lost by it, and the call that is made again succeeds. `bin/refuse`
 //! runs this test with each allocation refused in turn.
 
-ghost use Rattle.std.specs.Prelude.{◌≡◌, ◌+◌, IfSome};
+ghost use Rattle.std.specs.Prelude.{◌≡◌, ◌+◌, IfSome, vec_len};
 ghost use Rattle.meet_place.specs.Ledgers.{AreOf};
 
 use meet_cells::ParkGate;
@@ -9,8 +9,8 @@ use meet_place::{Back, Blanks, Ledgers, Seat};
 use meet_tickets::Refusal;
 use pool_core::{Policy, PoolDeed, PoolQueue, Sizes};
 use pool_threads::{
-    Call, Job, NewPool, Pool, PoolChronicle, PoolFault, PoolRefused, SeatRefused, ThreadStarter,
-    Work,
+    Call, Job, NewPool, Pool, PoolChronicle, PoolFault, PoolLedgers, PoolRefused, SeatRefused,
+    ThreadStarter, Work,
 };
 use std::alloc::Global;
 use std::collections::VecDeque;
@@ -56,6 +56,7 @@ type Parts = NewPool<ParkGate, ThreadStarter>;
 fn parts_of(alloc: Global) -> Option<Parts>
     ensures records { IfSome result (λ parts. parts.blanks.records.parts ≡ parts.sizes.callers + parts.sizes.maximum) }
     ensures folds { IfSome result (λ parts. parts.blanks.folds.parts ≡ parts.sizes.callers + parts.sizes.maximum) }
+    ensures gates { IfSome result (λ parts. vec_len parts.gates ≡ parts.sizes.maximum) }
 {
     let mut gates = Vec::with_capacity(alloc, 2).ok()?;
     gates.push(ParkGate::new()).ok()?;
@@ -79,7 +80,7 @@ fn parts_of(alloc: Global) -> Option<Parts>
 /// A job is handed in, once more where it came back.
 fn executes<N, R>(rt: &R, pool: &Ours<N>, seat: OurSeat<N>, tag: u64) -> OurSeat<N>
 where
-    N: Ledgers + Send + Sync + 'static,
+    N: PoolLedgers + Send + Sync + 'static,
     R: Abort + Threads + Wait + Clock + Copy + Send + 'static,
 {
     let refused = match pool.execute(rt, seat, Job::new::<ItsTag>(Tagged { tag })) {
@@ -106,7 +107,7 @@ fn again<N: Ledgers>(rt: &impl Abort, refused: SeatRefused<N>) -> OurSeat<N> {
 /// A checkpoint, at the second try where there was no memory at first.
 fn folds<N, R>(rt: &R, pool: &Ours<N>, seat: OurSeat<N>) -> OurSeat<N>
 where
-    N: Ledgers,
+    N: PoolLedgers,
     R: Abort + Wait,
 {
     let seat = match pool.checkpoint(rt, seat) {
@@ -122,7 +123,7 @@ where
 /// A shutdown, at the second try where there was no memory at first: the kept jobs.
 fn shuts<N, R>(rt: &R, pool: &Ours<N>, seat: OurSeat<N>) -> (OurSeat<N>, VecDeque<Job<Tagged>>)
 where
-    N: Ledgers,
+    N: PoolLedgers,
     R: Abort + Wait,
 {
     let seat = match pool.shutdown_now(rt, seat) {
@@ -143,7 +144,7 @@ fn ends<N, R>(
     seats: Vec<Back<PoolDeed<u64>, N>>,
 ) -> PoolChronicle<Tagged>
 where
-    N: Ledgers,
+    N: PoolLedgers,
     R: Abort + Wait,
 {
     let fault = match pool.close(rt, alloc, seats) {
@@ -174,10 +175,12 @@ fn list<X: Drop>(rt: &impl Abort, alloc: Global) -> Vec<X> {
 /// made for want of memory.
 fn lives<N, R>(rt: &R, alloc: Global, parts: Parts) -> Option<u64>
 where
-    N: Ledgers + Send + Sync + 'static,
+    N: PoolLedgers + Send + Sync + 'static,
     R: Abort + Threads + Wait + Clock + Copy + Send + 'static,
     requires ledgers { AreOf N.name N.folds N.parts parts.blanks }
     requires one_each { N.parts ≡ parts.sizes.callers + parts.sizes.maximum }
+    requires gates { vec_len parts.gates ≡ parts.sizes.maximum }
+    requires settings { N.settings ≡ record { sizes = parts.sizes; queue = parts.queue; policy = parts.policy } }
 {
     let mut backs = list(rt, alloc);
     let (pool, mut seats) = match Ours::<N>::new(alloc, parts) {
@@ -210,6 +213,7 @@ where
     R: Abort + Threads + Wait + Clock + Copy + Send + 'static,
     requires records { parts.blanks.records.parts ≡ parts.sizes.callers + parts.sizes.maximum }
     requires folds { parts.blanks.folds.parts ≡ parts.sizes.callers + parts.sizes.maximum }
+    requires gates { vec_len parts.gates ≡ parts.sizes.maximum }
 {
     lives::<Brand, R>(rt, alloc, parts)
 }

@@ -1,15 +1,15 @@
 //! Callers that share a pool, and jobs that are boxed functions.
 
-ghost use Rattle.std.specs.Prelude.{◌≡◌, ◌+◌};
+ghost use Rattle.std.specs.Prelude.{◌≡◌, ◌+◌, vec_len};
 ghost use Rattle.meet_place.specs.Ledgers.{AreOf};
 ghost use Rattle.pool_uses.specs.Parts.{IsOneEach};
 
 use crate::pools::{OurSeat, Ours, closed_by, last, made, shut};
 use crate::{Boxed, ItsTag, JobFn};
 use meet_cells::ParkGate;
-use meet_place::{Blanks, Ledgers};
+use meet_place::Blanks;
 use pool_core::{Policy, PoolQueue, Sizes};
-use pool_threads::{Job, NewPool, ThreadStarter};
+use pool_threads::{Job, NewPool, PoolLedgers, ThreadStarter};
 use std::alloc::Global;
 use std::marker::Brand;
 use std::sync::Wait;
@@ -29,7 +29,7 @@ fn hand_all<N, R>(
     jobs: Vec<Boxed>,
 ) -> Option<OurSeat<N>>
 where
-    N: Ledgers + Send + Sync + 'static,
+    N: PoolLedgers + Send + Sync + 'static,
     R: Threads + Wait + Clock + Copy + Send + 'static,
 {
     let mut seat = first;
@@ -52,7 +52,7 @@ fn hand_both<N, R>(
     two: Vec<Boxed>,
 ) -> (Option<OurSeat<N>>, Option<OurSeat<N>>)
 where
-    N: Ledgers + Send + Sync + 'static,
+    N: PoolLedgers + Send + Sync + 'static,
     R: Threads + Wait + Clock + Copy + Send + Sync + 'static,
 {
     thread::scope(thread::scope_env(), rt, |scope| {
@@ -75,10 +75,12 @@ fn play<N, R>(
     two: Vec<Boxed>,
 ) -> Result<(usize, u64), Fail>
 where
-    N: Ledgers + Send + Sync + 'static,
+    N: PoolLedgers + Send + Sync + 'static,
     R: Threads + Wait + Clock + Copy + Send + Sync + 'static,
     requires ledgers { AreOf N.name N.folds N.parts parts.blanks }
     requires one_each { N.parts ≡ parts.sizes.callers + parts.sizes.maximum }
+    requires gates { vec_len parts.gates ≡ parts.sizes.maximum }
+    requires settings { N.settings ≡ record { sizes = parts.sizes; queue = parts.queue; policy = parts.policy } }
 {
     let (pool, mut seats) = made::<N, Boxed, ParkGate, ThreadStarter>(alloc, parts)?;
     let second = last(&mut seats)?;
@@ -108,7 +110,7 @@ fn two_callers<R>(
 ) -> Result<(usize, u64), Fail>
 where
     R: Threads + Wait + Clock + Copy + Send + Sync + 'static,
-    requires one_each { IsOneEach parts.sizes parts.blanks }
+    requires one_each { IsOneEach parts.sizes parts.blanks (vec_len parts.gates) }
 {
     play::<Brand, R>(rt, alloc, parts, one, two)
 }

@@ -1,6 +1,6 @@
 //! How pools and their workers end.
 
-ghost use Rattle.std.specs.Prelude.{◌≡◌, ◌+◌};
+ghost use Rattle.std.specs.Prelude.{◌≡◌, ◌+◌, vec_len};
 ghost use Rattle.meet_place.specs.Ledgers.{AreOf};
 ghost use Rattle.pool_uses.specs.Parts.{IsOneEach};
 
@@ -10,10 +10,9 @@ use crate::pools::{
     AtOnce, OurSeat, Ours, answers, closed, handed, last, made, one_worker, stopped,
 };
 use meet_cells::{Gate, ParkGate};
-use meet_place::Ledgers;
 use meet_tickets::Order;
 use pool_core::{Policy, PoolQueue};
-use pool_threads::{Job, NewPool, Outcome, PoolFault, ThreadStarter};
+use pool_threads::{Job, NewPool, Outcome, PoolFault, PoolLedgers, ThreadStarter};
 use std::alloc::Global;
 use std::collections::VecDeque;
 use std::marker::Brand;
@@ -30,7 +29,7 @@ fn unclosed<N, C, R, G, S>(
     pool: Ours<C, G, S, N>,
 ) -> Result<(Ours<C, G, S, N>, usize, usize), Fail>
 where
-    N: Ledgers,
+    N: PoolLedgers,
     C: Drop,
     R: Wait,
     G: Gate + Drop,
@@ -57,10 +56,12 @@ fn play_missing<N, R>(
     parts: NewPool<ParkGate, ThreadStarter>,
 ) -> Result<(usize, usize), Fail>
 where
-    N: Ledgers,
+    N: PoolLedgers,
     R: Wait + Copy,
     requires ledgers { AreOf N.name N.folds N.parts parts.blanks }
     requires one_each { N.parts ≡ parts.sizes.callers + parts.sizes.maximum }
+    requires gates { vec_len parts.gates ≡ parts.sizes.maximum }
+    requires settings { N.settings ≡ record { sizes = parts.sizes; queue = parts.queue; policy = parts.policy } }
 {
     let (pool, mut seats) = made::<N, Chore<R>, ParkGate, ThreadStarter>(alloc, parts)?;
     let seat = last(&mut seats)?;
@@ -75,7 +76,7 @@ fn without_its_seat<R: Wait + Copy>(
     alloc: Global,
     parts: NewPool<ParkGate, ThreadStarter>,
 ) -> Result<(usize, usize), Fail>
-    requires one_each { IsOneEach parts.sizes parts.blanks }
+    requires one_each { IsOneEach parts.sizes parts.blanks (vec_len parts.gates) }
 {
     play_missing::<Brand, R>(rt, alloc, parts)
 }
@@ -89,18 +90,20 @@ fn a_seat_is_missing(rt: HostRuntime) -> Result<(), Fail> {
     Ok(())
 }
 
-/// Starts a worker with a job, and then looks at the pool often, once that is done: how often it had one worker, and not
-/// another number.
+/// Starts a worker with a job, and then looks at the pool often, once that is done: how often it had one worker, and
+/// not another number.
 fn play_idle<N, R>(
     rt: &R,
     alloc: Global,
     parts: NewPool<AtOnce, ThreadStarter>,
 ) -> Result<u64, Fail>
 where
-    N: Ledgers + Send + Sync + 'static,
+    N: PoolLedgers + Send + Sync + 'static,
     R: Threads + Wait + Clock + Copy + Send + 'static,
     requires ledgers { AreOf N.name N.folds N.parts parts.blanks }
     requires one_each { N.parts ≡ parts.sizes.callers + parts.sizes.maximum }
+    requires gates { vec_len parts.gates ≡ parts.sizes.maximum }
+    requires settings { N.settings ≡ record { sizes = parts.sizes; queue = parts.queue; policy = parts.policy } }
 {
     let (pool, mut seats) = made::<N, Chore<R>, AtOnce, ThreadStarter>(alloc, parts)?;
     let seat = last(&mut seats)?;
@@ -129,7 +132,7 @@ where
 fn left_idle<R>(rt: &R, alloc: Global, parts: NewPool<AtOnce, ThreadStarter>) -> Result<u64, Fail>
 where
     R: Threads + Wait + Clock + Copy + Send + 'static,
-    requires one_each { IsOneEach parts.sizes parts.blanks }
+    requires one_each { IsOneEach parts.sizes parts.blanks (vec_len parts.gates) }
 {
     play_idle::<Brand, R>(rt, alloc, parts)
 }
@@ -143,7 +146,8 @@ fn an_idle_worker_stays(rt: HostRuntime) -> Result<(), Fail> {
     Ok(())
 }
 
-/// What came of three jobs, of which the third takes the second's place, and of a shutdown that hands back what is kept.
+/// What came of three jobs, of which the third takes the second's place, and of a shutdown that hands back what is
+/// kept.
 #[derive(Clone, Copy, PartialEq, Debug)]
 struct Came {
     /// The tag of the job that was dropped.
@@ -178,10 +182,12 @@ fn play_stopped<N, R>(
     parts: NewPool<ParkGate, ThreadStarter>,
 ) -> Result<Came, Fail>
 where
-    N: Ledgers + Send + Sync + 'static,
+    N: PoolLedgers + Send + Sync + 'static,
     R: Threads + Wait + Clock + Copy + Send + 'static,
     requires ledgers { AreOf N.name N.folds N.parts parts.blanks }
     requires one_each { N.parts ≡ parts.sizes.callers + parts.sizes.maximum }
+    requires gates { vec_len parts.gates ≡ parts.sizes.maximum }
+    requires settings { N.settings ≡ record { sizes = parts.sizes; queue = parts.queue; policy = parts.policy } }
 {
     let flags = Flags::new(alloc)?;
     let one = Chore {
@@ -220,7 +226,7 @@ fn stopped_at_once<R>(
 ) -> Result<Came, Fail>
 where
     R: Threads + Wait + Clock + Copy + Send + 'static,
-    requires one_each { IsOneEach parts.sizes parts.blanks }
+    requires one_each { IsOneEach parts.sizes parts.blanks (vec_len parts.gates) }
 {
     play_stopped::<Brand, R>(rt, alloc, parts)
 }

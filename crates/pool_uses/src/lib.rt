@@ -17,9 +17,9 @@ mod pools;
 #[cfg(test)]
 mod starts;
 
-use meet_place::{Ledgers, Seat};
+use meet_place::Seat;
 use pool_core::PoolDeed;
-use pool_threads::{Call, Job, PoolShared, Work};
+use pool_threads::{Call, Job, PoolLedgers, PoolShared, Work};
 use std::sync::{Mutex, Wait};
 
 /// Each job is worth its tag.
@@ -65,7 +65,7 @@ impl Call<ItsTag> for Boxed {
 }
 
 /// Hands a boxed function in, under the lock of a pool.
-pub fn hand<N: Ledgers, R: Wait>(
+pub fn hand<N: PoolLedgers, R: Wait>(
     rt: &R,
     lock: &Mutex<PoolShared<ItsTag, Boxed, N>>,
     seat: &mut Seat<PoolDeed<u64>, N>,

@@ -1,6 +1,6 @@
 //! Two jobs that look for one another: they run side by side, or nobody would see the other.
 
-ghost use Rattle.std.specs.Prelude.{◌≡◌, ◌+◌, IfOk};
+ghost use Rattle.std.specs.Prelude.{◌≡◌, ◌+◌, IfOk, vec_len};
 ghost use Rattle.meet_place.specs.Ledgers.{AreOf};
 ghost use Rattle.pool_uses.specs.Parts.{IsOneEach};
 
@@ -8,10 +8,10 @@ use crate::ItsTag;
 use crate::chores::{Before, Chore, Flags};
 use crate::pools::{AtOnce, OurSeat, Ours, answers, closed, handed, last, made, shut, sizes};
 use meet_cells::{Gate, ParkGate};
-use meet_place::{Blanks, Ledgers};
+use meet_place::Blanks;
 use meet_tickets::Order;
 use pool_core::{Policy, PoolQueue};
-use pool_threads::{NewPool, Outcome, ThreadStarter};
+use pool_threads::{NewPool, Outcome, PoolLedgers, ThreadStarter};
 use std::alloc::Global;
 use std::marker::Brand;
 use std::sync::{Arc, Wait};
@@ -47,7 +47,7 @@ fn folded<N, C, R, G, S>(
     cut: bool,
 ) -> Result<OurSeat<N>, Fail>
 where
-    N: Ledgers,
+    N: PoolLedgers,
     C: Drop,
     R: Wait,
     G: Gate + Drop,
@@ -62,8 +62,8 @@ where
     }
 }
 
-/// Hands two jobs in, and a third, and makes a checkpoint, if one is wanted, before the jobs may end; then shuts the pool
-/// down, waits for its end, and closes it.
+/// Hands two jobs in, and a third, and makes a checkpoint, if one is wanted, before the jobs may end; then shuts the
+/// pool down, waits for its end, and closes it.
 fn play<N, R, G>(
     rt: &R,
     alloc: Global,
@@ -71,11 +71,13 @@ fn play<N, R, G>(
     cut: bool,
 ) -> Result<Came, Fail>
 where
-    N: Ledgers + Send + Sync + 'static,
+    N: PoolLedgers + Send + Sync + 'static,
     G: Gate + Drop + Send + Sync + 'static,
     R: Threads + Wait + Clock + Copy + Send + 'static,
     requires ledgers { AreOf N.name N.folds N.parts parts.blanks }
     requires one_each { N.parts ≡ parts.sizes.callers + parts.sizes.maximum }
+    requires gates { vec_len parts.gates ≡ parts.sizes.maximum }
+    requires settings { N.settings ≡ record { sizes = parts.sizes; queue = parts.queue; policy = parts.policy } }
 {
     let flags = Flags::new(alloc)?;
     let one = Chore {
@@ -136,7 +138,7 @@ fn parts_of<G: Drop>(
     first: G,
     second: G,
 ) -> Result<NewPool<G, ThreadStarter>, Fail>
-    ensures { IfOk result (λ parts. IsOneEach parts.sizes parts.blanks) }
+    ensures { IfOk result (λ parts. IsOneEach parts.sizes parts.blanks (vec_len parts.gates)) }
 {
     let mut gates = Vec::new(alloc);
     gates.push(first).map_err(|_| "no memory")?;
@@ -161,7 +163,7 @@ fn two_meet<R, G>(
 where
     R: Threads + Wait + Clock + Copy + Send + 'static,
     G: Gate + Drop + Send + Sync + 'static,
-    requires one_each { IsOneEach parts.sizes parts.blanks }
+    requires one_each { IsOneEach parts.sizes parts.blanks (vec_len parts.gates) }
 {
     play::<Brand, R, G>(rt, alloc, parts, cut)
 }
@@ -173,8 +175,8 @@ fn two_workers_meet(rt: HostRuntime) -> Result<(), Fail> {
     let came = two_meet(&rt, alloc, parts, false)?;
     assert_eq!(rt; (came.started, came.aborted), (true, true));
     assert_eq!(rt; (came.seen, came.answers), (2, (1, 1)));
-    // Two jobs with three records each, one that came back, the shutdown, and two ends. A worker that is ready before the
-    // shutdown waits first, which is one record more.
+    // Two jobs with three records each, one that came back, the shutdown, and two ends. A worker that is ready before
+    // the shutdown waits first, which is one record more.
     assert_eq!(rt;
         (came.gone, came.records >= 10 && came.records <= 12),
         (0, true)

@@ -1,7 +1,7 @@
-//! Pools as the tests make, use and end them. None of these functions says what it does: so a test that calls them knows
-//! no more than what they answer, and is proved fast.
+//! Pools as the tests make, use and end them. None of these functions says what it does: so a test that calls them
+//! knows no more than what they answer, and is proved fast.
 
-ghost use Rattle.std.specs.Prelude.{◌≡◌, ◌+◌, false, IfOk};
+ghost use Rattle.std.specs.Prelude.{◌≡◌, ◌+◌, false, IfOk, vec_len};
 ghost use Rattle.meet_place.specs.Ledgers.{AreOf};
 ghost use Rattle.pool_uses.specs.Parts.{IsOneEach};
 
@@ -9,7 +9,7 @@ use crate::ItsTag;
 use meet_cells::{Gate, Turn};
 use meet_place::{Back, Blanks, Ledgers, Seat};
 use pool_core::{Policy, PoolDeed, PoolQueue, Sizes};
-use pool_threads::{Call, Job, NewPool, Outcome, Pool, PoolChronicle, Starter};
+use pool_threads::{Call, Job, NewPool, Outcome, Pool, PoolChronicle, PoolLedgers, Starter};
 use std::alloc::Global;
 use std::collections::VecDeque;
 use std::sync::Wait;
@@ -65,7 +65,7 @@ pub fn one_worker<G: Drop, S: Drop>(
     gate: G,
     starter: S,
 ) -> Result<NewPool<G, S>, Fail>
-    ensures { IfOk result (λ parts. IsOneEach parts.sizes parts.blanks) }
+    ensures { IfOk result (λ parts. IsOneEach parts.sizes parts.blanks (vec_len parts.gates)) }
 {
     let mut gates = Vec::new(alloc);
     gates.push(gate).map_err(|_| "no memory")?;
@@ -85,12 +85,14 @@ pub fn made<N, C, G, S>(
     parts: NewPool<G, S>,
 ) -> Result<(Ours<C, G, S, N>, Vec<OurSeat<N>>), Fail>
 where
-    N: Ledgers,
+    N: PoolLedgers,
     C: Drop,
     G: Drop,
     S: Drop,
     requires ledgers { AreOf N.name N.folds N.parts parts.blanks }
     requires one_each { N.parts ≡ parts.sizes.callers + parts.sizes.maximum }
+    requires gates { vec_len parts.gates ≡ parts.sizes.maximum }
+    requires settings { N.settings ≡ record { sizes = parts.sizes; queue = parts.queue; policy = parts.policy } }
 {
     match Pool::new(alloc, parts) {
         Ok(made) => Ok(made),
@@ -114,7 +116,7 @@ pub fn handed<N, C, R, G, S>(
     job: C,
 ) -> Result<(OurSeat<N>, Outcome<C>), Fail>
 where
-    N: Ledgers + Send + Sync + 'static,
+    N: PoolLedgers + Send + Sync + 'static,
     C: Call<ItsTag> + Drop + Send + 'static,
     R: Threads + Wait + Clock + Copy + Send + 'static,
     G: Gate + Drop + Send + Sync + 'static,
@@ -133,7 +135,7 @@ pub fn shut<N, C, R, G, S>(
     seat: OurSeat<N>,
 ) -> Result<OurSeat<N>, Fail>
 where
-    N: Ledgers,
+    N: PoolLedgers,
     C: Drop,
     R: Wait,
     G: Gate + Drop,
@@ -155,7 +157,7 @@ pub fn stopped<N, C, R, G, S>(
     seat: OurSeat<N>,
 ) -> Result<(OurSeat<N>, VecDeque<Job<C>>), Fail>
 where
-    N: Ledgers,
+    N: PoolLedgers,
     C: Drop,
     R: Wait,
     G: Gate + Drop,
@@ -175,7 +177,7 @@ pub fn closed_by<N, C, R, G, S>(
     seats: Vec<OurSeat<N>>,
 ) -> Result<PoolChronicle<C>, Fail>
 where
-    N: Ledgers,
+    N: PoolLedgers,
     C: Drop,
     R: Wait,
     G: Gate + Drop,
@@ -199,7 +201,7 @@ pub fn closed<N, C, R, G, S>(
     seat: OurSeat<N>,
 ) -> Result<PoolChronicle<C>, Fail>
 where
-    N: Ledgers,
+    N: PoolLedgers,
     C: Drop,
     R: Wait,
     G: Gate + Drop,

@@ -1,6 +1,6 @@
 //! Starts that are refused.
 
-ghost use Rattle.std.specs.Prelude.{◌≡◌, ◌+◌};
+ghost use Rattle.std.specs.Prelude.{◌≡◌, ◌+◌, vec_len};
 ghost use Rattle.meet_place.specs.Ledgers.{AreOf};
 ghost use Rattle.pool_uses.specs.Parts.{IsOneEach};
 
@@ -8,10 +8,9 @@ use crate::ItsTag;
 use crate::chores::Chore;
 use crate::pools::{AtOnce, OurSeat, Ours, answers, closed, handed, last, made, one_worker, shut};
 use meet_cells::Gate;
-use meet_place::Ledgers;
 use meet_tickets::Refusal;
 use pool_core::{Policy, PoolQueue};
-use pool_threads::{Call, Job, NewPool, Outcome, PoolRefused, Starter};
+use pool_threads::{Call, Job, NewPool, Outcome, PoolLedgers, PoolRefused, Starter};
 use std::alloc::Global;
 use std::marker::Brand;
 use std::sync::Wait;
@@ -66,7 +65,7 @@ fn turned_away<N, C, R, G, S>(
     job: C,
 ) -> Result<(Refusal, OurSeat<N>, Option<u64>), Fail>
 where
-    N: Ledgers + Send + Sync + 'static,
+    N: PoolLedgers + Send + Sync + 'static,
     C: Call<ItsTag> + Drop + Send + 'static,
     R: Threads + Wait + Clock + Copy + Send + 'static,
     G: Gate + Drop + Send + Sync + 'static,
@@ -96,10 +95,12 @@ fn begun_by<C>(outcome: &Outcome<C>) -> Begun {
 /// Hands two jobs in, of which the first finds no thread.
 fn play<N, R>(rt: &R, alloc: Global, parts: NewPool<AtOnce, RefusesFirst>) -> Result<Came, Fail>
 where
-    N: Ledgers + Send + Sync + 'static,
+    N: PoolLedgers + Send + Sync + 'static,
     R: Threads + Wait + Clock + Copy + Send + 'static,
     requires ledgers { AreOf N.name N.folds N.parts parts.blanks }
     requires one_each { N.parts ≡ parts.sizes.callers + parts.sizes.maximum }
+    requires gates { vec_len parts.gates ≡ parts.sizes.maximum }
+    requires settings { N.settings ≡ record { sizes = parts.sizes; queue = parts.queue; policy = parts.policy } }
 {
     let (pool, mut seats) = made::<N, Chore<R>, AtOnce, RefusesFirst>(alloc, parts)?;
     let seat = last(&mut seats)?;
@@ -126,7 +127,7 @@ fn first_is_refused<R>(
 ) -> Result<Came, Fail>
 where
     R: Threads + Wait + Clock + Copy + Send + 'static,
-    requires one_each { IsOneEach parts.sizes parts.blanks }
+    requires one_each { IsOneEach parts.sizes parts.blanks (vec_len parts.gates) }
 {
     play::<Brand, R>(rt, alloc, parts)
 }

@@ -2,7 +2,7 @@ use Rattle.std.proofs.Common.{Some, is_none, ap, ◌∙◌}
 use Rattle.std.proofs.lemmas.List.{map-set}
 use Rattle.std.specs.Prelude.{slice_set}
 use Rattle.pool_threads.specs.Mirrored.{away}
-use Rattle.pool_threads.proofs.shared.put_back.Goals as goal
+use Rattle.pool_threads.proofs.moving.put_back.Goals as goal
 
 pub returns : goal.returns
 returns g c =

@@ -2,7 +2,7 @@ use Rattle.std.proofs.Common.{None, is_none, ap, ◌∙◌}
 use Rattle.std.proofs.lemmas.List.{map-set}
 use Rattle.std.specs.Prelude.{slice_set}
 use Rattle.pool_threads.specs.Mirrored.{away}
-use Rattle.pool_threads.proofs.shared.take_seat.Goals as goal
+use Rattle.pool_threads.proofs.moving.take_seat.Goals as goal
 
 pub returns-clause-seats : goal.returns-clause-seats
 returns-clause-seats g c =

@@ -1,9 +1,9 @@
 use Rattle.std.proofs.Common.{refl, sym, subst}
 use Rattle.pool_threads.specs.NextFits.{ReadyNext}
-use Rattle.pool_threads.specs.declared.shared.Next.TheVariants as next
+use Rattle.pool_threads.specs.declared.steps.Next.TheVariants as next
 use Rattle.pool_core.specs.Moves.{ReadyMoves}
 use Rattle.pool_threads.specs.Mirrored.{tags_of, away}
-use Rattle.pool_threads.proofs.shared.after_ready.Goals as goal
+use Rattle.pool_threads.proofs.steps.after_ready.Goals as goal
 
 pub returns-in-Run : goal.returns-in-Run
 returns-in-Run g c = record {

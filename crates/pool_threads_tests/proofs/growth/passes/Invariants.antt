@@ -6,3 +6,8 @@ ghosts-lives-N-Ledger g a = record { name = a.parts.blanks.records.name; parts =
 
 abbrev pub ghosts-lives-N-Ledgers : goal.ghosts-lives-N-Ledgers
 ghosts-lives-N-Ledgers g a = record { folds = a.parts.blanks.folds.name }
+
+-- what it is made with
+abbrev pub ghosts-lives-N-PoolLedgers : goal.ghosts-lives-N-PoolLedgers
+ghosts-lives-N-PoolLedgers g a =
+    record { settings = record { sizes = a.parts.sizes; queue = a.parts.queue; policy = a.parts.policy } }

@@ -6,3 +6,8 @@ ghosts-play_idle-N-Ledger g a = record { name = a.parts.blanks.records.name; par
 
 abbrev pub ghosts-play_idle-N-Ledgers : goal.ghosts-play_idle-N-Ledgers
 ghosts-play_idle-N-Ledgers g a = record { folds = a.parts.blanks.folds.name }
+
+-- what it is made with
+abbrev pub ghosts-play_idle-N-PoolLedgers : goal.ghosts-play_idle-N-PoolLedgers
+ghosts-play_idle-N-PoolLedgers g a =
+    record { settings = record { sizes = a.parts.sizes; queue = a.parts.queue; policy = a.parts.policy } }

@@ -6,3 +6,8 @@ ghosts-play_stopped-N-Ledger g a = record { name = a.parts.blanks.records.name; 
 
 abbrev pub ghosts-play_stopped-N-Ledgers : goal.ghosts-play_stopped-N-Ledgers
 ghosts-play_stopped-N-Ledgers g a = record { folds = a.parts.blanks.folds.name }
+
+-- what it is made with
+abbrev pub ghosts-play_stopped-N-PoolLedgers : goal.ghosts-play_stopped-N-PoolLedgers
+ghosts-play_stopped-N-PoolLedgers g a =
+    record { settings = record { sizes = a.parts.sizes; queue = a.parts.queue; policy = a.parts.policy } }

@@ -6,3 +6,8 @@ ghosts-play_missing-N-Ledger g a = record { name = a.parts.blanks.records.name; 
 
 abbrev pub ghosts-play_missing-N-Ledgers : goal.ghosts-play_missing-N-Ledgers
 ghosts-play_missing-N-Ledgers g a = record { folds = a.parts.blanks.folds.name }
+
+-- what it is made with
+abbrev pub ghosts-play_missing-N-PoolLedgers : goal.ghosts-play_missing-N-PoolLedgers
+ghosts-play_missing-N-PoolLedgers g a =
+    record { settings = record { sizes = a.parts.sizes; queue = a.parts.queue; policy = a.parts.policy } }

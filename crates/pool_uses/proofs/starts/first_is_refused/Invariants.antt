@@ -6,3 +6,8 @@ ghosts-play-N-Ledger g a = record { name = a.parts.blanks.records.name; parts = 
 
 abbrev pub ghosts-play-N-Ledgers : goal.ghosts-play-N-Ledgers
 ghosts-play-N-Ledgers g a = record { folds = a.parts.blanks.folds.name }
+
+-- what it is made with
+abbrev pub ghosts-play-N-PoolLedgers : goal.ghosts-play-N-PoolLedgers
+ghosts-play-N-PoolLedgers g a =
+    record { settings = record { sizes = a.parts.sizes; queue = a.parts.queue; policy = a.parts.policy } }

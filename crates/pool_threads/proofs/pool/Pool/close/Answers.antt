@@ -10,7 +10,7 @@ use Rattle.pool_threads.proofs.pool.Pool.close.Goals as goal
 
 pub take_seats-requires : goal.take_seats-requires
 take_seats-requires g c =
-    let lies = lying c.inside.inside.seats.items ∙ ap (λ j. count_by not j.there) c.inside.invariant in
+    let lies = lying c.inside.inside.seats.items ∙ ap (λ j. count_by not j.there) c.inside.invariant.0 in
     let same = c.seats_here-lying.ensures ∙ ap (λ b. absent b.object.pool) (sym c.inside.view_is) in
     record {
       room = omega (arith, lies, same, c.in-Some.ensures.backs, c.in-Some.ensures.count, c.if-lying-made.false, c.if-have-made-2.false, c.len-have.ensures);
@@ -18,13 +18,13 @@ take_seats-requires g c =
 
 pub settle-requires-clause-all : goal.settle-requires-clause-all
 settle-requires-clause-all g c =
-    let lies = lying c.inside.inside.seats.items ∙ ap (λ j. count_by not j.there) c.inside.invariant in
+    let lies = lying c.inside.inside.seats.items ∙ ap (λ j. count_by not j.there) c.inside.invariant.0 in
     let same = c.seats_here-lying.ensures ∙ ap (λ b. absent b.object.pool) (sym c.inside.view_is) in
     omega (arith, lies, same, c.take_seats.ensures.count, c.in-Some.ensures.count, c.if-lying-made.false, c.if-have-made-2.false, c.len-have.ensures, c.count-made.ensures.all)
 
 pub settle-requires-clause-room : goal.settle-requires-clause-room
 settle-requires-clause-room g c =
-    let lies = lying c.inside.inside.seats.items ∙ ap (λ j. count_by not j.there) c.inside.invariant in
+    let lies = lying c.inside.inside.seats.items ∙ ap (λ j. count_by not j.there) c.inside.invariant.0 in
     let same = c.seats_here-lying.ensures ∙ ap (λ b. absent b.object.pool) (sym c.inside.view_is) in
     omega (arith, lies, same, c.take_seats.ensures.count, c.in-Some.ensures.count, c.in-Some.ensures.seats, c.if-lying-made.false, c.if-have-made-2.false, c.len-have.ensures)
 
@@ -33,16 +33,17 @@ with_tickets-requires-clause-tasks g c = (
   kept_tasks c.in-Ok.field-0.object.pool.line,
   filter_map task_at c.in-Ok.field-0.object.pool.workers,
   c.into_left-tasks.ensures,
-  ap (λ j. j.kept) c.inside.invariant ∙ ap (λ o. map job_in (kept_tasks o.pool.line)) (sym c.in-Ok.ensures.same),
+  ap (λ j. j.kept) c.inside.invariant.0 ∙ ap (λ o. map job_in (kept_tasks o.pool.line)) (sym c.in-Ok.ensures.same),
 )
 
 pub returns-in-Ok-clause-left : goal.returns-in-Ok-clause-left
 returns-in-Ok-clause-left g c = (
   c.in-Ok.field-0.object,
+  ap (λ o. o.settings) c.in-Ok.ensures.same ∙ c.inside.invariant.1,
   c.in-Ok.ensures.leads,
   c.with_tickets.ensures (kept_tasks c.in-Ok.field-0.object.pool.line) (filter_map task_at c.in-Ok.field-0.object.pool.workers)
       c.into_left-tasks.ensures
-      (ap (λ j. j.kept) c.inside.invariant ∙ ap (λ o. map job_in (kept_tasks o.pool.line)) (sym c.in-Ok.ensures.same)),
+      (ap (λ j. j.kept) c.inside.invariant.0 ∙ ap (λ o. map job_in (kept_tasks o.pool.line)) (sym c.in-Ok.ensures.same)),
 )
 
 pub returns-in-Ok-clause-rises : goal.returns-in-Ok-clause-rises
@@ -50,4 +51,4 @@ returns-in-Ok-clause-rises g c =
     left_rise c.in-Ok.field-0.object.pool.line c.with_tickets.result.items c.stays_sound.ensures.sound.risen
     (c.with_tickets.ensures (kept_tasks c.in-Ok.field-0.object.pool.line) (filter_map task_at c.in-Ok.field-0.object.pool.workers)
     c.into_left-tasks.ensures
-    (ap (λ j. j.kept) c.inside.invariant ∙ ap (λ o. map job_in (kept_tasks o.pool.line)) (sym c.in-Ok.ensures.same)))
+    (ap (λ j. j.kept) c.inside.invariant.0 ∙ ap (λ o. map job_in (kept_tasks o.pool.line)) (sym c.in-Ok.ensures.same)))

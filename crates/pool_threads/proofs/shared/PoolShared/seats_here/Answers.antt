@@ -7,4 +7,4 @@ pub returns : goal.returns
 returns g c =
     rw (← c.self.view_is)
     (c.seats_in.ensures ∙ ap (λ l. count_by is_some l) c.as_slice.ensures.value ∙ lying c.self.inside.seats.items
-    ∙ ap (λ j. count_by not j.there) c.self.invariant)
+    ∙ ap (λ j. count_by not j.there) c.self.invariant.0)

@@ -1,0 +1,168 @@
+//! Why a pool refuses a call, or isn't closed, with all that comes back. None of these is an error type, and no `From`
+//! makes one a `Refusal`: so a `?` hands it on whole or doesn't compile.
+
+ghost use Rattle.std.specs.Prelude.{◌≡◌};
+ghost use Rattle.pool_threads.specs.Faults.{why_of};
+
+use crate::jobs::{Job, Work};
+use crate::ledgers::PoolLedgers;
+use crate::pool::Pool;
+use meet_book::Book;
+use meet_place::{Back, Ledgers, Seat};
+use meet_tickets::{Refusal, SeatNo};
+use pool_core::{PoolCore, PoolDeed};
+use std::collections::VecDeque;
+use std::fmt;
+use std::fmt::{Debug, Display, Formatter, Write};
+
+/// A job was refused: the seat comes back, and the job. NoThread brings the job back exactly where its worker was
+/// started with it; else it is kept. Its text is the name of the reason.
+#[derive(Drop)]
+pub struct PoolRefused<C, N: Ledgers> {
+    /// Why.
+    pub why: Refusal,
+    /// The seat; after NoThread with the receipt of the job's record.
+    pub seat: Seat<PoolDeed<u64>, N>,
+    /// The job, if it isn't kept.
+    pub job: Option<Job<C>>,
+}
+
+/// The name of the reason.
+impl<C, N: Ledgers> Display for PoolRefused<C, N> {
+    ghost use Rattle.std.specs.Prelude.{Some};
+    ghost use Rattle.meet_tickets.specs.Refusals.{name_of};
+
+    ghost output = { λ refused. Some (name_of refused.why) };
+
+    fn fmt<O: Write>(&self, f: &mut Formatter<O>) -> fmt::Result {
+        f.write_str(self.why.name())
+    }
+}
+
+/// The reason alone: what comes back need not be such as can be shown.
+impl<C, N: Ledgers> Debug for PoolRefused<C, N> {
+    fn fmt<O: Write>(&self, f: &mut Formatter<O>) -> fmt::Result {
+        write!(f, "PoolRefused({})", self.why)
+    }
+}
+
+impl<C: Drop, N: Ledgers> PoolRefused<C, N> {
+    /// The reason alone. The seat and the job are let go: match the refusal to keep them, since a pool is closed with
+    /// all of its seats.
+    pub fn into_why(self) -> Refusal
+        ensures { result ≡ self.why }
+    {
+        let PoolRefused { why, .. } = self;
+        why
+    }
+}
+
+/// A call of a seat that was refused: the seat comes back. Its text is the name of the reason.
+#[derive(Drop)]
+pub struct SeatRefused<N: Ledgers> {
+    /// Why.
+    pub why: Refusal,
+    /// The seat, as it was.
+    pub seat: Seat<PoolDeed<u64>, N>,
+}
+
+/// The name of the reason.
+impl<N: Ledgers> Display for SeatRefused<N> {
+    ghost use Rattle.std.specs.Prelude.{Some};
+    ghost use Rattle.meet_tickets.specs.Refusals.{name_of};
+
+    ghost output = { λ refused. Some (name_of refused.why) };
+
+    fn fmt<O: Write>(&self, f: &mut Formatter<O>) -> fmt::Result {
+        f.write_str(self.why.name())
+    }
+}
+
+/// The reason alone.
+impl<N: Ledgers> Debug for SeatRefused<N> {
+    fn fmt<O: Write>(&self, f: &mut Formatter<O>) -> fmt::Result {
+        write!(f, "SeatRefused({})", self.why)
+    }
+}
+
+impl<N: Ledgers> SeatRefused<N> {
+    /// The reason alone. The seat is let go: match the refusal to keep it, since a pool is closed with all of its seats.
+    pub fn into_why(self) -> Refusal
+        ensures { result ≡ self.why }
+    {
+        let SeatRefused { why, seat: _ } = self;
+        why
+    }
+}
+
+/// Why a pool was not closed. Its text is the name of the refusal that it is.
+#[derive(Drop)]
+pub enum PoolFault<W: Work, C, G, S, N: PoolLedgers> {
+    /// Fewer seats were given back, or lie in the pool, than were made. The pool and the seats come back.
+    SeatMissing {
+        /// How many were given back, or lie in the pool.
+        have: usize,
+        /// How many were made.
+        made: usize,
+        pool: Pool<W, C, G, S, N>,
+        seats: Vec<Back<PoolDeed<u64>, N>>,
+    },
+    /// Memory was wanted and not there. The pool and the seats come back.
+    Memory {
+        pool: Pool<W, C, G, S, N>,
+        seats: Vec<Back<PoolDeed<u64>, N>>,
+    },
+    /// The records of a seat aren't those of its receipts. The book comes back, out of its lock; the seats of callers
+    /// and workers, in the order of their numbers; and the kept jobs, in theirs.
+    Differs {
+        /// The least such seat.
+        seat: SeatNo,
+        /// The first index at which they differ, counted from 0 among the seat's records.
+        index: u64,
+        book: Book<PoolCore<u64>>,
+        seats: Vec<Back<PoolDeed<u64>, N>>,
+        left: VecDeque<Job<C>>,
+    },
+}
+
+impl<W: Work, C, G, S, N: PoolLedgers> PoolFault<W, C, G, S, N> {
+    /// The reason as a refusal: SeatMissing, Memory or Differs.
+    pub fn why(&self) -> Refusal
+        ensures { result ≡ why_of self.now }
+    {
+        match self {
+            PoolFault::SeatMissing { .. } => Refusal::SeatMissing,
+            PoolFault::Memory { .. } => Refusal::Memory,
+            PoolFault::Differs { .. } => Refusal::Differs,
+        }
+    }
+}
+
+/// The name of the reason.
+impl<W: Work, C, G, S, N: PoolLedgers> Display for PoolFault<W, C, G, S, N> {
+    ghost use Rattle.std.specs.Prelude.{Some};
+    ghost use Rattle.meet_tickets.specs.Refusals.{name_of};
+    ghost use Rattle.pool_threads.specs.Faults.{why_of};
+
+    ghost output = { λ fault. Some (name_of (why_of fault)) };
+
+    fn fmt<O: Write>(&self, f: &mut Formatter<O>) -> fmt::Result {
+        f.write_str(self.why().name())
+    }
+}
+
+/// The reason alone: what comes back need not be such as can be shown.
+impl<W: Work, C, G, S, N: PoolLedgers> Debug for PoolFault<W, C, G, S, N> {
+    fn fmt<O: Write>(&self, f: &mut Formatter<O>) -> fmt::Result {
+        write!(f, "PoolFault({})", self.why())
+    }
+}
+
+impl<W: Work, C: Drop, G: Drop, S: Drop, N: PoolLedgers> PoolFault<W, C, G, S, N> {
+    /// The reason alone. The pool or its book, the seats and the kept jobs are let go: match the fault to keep them.
+    pub fn into_why(self) -> Refusal
+        ensures { result ≡ why_of self }
+    {
+        self.why()
+    }
+}

@@ -1,0 +1,288 @@
+//! The steps of a worker under the lock of its pool.
+
+ghost use Rattle.std.specs.Prelude.{List, ℕ, map, ◌≡◌, ◌<◌, Some, None, Option};
+ghost use Rattle.pool_core.specs.Moves.{Jobs, ReadyMoves, FollowMoves, IdleMoves, FailMoves};
+ghost use Rattle.pool_threads.specs.Mirrored.{tags_of, given_tag, away};
+ghost use Rattle.pool_threads.specs.NextFits.{NextFits, ReadyNext, FollowNext, IdleNext};
+ghost use Rattle.pool_threads.specs.Worthy.{EndsRunningWorth};
+ghost use Rattle.pool_threads.specs.declared.steps.WorkerCall.TheVariants.{Finish as FinishCall};
+
+use crate::jobs::{Job, Work};
+use crate::ledgers::PoolLedgers;
+use crate::moving::{put_back, run, take};
+use crate::shared::PoolShared;
+use crate::worth::WorkerSeat;
+use pool_core::{FollowedUp, IdleEnd, PoolAnswer, PoolCall, Ready};
+use std::collections::VecDeque;
+
+/// A step that a worker makes.
+#[derive(Drop)]
+pub enum WorkerCall {
+    /// It starts, or comes back for a job.
+    Ready,
+    /// It looks whether it was handed a job.
+    Follow,
+    /// Its job answered this.
+    Finish(u64),
+    /// Its time at the queue ran out.
+    IdleEnd,
+    /// It has no job, and ends.
+    Leave,
+}
+
+/// How a worker's step ended.
+#[derive(Drop)]
+pub enum Next<C, S> {
+    /// The worker has this job to run.
+    Run(S, Job<C>),
+    /// The worker waits.
+    Waits(S),
+    /// The worker's job ended.
+    Ended(S),
+    /// Nothing happened.
+    Stays(S),
+    /// The worker isn't there any more; its seat lies in the pool.
+    Gone,
+    /// The step was refused.
+    Refused(S),
+}
+
+impl<W: Work, C: Drop, N: PoolLedgers> PoolShared<W, C, N> {
+    /// Makes a step of a worker, whose list has room for the receipt.
+    pub fn work(&mut self, seat: WorkerSeat<W, N>, call: WorkerCall) -> Next<C, WorkerSeat<W, N>>
+        requires room { 0 < seat.room }
+        requires finish { (answer : _) → (call ≡ FinishCall answer) → EndsRunningWorth W.worth seat.list answer }
+        ensures { NextFits seat result }
+    {
+        match call {
+            WorkerCall::Ready => self.ready(seat),
+            WorkerCall::Follow => self.follow(seat),
+            WorkerCall::Finish(answer) => self.finish(seat, answer),
+            WorkerCall::IdleEnd => self.idle_end(seat),
+            WorkerCall::Leave => self.leave(seat),
+        }
+    }
+
+    /// A worker's `ready`.
+    fn ready(&mut self, mut seat: WorkerSeat<W, N>) -> Next<C, WorkerSeat<W, N>>
+        requires room { 0 < seat.room }
+        ensures { NextFits seat result }
+    {
+        let PoolShared {
+            shared,
+            kept,
+            given,
+            seats,
+        } = self;
+        let w = shared.probe().worker_of(seat.number()) as usize;
+        match seat.step(shared, PoolCall::Ready) {
+            Err(_) => Next::Refused(seat),
+            Ok(answer) => match answer {
+                PoolAnswer::BeReady(_ticket, answer) => after_ready(
+                    kept, given, seats, w, seat, answer,
+                ),
+                _ => unreachable!(),
+            },
+        }
+    }
+
+    /// A worker's `follow`.
+    fn follow(&mut self, mut seat: WorkerSeat<W, N>) -> Next<C, WorkerSeat<W, N>>
+        requires room { 0 < seat.room }
+        ensures { NextFits seat result }
+    {
+        let PoolShared {
+            shared,
+            kept,
+            given,
+            seats,
+        } = self;
+        let w = shared.probe().worker_of(seat.number()) as usize;
+        match seat.step(shared, PoolCall::Follow) {
+            Err(_) => Next::Refused(seat),
+            Ok(answer) => match answer {
+                PoolAnswer::Followed(_ticket, answer) => after_follow(
+                    kept, given, seats, w, seat, answer,
+                ),
+                _ => unreachable!(),
+            },
+        }
+    }
+
+    /// A worker's job answered this.
+    fn finish(&mut self, mut seat: WorkerSeat<W, N>, answer: u64) -> Next<C, WorkerSeat<W, N>>
+        requires room { 0 < seat.room }
+        requires worth { EndsRunningWorth W.worth seat.list answer }
+        ensures { NextFits seat result }
+    {
+        match seat.step(&mut self.shared, PoolCall::Finish(answer)) {
+            Err(_) => Next::Refused(seat),
+            Ok(answer) => match answer {
+                PoolAnswer::Finished(_ticket) => Next::Ended(seat),
+                _ => unreachable!(),
+            },
+        }
+    }
+
+    /// A worker's time ran out.
+    fn idle_end(&mut self, mut seat: WorkerSeat<W, N>) -> Next<C, WorkerSeat<W, N>>
+        requires room { 0 < seat.room }
+        ensures { NextFits seat result }
+    {
+        let PoolShared { shared, seats, .. } = self;
+        let w = shared.probe().worker_of(seat.number()) as usize;
+        match seat.step(shared, PoolCall::IdleEnd) {
+            Err(_) => Next::Refused(seat),
+            Ok(answer) => match answer {
+                PoolAnswer::Idled(_ticket, answer) => after_idle(seats, w, seat, answer),
+                _ => unreachable!(),
+            },
+        }
+    }
+
+    /// A worker that has no job leaves.
+    fn leave(&mut self, mut seat: WorkerSeat<W, N>) -> Next<C, WorkerSeat<W, N>>
+        requires room { 0 < seat.room }
+        ensures { NextFits seat result }
+    {
+        let PoolShared { shared, seats, .. } = self;
+        let w = shared.probe().worker_of(seat.number()) as usize;
+        match seat.step(shared, PoolCall::Leave) {
+            Err(_) => Next::Refused(seat),
+            Ok(answer) => match answer {
+                PoolAnswer::Left => {
+                    put_back(seats, w, seat);
+                    Next::Gone
+                }
+                _ => unreachable!(),
+            },
+        }
+    }
+
+    /// A worker couldn't be started: the job that it was started with, if there was one. Its seat lies in the pool
+    /// again; a step that is refused, which none is, lets it go.
+    pub fn start_failed(&mut self, mut seat: WorkerSeat<W, N>) -> Option<Job<C>>
+        requires room { 0 < seat.room }
+    {
+        let PoolShared {
+            shared,
+            given,
+            seats,
+            ..
+        } = self;
+        let w = shared.probe().worker_of(seat.number()) as usize;
+        match seat.step(shared, PoolCall::StartFailed) {
+            Err(_) => None,
+            Ok(answer) => match answer {
+                PoolAnswer::NotStarted(_ticket, first) => after_failed(
+                    given, seats, w, seat, first,
+                ),
+                _ => unreachable!(),
+            },
+        }
+    }
+}
+
+/// Moves the jobs and the seat as an answer to `ready` says.
+fn after_ready<C: Drop, S: Drop>(
+    kept: &mut VecDeque<Job<C>>,
+    given: &mut Vec<Option<Job<C>>>,
+    seats: &mut Vec<Option<S>>,
+    w: usize,
+    seat: S,
+    answer: Ready<u64>,
+) -> Next<C, S>
+    requires moves { (new : Jobs ℕ)
+        × ReadyMoves w answer (tags_of kept.old.items given.old.items (away seats.old.items)) new }
+    ensures next { ReadyNext seat answer result }
+    ensures moves { (new : Jobs ℕ)
+        → ReadyMoves w answer (tags_of kept.old.items given.old.items (away seats.old.items)) new
+        → tags_of kept.new.items given.new.items (away seats.new.items) ≡ new }
+{
+    match answer {
+        Ready::Run(_, tag) => {
+            let _ = tag;
+            Next::Run(seat, run(kept, given, w))
+        }
+        Ready::Waits => Next::Waits(seat),
+        Ready::Exit => {
+            put_back(seats, w, seat);
+            Next::Gone
+        }
+    }
+}
+
+/// Moves the jobs and the seat as an answer to `follow` says.
+fn after_follow<C: Drop, S: Drop>(
+    kept: &mut VecDeque<Job<C>>,
+    given: &mut Vec<Option<Job<C>>>,
+    seats: &mut Vec<Option<S>>,
+    w: usize,
+    seat: S,
+    answer: FollowedUp<u64>,
+) -> Next<C, S>
+    requires moves { (new : Jobs ℕ)
+        × FollowMoves w answer (tags_of kept.old.items given.old.items (away seats.old.items)) new }
+    ensures next { FollowNext seat answer result }
+    ensures moves { (new : Jobs ℕ)
+        → FollowMoves w answer (tags_of kept.old.items given.old.items (away seats.old.items)) new
+        → tags_of kept.new.items given.new.items (away seats.new.items) ≡ new }
+{
+    match answer {
+        FollowedUp::Run(_, tag) => {
+            let _ = tag;
+            Next::Run(seat, run(kept, given, w))
+        }
+        FollowedUp::NotYet => Next::Stays(seat),
+        FollowedUp::Exit => {
+            put_back(seats, w, seat);
+            Next::Gone
+        }
+    }
+}
+
+/// Moves the seat as an answer to `idle_end` says.
+fn after_idle<C: Drop, S: Drop>(
+    seats: &mut Vec<Option<S>>,
+    w: usize,
+    seat: S,
+    answer: IdleEnd,
+) -> Next<C, S>
+    requires moves { (kept : List ℕ) × (given : List (Option ℕ)) × (new : Jobs ℕ)
+        × IdleMoves w answer (record { kept = kept; given = given; there = away seats.old.items }) new }
+    ensures next { IdleNext seat answer result }
+    ensures moves { (kept : List ℕ) (given : List (Option ℕ)) (new : Jobs ℕ)
+        → IdleMoves w answer (record { kept = kept; given = given; there = away seats.old.items }) new
+        → record { kept = kept; given = given; there = away seats.new.items } ≡ new }
+{
+    match answer {
+        IdleEnd::Stay | IdleEnd::Late => Next::Stays(seat),
+        IdleEnd::Exit => {
+            put_back(seats, w, seat);
+            Next::Gone
+        }
+    }
+}
+
+/// Moves the job and the seat of a worker that couldn't be started.
+fn after_failed<C: Drop, S: Drop>(
+    given: &mut Vec<Option<Job<C>>>,
+    seats: &mut Vec<Option<S>>,
+    w: usize,
+    seat: S,
+    first: Option<u64>,
+) -> Option<Job<C>>
+    requires moves { (kept : List ℕ) × (new : Jobs ℕ)
+        × FailMoves w first
+        (record { kept = kept; given = map given_tag given.old.items; there = away seats.old.items }) new }
+    ensures moves { (kept : List ℕ) (new : Jobs ℕ)
+        → FailMoves w first
+        (record { kept = kept; given = map given_tag given.old.items; there = away seats.old.items }) new
+        → record { kept = kept; given = map given_tag given.new.items; there = away seats.new.items } ≡ new }
+{
+    put_back(seats, w, seat);
+    match first {
+        Some(_) => Some(take(given, w)),
+        None => None,
+    }
+}
