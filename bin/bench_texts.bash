@@ -1,7 +1,7 @@
 #!/usr/bin/env bash
-# What `bin/bench texts` runs: measures what `meet run` and `meet check` take for a record, of texts of 2^16 and of 2^20 records, by runs of
-# the program `meet`, which is built first where it isn't there or its sources are newer. Further programs, named behind `texts`, are run
-# on the same texts: `bin/bench texts PROGRAM..` compares an earlier build with this one.
+# What `bin/bench texts` runs: measures what `meet run`, `meet check` and `meet check --erase` (told as `erase`) take for a record, of texts
+# of 2^16 and of 2^20 records, by runs of the program `meet`, which is built first where it isn't there or its sources are newer. Further
+# programs, named behind `texts`, are run on the same texts: `bin/bench texts PROGRAM..` compares an earlier build with this one.
 #
 # A time is processor time, the least of five runs, in nanoseconds a record. The last column is what a record costs of the large text
 # by what it costs of the small one: 1.00 where both cost the same. A run is cut off after 20 seconds, and then shown with what it took.
@@ -47,9 +47,10 @@ text_of() {
 
 # The least processor time of five runs of this program on this text, in milliseconds.
 time_of() {
-    local least='' spent TIMEFORMAT='%U %S'
+    local least='' spent words=("$2") TIMEFORMAT='%U %S'
+    [ "$2" != erase ] || words=(check --erase)
     for _ in 1 2 3 4 5; do
-        spent=$({ time timeout 20 "$1" "$2" <"$3" >/dev/null; } 2>&1 | awk '{ printf "%d", ($1 + $2) * 1000 }')
+        spent=$({ time timeout 20 "$1" "${words[@]}" <"$3" >/dev/null; } 2>&1 | awk '{ printf "%d", ($1 + $2) * 1000 }')
         if [ -z "$least" ] || [ "$spent" -lt "$least" ]; then
             least=$spent
         fi
@@ -75,6 +76,9 @@ done <<'END'
 check trace fair handoffs
 check trace transfer handoffs
 check trace transfer withdrawals
+erase trace fair handoffs
+erase trace transfer handoffs
+erase trace transfer withdrawals
 run script fair handoffs
 run script transfer handoffs
 run script transfer withdrawals
