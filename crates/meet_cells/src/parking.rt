@@ -98,7 +98,8 @@ impl ParkGate {
         unreachable!()
     }
 
-    /// Spins so many turns, and then parks until somebody wakes the gate, or until the time is up where there is a limit.
+    /// Spins so many turns, and then parks until somebody wakes the gate, or until the time is up where there is a
+    /// limit.
     pub(crate) fn spin_and_park<R: Wait + Clock>(
         &self,
         rt: &R,

@@ -25,8 +25,9 @@ IsSized givers each = (0 < givers) × (givers ≤ most_givers) × (0 < each) × 
 abbrev pub fair : Kind
 fair = record { order = Fair; bound = None }
 
--- there is a legal history of a synchronous queue in fair mode, which has so many records, in which the items of so many
--- give requests are paired, and which leaves so much
+-- there is a legal history of a synchronous queue in fair mode, which has so many records, in which the items of so
+-- many give requests are paired, and which leaves so much
 abbrev pub IsDriven : Drive → Type 0
 IsDriven drive = (history : List (Record Deed)) × IsLegal fair history
-    × (drive.records ≡ length history) × (drive.pairs ≡ (tally_in history).delivered) × (drive.standing ≡ standing_in history)
+    × (drive.records ≡ length history) × (drive.pairs ≡ (tally_in history).delivered)
+    × (drive.standing ≡ standing_in history)

@@ -1,5 +1,5 @@
-//! The threads of a drive. Each works with a seat that it takes out of its slot, and puts it back there at its end: so a
-//! seat comes back whatever happens, also where its thread can't be started.
+//! The threads of a drive. Each works with a seat that it takes out of its slot, and puts it back there at its end: so
+//! a seat comes back whatever happens, also where its thread can't be started.
 
 use crate::course::{Course, Passed};
 use crate::progress::Progress;
@@ -138,8 +138,8 @@ fn work<G: Gate, N: Ledgers, R: Wait + Clock>(
     course.end();
 }
 
-/// Each of the first half of the slots gives so many items, each of the others takes as many, all at once, and progress is
-/// told; whether every thread could be started. Where one couldn't, all are stopped.
+/// Each of the first half of the slots gives so many items, each of the others takes as many, all at once, and progress
+/// is told; whether every thread could be started. Where one couldn't, all are stopped.
 pub fn run_all<G, N, R, P>(
     rt: &R,
     course: &Course<G, N>,

@@ -126,7 +126,7 @@ where
     };
     let (queue, seats) = match SyncQueue::with_cap(alloc, parts, cap) {
         Ok(made) => made,
-        Err(refused) => return Err(refused.why),
+        Err(refused) => return Err(refused.into_why()), // the gates and the ledgers are let go
     };
     let course = Course::new(queue);
     let slots = slots_of::<N>(seats, slots);
@@ -150,10 +150,10 @@ where
     }
 }
 
-/// So many givers, at most `MOST_GIVERS`, put the items from 1 up to `each`, at most `MOST_EACH`, into a synchronous queue
-/// in fair mode, as many takers take as many, each in a thread of its own; then the queue is closed, and its history is
-/// checked. It refuses NoThread where a thread can't be started, what the queue refuses, or Memory; then every thread has
-/// been stopped, and the queue closed all the same.
+/// So many givers, at most `MOST_GIVERS`, put the items from 1 up to `each`, at most `MOST_EACH`, into a synchronous
+/// queue in fair mode, as many takers take as many, each in a thread of its own; then the queue is closed, and its
+/// history is checked. It refuses NoThread where a thread can't be started, what the queue refuses, or Memory; then
+/// every thread has been stopped, and the queue closed all the same.
 pub fn drive<R>(rt: &R, alloc: Global, givers: u64, each: u64) -> Result<Drive, Refusal>
 where
     R: Threads + Wait + Clock + Sync,
@@ -180,8 +180,8 @@ where
     drive_with(rt, alloc, givers, each, MOST_RECORDS, progress)
 }
 
-/// The same with at most so many records: BadSizes where these are none or more than 1,048,576, and HistoryFull where the
-/// drive needs more.
+/// The same with at most so many records: BadSizes where these are none or more than 1,048,576, and HistoryFull where
+/// the drive needs more.
 pub fn drive_within<R>(
     rt: &R,
     alloc: Global,

@@ -1,5 +1,6 @@
 -- What the line of a history's marks shows of itself.
-use Rattle.std.specs.Prelude.{◌≡◌, ℕ, ◌-◌, ◌<◌, List, length, slice_index_or, Option, Some, None, is_some, not, if◌then◌else◌}
+use Rattle.std.specs.Prelude.{◌≡◌, ℕ, ◌-◌, ◌<◌, List, length, slice_index_or, Option, Some, None, is_some, not}
+use Rattle.std.specs.Prelude.{if◌then◌else◌}
 use Rattle.meet_tickets.specs.declared.lines.Entry.{Entry}
 use Rattle.meet_tickets.specs.declared.places.End.{End}
 use Rattle.meet_tickets.specs.declared.places.End.TheVariants.{Front, Back}

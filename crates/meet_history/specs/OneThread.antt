@@ -1,5 +1,6 @@
 -- The replies of a place that one thread uses, whatever seats it speaks for.
-use Rattle.std.specs.Prelude.{ℕ, zero, suc, ◌+◌, ◌-◌, nat_lt, min, Bool, true, false, Option, Some, None, unwrap_or, List}
+use Rattle.std.specs.Prelude.{ℕ, zero, suc, ◌+◌, ◌-◌, nat_lt, min, Bool, true, false, Option, Some, None, unwrap_or}
+use Rattle.std.specs.Prelude.{List}
 use Rattle.std.specs.Prelude.{[], ◌∷◌, ◌++◌, if◌then◌else◌}
 use Rattle.std.specs.Option.{option_map_or}
 use Rattle.meet_tickets.specs.declared.lines.Entry.{Entry}
@@ -30,13 +31,15 @@ use Rattle.meet_history.specs.declared.one_thread.verbs.Verb.{Verb}
 use Rattle.meet_history.specs.declared.one_thread.verbs.Verb.TheVariants.{Put, Offer, Take, Poll}
 use Rattle.meet_history.specs.declared.one_thread.verbs.Verb.TheVariants.{Transfer as TransferItem, Try, Follow}
 use Rattle.meet_history.specs.declared.one_thread.verbs.Verb.TheVariants.{Cancel, Expire, Interrupt as InterruptSeat}
-use Rattle.meet_history.specs.declared.one_thread.verbs.Verb.TheVariants.{Drain, Size, Room, Peek, Consumers, Checkpoint}
+use Rattle.meet_history.specs.declared.one_thread.verbs.Verb.TheVariants.{Drain, Size, Room, Peek, Consumers}
+use Rattle.meet_history.specs.declared.one_thread.verbs.Verb.TheVariants.{Checkpoint}
 use Rattle.meet_history.specs.declared.one_thread.setup.Setup.{Setup}
 use Rattle.meet_history.specs.declared.one_thread.replies.Reply.{Reply}
 use Rattle.meet_history.specs.declared.one_thread.replies.Outcome.{Outcome}
 use Rattle.meet_history.specs.declared.one_thread.replies.Outcome.TheVariants.{Recorded}
 use Rattle.meet_history.specs.declared.one_thread.replies.Outcome.TheVariants.{Interrupted as InterruptedSeat, NotYet}
-use Rattle.meet_history.specs.declared.one_thread.replies.Outcome.TheVariants.{Late, Drained, Count, Peeked, Based, Refused}
+use Rattle.meet_history.specs.declared.one_thread.replies.Outcome.TheVariants.{Late, Drained, Count, Peeked, Based}
+use Rattle.meet_history.specs.declared.one_thread.replies.Outcome.TheVariants.{Refused}
 use Rattle.meet_history.specs.declared.one_thread.replies.Answer.TheVariants.{Waits, Kept, Gave, Got as GotItem}
 use Rattle.meet_history.specs.declared.one_thread.replies.Answer.TheVariants.{Fails, Done as Finished}
 use Rattle.meet_history.specs.declared.one_thread.replies.Answer.TheVariants.{Withdrawn as TakenBack}

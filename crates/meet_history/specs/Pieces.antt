@@ -1,6 +1,7 @@
--- Bases that are told piece by piece (our choice): the line in order of request, then the open tickets that were met and
--- those that were cut, each by rising ticket, then the flagged seats, rising.
-use Rattle.std.specs.Prelude.{◌≡◌, ℕ, nat_lt, nat_le, ◌==◌, ◌&&◌, not, Bool, true, false, Option, is_some, List, [], ◌∷◌, ◌++◌}
+-- Bases that are told piece by piece (our choice): the line in order of request, then the open tickets that were met
+-- and those that were cut, each by rising ticket, then the flagged seats, rising.
+use Rattle.std.specs.Prelude.{◌≡◌, ℕ, nat_lt, nat_le, ◌==◌, ◌&&◌, not, Bool, true, false, Option, is_some, List, []}
+use Rattle.std.specs.Prelude.{◌∷◌, ◌++◌}
 use Rattle.std.specs.Prelude.{if◌then◌else◌}
 use Rattle.std.specs.List.{list_any, list_all}
 use Rattle.std.specs.Option.{option_map_or}
@@ -67,7 +68,8 @@ cut_fits b c = list_all (λ d. nat_lt d.ticket c.ticket) b.cut && (is_new b c.ti
 
 -- a flagged seat is above the others, and doesn't wait in the line
 abbrev pub flag_fits : Based → (seat : ℕ) → Bool
-flag_fits b i = list_all (λ j. nat_lt j i) b.flags && not (list_any (λ e. if e.waits then e.seat == i else false) b.line)
+flag_fits b i = list_all (λ j. nat_lt j i) b.flags
+    && not (list_any (λ e. if e.waits then e.seat == i else false) b.line)
 
 -- the piece alone fits
 abbrev pub piece_fits : Kind → Based → Piece → Bool

@@ -69,8 +69,8 @@ impl Model for Checker {
 }
 
 impl Checker {
-    /// A checker of a place of this kind that begins with this base, and has seen no record since. It asks that the base
-    /// is well formed. The only fault is Memory.
+    /// A checker of a place of this kind that begins with this base, and has seen no record since. It asks that the
+    /// base is well formed. The only fault is Memory.
     pub fn new(alloc: Global, kind: Kind, base: &Base) -> Result<Self, CheckFault>
         requires { IsWellFormed kind base.now }
         ensures kind { IfOk result (λ checker. checker.place.kind ≡ kind) }

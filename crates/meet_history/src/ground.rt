@@ -103,7 +103,8 @@ fn is_above_flags(flags: &[SeatNo], seat: SeatNo) -> bool
 impl Ground {
     ghost use Rattle.meet_history.specs.declared.pieces.Piece.TheVariants.{Stands, Met, Cut, Flagged};
     ghost use Rattle.meet_tickets.specs.Bases.{IsWellFormed};
-    ghost use Rattle.meet_history.specs.Pieces.{bare_base, is_new, is_unheld, keeps_more, entry_fits, pair_fits, cut_fits, flag_fits};
+    ghost use Rattle.meet_history.specs.Pieces.{bare_base, is_new, is_unheld, keeps_more, entry_fits, pair_fits};
+    ghost use Rattle.meet_history.specs.Pieces.{cut_fits, flag_fits};
     ghost use Rattle.meet_history.specs.Pieces.{in_order, may_follow, with_piece};
 
     /// A base of nothing but these numbers. It takes no memory.

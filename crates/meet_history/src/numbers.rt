@@ -40,7 +40,8 @@ impl Numbers {
 
     /// A number comes to the others. It fails where memory is wanted and not there.
     pub(crate) fn add(&mut self, number: u64) -> Result<(), AllocError>
-        ensures { OnOk result ((n : ℕ) → has_number self.new n ≡ (if n == number then true else has_number self.old n)) }
+        ensures { OnOk result ((n : ℕ)
+            → has_number self.new n ≡ (if n == number then true else has_number self.old n)) }
     {
         match self.set.insert(number) {
             Ok(_) => Ok(()),

@@ -1,6 +1,7 @@
 //! How two tickets meet.
 
-ghost use Rattle.std.specs.Prelude.{◌≡◌, ◌+◌, ◌<◌, ◌↔◌, IsTrue, false, is_some, None, Some, IsSome, AllPairs, length, option_to_list, if◌then◌else◌};
+ghost use Rattle.std.specs.Prelude.{◌≡◌, ◌+◌, ◌<◌, ◌↔◌, IsTrue, false, is_some, None, Some, IsSome, AllPairs, length};
+ghost use Rattle.std.specs.Prelude.{option_to_list, if◌then◌else◌};
 ghost use Rattle.meet_tickets.specs.Meeting.{met, partner, count_on};
 ghost use Rattle.meet_tickets.specs.BySeat.{unmet, put_at};
 ghost use Rattle.meet_tickets.specs.declared.lines.Hold.TheVariants.{Handed, Served};

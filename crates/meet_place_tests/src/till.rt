@@ -1,6 +1,7 @@
 //! A till, in which amounts are added up: an object with nothing of queues in it.
 
-ghost use Rattle.std.specs.Prelude.{◌≡◌, ◌+◌, ◌<◌, ◌≤◌, ℕ, List, [], Some, None, ⊤, refl, nat_lt, length, if◌then◌else◌};
+ghost use Rattle.std.specs.Prelude.{◌≡◌, ◌+◌, ◌<◌, ◌≤◌, ℕ, List, [], Some, None, ⊤, refl, nat_lt, length};
+ghost use Rattle.std.specs.Prelude.{if◌then◌else◌};
 ghost use Rattle.std.specs.Vec.{vec_capacity};
 ghost use Rattle.meet_tickets.specs.declared.records.Record.{Record as Entered};
 ghost use Rattle.meet_place_tests.specs.declared.till.Amount.{Amount as Added};

@@ -1,6 +1,7 @@
 -- What the lines of a base say in a trace (our choice of format): how many records were folded away and their greatest
 -- ticket, and then a line for each piece.
-use Rattle.std.specs.Prelude.{ℕ, nat_lt, Bool, true, false, Option, Some, None, List, [], ◌∷◌, length, codes, if◌then◌else◌}
+use Rattle.std.specs.Prelude.{ℕ, nat_lt, Bool, true, false, Option, Some, None, List, [], ◌∷◌, length, codes}
+use Rattle.std.specs.Prelude.{if◌then◌else◌}
 use Rattle.std.specs.Str.{bytes_eq}
 use Rattle.meet_tickets.specs.declared.lines.Entry.{Entry}
 use Rattle.meet_tickets.specs.declared.bases.OpenPair.{OpenPair}
@@ -29,7 +30,8 @@ giver_entry seat ticket mark (space ∷ word) = do
 -- an entry of the line, by its side's word and the rest
 unfoldable pub entry_of_line : (seat ticket : ℕ) → (word rest : List ℕ) → Option (Entry ℕ)
 entry_of_line seat ticket word [] =
-    if bytes_eq word (codes "take") then Some (record { ticket = ticket; seat = seat; item = None; waits = true }) else None
+    if bytes_eq word (codes "take") then Some (record { ticket = ticket; seat = seat; item = None; waits = true })
+    else None
 entry_of_line seat ticket word (space ∷ text) =
     if bytes_eq word (codes "give") then giver_entry seat ticket (word_of text) (rest_of text) else None
 
@@ -47,7 +49,8 @@ unfoldable pub cut_of_line : (seat ticket : ℕ) → (word rest : List ℕ) → 
 cut_of_line seat ticket word [] =
     if bytes_eq word (codes "take") then Some (record { ticket = ticket; seat = seat; item = None }) else None
 cut_of_line seat ticket word (space ∷ mark) =
-    if bytes_eq word (codes "give") then (number_spelled mark >>= λ m. Some (record { ticket = ticket; seat = seat; item = Some m })) else None
+    if bytes_eq word (codes "give")
+    then (number_spelled mark >>= λ m. Some (record { ticket = ticket; seat = seat; item = Some m })) else None
 
 -- the same of what stands behind a side's word
 unfoldable pub pair_behind : (seat ticket : ℕ) → (word rest : List ℕ) → Option OpenPair

@@ -1,6 +1,7 @@
 -- What a whole trace with a base says (our choice of format): its first line names the place, the second has the base's
 -- numbers, then come the base's pieces, each of which may follow those before it, and then the records since.
-use Rattle.std.specs.Prelude.{◌≡◌, ℕ, ◌+◌, nat_le, Bool, true, false, Option, Some, None, IfSome, List, [], ◌∷◌, if◌then◌else◌}
+use Rattle.std.specs.Prelude.{◌≡◌, ℕ, ◌+◌, nat_le, Bool, true, false, Option, Some, None, IfSome, List, [], ◌∷◌}
+use Rattle.std.specs.Prelude.{if◌then◌else◌}
 use Rattle.std.specs.Option.{option_map_or}
 use Rattle.meet_tickets.specs.declared.places.Kind.{Kind}
 use Rattle.meet_tickets.specs.declared.records.Deed.{Deed}
@@ -53,10 +54,12 @@ told_from k b n (line ∷ lines) = option_map_or
 unfoldable pub told_behind : Kind → (lines : List (List ℕ)) → Told
 told_behind k [] = ill_at (bare_base 0 0) 2
 told_behind k (line ∷ lines) =
-    option_map_or (λ numbers. told_from k (bare_base numbers.0 numbers.1) 3 lines) (numbers_of line) (ill_at (bare_base 0 0) 2)
+    option_map_or (λ numbers. told_from k (bare_base numbers.0 numbers.1) 3 lines)
+    (numbers_of line) (ill_at (bare_base 0 0) 2)
 
 -- these lines are a whole trace with this base, of such a place, with these records since
-pub record IsBasedTrace (lines : List (List ℕ)) (kind : Kind) (base : Based) (records : List (Record Deed)) : Type 0 where
+pub record IsBasedTrace
+    (lines : List (List ℕ)) (kind : Kind) (base : Based) (records : List (Record Deed)) : Type 0 where
   pub first : List ℕ
   pub rest : List (List ℕ)
   pub parts : lines ≡ first ∷ rest
@@ -70,12 +73,13 @@ IsVerdictOn kind base records true text =
 IsVerdictOn kind base records false text = (number : ℕ) × (why : Why) × IsIllegalAt kind base records number why
     × (text ≡ illegal_line number why)
 
--- what lines said from the base's pieces on: where a line is left that is no piece, it and the rest are records from this
--- number on; else nothing follows the base
+-- what lines said from the base's pieces on: where a line is left that is no piece, it and the rest are records from
+-- this number on; else nothing follows the base
 abbrev pub HasLaid : Kind → (old : Based) → (left : Bool) → (line : List ℕ) → (new : Based) → (number : ℕ)
     → (before after : Option (List ℕ)) → Type 0
 HasLaid k old true line new number before after =
-    Both before after (λ first rest. told_from k old 3 (lines_of first) ≡ records_told new number (line ∷ lines_of rest))
+    Both before after (λ first rest.
+    told_from k old 3 (lines_of first) ≡ records_told new number (line ∷ lines_of rest))
 HasLaid k old false line new number before after =
     IfSome before (λ first. told_from k old 3 (lines_of first) ≡ record { base = new; records = []; fault = None })
 

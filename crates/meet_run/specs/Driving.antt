@@ -7,15 +7,15 @@ use Rattle.meet_run.specs.declared.faults.RunFault.{RunFault}
 use Rattle.meet_run.specs.Wording.{last_line}
 use Rattle.meet_run.specs.Writing.{AppendsPrefix}
 
--- its lines: how many items the takers counted, the sum of these, how many pairs the history tells of, and the line that
--- ends a script
+-- its lines: how many items the takers counted, the sum of these, how many pairs the history tells of, and the line
+-- that ends a script
 unfoldable pub drive_text : Drive → List ℕ
 drive_text drive =
     codes "items " ++ decimal drive.items ++ codes "\nsum " ++ decimal drive.sum ++ codes "\npairs "
     ++ decimal drive.pairs ++ codes "\n" ++ last_line drive.records drive.standing
 
--- what came of a drive whose text was to be written: all of it was; or the fault is in no line, and nothing was written, or
--- a prefix of the text
+-- what came of a drive whose text was to be written: all of it was; or the fault is in no line, and nothing was
+-- written, or a prefix of the text
 abbrev pub DriveEnds : Result Bool RunFault → (old new : Option (List ℕ)) → Type 0
 DriveEnds (Ok legal) old new =
     (legal ≡ true) × ((drive : Drive) × IsDriven drive × Appends old new (drive_text drive))

@@ -61,7 +61,8 @@ IsVerdict kind records false text = (number : ℕ) × (why : Why) × IsIllegalAt
 
 -- these lines are records to their end, so many, and just they were pushed on the checker
 abbrev pub ArePushed : Progress → (count : ℕ) → Listed (Record Deed) → Type 0
-ArePushed checker count lines = (lines.fault ≡ None) × (count ≡ length lines.items) × HasSeen no_base checker lines.items
+ArePushed checker count lines = (lines.fault ≡ None) × (count ≡ length lines.items)
+    × HasSeen no_base checker lines.items
 
 -- whatever so many records were pushed on the checker, this is found of them
 abbrev pub IsVerdictOf : Progress → (count : ℕ) → (legal : Bool) → (text : List ℕ) → Type 0
@@ -119,8 +120,8 @@ TraceFaultIs _ _ = ⊥
 abbrev pub IsTraceFault : RunFault → Type 0
 IsTraceFault f = TraceFaultIs f.why f.line
 
--- the calls of these lines, up to the first that is none, leave this base and these records since; a checkpoint was made
--- among them, or wasn't
+-- the calls of these lines, up to the first that is none, leave this base and these records since; a checkpoint was
+-- made among them, or wasn't
 pub record LeavesRun (setup : Setup) (lines : List (List ℕ)) (cut : Bool) (base : Based) (since : List (Record Deed))
     (bad : Option ℕ) : Type 0 where
   pub folded : IsFolded setup.kind (records setup (calls_behind setup lines).items) base since

@@ -7,7 +7,8 @@ use Rattle.meet_history.specs.declared.one_thread.replies.Reply.{Reply}
 use Rattle.meet_history.specs.declared.one_thread.replies.Outcome.{Outcome}
 use Rattle.meet_history.specs.declared.one_thread.replies.Outcome.TheVariants.{Recorded}
 use Rattle.meet_history.specs.declared.one_thread.replies.Outcome.TheVariants.{Interrupted as InterruptedSeat, NotYet}
-use Rattle.meet_history.specs.declared.one_thread.replies.Outcome.TheVariants.{Late, Drained, Count, Peeked, Based, Refused}
+use Rattle.meet_history.specs.declared.one_thread.replies.Outcome.TheVariants.{Late, Drained, Count, Peeked, Based}
+use Rattle.meet_history.specs.declared.one_thread.replies.Outcome.TheVariants.{Refused}
 use Rattle.meet_history.specs.declared.one_thread.replies.Answer.{Answer}
 use Rattle.meet_history.specs.declared.one_thread.replies.Answer.TheVariants.{Waits, Kept, Gave, Got, Fails, Done}
 use Rattle.meet_history.specs.declared.one_thread.replies.Answer.TheVariants.{Withdrawn}

@@ -2,8 +2,10 @@
 
 ghost use Rattle.std.specs.Prelude.{◌≡◌, IfSome};
 ghost use Rattle.meet_run.specs.TraceSpelling.{FitsHead};
-ghost use Rattle.meet_run.specs.BaseGrammar.{waits_of, giver_entry, entry_of_line, pair_of_line, pair_behind, cut_of_line};
-ghost use Rattle.meet_run.specs.BaseGrammar.{ticketed_piece, piece_with_ticket, piece_with_seat, piece_behind, piece_of};
+ghost use Rattle.meet_run.specs.BaseGrammar.{waits_of, giver_entry, entry_of_line, pair_of_line, pair_behind};
+ghost use Rattle.meet_run.specs.BaseGrammar.{cut_of_line};
+ghost use Rattle.meet_run.specs.BaseGrammar.{ticketed_piece, piece_with_ticket, piece_with_seat, piece_behind};
+ghost use Rattle.meet_run.specs.BaseGrammar.{piece_of};
 ghost use Rattle.meet_run.specs.BaseGrammar.{numbers_in, numbers_of, based_head_of};
 
 use crate::first_line::behind_prefix;

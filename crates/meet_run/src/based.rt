@@ -19,8 +19,8 @@ use meet_tickets::{Base, Deed, Kind, MOST_RECORDS, Record, Refusal};
 use std::alloc::Global;
 use std::io::Read;
 
-/// Reads the pieces of a base behind its numbers. The answer is the base, and the number of the first line that is none:
-/// whether there is such a line, which was read.
+/// Reads the pieces of a base behind its numbers. The answer is the base, and the number of the first line that is
+/// none: whether there is such a line, which was read.
 fn lay_pieces<R: Read>(
     reader: &mut R,
     turns: &mut u64,
@@ -77,8 +77,8 @@ fn read_record_from(first: u64, number: u64, line: &[u8]) -> Option<Record<Deed>
     }
 }
 
-/// Reads records, of which the first stands in the line with this number, which was read; and pushes each on the checker.
-/// The answer is how many they are.
+/// Reads records, of which the first stands in the line with this number, which was read; and pushes each on the
+/// checker. The answer is how many they are.
 fn push_from<R: Read>(
     reader: &mut R,
     turns: &mut u64,
@@ -89,7 +89,8 @@ fn push_from<R: Read>(
     requires room { LONGEST_LINE ≤ vec_capacity line.old }
     requires turns { first + turns.old < 2 ^ 64 }
     ensures pushed { IfOk result (λ count. IfSome (R.remaining reader.old) (λ rest.
-        ArePushedOn checker.old checker.new count (listed (record_from first) first (line.old.items ∷ lines_of rest)))) }
+        ArePushedOn checker.old checker.new count
+        (listed (record_from first) first (line.old.items ∷ lines_of rest)))) }
     ensures kind { checker.new.place.kind ≡ checker.old.place.kind }
     ensures most { IfOk result (λ count. count ≤ most_records) }
     ensures ends { OnOk result (EndsInTurns (R.remaining reader.old) turns.old) }

@@ -27,11 +27,11 @@ pub fn push_drive(out: &mut Vec<u8>, drive: Drive) -> Result<(), AllocError>
     push_last_line(out, drive.records, drive.standing)
 }
 
-/// So many givers put the items from 1 up to `each` into a synchronous queue in fair mode, as many takers take as many, as
-/// in `drive`, and each second progress is told; then what came of it is written, and the answer is true.
+/// So many givers put the items from 1 up to `each` into a synchronous queue in fair mode, as many takers take as many,
+/// as in `drive`, and each second progress is told; then what came of it is written, and the answer is true.
 ///
-/// What `drive` refuses is a fault in no line, and nothing is written; where memory is wanted for the text and not there,
-/// it is Memory. A write that fails or takes no byte is WriteFault, and a prefix of the text is written.
+/// What `drive` refuses is a fault in no line, and nothing is written; where memory is wanted for the text and not
+/// there, it is Memory. A write that fails or takes no byte is WriteFault, and a prefix of the text is written.
 pub fn run_drive<R, W: Write, P: Progress>(
     rt: &R,
     alloc: Global,

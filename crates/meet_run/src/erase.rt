@@ -171,8 +171,8 @@ fn write_erased<W: Write>(
 /// all requests that were refused at their entry. The whole of it is read before anything is written, and its records
 /// are kept. A read of the reader takes one byte and costs a turn.
 ///
-/// Where its records are legal it writes the trace of what is left, and the answer is true. Else it writes one line that
-/// names the first record that can't stand, and why, and the answer is false.
+/// Where its records are legal it writes the trace of what is left, and the answer is true. Else it writes one line
+/// that names the first record that can't stand, and why, and the answer is false.
 ///
 /// A line that can't be read, or that stands behind the 1,048,576th record, is BadTrace with its number, from 1; a text
 /// without a first line is a fault of line 1, and so is a first line that announces a base. That wins over an illegal

@@ -1,5 +1,5 @@
-//! Scripts: one thread's calls on a meeting place, and their replies as text. Traces: a place's records as text. Drives:
-//! threads at a queue, and what came of it as text.
+//! Scripts: one thread's calls on a meeting place, and their replies as text. Traces: a place's records as text.
+//! Drives: threads at a queue, and what came of it as text.
 #![tactic(auto)]
 
 pub mod base_grammar;

@@ -65,9 +65,11 @@ fn serve<W: Write>(
 /// Writes the last line.
 fn close<W: Write>(stepper: &Stepper, out: &mut Vec<u8>, writer: &mut W) -> Result<(), Refusal>
     ensures written { OnOk result (Appends (W.contents writer.old) (W.contents writer.new)
-        (last_line ((place_of stepper.now).gone + (place_of stepper.now).records) (standing_of stepper.now.setup (place_of stepper.now)))) }
+        (last_line ((place_of stepper.now).gone + (place_of stepper.now).records)
+        (standing_of stepper.now.setup (place_of stepper.now)))) }
     ensures prefix { AppendsPrefix (W.contents writer.old) (W.contents writer.new)
-        (last_line ((place_of stepper.now).gone + (place_of stepper.now).records) (standing_of stepper.now.setup (place_of stepper.now))) }
+        (last_line ((place_of stepper.now).gone + (place_of stepper.now).records)
+        (standing_of stepper.now.setup (place_of stepper.now))) }
     ensures memory { result ≡ Err Memory → AppendsPrefix (W.contents writer.old) (W.contents writer.new) [] }
     ensures why { IfErr result IsCutShort }
 {

@@ -54,8 +54,8 @@ fn write_records<W: Write>(
     write_whole(writer, out.as_slice())
 }
 
-/// Writes the trace of these records of a place of this kind, whole; it refuses Memory or WriteFault, and then a prefix of
-/// it is written.
+/// Writes the trace of these records of a place of this kind, whole; it refuses Memory or WriteFault, and then a prefix
+/// of it is written.
 pub fn write_trace<W: Write>(
     alloc: Global,
     kind: Kind,
@@ -74,8 +74,8 @@ pub fn write_trace<W: Write>(
     }
 }
 
-/// Writes the trace of these records of a place of this kind after this base, whole; it refuses Memory or WriteFault, and
-/// then a prefix of it is written.
+/// Writes the trace of these records of a place of this kind after this base, whole; it refuses Memory or WriteFault,
+/// and then a prefix of it is written.
 pub fn write_based<W: Write>(
     alloc: Global,
     kind: Kind,

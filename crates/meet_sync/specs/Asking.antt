@@ -76,8 +76,8 @@ module _ {T N : Type 0} where
       × ((deed : Deed) × (waiting_deed mark request ≡ Some deed)
       × Adds seat.list p.list (made seat.number p.ticket deed ∷ []))
 
-  -- a follow-up ended the ticket with one receipt, whose deed is its answer's, and what comes back has the mark that the
-  -- request brought; or nothing was written
+  -- a follow-up ended the ticket with one receipt, whose deed is its answer's, and what comes back has the mark that
+  -- the request brought; or nothing was written
   abbrev pub FollowedAs : (T → ℕ) → PendingView Deed → FollowedUp T N → Type 0
   FollowedAs mark p (Done s) = FreesSeat p s × Adds p.list s.list (made p.number p.ticket DoneDeed ∷ [])
   FollowedAs mark p (HasGot s u item) =

@@ -176,9 +176,9 @@ impl<T: Marked, L: Line<T>, G: Gate, N: Ledgers> SyncQueue<T, L, G, N> {
 }
 
 impl<T: Marked, G: Gate, N: Ledgers> TransferQueue<T, G, N> {
-    /// `LinkedTransferQueue.drainTo`: takes up to `max` items that givers in the line brought, in the order in which polls
-    /// would, all under one hold of the lock, each by a recorded poll. It refuses Memory where a list can't grow, else
-    /// NoSuchSeat, SeatOpen, TicketsSpent, HistoryFull or Memory, the first that applies; then nothing was taken.
+    /// `LinkedTransferQueue.drainTo`: takes up to `max` items that givers in the line brought, in the order in which
+    /// polls would, all under one hold of the lock, each by a recorded poll. It refuses Memory where a list can't grow,
+    /// else NoSuchSeat, SeatOpen, TicketsSpent, HistoryFull or Memory, the first that applies; then nothing was taken.
     pub fn drain<R: Wait>(
         &self,
         rt: &R,

@@ -17,9 +17,9 @@ use std::marker::Model;
 use std::sync::Wait;
 use std::time::Clock;
 
-/// `java.util.concurrent.SynchronousQueue` for threads: over a `FairLine` in fair mode, over a `StackLine` in the default
-/// mode. Each thread calls it with a seat of its own, and gets the seat back with the answer. A contract sees the number
-/// of its seats.
+/// `java.util.concurrent.SynchronousQueue` for threads: over a `FairLine` in fair mode, over a `StackLine` in the
+/// default mode. Each thread calls it with a seat of its own, and gets the seat back with the answer. A contract sees
+/// the number of its seats.
 #[derive(Drop)]
 pub struct SyncQueue<T: Marked, L: Line<T>, G, N: Ledgers> {
     pub(crate) place: Place<Dual<T, L>, G, N>,
@@ -38,8 +38,8 @@ impl<T: Marked, L: Line<T>, G: Gate, N: Ledgers> SyncQueue<T, L, G, N> {
         QueueRef::Dual(&self.place)
     }
 
-    /// Makes a request of a seat of this queue: settled at once, or parked with its ticket open. It refuses Memory where
-    /// its seat's list can't grow, else NoSuchSeat, SeatOpen, TicketsSpent, HistoryFull or Memory, the first that
+    /// Makes a request of a seat of this queue: settled at once, or parked with its ticket open. It refuses Memory
+    /// where its seat's list can't grow, else NoSuchSeat, SeatOpen, TicketsSpent, HistoryFull or Memory, the first that
     /// applies; then nothing was written, and the seat and the item come back.
     pub fn request<R: Wait>(
         &self,

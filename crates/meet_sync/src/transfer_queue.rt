@@ -18,8 +18,8 @@ use std::marker::Model;
 use std::sync::Wait;
 use std::time::Clock;
 
-/// `java.util.concurrent.LinkedTransferQueue` for threads. Each thread calls it with a seat of its own, and gets the seat
-/// back with the answer. A contract sees the number of its seats.
+/// `java.util.concurrent.LinkedTransferQueue` for threads. Each thread calls it with a seat of its own, and gets the
+/// seat back with the answer. A contract sees the number of its seats.
 #[derive(Drop)]
 pub struct TransferQueue<T: Marked, G, N: Ledgers> {
     pub(crate) place: Place<Unbounded<T>, G, N>,
@@ -38,8 +38,8 @@ impl<T: Marked, G: Gate, N: Ledgers> TransferQueue<T, G, N> {
         QueueRef::Transfer(&self.place)
     }
 
-    /// Makes a request of a seat of this queue: settled at once, or parked with its ticket open. It refuses Memory where
-    /// its seat's list can't grow, else NoSuchSeat, SeatOpen, TicketsSpent, HistoryFull or Memory, the first that
+    /// Makes a request of a seat of this queue: settled at once, or parked with its ticket open. It refuses Memory
+    /// where its seat's list can't grow, else NoSuchSeat, SeatOpen, TicketsSpent, HistoryFull or Memory, the first that
     /// applies; then nothing was written, and the seat and the item come back.
     pub fn request<R: Wait>(
         &self,
@@ -96,8 +96,8 @@ impl<T: Marked, G: Gate, N: Ledgers> TransferQueue<T, G, N> {
         self.lent().interrupt(rt, seat, target)
     }
 
-    /// `LinkedTransferQueue.put`: the item goes to a taker that waits, or is kept in the line, and its giver goes on; it
-    /// never waits, and never fails. Refuses as `request`.
+    /// `LinkedTransferQueue.put`: the item goes to a taker that waits, or is kept in the line, and its giver goes on;
+    /// it never waits, and never fails. Refuses as `request`.
     pub fn put<R: Wait>(
         &self,
         rt: &R,
@@ -183,8 +183,8 @@ impl<T: Marked, G: Gate, N: Ledgers> TransferQueue<T, G, N> {
         self.lent().ask(rt, seat, Request::Offer(item))
     }
 
-    /// `LinkedTransferQueue.tryTransfer` with a limit in milliseconds; with a limit of 0 it is `try_transfer`. Refuses as
-    /// `request`.
+    /// `LinkedTransferQueue.tryTransfer` with a limit in milliseconds; with a limit of 0 it is `try_transfer`. Refuses
+    /// as `request`.
     pub fn transfer_for<R: Wait + Clock>(
         &self,
         rt: &R,

@@ -10,8 +10,8 @@ use std::sync::Wait;
 use std::time::Clock;
 
 impl<T: Marked, L: Line<T>, G: Gate, N: Ledgers> SyncQueue<T, L, G, N> {
-    /// Waits at the gate of this seat, for this many milliseconds where there is a limit: `LockSupport.park`, `parkNanos`.
-    /// The gate is woken once the ticket is met or cut.
+    /// Waits at the gate of this seat, for this many milliseconds where there is a limit: `LockSupport.park`,
+    /// `parkNanos`. The gate is woken once the ticket is met or cut.
     pub fn wait<R: Wait + Clock>(
         &self,
         rt: &R,
@@ -29,8 +29,8 @@ impl<T: Marked, L: Line<T>, G: Gate, N: Ledgers> SyncQueue<T, L, G, N> {
 }
 
 impl<T: Marked, G: Gate, N: Ledgers> TransferQueue<T, G, N> {
-    /// Waits at the gate of this seat, for this many milliseconds where there is a limit: `LockSupport.park`, `parkNanos`.
-    /// The gate is woken once the ticket is met or cut.
+    /// Waits at the gate of this seat, for this many milliseconds where there is a limit: `LockSupport.park`,
+    /// `parkNanos`. The gate is woken once the ticket is met or cut.
     pub fn wait<R: Wait + Clock>(
         &self,
         rt: &R,

@@ -93,10 +93,10 @@ impl<O: Drains> Book<O> {
         }
     }
 
-    /// `drain` into an empty list that is lent, of no more items than the list has room for. It allocates nothing but the
-    /// room that the book's records lack, so that it is never refused for memory where they have it. A refusal is one of
-    /// those of `drain`, for as many items; it hands the list back, and nothing but room has changed. The watch is told
-    /// of each seat that may go on.
+    /// `drain` into an empty list that is lent, of no more items than the list has room for. It allocates nothing but
+    /// the room that the book's records lack, so that it is never refused for memory where they have it. A refusal is
+    /// one of those of `drain`, for as many items; it hands the list back, and nothing but room has changed. The watch
+    /// is told of each seat that may go on.
     pub fn drain_into<W: Watch>(
         &mut self,
         seat: SeatNo,

@@ -1,6 +1,7 @@
 //! A place that one thread uses, call by call.
 
-ghost use Rattle.std.specs.Prelude.{◌≡◌, ◌≢◌, None, [], ◌+◌, ◌^◌, ◌++◌, ◌<◌, length, vec_len, IsTrue, IsOk, IfOk, IfErr, OnOk};
+ghost use Rattle.std.specs.Prelude.{◌≡◌, ◌≢◌, None, [], ◌+◌, ◌^◌, ◌++◌, ◌<◌, length, vec_len, IsTrue, IsOk, IfOk};
+ghost use Rattle.std.specs.Prelude.{IfErr, OnOk};
 ghost use Rattle.std.specs.Prelude.{OnErr};
 ghost use Rattle.std.specs.Vec.{vec_capacity};
 ghost use Rattle.meet_history.specs.Stepping.{reply_of, unrecorded, back_of};
@@ -107,7 +108,8 @@ impl Stepper {
     ghost use Rattle.meet_calls.specs.DualSteps.{dual_need, dual_refusal};
     ghost use Rattle.meet_history.specs.OneThread.{start, turn, turn_of, standing_of};
     ghost use Rattle.meet_history.specs.Served.{serves, IsOne, IsAnswered};
-    ghost use Rattle.meet_history.specs.Stepping.{place_of, HasWritten, Takes, TakesTurn, LacksMemory, HasRoom, StaysButForRoom};
+    ghost use Rattle.meet_history.specs.Stepping.{place_of, HasWritten, Takes, TakesTurn, LacksMemory, HasRoom};
+    ghost use Rattle.meet_history.specs.Stepping.{StaysButForRoom};
     ghost use Rattle.meet_history.specs.declared.one_thread.verbs.Verb.TheVariants.{Checkpoint};
     ghost use Rattle.meet_history.specs.Stepping.{turn_of_call, refusal_at};
     ghost use Rattle.meet_calls.specs.QueueSteps.{dual_call, queue_need, queue_refusal};
@@ -241,8 +243,8 @@ impl Stepper {
     }
 
     /// Makes a call, and puts its replies behind `replies`. The only refusal is Memory, and for a call that is one step
-    /// never where there is room for its reply, for two records and for a place in the line; then nothing has changed, and
-    /// the replies so far stay.
+    /// never where there is room for its reply, for two records and for a place in the line; then nothing has changed,
+    /// and the replies so far stay.
     pub fn answer(&mut self, call: Call, replies: &mut Vec<Reply>) -> Result<(), Refusal>
         requires served { IsTrue (serves self.old.setup.kind.order call.verb) }
         ensures replies { OnOk result (replies.new.items ≡ replies.old.items

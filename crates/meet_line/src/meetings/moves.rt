@@ -1,6 +1,7 @@
 //! The moves that the steps of a queue are made of.
 
-ghost use Rattle.std.specs.Prelude.{◌≡◌, ◌≢◌, ℕ, ◌+◌, ◌<◌, ◌≤◌, ◌↔◌, ⊤, Some, None, IsOk, IfOk, OnOk, OnErr, IfErr, IfSome, IfNone};
+ghost use Rattle.std.specs.Prelude.{◌≡◌, ◌≢◌, ℕ, ◌+◌, ◌<◌, ◌≤◌, ◌↔◌, ⊤, Some, None, IsOk, IfOk, OnOk, OnErr, IfErr};
+ghost use Rattle.std.specs.Prelude.{IfSome, IfNone};
 ghost use Rattle.std.specs.Prelude.{MatchOption, All, true, false, is_some, if◌then◌else◌};
 ghost use Rattle.meet_tickets.specs.Meeting.{partner, kept_count, IsAlone};
 ghost use Rattle.meet_tickets.specs.BySeat.{queued, open_ticket, entry_of, left};

@@ -1,5 +1,5 @@
-//! What a queue shows of itself, each at constant cost but `awaits`, which looks for a ticket in the line. None of these
-//! takes memory.
+//! What a queue shows of itself, each at constant cost but `awaits`, which looks for a ticket in the line. None of
+//! these takes memory.
 
 ghost use Rattle.std.specs.Prelude.{◌+◌, ◌≡◌, ◌≤◌, ◌-◌, ◌↔◌, IsTrue, option_map, slice_get};
 ghost use Rattle.std.specs.Option.{option_and_then};

@@ -181,7 +181,8 @@ impl<T: Marked> Leaves for Transfer<T> {
     fn leave(self, empty: Vec<Left<T>>) -> Vec<Left<T>>
         requires empty { empty.items ≡ [] }
         requires room { length (left_in Front self.queue) ≤ vec_capacity empty }
-        ensures { (base : Based) (records : List (Entered Told)) → LeadsTo T.mark_of (bounded_kind self.bound) base records self.queue
+        ensures { (base : Based) (records : List (Entered Told))
+            → LeadsTo T.mark_of (bounded_kind self.bound) base records self.queue
             → AreLeftOn T.mark_of base records result.items }
     {
         self.meetings.into_left_by_ticket(empty)

@@ -1,7 +1,8 @@
-//! What a queue shows of itself, each at constant cost but `awaits`, which looks for a ticket in the line. None of these
-//! takes memory.
+//! What a queue shows of itself, each at constant cost but `awaits`, which looks for a ticket in the line. None of
+//! these takes memory.
 
-ghost use Rattle.std.specs.Prelude.{◌+◌, ◌≡◌, ◌≤◌, ◌-◌, ◌↔◌, IsOk, IfOk, IfErr, OnOk, OnErr, IsTrue, nat_lt, option_map, slice_get};
+ghost use Rattle.std.specs.Prelude.{◌+◌, ◌≡◌, ◌≤◌, ◌-◌, ◌↔◌, IsOk, IfOk, IfErr, OnOk, OnErr, IsTrue, nat_lt};
+ghost use Rattle.std.specs.Prelude.{option_map, slice_get};
 ghost use Rattle.std.specs.Option.{option_and_then};
 ghost use Rattle.meet_tickets.specs.Meeting.{waiting_count, kept_count, count_on};
 ghost use Rattle.meet_tickets.specs.BySeat.{open_ticket, owed_of, settled_of};
@@ -127,7 +128,9 @@ impl<T: Marked> Transfer<T> {
     pub fn draw(&mut self) -> Result<Ticket, Refusal>
         ensures ticket { IfOk result (λ ticket. ticket ≡ self.old.queue.next) }
         ensures left { IsOk result ↔ (self.old.queue.next ≤ last_ticket) }
-        ensures next { OnOk result (self.new ≡ record self.old { queue = record self.old.queue { last = self.old.queue.next; next = self.old.queue.next + 1 } }) }
+        ensures next { OnOk result (self.new ≡ record self.old {
+          queue = record self.old.queue { last = self.old.queue.next; next = self.old.queue.next + 1 };
+        }) }
         ensures why { IfErr result (λ why. why ≡ TicketsSpent) }
         ensures unchanged { OnErr result (self.new ≡ self.old) }
     {

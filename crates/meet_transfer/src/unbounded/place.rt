@@ -64,7 +64,8 @@ impl<T: Marked> Object for Unbounded<T> {
 
     ghost same_owed = { λ q room. refl };
 
-    ghost same_leads = { λ q room base records leads. roomy-leads T.mark_of (bounded_kind None) q room base records leads };
+    ghost same_leads = { λ q room base records leads.
+        roomy-leads T.mark_of (bounded_kind None) q room base records leads };
 
     ghost same_steps = { λ q room seat call answer new need step.
         roomy-queue-steps T.mark_of (bounded_kind None) q room seat call answer new need step };
@@ -167,7 +168,8 @@ impl<T: Marked> Leaves for Unbounded<T> {
     fn leave(self, empty: Vec<Left<T>>) -> Vec<Left<T>>
         requires empty { empty.items ≡ [] }
         requires room { length (left_in Front self) ≤ vec_capacity empty }
-        ensures { (base : Based) (records : List (Entered Told)) → LeadsTo T.mark_of (bounded_kind None) base records self
+        ensures { (base : Based) (records : List (Entered Told))
+            → LeadsTo T.mark_of (bounded_kind None) base records self
             → AreLeftOn T.mark_of base records result.items }
     {
         self.queue.leave(empty)

@@ -1,12 +1,14 @@
 //! The line of a history's marks, met at the end of its place.
 
-ghost use Rattle.std.specs.Prelude.{◌≡◌, ◌≢◌, ◌+◌, ◌<◌, ◌==◌, [], ◌∷◌, ◌++◌, find, length, All, OnOk, IsOk, IfOk, IfErr};
+ghost use Rattle.std.specs.Prelude.{◌≡◌, ◌≢◌, ◌+◌, ◌<◌, ◌==◌, [], ◌∷◌, ◌++◌, find, length, All, OnOk, IsOk, IfOk};
+ghost use Rattle.std.specs.Prelude.{IfErr};
 ghost use Rattle.std.specs.Prelude.{◌↔◌, None, is_some, AllPairs, IsTrue, if◌then◌else◌};
 ghost use Rattle.meet_tickets.specs.Meeting.{partner, kept_count, count_on, IsAlone};
 ghost use Rattle.meet_tickets.specs.declared.places.Side.TheVariants.{Giver};
 ghost use Rattle.meet_tickets.specs.BySeat.{unmet, without_first};
 ghost use Rattle.meet_tickets.specs.declared.refusals.Refusal.TheVariants.{Memory};
-ghost use Rattle.meet_history.specs.Marks.{met_end, entries_of, room_of, IsNewest, one_if_gives, one_if_kept, count_if_gives, count_if_kept};
+ghost use Rattle.meet_history.specs.Marks.{met_end, entries_of, room_of, IsNewest, one_if_gives, one_if_kept};
+ghost use Rattle.meet_history.specs.Marks.{count_if_gives, count_if_kept};
 
 use meet_line::{FairLine, Line, StackLine, is_alone, meet};
 use meet_tickets::{End, Entry, Refusal, Side, Ticket};
