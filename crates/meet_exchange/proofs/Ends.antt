@@ -76,6 +76,14 @@ past_end [] k l = refl
 past_end (x ∷ lists) zero l = absurd (omega arith)
 past_end (x ∷ lists) (suc k) l = past_end lists k (omega arith)
 
+-- what a close answers, where these lists with their seats' numbers were joined: these lists, rounds and items
+pub record Ended {T : Type 0} (mark : T → ℕ) (slots seats start : ℕ) (told : List (ℕ × List Part)) (here : List (List Part)) (all : List (List Round)) (items : List (LeftIn T)) : Type 0 where
+  pub history : (k : ℕ) → IsHistory seats (entry_at all k)
+  pub lists : (x k : ℕ) → x < seats → in_slot k (entry_at here x) ≡ parts_of x k start (entry_at all k)
+  pub own : AreAt here told
+  pub each : (x : ℕ) → x < seats → HasList x told
+  pub left : IsLeft mark start (entry_at all) slots items
+
 module _ {T : Type 0} (mark : T → ℕ) (plan : Plan) (vs : List Trail) (words : List ℕ) (values : List (Option T)) (closing : Closing mark plan (lists_of vs) words values) (many : plan.seats ≤ length vs)
     (lists0 : List (List Part)) (sized : length lists0 ≡ plan.seats) (count : ℕ → ℕ) (posts : (k : ℕ) → posts_of k (lists_of vs) ≡ count k) (all : List (List Round)) (long : length all ≡ plan.slots)
     (each : (k : ℕ) → k < plan.slots → entry_at all k ≡ rebuilt_from plan.start k (numbered 0 (put_all (lists_of vs) lists0)) (replicate (count k) blank)) where
@@ -88,35 +96,30 @@ module _ {T : Type 0} (mark : T → ℕ) (plan : Plan) (vs : List Trail) (words 
   abbrev parts : AreParts plan.seats plan.start closing.rounds told
   parts = closing.parts
 
-  seats : (x : ℕ) → x < plan.seats → Among x (firsts told)
-  seats x l = let e = length-firsts told in let f = length-lists vs in
+  seats_there : (x : ℕ) → x < plan.seats → Among x (firsts told)
+  seats_there x l = let e = length-firsts told in let f = length-lists vs in
       all_there plan.seats (firsts told) (firsts_apart plan.seats plan.start closing.rounds told parts) (firsts_below plan.seats plan.start closing.rounds told parts) (omega arith) x l
 
   placed : (x k : ℕ) → x < plan.seats → in_slot k (entry_at lists x) ≡ parts_of x k plan.start (closing.rounds k)
-  placed x k l = put_there plan.seats plan.start closing.rounds told lists0 parts sized x (seats x l) k
+  placed x k l = put_there plan.seats plan.start closing.rounds told lists0 parts sized x (seats_there x l) k
 
   same_within : (k : ℕ) → k < plan.slots → entry_at all k ≡ closing.rounds k
   same_within k l = let e : length lists ≡ plan.seats = length-put told lists0 ∙ sized in let f = length-numbered 0 lists in
       let fits : AreParts plan.seats plan.start closing.rounds (numbered 0 lists) = numbered_parts plan.seats plan.start closing.rounds 0 lists (omega arith) (λ j h k. let z : j ≡ 0 + j = omega arith in placed j k (omega arith) ∙ ap (λ y. parts_of y k plan.start (closing.rounds k)) z) in
-      let long : count k ≡ length (closing.rounds k) = sym (posts k) ∙ counted plan.seats plan.start k closing.rounds told parts (firsts_apart plan.seats plan.start closing.rounds told parts) (seated plan.seats (firsts told) (closing.rounds k) seats (closing.history k)) in
+      let long : count k ≡ length (closing.rounds k) = sym (posts k) ∙ counted plan.seats plan.start k closing.rounds told parts (firsts_apart plan.seats plan.start closing.rounds told parts) (seated plan.seats (firsts told) (closing.rounds k) seats_there (closing.history k)) in
       each k l ∙ rebuilt plan.seats plan.start k (count k) closing.rounds (numbered 0 lists) fits (omega arith) (closing.history k) long
 
-  pub same : (k : ℕ) → entry_at all k ≡ closing.rounds k
+  same : (k : ℕ) → entry_at all k ≡ closing.rounds k
   same k = dite (dec_le plan.slots k) (λ d. past_end all k (omega arith) ∙ sym (closing.beyond k d)) (λ d. same_within k (lt_of_not-le d))
 
-  pub end_history : (n : ℕ) → plan.seats ≡ n → (k : ℕ) → IsHistory n (entry_at all k)
-  end_history n e k = subst (λ z. IsHistory z (entry_at all k)) e (subst (IsHistory plan.seats) (sym (same k)) (closing.history k))
-
-  pub end_lists : (n start : ℕ) → plan.seats ≡ n → plan.start ≡ start → (x k : ℕ) → x < n → in_slot k (entry_at lists x) ≡ parts_of x k start (entry_at all k)
-  end_lists n start e f x k l = placed x k (subst (λ z. x < z) (sym e) l) ∙ (λ i. parts_of x k (f i) (sym (same k) i))
-
-  pub end_own : AreAt lists told
-  end_own = put_at plan.seats plan.start closing.rounds told lists0 parts sized
-
-  pub end_each : (n : ℕ) → plan.seats ≡ n → (x : ℕ) → x < n → HasList x told
-  end_each n e x l = has_first x told (seats x (subst (λ z. x < z) (sym e) l))
-
-  pub end_left : (slots start : ℕ) → plan.slots ≡ slots → plan.start ≡ start → (left : List (LeftIn T)) → TakenUpTo words values slots left → IsLeft mark start (entry_at all) slots left
-  end_left slots start e f left taken = let P : ℕ → ℕ → (ℕ → List Round) → Type 0 = λ s n r. IsLeft mark s r n left in
-      let here : P plan.start plan.slots closing.rounds = all_left mark plan told words values closing plan.slots (le_refl plan.slots) left (subst (λ z. TakenUpTo words values z left) (sym e) taken) in
-      subst (λ s. P s slots (entry_at all)) f (subst (λ n. P plan.start n (entry_at all)) e (subst (P plan.start plan.slots) (λ i k. sym (same k) i) here))
+  pub ended : (slots seats start : ℕ) → plan.slots ≡ slots → plan.seats ≡ seats → plan.start ≡ start → (here : List (List Part)) → here ≡ lists → (left : List (LeftIn T)) → TakenUpTo words values slots left
+      → Ended mark slots seats start told here all left
+  ended slots seats start e f h here is left taken = let P : ℕ → ℕ → (ℕ → List Round) → Type 0 = λ s n r. IsLeft mark s r n left in
+      let known : P plan.start plan.slots closing.rounds = all_left mark plan told words values closing plan.slots (le_refl plan.slots) left (subst (λ z. TakenUpTo words values z left) (sym e) taken) in
+      record {
+        history = λ k. subst (λ z. IsHistory z (entry_at all k)) f (subst (IsHistory plan.seats) (sym (same k)) (closing.history k));
+        lists = λ x k l. ap (λ z. in_slot k (entry_at z x)) is ∙ (placed x k (subst (λ z. x < z) (sym f) l) ∙ (λ i. parts_of x k (h i) (sym (same k) i)));
+        own = subst (λ z. AreAt z told) (sym is) (put_at plan.seats plan.start closing.rounds told lists0 parts sized);
+        each = λ x l. has_first x told (seats_there x (subst (λ z. x < z) (sym f) l));
+        left = subst (λ s. P s slots (entry_at all)) h (subst (λ n. P plan.start n (entry_at all)) e (subst (P plan.start plan.slots) (λ i k. sym (same k) i) known));
+      }

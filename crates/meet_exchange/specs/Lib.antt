@@ -8,4 +8,5 @@ pub mod Rebuild
 pub mod Seats
 pub mod Calls
 pub mod Closed
+pub mod Ways
 pub mod Waits

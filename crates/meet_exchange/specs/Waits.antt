@@ -1,66 +1,72 @@
 -- An exchange that waits: how it stands from turn to turn, and how it ends (our choice).
-use Rattle.std.specs.Prelude.{◌≡◌, ℕ, ◌<◌, ◌⊎◌, List, [], ◌∷◌, ◌++◌, Option, None}
+use Rattle.std.specs.Prelude.{◌≡◌, ℕ, ◌+◌, ◌-◌, ◌<◌, ◌⊎◌, List, [], ◌∷◌, Option, Some, None}
 use Rattle.atomic_table.specs.Seated.{TableId}
-use Rattle.meet_exchange.specs.declared.records.Part.{Part}
-use Rattle.meet_exchange.specs.declared.records.SlotDeed.TheVariants.{Posted, Withdrawn}
-use Rattle.meet_exchange.specs.declared.records.SlotDeed.TheVariants.{Swapped as DeedSwapped, Collected}
+use Rattle.meet_exchange.specs.declared.records.SlotDeed.TheVariants.{Posted}
 use Rattle.meet_exchange.specs.declared.waiting.Going.{Going}
 use Rattle.meet_exchange.specs.declared.waiting.Going.TheVariants.{Tries, Waits, Stays}
 use Rattle.meet_exchange.specs.declared.waiting.Exchanged.{Exchanged}
 use Rattle.meet_exchange.specs.declared.waiting.Exchanged.TheVariants.{Swapped, TimedOut, Worn, Memory}
 use Rattle.meet_exchange.specs.declared.waiting.Next.{Next}
 use Rattle.meet_exchange.specs.declared.waiting.Next.TheVariants.{Goes, Ends}
-use Rattle.meet_tickets.specs.Limits.{last_round}
-use Rattle.meet_exchange.specs.Words.{code_in, number_in}
 use Rattle.meet_exchange.specs.Rounds.{part}
-use Rattle.meet_exchange.specs.Seats.{SeatView, PendingView, Went}
+use Rattle.meet_exchange.specs.Seats.{SeatView, PendingView}
+use Rattle.meet_exchange.specs.Ways.{IsWithin, MayStand, IsOver, SawFree, SawTaken, HasCome}
+use Rattle.meet_exchange.specs.Ways.{HasSwapped, HasCollected, HasTimedOut, HasWorn, HasNoRoom}
 
--- an item of the mark a was posted and taken back, again and again
-abbrev pub AreTries : (a : ℕ) → List Part → Type 0
-AreTries a [] = Unit {0}
-AreTries a (p ∷ []) = ⊥
-AreTries a (p ∷ q ∷ ps) = (p ≡ part p.slot p.round (Posted a)) × (q ≡ part p.slot p.round Withdrawn) × AreTries a ps
+-- how an exchange of the seat v ends: with another seat's item, or with its own, of the mark a
+module _ {T : Type 0} (mark : T → ℕ) (v : SeatView) (a n first : ℕ) (limit : Option ℕ) where
+  abbrev pub EndsAs : Exchanged T → Type 0
+  EndsAs (Swapped s x) = HasSwapped v a n first limit s (mark x) ⊎ HasCollected v a n first limit s (mark x)
+  EndsAs (TimedOut s x) = (mark x ≡ a) × HasTimedOut v a n first limit s
+  EndsAs (Worn s x) = (mark x ≡ a) × HasWorn v a n first limit s
+  EndsAs (Memory s x) = (mark x ≡ a) × HasNoRoom v a n first limit s
 
--- a was exchanged for b: in a round of another seat's, or in one of its own
-abbrev pub IsSwap : (a b : ℕ) → List Part → Type 0
-IsSwap a b ps = (k : ℕ) × (r : ℕ) × ((ps ≡ part k r (DeedSwapped a b) ∷ [])
-    ⊎ (ps ≡ part k r (Posted a) ∷ part k r (Collected b) ∷ []))
+-- the seat that an exchange ends with
+abbrev pub seat_after : {T : Type 0} → Exchanged T → SeatView
+seat_after (Swapped s x) = s
+seat_after (TimedOut s x) = s
+seat_after (Worn s x) = s
+seat_after (Memory s x) = s
 
--- since it was the seat v, the last word that the seat s saw is that of a slot that is free in its last round
-abbrev pub SawWorn : (v s : SeatView) → Type 0
-SawWorn v s = (words : List (ℕ × ℕ)) × (k : ℕ) × (w : ℕ) × (code_in w ≡ 0) × (number_in w ≡ last_round)
-    × (s.seen ≡ v.seen ++ words ++ (k, w) ∷ [])
+-- ## From turn to turn
 
--- of an exchange of the seat v, with an item of the mark a
-module _ (v : SeatView) (a : ℕ) where
-  -- the seat s, after tries and then these parts
-  abbrev pub HasTried : SeatView → List Part → Type 0
-  HasTried s parts = (tries : List Part) × (words : List (ℕ × ℕ)) × AreTries a tries × Went v s (tries ++ parts) words
+-- what is left of a limit after so many turns
+abbrev pub left_after : (limit : Option ℕ) → (turns : ℕ) → Option ℕ
+left_after None turns = None
+left_after (Some most) turns = Some (most - turns)
 
-  -- its offer stands
-  abbrev pub HasPosted : PendingView → Type 0
-  HasPosted p = (p.mark ≡ a) × HasTried p.seat (part p.slot p.round (Posted a) ∷ [])
+module _ (v : SeatView) (a n first : ℕ) (limit : Option ℕ) where
+  -- its offer stands, since so many looks
+  abbrev pub HasPosted : PendingView → (turns looks : ℕ) → Type 0
+  HasPosted p turns looks = (p.mark ≡ a) × MayStand limit p.slot turns looks × (words : List (ℕ × ℕ))
+      × SawFree p.slot p.round looks words
+      × HasCome v a n first limit p.seat p.slot turns (part p.slot p.round (Posted a) ∷ []) words
 
-module _ {T : Type 0} (mark : T → ℕ) (v : SeatView) (a : ℕ) where
-  -- it tries a slot, or its offer stands
-  abbrev pub IsGoing : Going T → Type 0
-  IsGoing (Tries s x k) = (mark x ≡ a) × HasTried v a s []
-  IsGoing (Waits p turns) = HasPosted v a p
-  IsGoing (Stays p) = HasPosted v a p
+  -- its offer was to be taken back, and was gone
+  abbrev pub HasStayed : PendingView → Type 0
+  HasStayed p = (p.mark ≡ a) × (turns : ℕ) × (looks : ℕ) × MayStand limit p.slot turns looks
+      × IsOver limit p.slot turns looks × (words : List (ℕ × ℕ)) × SawTaken p.slot p.round looks words
+      × HasCome v a n first limit p.seat p.slot turns (part p.slot p.round (Posted a) ∷ []) words
 
-  -- swapped after some tries, and the item is the other seat's; or the own item is back, and nothing is left of it.
-  -- It times out only where it has a limit, is worn only where it saw so last, and wants memory only where its list
-  -- has no room for an offer
-  abbrev pub EndsAs : (limit : Option ℕ) → Exchanged T → Type 0
-  EndsAs limit (Swapped s x) = (last : List Part) × IsSwap a (mark x) last × HasTried v a s last
-  EndsAs limit (TimedOut s x) = (limit ≡ None → ⊥) × (mark x ≡ a) × HasTried v a s []
-  EndsAs limit (Worn s x) = (mark x ≡ a) × HasTried v a s [] × SawWorn v s
-  EndsAs limit (Memory s x) = (mark x ≡ a) × HasTried v a s [] × (s.room < 2)
+module _ {T : Type 0} (mark : T → ℕ) (v : SeatView) (a n first : ℕ) (limit : Option ℕ) where
+  -- it tries a slot, with this left of its limit
+  abbrev pub IsTrying : (left : Option ℕ) → SeatView → T → ℕ → Type 0
+  IsTrying left s x k = (mark x ≡ a) × (turns : ℕ) × (left ≡ left_after limit turns) × IsWithin limit turns
+      × HasCome v a n first limit s k turns [] []
 
-  -- where there is no limit, none comes
-  abbrev pub GoesOn : (limit : Option ℕ) → Next T → Type 0
-  GoesOn limit (Goes going left) = (limit ≡ None → left ≡ None) × IsGoing going
-  GoesOn limit (Ends end) = EndsAs limit end
+  -- its offer stands; in a slot above 0 its looks were counted
+  abbrev pub IsWaiting : (left : Option ℕ) → PendingView → (counted : ℕ) → Type 0
+  IsWaiting left p counted = (turns : ℕ) × (looks : ℕ) × (left ≡ left_after limit (turns + looks))
+      × (0 < p.slot → counted ≡ looks) × HasPosted v a n first limit p turns looks
+
+  abbrev pub IsGoing : (left : Option ℕ) → Going T → Type 0
+  IsGoing left (Tries s x k) = IsTrying left s x k
+  IsGoing left (Waits p counted) = IsWaiting left p counted
+  IsGoing left (Stays p) = HasStayed v a n first limit p
+
+  abbrev pub GoesOn : Next T → Type 0
+  GoesOn (Goes going left) = IsGoing left going
+  GoesOn (Ends end) = EndsAs mark v a n first limit end
 
 module _ {T : Type 0} (z : TableId) (slots : ℕ) where
   -- in this arena, which has so many slots
@@ -72,10 +78,3 @@ module _ {T : Type 0} (z : TableId) (slots : ℕ) where
   abbrev pub StaysIn : Next T → Type 0
   StaysIn (Goes going left) = IsIn going
   StaysIn (Ends end) = Unit {0}
-
--- the seat that an exchange ends with
-abbrev pub seat_after : {T : Type 0} → Exchanged T → SeatView
-seat_after (Swapped s x) = s
-seat_after (TimedOut s x) = s
-seat_after (Worn s x) = s
-seat_after (Memory s x) = s

@@ -118,7 +118,8 @@ fn gather<T: Marked>(
 
 /// An empty list for each seat, or none where memory is short.
 fn empty_lists(alloc: Global, seats: u64) -> Option<Vec<Vec<Part>>>
-    ensures { IfSome result (λ lists. length lists.items ≡ seats) }
+    ensures count { IfSome result (λ lists. length lists.items ≡ seats) }
+    ensures empty { IfSome result (λ lists. map (λ list. list.items) lists.items ≡ replicate seats []) }
 {
     let mut lists = Vec::with_capacity(alloc, seats as usize).ok()?;
     for number in 0..seats {
@@ -142,6 +143,7 @@ fn room_for<T>(alloc: Global, slots: usize, seats: u64, backs: &[Back<T>]) -> Op
         → entry_at (map (λ rounds. rounds.items) room.slots.items) k
         ≡ replicate (posts_of k (back_lists backs.now)) nothing_known) }
     ensures lists { IfSome result (λ room. length room.lists.items ≡ seats) }
+    ensures empty { IfSome result (λ room. map (λ list. list.items) room.lists.items ≡ replicate seats []) }
     ensures left { IfSome result (λ room. (room.left.items ≡ []) × (vec_len room.left ≡ 0)
         × (slots ≤ vec_capacity room.left)) }
 {

@@ -2,8 +2,8 @@
 //! single atomic steps on the slot's word, and no lock is taken.
 //!
 //! `specs/` has the rules: `Rounds` says what a slot's history is and what each seat's part in it, `Closed` what is
-//! known at the end, `Calls` what the calls answer, `Waits` how an exchange that waits ends. `Stages`, `Rule` and
-//! `Told` are the rule that holds between any two steps, and what each step tells.
+//! known at the end, `Calls` what the calls answer, `Ways` which way an exchange that waits takes, and `Waits` how it
+//! ends. `Stages`, `Rule` and `Told` are the rule that holds between any two steps, and what each step tells.
 #![tactic(auto)]
 
 mod arena;

@@ -1,8 +1,9 @@
 //! An exchange that waits.
 
-ghost use Rattle.std.specs.Prelude.{◌≡◌, ◌<◌, ◌↔◌, ℕ, [], None};
-ghost use Rattle.meet_exchange.specs.Waits.{IsIn, StaysIn, IsGoing, HasTried, HasPosted, EndsAs, GoesOn};
-ghost use Rattle.meet_exchange.specs.Waits.{seat_after};
+ghost use Rattle.std.specs.Prelude.{◌≡◌, ◌≢◌, ◌<◌, ◌≤◌, ◌↔◌, ◌+◌, ◌%◌, ℕ, IsTrue, Option};
+ghost use Rattle.meet_exchange.specs.Waits.{IsIn, StaysIn, IsGoing, IsTrying, IsWaiting, HasStayed, EndsAs, GoesOn};
+ghost use Rattle.meet_exchange.specs.Waits.{left_after, seat_after};
+ghost use Rattle.meet_exchange.specs.Ways.{patience};
 ghost use Rattle.meet_exchange.specs.Seats.{SeatView};
 
 use crate::arena::Arena;
@@ -46,7 +47,7 @@ const PATIENCE: u64 = 1_000;
 
 /// One turn less, where there is a limit.
 fn less(left: Option<u64>) -> Option<u64>
-    ensures { result ≡ None ↔ (left ≡ None) }
+    ensures { result ≡ left_after left 1 }
 {
     match left {
         Some(turns) => Some(turns.saturating_sub(1)),
@@ -54,12 +55,22 @@ fn less(left: Option<u64>) -> Option<u64>
     }
 }
 
+/// Whether a limit is reached.
+fn is_reached(left: Option<u64>) -> bool
+    ensures { IsTrue result ↔ (left ≡ Some 0) }
+{
+    match left {
+        Some(turns) => turns == 0,
+        None => false,
+    }
+}
+
 impl<T: Marked> Arena<T> {
     /// Exchanges an item for another seat's, as `exchange` of Exchanger: offers it in this slot, and after Contended
     /// in the next, the first after the last. Once it is posted there it waits for an answer; in a slot above 0 it
     /// takes it back after 1,000 turns, and tries the slot of half the number. Its limit is in turns, a turn being one
-    /// look for the answer, or one Contended. At a limit of 0 it doesn't wait. Where the limit is reached it takes the
-    /// item back; where another seat has taken that, it stays until it has the other's.
+    /// look for the answer, or one Contended. At a limit of 0 it tries one slot, and doesn't wait. Where the limit is
+    /// reached it takes the item back; where another seat has taken that, it stays until it has the other's.
     pub fn exchange<R: Wait>(
         &self,
         rt: &R,
@@ -70,7 +81,7 @@ impl<T: Marked> Arena<T> {
     ) -> Exchanged<T>
         requires place { seat.arena ≡ self.now.id }
         requires slot { first_slot < self.now.slots }
-        ensures end { EndsAs T.mark_of seat (T.mark_of item) limit result }
+        ensures end { EndsAs T.mark_of seat (T.mark_of item) self.now.slots first_slot limit result }
         ensures place { (seat_after result).arena ≡ self.now.id }
     {
         let mut left = limit;
@@ -91,7 +102,9 @@ impl<T: Marked> Arena<T> {
     fn turn(&self, going: Going<T>, left: Option<u64>) -> Next<T>
         requires place { IsIn self.now.id self.now.slots going }
         ensures place { StaysIn self.now.id self.now.slots result }
-        ensures goes { (v : SeatView) (a : ℕ) → IsGoing T.mark_of v a going → GoesOn T.mark_of v a left result }
+        ensures goes { (v : SeatView) (a first : ℕ) (limit : Option ℕ)
+            → IsGoing T.mark_of v a self.now.slots first limit left going
+            → GoesOn T.mark_of v a self.now.slots first limit result }
     {
         match going {
             Going::Tries(seat, item, slot) => self.try_slot(seat, item, slot, left),
@@ -105,15 +118,16 @@ impl<T: Marked> Arena<T> {
         requires place { seat.arena ≡ self.now.id }
         requires slot { slot < self.now.slots }
         ensures place { StaysIn self.now.id self.now.slots result }
-        ensures goes { (v : SeatView) (a : ℕ) → (T.mark_of item ≡ a) × HasTried v a seat []
-            → GoesOn T.mark_of v a left result }
+        ensures goes { (v : SeatView) (a first : ℕ) (limit : Option ℕ)
+            → IsTrying T.mark_of v a self.now.slots first limit left seat item slot
+            → GoesOn T.mark_of v a self.now.slots first limit result }
     {
         match self.offer(seat, slot, item) {
             Offered::Posted(pending) => Next::Goes(Going::Waits(pending, 0), left),
             Offered::Swapped(seat, other) => Next::Ends(Exchanged::Swapped(seat, other)),
             Offered::Contended(seat, item, _) => {
                 let left = less(left);
-                if let Some(0) = left {
+                if is_reached(left) {
                     return Next::Ends(Exchanged::TimedOut(seat, item));
                 }
                 Next::Goes(Going::Tries(seat, item, self.slot_after(slot)), left)
@@ -126,7 +140,8 @@ impl<T: Marked> Arena<T> {
     /// The slot after this one, the first after the last.
     fn slot_after(&self, slot: usize) -> usize
         requires { slot < self.now.slots }
-        ensures { result < self.now.slots }
+        ensures next { result ≡ (slot + 1) % self.now.slots }
+        ensures low { result < self.now.slots }
     {
         if slot < self.slots - 1 { slot + 1 } else { 0 }
     }
@@ -136,9 +151,11 @@ impl<T: Marked> Arena<T> {
         requires place { pending.seat.arena ≡ self.now.id }
         requires slot { pending.slot < self.now.slots }
         ensures place { StaysIn self.now.id self.now.slots result }
-        ensures goes { (v : SeatView) (a : ℕ) → HasPosted v a pending → GoesOn T.mark_of v a left result }
+        ensures goes { (v : SeatView) (a first : ℕ) (limit : Option ℕ)
+            → IsWaiting T.mark_of v a self.now.slots first limit left pending turns
+            → GoesOn T.mark_of v a self.now.slots first limit result }
     {
-        if let Some(0) = left {
+        if is_reached(left) {
             return self.time_out(pending, left);
         }
         if pending.slot() > 0 && turns >= PATIENCE {
@@ -156,9 +173,11 @@ impl<T: Marked> Arena<T> {
     fn time_out(&self, pending: Pending<T>, left: Option<u64>) -> Next<T>
         requires place { pending.seat.arena ≡ self.now.id }
         requires slot { pending.slot < self.now.slots }
-        requires limit { left ≡ None → ⊥ }
+        requires limit { left ≡ Some 0 }
         ensures place { StaysIn self.now.id self.now.slots result }
-        ensures goes { (v : SeatView) (a : ℕ) → HasPosted v a pending → GoesOn T.mark_of v a left result }
+        ensures goes { (v : SeatView) (a first counted : ℕ) (limit : Option ℕ)
+            → IsWaiting T.mark_of v a self.now.slots first limit left pending counted
+            → GoesOn T.mark_of v a self.now.slots first limit result }
     {
         match self.withdraw(pending) {
             Returned::Back(seat, item) => Next::Ends(Exchanged::TimedOut(seat, item)),
@@ -170,8 +189,12 @@ impl<T: Marked> Arena<T> {
     fn move_on(&self, pending: Pending<T>, left: Option<u64>) -> Next<T>
         requires place { pending.seat.arena ≡ self.now.id }
         requires slot { pending.slot < self.now.slots }
+        requires above { 0 < pending.slot }
+        requires limit { left ≢ Some 0 }
         ensures place { StaysIn self.now.id self.now.slots result }
-        ensures goes { (v : SeatView) (a : ℕ) → HasPosted v a pending → GoesOn T.mark_of v a left result }
+        ensures goes { (v : SeatView) (a first counted : ℕ) (limit : Option ℕ) → patience ≤ counted
+            → IsWaiting T.mark_of v a self.now.slots first limit left pending counted
+            → GoesOn T.mark_of v a self.now.slots first limit result }
     {
         let slot = pending.slot();
         match self.withdraw(pending) {
@@ -185,7 +208,9 @@ impl<T: Marked> Arena<T> {
         requires place { pending.seat.arena ≡ self.now.id }
         requires slot { pending.slot < self.now.slots }
         ensures place { StaysIn self.now.id self.now.slots result }
-        ensures goes { (v : SeatView) (a : ℕ) → HasPosted v a pending → GoesOn T.mark_of v a left result }
+        ensures goes { (v : SeatView) (a first : ℕ) (limit : Option ℕ)
+            → HasStayed v a self.now.slots first limit pending
+            → GoesOn T.mark_of v a self.now.slots first limit result }
     {
         match self.collect(pending) {
             Gathered::Got(seat, other) => Next::Ends(Exchanged::Swapped(seat, other)),

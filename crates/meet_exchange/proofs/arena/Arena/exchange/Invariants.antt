@@ -1,10 +1,8 @@
-use Rattle.std.proofs.Common.{◌≡◌, None}
 use Rattle.meet_exchange.specs.Waits.{IsIn, IsGoing}
 use Rattle.meet_exchange.proofs.arena.Arena.exchange.Given as goal
 
 abbrev pub invariant-loop : goal.invariant-loop
 invariant-loop g l = record {
   place : IsIn l.self.id l.self.slots l.going;
-  going : IsGoing g.T.Marked.mark_of l.fn.seat (g.T.Marked.mark_of l.fn.item) l.going;
-  limit : l.fn.limit ≡ None → l.left ≡ None;
+  going : IsGoing g.T.Marked.mark_of l.fn.seat (g.T.Marked.mark_of l.fn.item) l.self.slots l.fn.first_slot l.fn.limit l.left l.going;
 }

@@ -1,32 +1,32 @@
-use Rattle.std.proofs.Common.{ℕ, [], ◌∷◌, ◌≤◌, sym, ap, ◌∙◌, subst, lt_of_not-le}
-use Rattle.meet_exchange.specs.declared.records.SlotDeed.TheVariants.{Swapped}
-use Rattle.meet_exchange.specs.Words.{number_in}
-use Rattle.meet_exchange.specs.Rounds.{part}
-use Rattle.meet_exchange.specs.Seats.{SeatView, Went}
-use Rattle.meet_exchange.specs.Waits.{HasTried}
-use Rattle.meet_exchange.proofs.Tries.{tried_swapped, tried_still, saw_worn, still}
+use Rattle.std.proofs.Common.{◌≡◌, ◌≢◌, ◌<◌, ◌+◌, Some, [], add-zero, inl, true, false, refl, sym, ap, ◌∙◌, subst}
+use Rattle.meet_exchange.specs.Ways.{HasCome}
+use Rattle.meet_exchange.specs.Waits.{left_after}
+use Rattle.meet_exchange.proofs.Tries.{come_on, come_posted, come_swapped, come_contended, left_step, within, reached, not_reached}
 use Rattle.meet_exchange.proofs.arena.Arena.try_slot.Goals as goal
 
+pub returns-in-Posted-clause-goes : goal.returns-in-Posted-clause-goes
+returns-in-Posted-clause-goes g c = λ v a first limit t. let w = c.in-Posted.ensures.answer in (
+  t.1,
+  0,
+  t.2 ∙ ap (left_after limit) (sym (add-zero t.1)),
+  (λ above. refl),
+  come_posted v a c.args.self.now.slots first limit c.args.seat c.in-Posted.pending c.args.slot t.1 (g.T.Marked.mark_of c.args.item) w.0 t.4 t.3 w.1.0 w.1.1 t.0 w.1.2,
+)
+
 pub returns-in-Swapped-clause-goes : goal.returns-in-Swapped-clause-goes
-returns-in-Swapped-clause-goes g c = λ v a t. let w = c.in-Swapped.ensures.answer in tried_swapped v a c.args.seat c.in-Swapped.seat c.args.slot _ _ ((c.args.slot, w.0) ∷ []) t.1
-    (subst (λ (z : ℕ). Went c.args.seat c.in-Swapped.seat (part c.args.slot (number_in w.0) (Swapped z (g.T.Marked.mark_of c.in-Swapped.other)) ∷ []) ((c.args.slot, w.0) ∷ [])) t.0 w.1.1)
+returns-in-Swapped-clause-goes g c = λ v a first limit t. let w = c.in-Swapped.ensures.answer in
+    inl (come_swapped v a c.args.self.now.slots first limit c.args.seat c.in-Swapped.seat c.args.slot t.1 (g.T.Marked.mark_of c.args.item) w.0 (g.T.Marked.mark_of c.in-Swapped.other) t.4 w.1.0 t.0 w.1.1)
 
-pub returns-after-left-clause-goes : goal.returns-after-left-clause-goes
-returns-after-left-clause-goes g c = λ v a t. let w = c.in-Contended.ensures.answer in (
-  c.less-left.ensures.1,
-  (ap g.T.Marked.mark_of w.1.0 ∙ t.0, still v a c.args.seat c.in-Contended.seat [] t.1 w.1.2),
-)
+pub returns-then-is_reached-clause-goes : goal.returns-then-is_reached-clause-goes
+returns-then-is_reached-clause-goes g c = λ v a first limit t. let w = c.in-Contended.ensures.answer in
+    let h = come_contended v a c.args.self.now.slots first limit c.args.seat c.in-Contended.seat c.args.slot t.1 w.0 c.in-Contended.field-2 t.4 w.1.2 in
+    let left : c.less-left.result ≡ left_after limit (t.1 + 1) = c.less-left.ensures ∙ (ap (λ l. left_after l 1) t.2 ∙ left_step limit t.1) in
+    (ap g.T.Marked.mark_of w.1.0 ∙ t.0, (c.args.slot, t.1, h.0, inl (h.1, reached limit (t.1 + 1) (sym left ∙ c.if-is_reached.ensures.0 refl), h.2)))
 
-pub returns-in-Worn-clause-goes : goal.returns-in-Worn-clause-goes
-returns-in-Worn-clause-goes g c = λ v a t. let w = c.in-Worn.ensures.answer in (
-  ap g.T.Marked.mark_of w.1.2 ∙ t.0,
-  tried_still v a c.args.seat c.in-Worn.seat [] ((c.args.slot, w.0) ∷ []) t.1 w.1.4,
-  saw_worn v a c.args.seat c.in-Worn.seat [] c.args.slot w.0 t.1 w.1.4 w.1.0 w.1.1,
-)
-
-pub returns-in-Memory-clause-goes : goal.returns-in-Memory-clause-goes
-returns-in-Memory-clause-goes g c = λ v a t. let w = c.in-Memory.ensures.answer in (
-  ap g.T.Marked.mark_of w.1 ∙ t.0,
-  subst (λ (z : SeatView). HasTried v a z []) (sym w.0) t.1,
-  lt_of_not-le (λ l. c.in-Memory.ensures.enough (subst (λ (z : SeatView). 2 ≤ z.room) w.0 l)),
-)
+pub returns-else-is_reached-clause-goes : goal.returns-else-is_reached-clause-goes
+returns-else-is_reached-clause-goes g c = λ v a first limit t. let w = c.in-Contended.ensures.answer in let n = c.args.self.now.slots in let k = c.args.slot in
+    let h = come_contended v a n first limit c.args.seat c.in-Contended.seat k t.1 w.0 c.in-Contended.field-2 t.4 w.1.2 in
+    let left : c.less-left.result ≡ left_after limit (t.1 + 1) = c.less-left.ensures ∙ (ap (λ l. left_after l 1) t.2 ∙ left_step limit t.1) in
+    let some : left_after limit (t.1 + 1) ≢ Some 0 = λ e. let no : false ≡ true = c.if-is_reached.ensures.1 (left ∙ e) in cc in let f = not_reached limit (t.1 + 1) some in let next = c.slot_after.ensures.next in
+    let on = come_on v a n first limit c.in-Contended.seat k t.1 h.0 h.2 h.1 f (subst (λ z. z < n) next c.slot_after.ensures.low) in
+    (ap g.T.Marked.mark_of w.1.0 ∙ t.0, t.1 + 1, left, within limit (t.1 + 1) f, subst (λ z. HasCome v a n first limit c.in-Contended.seat z (t.1 + 1) [] []) (sym next) on)
