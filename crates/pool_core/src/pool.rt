@@ -10,14 +10,14 @@ ghost use Rattle.pool_core.specs.Pools.{HasNoJob, is_there, stage_owes, cut_stag
 ghost use Rattle.pool_core.specs.declared.stages.Stage.TheVariants.{Absent};
 
 use crate::answers::Counters;
+use crate::crew::Crew;
 use crate::line::JobLine;
 use crate::placing::Place;
 use crate::settings::{Policy, PoolQueue, Settings, Sizes};
-use crate::stages::{Stage, Task};
+use crate::stages::Task;
 use meet_tickets::{LAST_TICKET, Refusal, SeatNo, Side, Ticket};
-use std::alloc::{AllocError, Global};
+use std::alloc::Global;
 use std::marker::Model;
-use std::mem;
 
 mod bases;
 mod ending;
@@ -34,7 +34,7 @@ pub struct PoolCore<J> {
     settings: Settings,
     shut: bool,
     line: JobLine<J>,
-    workers: Vec<Stage<J>>,
+    workers: Crew<J>,
     largest: u64,
     done: u64,
     back: u64,
@@ -96,7 +96,7 @@ impl<J> PoolCore<J> {
                 return Err(why);
             }
         }
-        match nobody_works(alloc, settings.sizes.maximum) {
+        match Crew::new(alloc, settings.sizes.maximum) {
             Ok(workers) => Ok(PoolCore {
                 alloc,
                 settings,
@@ -156,27 +156,21 @@ impl<J> PoolCore<J> {
     pub fn workers(&self) -> u64
         ensures { result ≡ working self.now.pool }
     {
-        self.workers.iter().filter(|stage| stage.is_there()).count() as u64
+        self.workers.there()
     }
 
     /// How many workers run a job.
     pub fn running(&self) -> u64
         ensures { result ≡ count_by is_running self.now.pool.workers }
     {
-        self.workers
-            .iter()
-            .filter(|stage| stage.is_running())
-            .count() as u64
+        self.workers.running()
     }
 
     /// The least number that no worker has.
     pub fn free(&self) -> Option<u64>
         ensures { result ≡ free self.now.pool }
     {
-        match first_absent(&self.workers) {
-            Some(index) => Some(index as u64),
-            None => None,
-        }
+        self.workers.free()
     }
 
     /// The number of the worker whose seat this is; the callers' seats come first.
@@ -198,8 +192,7 @@ impl<J> PoolCore<J> {
         ensures { result ≡ owed self.now.pool }
     {
         self.stays_sound();
-        let workers = owed_by(&self.workers);
-        workers + 3 * self.line.kept()
+        self.workers.owes() + 3 * self.line.kept()
     }
 
     /// Whether one job more may be kept.
@@ -285,60 +278,4 @@ impl<J> PoolCore<J> {
     {
         let _ = &self.line;
     }
-}
-
-/// The worker of this number comes to another stage. What it leaves has no job in it.
-fn set_stage<J>(workers: &mut Vec<Stage<J>>, worker: u64, stage: Stage<J>)
-    requires there { worker < length workers.old.items }
-    requires no_job { HasNoJob (slice_index_or workers.old.items worker Absent) }
-    ensures { workers.new.items ≡ slice_set workers.old.items worker stage }
-{
-    match mem::replace(&mut workers[worker as usize], stage) {
-        Stage::Absent | Stage::Waiting(_) | Stage::Cut(_) | Stage::Running(_) => {}
-        Stage::Starting(first) => match first {
-            None => {}
-            Some(_) => unreachable!(),
-        },
-        Stage::HandedOver(_, _) => unreachable!(),
-    }
-}
-
-/// Takes what the worker of this number does out; it is absent then.
-fn take_stage<J>(workers: &mut Vec<Stage<J>>, worker: u64) -> Stage<J>
-    requires { worker < length workers.old.items }
-    ensures was { result ≡ slice_index_or workers.old.items worker Absent }
-    ensures workers { workers.new.items ≡ slice_set workers.old.items worker Absent }
-{
-    mem::replace(&mut workers[worker as usize], Stage::Absent)
-}
-
-/// The first index at which no worker is.
-fn first_absent<J>(workers: &[Stage<J>]) -> Option<usize>
-    ensures { result ≡ position (λ stage. not (is_there stage)) workers.now }
-{
-    workers.iter().position(|stage| !stage.is_there())
-}
-
-/// How many records workers may still need.
-fn owed_by<J>(workers: &[Stage<J>]) -> u64
-    requires { length workers.now ≤ most_together }
-    ensures { result ≡ sum_by stage_owes workers.now }
-{
-    let mut owed = 0;
-    for stage in workers {
-        owed += stage.owes();
-    }
-    owed
-}
-
-/// So many numbers that no worker has.
-fn nobody_works<J>(alloc: Global, count: u64) -> Result<Vec<Stage<J>>, AllocError>
-    requires { count ≤ most_together }
-    ensures { IfOk result (λ workers. workers.items ≡ replicate count Absent) }
-{
-    let mut workers = Vec::with_capacity(alloc, count as usize)?;
-    for _ in 0..count {
-        workers.push_reserved(Stage::Absent);
-    }
-    Ok(workers)
 }

@@ -45,6 +45,40 @@ impl Sizes {
             core_timeout: false,
         }
     }
+
+    /// The sizes of `Executors.newFixedThreadPool`, for the queue `Unbounded`: so many workers at most, of which none
+    /// ends for want of a job.
+    pub fn fixed(callers: u64, workers: u64) -> Self
+        ensures { result ≡ record {
+          core = workers;
+          maximum = workers;
+          callers = callers;
+          keep_alive = 0;
+          core_timeout = false;
+        } }
+    {
+        Sizes {
+            core: workers,
+            maximum: workers,
+            callers,
+            keep_alive: 0,
+            core_timeout: false,
+        }
+    }
+
+    /// The sizes of `Executors.newSingleThreadExecutor`, for the queue `Unbounded`: one worker, which runs the jobs in
+    /// the order in which they came.
+    pub fn single(callers: u64) -> Self
+        ensures { result ≡ record {
+          core = 1;
+          maximum = 1;
+          callers = callers;
+          keep_alive = 0;
+          core_timeout = false;
+        } }
+    {
+        Sizes::fixed(callers, 1)
+    }
 }
 
 /// Where a job goes that starts no worker.

@@ -15,7 +15,7 @@ use std::test::Fail;
 
 /// What is asked, by the caller or by a worker of this number.
 #[derive(Clone, Copy, PartialEq, Debug)]
-enum Ask {
+pub(crate) enum Ask {
     Execute(u64),
     ShutDown,
     ShutDownNow,
@@ -29,7 +29,7 @@ enum Ask {
 
 /// What is told: numbers stand for workers and for jobs.
 #[derive(Clone, Copy, PartialEq, Debug)]
-enum Told {
+pub(crate) enum Told {
     Handed(u64),
     Started(u64),
     Kept,
@@ -189,7 +189,7 @@ fn put_directly(pool: &mut PoolCore<u64>, asked: Ask) -> Result<Told, Fail> {
 }
 
 /// A new pool is asked these, without a book, and says these.
-fn plays_directly(
+pub(crate) fn plays_directly(
     rt: &impl Abort,
     alloc: Global,
     sizes: Sizes,

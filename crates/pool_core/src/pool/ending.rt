@@ -6,7 +6,8 @@ ghost use Rattle.meet_tickets.specs.declared.refusals.Refusal.TheVariants.{Memor
 ghost use Rattle.pool_core.specs.Pools.{cut_stage};
 ghost use Rattle.pool_core.specs.declared.stages.Stage.TheVariants.{Absent};
 
-use crate::pool::{PoolCore, set_stage, take_stage};
+use crate::crew::{Crew, set_stage, take_stage};
+use crate::pool::PoolCore;
 use crate::stages::{Stage, Task};
 use meet_tickets::{Refusal, SeatNo};
 use std::mem;
@@ -83,19 +84,18 @@ impl<J> PoolCore<J> {
 }
 
 /// Each worker that waits is cut.
-fn cut_all<J>(workers: &mut Vec<Stage<J>>)
-    ensures { workers.new.items ≡ map cut_stage workers.old.items }
+fn cut_all<J>(workers: &mut Crew<J>)
+    ensures { workers.new ≡ map cut_stage workers.old }
 {
     for worker in 0..workers.len() {
-        cut_one(workers, worker as u64);
+        cut_one(workers, worker);
     }
 }
 
 /// The worker of this number is cut, if it waits.
-fn cut_one<J>(workers: &mut Vec<Stage<J>>, worker: u64)
-    requires { worker < length workers.old.items }
-    ensures { workers.new.items ≡ slice_set workers.old.items worker
-        (cut_stage (slice_index_or workers.old.items worker Absent)) }
+fn cut_one<J>(workers: &mut Crew<J>, worker: u64)
+    requires { worker < length workers.old }
+    ensures { workers.new ≡ slice_set workers.old worker (cut_stage (slice_index_or workers.old worker Absent)) }
 {
     let stage = take_stage(workers, worker);
     set_stage(workers, worker, cut(stage));

@@ -8,8 +8,9 @@ ghost use Rattle.std.specs.Vec.{vec_capacity};
 ghost use Rattle.pool_core.specs.Limits.{most_together};
 ghost use Rattle.pool_core.specs.Pools.{task_at, left_in};
 
+use crate::crew::Crew;
 use crate::pool::PoolCore;
-use crate::stages::{Stage, Task};
+use crate::stages::Task;
 
 impl<J> PoolCore<J> {
     /// How many jobs are left in the pool: the kept ones, and those in the hands of workers.
@@ -67,19 +68,20 @@ impl<J> PoolCore<J> {
 }
 
 /// How many workers have a job in hand.
-fn tasks_in<J>(workers: &[Stage<J>]) -> usize
+fn tasks_in<J>(workers: &Crew<J>) -> usize
     ensures { result ≡ count_by (λ stage. is_some (task_at stage)) workers.now }
 {
-    workers.iter().filter(|stage| stage.has_task()).count()
+    let stages = workers.stages();
+    stages.iter().filter(|stage| stage.has_task()).count()
 }
 
 /// The jobs of workers go behind the others.
-fn empty_hands<J>(workers: Vec<Stage<J>>, left: &mut Vec<Task<J>>)
-    requires { vec_len left.old + length (filter_map task_at workers.items) ≤ vec_capacity left.old }
-    ensures items { left.new.items ≡ left.old.items ++ filter_map task_at workers.items }
+fn empty_hands<J>(workers: Crew<J>, left: &mut Vec<Task<J>>)
+    requires { vec_len left.old + length (filter_map task_at workers) ≤ vec_capacity left.old }
+    ensures items { left.new.items ≡ left.old.items ++ filter_map task_at workers }
     ensures capacity { vec_capacity left.new ≡ vec_capacity left.old }
 {
-    let mut workers = workers.into_iter();
+    let mut workers = workers.into_stages().into_iter();
     while let Some(stage) = workers.next() {
         push_task(left, stage.into_task());
     }

@@ -3,7 +3,6 @@
 use crate::answers::{Executed, FollowedUp, Ready};
 use crate::calls::PoolAnswer;
 use crate::pool::PoolCore;
-use crate::stages::Stage;
 use meet_tickets::SeatNo;
 
 impl<J> PoolCore<J> {
@@ -26,14 +25,9 @@ impl<J> PoolCore<J> {
 
     /// The seat of the first worker whose take was cut.
     fn next_cut(&self) -> Option<SeatNo> {
-        match first_cut(&self.workers) {
-            Some(worker) => self.seat_of(worker as u64),
+        match self.workers.first_cut() {
+            Some(worker) => self.seat_of(worker),
             None => None,
         }
     }
-}
-
-/// The first worker whose take was cut.
-fn first_cut<J>(workers: &[Stage<J>]) -> Option<usize> {
-    workers.iter().position(|stage| stage.is_cut())
 }

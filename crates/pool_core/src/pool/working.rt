@@ -8,10 +8,10 @@ ghost use Rattle.pool_core.specs.declared.stages.Stage.TheVariants.{Absent};
 ghost use Rattle.meet_tickets.specs.declared.refusals.Refusal.TheVariants.{NoSuchSeat, Memory, HistoryFull};
 
 use crate::answers::{FollowedUp, IdleEnd, Ready};
-use crate::pool::{PoolCore, set_stage};
+use crate::crew::{Crew, set_stage, take_stage};
+use crate::pool::PoolCore;
 use crate::stages::{Stage, Task};
 use meet_tickets::{Entry, Refusal, SeatNo, Side, Ticket};
-use std::mem;
 
 impl<J> PoolCore<J> {
     ghost use Rattle.pool_core.specs.Pools.{stage_of};
@@ -46,7 +46,7 @@ impl<J> PoolCore<J> {
         ensures own { IfErr result (λ why. (why ≢ Memory) × (why ≢ HistoryFull)) }
     {
         let worker = self.worker_at(seat)?;
-        if self.workers[worker as usize].is_starting() {
+        if self.workers.at(worker).is_starting() {
             Ok(())
         } else {
             Err(Refusal::NotOpen)
@@ -60,7 +60,7 @@ impl<J> PoolCore<J> {
         ensures own { IfErr result (λ why. (why ≢ Memory) × (why ≢ HistoryFull)) }
     {
         let worker = self.worker_at(seat)?;
-        if self.workers[worker as usize].is_at_queue() {
+        if self.workers.at(worker).is_at_queue() {
             Ok(())
         } else {
             Err(Refusal::NotOpen)
@@ -74,7 +74,7 @@ impl<J> PoolCore<J> {
         ensures own { IfErr result (λ why. (why ≢ Memory) × (why ≢ HistoryFull)) }
     {
         let worker = self.worker_at(seat)?;
-        if self.workers[worker as usize].is_running() {
+        if self.workers.at(worker).is_running() {
             Ok(())
         } else {
             Err(Refusal::NotOpen)
@@ -88,7 +88,7 @@ impl<J> PoolCore<J> {
         ensures own { IfErr result (λ why. (why ≢ Memory) × (why ≢ HistoryFull)) }
     {
         let worker = self.worker_at(seat)?;
-        if self.workers[worker as usize].is_jobless() {
+        if self.workers.at(worker).is_jobless() {
             Ok(())
         } else {
             Err(Refusal::NotOpen)
@@ -104,7 +104,7 @@ impl<J> PoolCore<J> {
         ensures unchanged { IfErr result (λ _. self.new ≡ self.old) }
     {
         let worker = self.worker_at(seat)?;
-        let ticket = match &self.workers[worker as usize] {
+        let ticket = match self.workers.at(worker) {
             Stage::Running(ticket) => *ticket,
             _ => return Err(Refusal::NotOpen),
         };
@@ -122,7 +122,7 @@ impl<J> PoolCore<J> {
         ensures unchanged { IfErr result (λ _. self.new ≡ self.old) }
     {
         let worker = self.worker_at(seat)?;
-        if !self.workers[worker as usize].is_jobless() {
+        if !self.workers.at(worker).is_jobless() {
             return Err(Refusal::NotOpen);
         }
         set_stage(&mut self.workers, worker, Stage::Absent);
@@ -138,10 +138,10 @@ impl<J> PoolCore<J> {
         ensures unchanged { IfErr result (λ _. self.new ≡ self.old) }
     {
         let worker = self.worker_at(seat)?;
-        if !self.workers[worker as usize].is_starting() {
+        if !self.workers.at(worker).is_starting() {
             return Err(Refusal::NotOpen);
         }
-        if self.workers[worker as usize].is_jobless() {
+        if self.workers.at(worker).is_jobless() {
             set_stage(&mut self.workers, worker, Stage::Absent);
             return Ok((no_ticket(), None));
         }
@@ -159,13 +159,13 @@ impl<J> PoolCore<J> {
         ensures unchanged { IfErr result (λ _. self.new ≡ self.old) }
     {
         let worker = self.worker_at(seat)?;
-        let Some(take) = self.workers[worker as usize].take() else {
+        let Some(take) = self.workers.at(worker).take() else {
             return Err(Refusal::NotOpen);
         };
-        if self.workers[worker as usize].is_waiting() {
+        if self.workers.at(worker).is_waiting() {
             return Ok((take, FollowedUp::NotYet));
         }
-        if self.workers[worker as usize].is_cut() {
+        if self.workers.at(worker).is_cut() {
             set_stage(&mut self.workers, worker, Stage::Absent);
             return Ok((take, FollowedUp::Exit));
         }
@@ -184,10 +184,10 @@ impl<J> PoolCore<J> {
         ensures unchanged { IfErr result (λ _. self.new ≡ self.old) }
     {
         let worker = self.worker_at(seat)?;
-        let Some(take) = self.workers[worker as usize].take() else {
+        let Some(take) = self.workers.at(worker).take() else {
             return Err(Refusal::NotOpen);
         };
-        if !self.workers[worker as usize].is_waiting() {
+        if !self.workers.at(worker).is_waiting() {
             return Ok((take, IdleEnd::Late));
         }
         if !self.may_expire() {
@@ -215,10 +215,10 @@ impl<J> PoolCore<J> {
         ensures unchanged { IfErr result (λ _. self.new ≡ self.old) }
     {
         let worker = self.worker_at(seat)?;
-        if !self.workers[worker as usize].is_starting() {
+        if !self.workers.at(worker).is_starting() {
             return Err(Refusal::NotOpen);
         }
-        if !self.workers[worker as usize].is_jobless() {
+        if !self.workers.at(worker).is_jobless() {
             return Ok(self.run_first(seat, worker));
         }
         if self.line.has_partner(Side::Taker) {
@@ -309,14 +309,14 @@ fn no_ticket() -> Ticket
 }
 
 /// Takes the job that a worker starts with out of its hands.
-fn take_first<J>(workers: &mut Vec<Stage<J>>, worker: u64) -> Task<J>
-    requires there { worker < length workers.old.items }
-    requires starting { is_starting (slice_index_or workers.old.items worker Absent) ≡ true }
-    requires first { is_jobless (slice_index_or workers.old.items worker Absent) ≡ false }
-    ensures was { slice_index_or workers.old.items worker Absent ≡ Stage.Starting (Some result) }
-    ensures workers { workers.new.items ≡ slice_set workers.old.items worker Absent }
+fn take_first<J>(workers: &mut Crew<J>, worker: u64) -> Task<J>
+    requires there { worker < length workers.old }
+    requires starting { is_starting (slice_index_or workers.old worker Absent) ≡ true }
+    requires first { is_jobless (slice_index_or workers.old worker Absent) ≡ false }
+    ensures was { slice_index_or workers.old worker Absent ≡ Stage.Starting (Some result) }
+    ensures workers { workers.new ≡ slice_set workers.old worker Absent }
 {
-    match mem::replace(&mut workers[worker as usize], Stage::Absent) {
+    match take_stage(workers, worker) {
         Stage::Starting(first) => first.unwrap(),
         Stage::Absent | Stage::Waiting(_) | Stage::Cut(_) | Stage::Running(_) => unreachable!(),
         Stage::HandedOver(_, _) => unreachable!(),
@@ -324,13 +324,13 @@ fn take_first<J>(workers: &mut Vec<Stage<J>>, worker: u64) -> Task<J>
 }
 
 /// Takes the job that a worker was handed out of its hands.
-fn take_handed<J>(workers: &mut Vec<Stage<J>>, worker: u64) -> Task<J>
-    requires there { worker < length workers.old.items }
-    requires handed { IsHanded (slice_index_or workers.old.items worker Absent) }
-    ensures was { IsHandedTask (slice_index_or workers.old.items worker Absent) result }
-    ensures workers { workers.new.items ≡ slice_set workers.old.items worker Absent }
+fn take_handed<J>(workers: &mut Crew<J>, worker: u64) -> Task<J>
+    requires there { worker < length workers.old }
+    requires handed { IsHanded (slice_index_or workers.old worker Absent) }
+    ensures was { IsHandedTask (slice_index_or workers.old worker Absent) result }
+    ensures workers { workers.new ≡ slice_set workers.old worker Absent }
 {
-    match mem::replace(&mut workers[worker as usize], Stage::Absent) {
+    match take_stage(workers, worker) {
         Stage::HandedOver(_, task) => task,
         Stage::Starting(_) => unreachable!(),
         Stage::Absent | Stage::Waiting(_) | Stage::Cut(_) | Stage::Running(_) => unreachable!(),

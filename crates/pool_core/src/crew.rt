@@ -1,0 +1,198 @@
+//! The workers of a pool: what each does, and what they count together. No call takes longer where there are more of
+//! them, but for those that go over all.
+
+ghost use Rattle.std.specs.Prelude.{◌≡◌, ◌<◌, ◌≤◌, length, get_or, replicate, slice_index_or, slice_set, count_by};
+ghost use Rattle.std.specs.Prelude.{sum_by, position, not, if◌then◌else◌, IfOk};
+ghost use Rattle.pool_core.specs.Limits.{most_together};
+ghost use Rattle.pool_core.specs.Calls.{is_running, is_cut};
+ghost use Rattle.pool_core.specs.Pools.{HasNoJob, is_there, stage_owes};
+ghost use Rattle.pool_core.specs.declared.stages.Stage.TheVariants.{Absent};
+
+use crate::numbers::Numbers;
+use crate::stages::Stage;
+use std::alloc::{AllocError, Global};
+use std::marker::Model;
+use std::mem;
+
+/// What each worker does, by number; and how many are there, how many run a job, and how many records they may still
+/// need; which numbers no worker has, and whose takes were cut. A contract sees the stages.
+#[derive(Drop)]
+pub(crate) struct Crew<J> {
+    stages: Vec<Stage<J>>,
+    there: u64,
+    running: u64,
+    owes: u64,
+    free: Numbers,
+    cut: Numbers,
+}
+
+impl<J> Model for Crew<J> {
+    ghost use Rattle.std.specs.Prelude.{List};
+    ghost use Rattle.pool_core.specs.Crews.{IsCounted};
+    ghost use Rattle.pool_core.specs.declared.stages.Stage.{Stage as Told};
+
+    ghost Value = { List (Told J) };
+
+    ghost view = { λ c. c.stages.items };
+
+    ghost invariant = { λ c. IsCounted c };
+}
+
+impl<J> Crew<J> {
+    /// So many numbers that no worker has.
+    pub(crate) fn new(alloc: Global, count: u64) -> Result<Self, AllocError>
+        requires { count ≤ most_together }
+        ensures { IfOk result (λ crew. crew ≡ replicate count Absent) }
+    {
+        let free = Numbers::all(alloc, count)?;
+        let cut = Numbers::none(alloc, count)?;
+        let stages = nobody_works(alloc, count)?;
+        Ok(Crew {
+            stages,
+            there: 0,
+            running: 0,
+            owes: 0,
+            free,
+            cut,
+        })
+    }
+
+    /// What each does.
+    pub(crate) fn stages(&self) -> &[Stage<J>]
+        ensures { result.now ≡ self.now }
+    {
+        self.stages.as_slice()
+    }
+
+    /// How many numbers there are.
+    pub(crate) fn len(&self) -> u64
+        ensures { result ≡ length self.now }
+    {
+        self.stages.len() as u64
+    }
+
+    /// What the worker of this number does.
+    pub(crate) fn at(&self, worker: u64) -> &Stage<J>
+        requires { worker < length self.now }
+        ensures { result.now ≡ get_or self.now worker result.now }
+    {
+        &self.stages[worker as usize]
+    }
+
+    /// What each did, taken apart.
+    pub(crate) fn into_stages(self) -> Vec<Stage<J>>
+        ensures { result.items ≡ self }
+    {
+        let Crew {
+            stages,
+            there: _,
+            running: _,
+            owes: _,
+            free: _,
+            cut: _,
+        } = self;
+        stages
+    }
+
+    /// The least number that no worker has.
+    pub(crate) fn free(&self) -> Option<u64>
+        ensures { result ≡ position (λ stage. not (is_there stage)) self.now }
+    {
+        self.free.least()
+    }
+
+    /// The first worker whose take was cut.
+    pub(crate) fn first_cut(&self) -> Option<u64>
+        ensures { result ≡ position is_cut self.now }
+    {
+        self.cut.least()
+    }
+
+    /// How many are there.
+    pub(crate) fn there(&self) -> u64
+        ensures { result ≡ count_by is_there self.now }
+    {
+        self.there
+    }
+
+    /// How many run a job.
+    pub(crate) fn running(&self) -> u64
+        ensures { result ≡ count_by is_running self.now }
+    {
+        self.running
+    }
+
+    /// How many records they may still need.
+    pub(crate) fn owes(&self) -> u64
+        ensures { result ≡ sum_by stage_owes self.now }
+    {
+        self.owes
+    }
+}
+
+/// One for what is so, and else none.
+fn one_if(is: bool) -> u64
+    ensures value { result ≡ (if is then 1 else 0) }
+    ensures few { result ≤ 1 }
+{
+    if is { 1 } else { 0 }
+}
+
+impl<J> Crew<J> {
+    /// The worker of this number comes to another stage: the one that it leaves.
+    fn put(&mut self, worker: u64, stage: Stage<J>) -> Stage<J>
+        requires { worker < length self.old }
+        ensures was { result ≡ slice_index_or self.old worker Absent }
+        ensures stages { self.new ≡ slice_set self.old worker stage }
+    {
+        let (there, running, owes) = (
+            one_if(stage.is_there()),
+            one_if(stage.is_running()),
+            stage.owes(),
+        );
+        self.free.put(worker, !stage.is_there());
+        self.cut.put(worker, stage.is_cut());
+        let was = mem::replace(&mut self.stages[worker as usize], stage);
+        self.there = self.there + there - one_if(was.is_there());
+        self.running = self.running + running - one_if(was.is_running());
+        self.owes = self.owes + owes - was.owes();
+        was
+    }
+}
+
+/// The worker of this number comes to another stage. What it leaves has no job in it.
+pub(crate) fn set_stage<J>(workers: &mut Crew<J>, worker: u64, stage: Stage<J>)
+    requires there { worker < length workers.old }
+    requires no_job { HasNoJob (slice_index_or workers.old worker Absent) }
+    ensures { workers.new ≡ slice_set workers.old worker stage }
+{
+    match workers.put(worker, stage) {
+        Stage::Absent | Stage::Waiting(_) | Stage::Cut(_) | Stage::Running(_) => {}
+        Stage::Starting(first) => match first {
+            None => {}
+            Some(_) => unreachable!(),
+        },
+        Stage::HandedOver(_, _) => unreachable!(),
+    }
+}
+
+/// Takes what the worker of this number does out; it is absent then.
+pub(crate) fn take_stage<J>(workers: &mut Crew<J>, worker: u64) -> Stage<J>
+    requires { worker < length workers.old }
+    ensures was { result ≡ slice_index_or workers.old worker Absent }
+    ensures workers { workers.new ≡ slice_set workers.old worker Absent }
+{
+    workers.put(worker, Stage::Absent)
+}
+
+/// So many numbers that no worker has.
+fn nobody_works<J>(alloc: Global, count: u64) -> Result<Vec<Stage<J>>, AllocError>
+    requires { count ≤ most_together }
+    ensures { IfOk result (λ workers. workers.items ≡ replicate count Absent) }
+{
+    let mut workers = Vec::with_capacity(alloc, count as usize)?;
+    for _ in 0..count {
+        workers.push_reserved(Stage::Absent);
+    }
+    Ok(workers)
+}
