@@ -168,13 +168,6 @@ impl<T> Pending<T> {
         self.slot
     }
 
-    /// The number of the round there.
-    pub fn round(&self) -> u64
-        ensures { result ≡ self.now.round }
-    {
-        self.round
-    }
-
     /// The item's mark.
     pub fn mark(&self) -> u64
         ensures { result ≡ self.now.mark }
@@ -199,16 +192,6 @@ pub enum Back<T> {
 
 impl<T> Back<T> {
     ghost use Rattle.meet_exchange.specs.Closed.{IsBack, seat_of};
-
-    /// The seat's number.
-    pub fn number(&self) -> SeatNo
-        ensures { result ≡ (seat_of self.now).number }
-    {
-        match self {
-            Back::Free(seat) => seat.number(),
-            Back::Held(pending) => pending.number(),
-        }
-    }
 
     /// What the seat did so far, in order.
     pub fn parts(&self) -> &[Part]
