@@ -39,32 +39,57 @@ pub fn take_on_record<L: Line<Parcel>>(
     }
 }
 
+/// A book of a synchronous queue of parcels in fair mode.
+type Recorded = Book<Dual<Parcel, FairLine<Parcel>>>;
+
 /// One seat gives a parcel, and another polls it; a third gives one, which is drained. Each step has its record.
 pub fn keep_book(rt: &HostRuntime, seat_0: SeatNo, seat_1: SeatNo, seat_2: SeatNo) -> Result<()> {
     let alloc = rt.alloc();
-    let item = Parcel {
+    let first = Parcel {
         mark: 11,
         grams: 250,
     };
+    let second = Parcel {
+        mark: 12,
+        grams: 250,
+    };
     let mut book: Book<Dual<Parcel, FairLine<Parcel>>> = queue_book(alloc, 3, 1, 1_000)?; // at most 1,000 records
+    give(rt, &mut book, seat_0, first)?;
+    poll(rt, &mut book, seat_1)?;
+    give(rt, &mut book, seat_2, second)?;
+    drain(rt, &mut book, seat_1)?;
+    fold(rt, &mut book)
+}
+
+/// A seat gives a parcel, and its record is told.
+fn give(rt: &HostRuntime, book: &mut Recorded, seat: SeatNo, item: Parcel) -> Result<()> {
     // A refusal would bring the call back, and the parcel in it; `into_why` lets both go.
-    let given = book.step(seat_0, DualCall::Give(item));
+    let given = book.step(seat, DualCall::Give(item));
     let (_, receipt) = given.map_err(Refused::into_why)?; // DualAnswer::Gave(..), Some(receipt)
     if let Some(receipt) = receipt {
         let entry = receipt.entry(); // the record; receipt.place() is its number
         println!(rt; "record {} of t{}", receipt.place(), entry.ticket.number())?;
     }
-    if let Some((parcel, receipt)) = take_on_record(&mut book, seat_1)? {
+    Ok(())
+}
+
+/// A seat polls, and the record of what came is told.
+fn poll(rt: &HostRuntime, book: &mut Recorded, seat: SeatNo) -> Result<()> {
+    if let Some((parcel, receipt)) = take_on_record(book, seat)? {
         println!(rt; "record {} brought {}", receipt.place(), parcel.mark)?;
     }
-    let item = Parcel {
-        mark: 12,
-        grams: 250,
-    };
-    let given = book.step(seat_2, DualCall::Give(item));
-    let _ = given.map_err(Refused::into_why)?;
-    let taken = book.drain(alloc, seat_1, 10)?; // up to ten items, an answer and a receipt for each
+    Ok(())
+}
+
+/// A seat drains what is there.
+fn drain(rt: &HostRuntime, book: &mut Recorded, seat: SeatNo) -> Result<()> {
+    let taken = book.drain(rt.alloc(), seat, 10)?; // up to ten items, an answer and a receipt for each
     println!(rt; "drained {}", taken.len())?;
+    Ok(())
+}
+
+/// The records are folded away.
+fn fold(rt: &HostRuntime, book: &mut Recorded) -> Result<()> {
     let records = book.records(); // the records since the book was cut last
     println!(rt; "{} records", records.len())?;
     let gone = book.cut()?; // folds them into book.base(): a book never fills for good
