@@ -49,6 +49,9 @@ pub trait Object {
     /// How many records a call may need: its own, and those that it will owe.
     ghost need_of: { Self.Call → ℕ };
 
+    /// How many seats the place has.
+    ghost seat_count_of: { Self → ℕ };
+
     /// How much of the place's room a call may use up.
     ghost room_of: { Self.Call → ℕ };
 
@@ -111,6 +114,13 @@ pub trait Object {
 
     /// A place that has the room that it has is the same.
     ghost same_place: { (o : Self) → with_room o (spare o) ≡ o };
+
+    /// A step changes no number of seats.
+    ghost same_seats: { (old : Self) (seat : ℕ) (call : Self.Call) (answer : Self.Answer) (new : Self)
+        → steps old seat call answer new → seat_count_of new ≡ seat_count_of old };
+
+    /// Nor does room.
+    ghost roomy_seats: { (o : Self) (room : ℕ) → seat_count_of (with_room o room) ≡ seat_count_of o };
 
     /// Room changes no refusal.
     ghost same_refusal: { (o : Self) (room seat : ℕ) (call : Self.Call)

@@ -229,6 +229,8 @@ impl Object for Cell {
 
     ghost need_of = { elim [ Put tokens ↦ 1 | Take ↦ 2 | End ↦ 0 ] };
 
+    ghost seat_count_of = { λ cell. 2 };
+
     ghost room_of = { elim [ Put tokens ↦ 1 | Take ↦ 0 | End ↦ 0 ] };
 
     ghost spare = { λ cell. cell.room };
@@ -238,6 +240,10 @@ impl Object for Cell {
     ghost own_record = { λ seat call. elim [ None ↦ tt | Some made ↦ refl ] };
 
     ghost same_place = { λ cell. refl };
+
+    ghost same_seats = { λ old seat call made new step. refl };
+
+    ghost roomy_seats = { λ cell room. refl };
 
     ghost same_refusal = { λ cell room seat call. refl };
 

@@ -4,3 +4,4 @@ pub mod DualSteps
 pub mod Handed
 pub mod QueueRoom
 pub mod QueueSteps
+pub mod SeatCounts

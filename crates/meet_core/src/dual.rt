@@ -14,7 +14,6 @@ use meet_tickets::{Base, Marked, Refusal, Refused, SeatNo, Ticket};
 use std::alloc::Global;
 use std::marker::Model;
 
-mod admitted;
 mod endings;
 mod leaving;
 mod place;

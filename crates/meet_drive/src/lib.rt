@@ -5,6 +5,7 @@
 mod course;
 mod outcome;
 mod progress;
+mod takings;
 mod threads;
 mod whole;
 

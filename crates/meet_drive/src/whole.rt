@@ -11,6 +11,7 @@ ghost use Rattle.meet_drive.specs.Driven.{IsDriven, IsSized, fair};
 use crate::course::Course;
 use crate::outcome::Drive;
 use crate::progress::{Progress, Silent};
+use crate::takings::{count_got, sum_got};
 use crate::threads::{Count, NOTHING, Slot, run_all};
 use meet_cells::{Gate, ParkGate};
 use meet_history::{CheckFault, Kind, Order, check};
@@ -75,20 +76,37 @@ fn seats_of<N: Ledgers>(
     (backs, counted)
 }
 
-/// What a chronicle tells of a drive whose takers counted so. A drive's records aren't folded away.
-fn told(alloc: Global, chronicle: &Chronicle<u64>, counted: Count) -> Result<Drive, Refusal>
+/// What a chronicle tells of a drive of so many givers and takers of so many items each, whose takers counted so. A
+/// drive's records aren't folded away, and by them the takers got what they counted, and all that was given: were it
+/// otherwise, Differs were told.
+fn told(
+    alloc: Global,
+    chronicle: &Chronicle<u64>,
+    counted: Count,
+    givers: u64,
+    each: u64,
+) -> Result<Drive, Refusal>
+    requires sized { IsSized givers each }
     requires history { (mark : ℕ → ℕ) × (lists : List (List (Received Deed))) × IsChronicle mark fair
         chronicle.now.base chronicle.now.records.items lists chronicle.now.left.items }
-    ensures { IfOk result IsDriven }
+    ensures { IfOk result (λ drive. IsDriven givers each drive) }
 {
     if chronicle.base.gone > 0 {
         return Err(Refusal::Differs);
     }
     let records = chronicle.records.as_slice();
+    let items = count_got(records);
+    let sum = sum_got(records).ok_or(Refusal::Differs)?;
+    if items != givers * each || items != counted.items || sum != counted.sum {
+        return Err(Refusal::Differs);
+    }
+    if sum.checked_mul(2) != Some(items * (each + 1)) {
+        return Err(Refusal::Differs);
+    }
     match check(alloc, FAIR, &chronicle.base, records) {
         Ok(standing) => Ok(Drive {
-            items: counted.items,
-            sum: counted.sum,
+            items,
+            sum,
             pairs: chronicle.laws().delivered,
             records: records.len() as u64,
             standing,
@@ -104,6 +122,7 @@ fn driving<G, N, R, P>(
     rt: &R,
     alloc: Global,
     parts: NewQueue<G>,
+    givers: u64,
     each: u64,
     cap: u64,
     progress: &P,
@@ -115,7 +134,9 @@ where
     R: Threads + Wait + Clock + Sync,
     requires ledgers { AreOf N.name N.folds N.parts parts.blanks }
     requires one_each { N.parts ≡ vec_len parts.gates }
-    ensures { IfOk result IsDriven }
+    requires cap { N.cap ≡ cap }
+    requires sized { IsSized givers each }
+    ensures { IfOk result (λ drive. IsDriven givers each drive) }
 {
     let count = parts.gates.len();
     let Ok(slots) = Vec::with_capacity(alloc, count) else {
@@ -146,7 +167,7 @@ where
     }
     match counted.why {
         Some(why) => Err(why),
-        None => told(alloc, &chronicle, counted),
+        None => told(alloc, &chronicle, counted, givers, each),
     }
 }
 
@@ -158,7 +179,7 @@ pub fn drive<R>(rt: &R, alloc: Global, givers: u64, each: u64) -> Result<Drive, 
 where
     R: Threads + Wait + Clock + Sync,
     requires { IsSized givers each }
-    ensures { IfOk result IsDriven }
+    ensures { IfOk result (λ drive. IsDriven givers each drive) }
 {
     drive_within(rt, alloc, givers, each, MOST_RECORDS)
 }
@@ -175,7 +196,7 @@ where
     R: Threads + Wait + Clock + Sync,
     P: Progress,
     requires { IsSized givers each }
-    ensures { IfOk result IsDriven }
+    ensures { IfOk result (λ drive. IsDriven givers each drive) }
 {
     drive_with(rt, alloc, givers, each, MOST_RECORDS, progress)
 }
@@ -192,7 +213,7 @@ pub fn drive_within<R>(
 where
     R: Threads + Wait + Clock + Sync,
     requires { IsSized givers each }
-    ensures { IfOk result IsDriven }
+    ensures { IfOk result (λ drive. IsDriven givers each drive) }
 {
     drive_with(rt, alloc, givers, each, cap, &Silent {})
 }
@@ -210,7 +231,7 @@ where
     R: Threads + Wait + Clock + Sync,
     P: Progress,
     requires { IsSized givers each }
-    ensures { IfOk result IsDriven }
+    ensures { IfOk result (λ drive. IsDriven givers each drive) }
 {
     let mut gates = Vec::new(alloc);
     for _ in 0..givers {
@@ -219,5 +240,5 @@ where
     }
     let blanks = Blanks::new(gates.len() as u64);
     let parts = NewQueue { gates, blanks };
-    driving::<ParkGate, Brand, R, P>(rt, alloc, parts, each, cap, progress)
+    driving::<ParkGate, Brand, R, P>(rt, alloc, parts, givers, each, cap, progress)
 }

@@ -185,6 +185,7 @@ where
     R: Threads + Wait + Clock + Sync,
     requires ledgers { AreOf N.name N.folds N.parts parts.blanks }
     requires one_each { N.parts ≡ vec_len parts.gates }
+    requires cap { N.cap ≡ plan.cap }
     requires two { vec_len parts.gates ≡ 2 }
     ensures { IfOk result (λ passed.
         IsLegalOn (bounded_kind None) passed.chronicle.base passed.chronicle.records.items) }

@@ -1,5 +1,6 @@
 -- What contracts see of a seat, and what a call leaves in its list (our choice).
 use Rattle.std.specs.Prelude.{◌≡◌, ℕ, ◌+◌, Option, Some, List, [], ◌++◌, length, map, filter, slice_get}
+use Rattle.std.specs.List.{range_with_len}
 use Rattle.meet_tickets.specs.declared.records.Record.{Record}
 use Rattle.meet_book.specs.Listed.{is_since}
 use Rattle.meet_book.specs.Received.{Received}
@@ -30,6 +31,11 @@ module _ {D : Type 0} where
   -- the receipts of these records came to the list's end
   abbrev pub Adds : (old new : List (Received D)) → List (Record D) → Type 0
   Adds old new records = (made : List (Received D)) × (new ≡ old ++ made) × (entries made ≡ records)
+
+  -- the same, where the records follow one another: they are numbered on from this one
+  abbrev pub AddsFrom : (last : ℕ) → (old new : List (Received D)) → List (Record D) → Type 0
+  AddsFrom last old new records = (made : List (Received D)) × (new ≡ old ++ made) × (entries made ≡ records)
+      × (map (λ receipt. receipt.place) made ≡ range_with_len (last + 1) (length made))
 
   -- seats in the order of their numbers, from 0, without receipts, and with nothing behind them
   abbrev pub AreFresh : List (SeatView D) → Type 0

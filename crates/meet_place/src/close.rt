@@ -121,7 +121,8 @@ where
         ensures listed { IfOk result (λ c. AreListed (O.gone_of c.base) c.records.items
             (map (λ list. list.items) c.lists.items)) }
         ensures first { IfOk result (λ c. O.gone_of c.base ≡ 0 → c.base ≡ O.no_base) }
-        ensures legal { IfOk result (λ c. (object : O) × O.leads c.base c.records.items object) }
+        ensures legal { IfOk result (λ c. (object : O) × (O.seat_count_of object ≡ N.parts)
+            × O.leads c.base c.records.items object) }
         ensures left { IfOk result (λ c. O.are_left c.base c.records.items c.left.items) }
         ensures lists { IfOk result (λ c. (ordered : List (Back O.Deed N)) × AreOrdered seats.items ordered
             × (map (λ list. list.items) c.lists.items ≡ map list_of ordered)) }
@@ -129,6 +130,7 @@ where
         ensures shares { IfOk result (λ c. O.gone_of c.base + length c.records.items ≡ shares_in seats.items) }
         ensures folded { IfOk result (λ c. O.gone_of c.base ≡ folded_in seats.items) }
         ensures few { IfOk result (λ c. O.gone_of c.base + length c.records.items < 2 ^ 64) }
+        ensures cap { IfOk result (λ c. length c.records.items ≤ N.cap) }
         ensures fault { IfErr result (λ fault. FaultFits O.gone_of self seats.items fault) }
     {
         let made = self.seats();

@@ -1,13 +1,14 @@
 //! A drain at a place that threads share.
 
-ghost use Rattle.std.specs.Prelude.{◌≡◌, ◌⊎◌, ◌+◌, ◌≤◌, ◌++◌, ℕ, List, [], length, map, min, vec_len};
+ghost use Rattle.std.specs.Prelude.{◌≡◌, ◌⊎◌, ◌+◌, ◌<◌, ◌≤◌, ◌++◌, ℕ, List, [], length, map, min, vec_len};
 ghost use Rattle.std.specs.Prelude.{IfOk, IfErr, IfSome};
 ghost use Rattle.std.specs.Vec.{vec_capacity};
 ghost use Rattle.meet_tickets.specs.Refusals.{IsWhy};
 ghost use Rattle.meet_tickets.specs.declared.refusals.Refusal.TheVariants.{Memory};
 ghost use Rattle.meet_book.specs.Booked.{Booked};
-ghost use Rattle.meet_book.specs.Draining.{TakingPolls, book_drain_refusal};
+ghost use Rattle.meet_book.specs.Draining.{TakingPolls, AreNumbered, book_drain_refusal};
 ghost use Rattle.meet_book.specs.Received.{Received};
+ghost use Rattle.meet_place.specs.Holds.{IsBookOf};
 ghost use Rattle.meet_place.specs.Seats.{SeatView, DrainedAs};
 
 use crate::ledgers::Ledgers;
@@ -75,7 +76,8 @@ impl<O: Drains, N: Ledgers> Shared<O, N> {
         ensures polls { IfOk result (λ answers. DrainedAs (λ got. TakingPolls
             (λ old answer new. O.steps old seat.old.number O.poll answer new) (O.record_of seat.old.number O.poll)
             (λ o. O.refusal_of o seat.old.number O.poll) O.available_of O.left_of O.owed_of
-            self.old.object got self.new.object) seat.old.list seat.new.list answers.items) }
+            self.old.object got self.new.object × AreNumbered (O.gone_of self.old.base + length self.old.records) got)
+            seat.old.list seat.new.list answers.items) }
         ensures why { IfErr result (λ refused. IsWhy (book_drain_refusal
             (O.refusal_of self.old.object seat.old.number O.poll) (O.left_of self.old.object)
             (O.owed_of self.old.object) self.old
@@ -85,6 +87,8 @@ impl<O: Drains, N: Ledgers> Shared<O, N> {
         ensures same { IfErr result (λ _. seat.new ≡ seat.old) }
         ensures cap { self.new.cap ≡ self.old.cap }
         ensures base { self.new.base ≡ self.old.base }
+        ensures place { IsBookOf O.seat_count_of N.parts N.cap self.old }
+        ensures within { seat.old.number < N.parts }
     {
         let Seat {
             number,
@@ -114,6 +118,7 @@ impl<O: Drains, N: Ledgers> Shared<O, N> {
 
 /// Room for a drain of so many items, or none where memory is short.
 fn room_for<O: Drains>(alloc: Global, items: usize) -> Option<DrainRoom<O>>
+    ensures room { IfSome result (λ room. items ≤ vec_capacity room.polled) }
     ensures empty { IfSome result (λ room. (room.polled.items ≡ []) × (room.answers.items ≡ [])) }
     ensures answers { IfSome result (λ room. vec_capacity room.polled ≤ vec_capacity room.answers) }
 {
@@ -155,10 +160,19 @@ impl Watch for Woken {
 }
 
 impl<O: Drains, G: Gate, N: Ledgers> Place<O, G, N> {
+    /// How many items there are at some time.
+    pub fn available<R: Wait>(&self, rt: &R) -> u64
+        ensures { (object : O) × (O.seat_count_of object ≡ N.parts) × (result ≡ O.available_of object) }
+    {
+        let shared = self.hold(rt);
+        shared.probe().available()
+    }
+
     /// `BlockingQueue.drainTo` of a seat: up to `max` of the items that are there, one recorded poll after another, all
-    /// under one hold. It looks how many they are, makes room for as many, the lock being free, and then takes up to as
-    /// many: so items that come in between are left. The givers are woken once the lock is free again. It refuses
-    /// Memory where that room isn't there, else what the book's `drain` does; then the seat's list is as it was.
+    /// under one hold, so that the records follow one another. It makes room for `max` items first, the lock being
+    /// free: a `max` that was `available` a moment ago asks for no more room than is of use. The givers are woken once
+    /// the lock is free again. It refuses Memory where that room isn't there, else what the book's `drain` does; then
+    /// the seat's list is as it was.
     pub fn locked_drain<R: Wait>(
         &self,
         rt: &R,
@@ -168,22 +182,22 @@ impl<O: Drains, G: Gate, N: Ledgers> Place<O, G, N> {
     ) -> Result<Vec<O::Answer>, Refusal>
         ensures number { seat.new.number ≡ seat.old.number }
         ensures past { seat.new.past ≡ seat.old.past }
-        ensures few { IfOk result (λ answers. length answers.items ≤ max) }
-        ensures polls { IfOk result (λ answers. (old : O) × (new : O) × DrainedAs (λ got. TakingPolls
-            (λ before answer after. O.steps before seat.old.number O.poll answer after)
+        ensures polls { IfOk result (λ answers. (old : O) × (new : O) × (last : ℕ) × (O.seat_count_of old ≡ N.parts)
+            × (length answers.items ≡ min max (O.available_of old))
+            × DrainedAs (λ got. TakingPolls (λ before answer after. O.steps before seat.old.number O.poll answer after)
             (O.record_of seat.old.number O.poll) (λ o. O.refusal_of o seat.old.number O.poll) O.available_of
-            O.left_of O.owed_of old got new) seat.old.list seat.new.list answers.items) }
+            O.left_of O.owed_of old got new × AreNumbered last got) seat.old.list seat.new.list answers.items) }
         ensures why { IfErr result (λ why. (why ≡ Memory) ⊎ ((book : Booked O O.Base O.Deed) × (k : ℕ) × (k ≤ max)
+            × IsBookOf O.seat_count_of N.parts N.cap book × (seat.old.number < N.parts)
             × IsWhy (book_drain_refusal (O.refusal_of book.object seat.old.number O.poll) (O.left_of book.object)
             (O.owed_of book.object) book k) why)) }
         ensures same { IfErr result (λ _. seat.new.list ≡ seat.old.list) }
     {
-        let there = self.available(rt).min(max);
-        let Ok(seats) = Vec::with_capacity(alloc, there as usize) else {
+        let Ok(seats) = Vec::with_capacity(alloc, max as usize) else {
             return Err(Refusal::Memory);
         };
         let mut woken = Woken { seats };
-        let drained = self.drain_watched(rt, alloc, seat, there, &mut woken);
+        let drained = self.drain_watched(rt, alloc, seat, max, &mut woken);
         self.wake_all(woken.seats);
         drained
     }
@@ -195,7 +209,7 @@ impl<O: Drains, G: Gate, N: Ledgers> Place<O, G, N> {
         }
     }
 
-    /// The same of up to `max` items, for which it makes room; nobody is woken, but the watch is told of whom to wake.
+    /// The same; nobody is woken, but the watch is told of whom to wake.
     fn drain_watched<R: Wait, W: Watch>(
         &self,
         rt: &R,
@@ -206,12 +220,13 @@ impl<O: Drains, G: Gate, N: Ledgers> Place<O, G, N> {
     ) -> Result<Vec<O::Answer>, Refusal>
         ensures number { seat.new.number ≡ seat.old.number }
         ensures past { seat.new.past ≡ seat.old.past }
-        ensures few { IfOk result (λ answers. length answers.items ≤ max) }
-        ensures polls { IfOk result (λ answers. (old : O) × (new : O) × DrainedAs (λ got. TakingPolls
-            (λ before answer after. O.steps before seat.old.number O.poll answer after)
+        ensures polls { IfOk result (λ answers. (old : O) × (new : O) × (last : ℕ) × (O.seat_count_of old ≡ N.parts)
+            × (length answers.items ≡ min max (O.available_of old))
+            × DrainedAs (λ got. TakingPolls (λ before answer after. O.steps before seat.old.number O.poll answer after)
             (O.record_of seat.old.number O.poll) (λ o. O.refusal_of o seat.old.number O.poll) O.available_of
-            O.left_of O.owed_of old got new) seat.old.list seat.new.list answers.items) }
+            O.left_of O.owed_of old got new × AreNumbered last got) seat.old.list seat.new.list answers.items) }
         ensures why { IfErr result (λ why. (why ≡ Memory) ⊎ ((book : Booked O O.Base O.Deed) × (k : ℕ) × (k ≤ max)
+            × IsBookOf O.seat_count_of N.parts N.cap book × (seat.old.number < N.parts)
             × IsWhy (book_drain_refusal (O.refusal_of book.object seat.old.number O.poll) (O.left_of book.object)
             (O.owed_of book.object) book k) why)) }
         ensures same { IfErr result (λ _. seat.new.list ≡ seat.old.list) }
@@ -232,11 +247,5 @@ impl<O: Drains, G: Gate, N: Ledgers> Place<O, G, N> {
                 Err(why)
             }
         }
-    }
-
-    /// How many items there are at some time.
-    fn available<R: Wait>(&self, rt: &R) -> u64 {
-        let shared = self.hold(rt);
-        shared.probe().available()
     }
 }

@@ -8,15 +8,20 @@ use std::marker::{Brand, Model, PhantomData};
 use std::sync::ledger;
 use std::sync::ledger::{Blank, Ledger, Share};
 
-/// Tells the two ledgers of one place from those of others: as a ledger it is that of the place's records, and beside
-/// it is that of the records that were folded away.
+/// Tells the two ledgers of one place from those of others, and what that place was made with: as a ledger it is that
+/// of the place's records, with a part for each seat, and beside it is that of the records that were folded away.
 pub trait Ledgers: Ledger {
     /// The name of the ledger of what was folded away.
     ghost folds: { ℕ };
+
+    /// How many records the place has at most at a time.
+    ghost cap: { ℕ };
 }
 
 impl Ledgers for Brand {
     ghost folds = { 0 };
+
+    ghost cap = { 0 };
 }
 
 /// The ledger of what was folded away. No value of it is made.

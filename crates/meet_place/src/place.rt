@@ -7,10 +7,10 @@ ghost use Rattle.std.specs.Vec.{vec_capacity};
 ghost use Rattle.meet_tickets.specs.Limits.{most_seats};
 ghost use Rattle.meet_tickets.specs.Refusals.{IsWhy};
 ghost use Rattle.meet_book.specs.Booked.{Booked};
-ghost use Rattle.meet_book.specs.Booking.{cut_refusal};
+ghost use Rattle.meet_book.specs.Booking.{book_refusal, cut_refusal};
 ghost use Rattle.meet_place.specs.Ledgers.{AreOf};
 ghost use Rattle.meet_place.specs.Seats.{Adds, AreFresh, Trims, TrimsPending, Checkpoints};
-ghost use Rattle.meet_place.specs.Holds.{BookRefuses, sizes_refusal};
+ghost use Rattle.meet_place.specs.Holds.{BookRefuses, IsBookOf, sizes_refusal};
 
 use crate::ledgers::{Blanks, Ledgers};
 use crate::opening::hold;
@@ -64,8 +64,9 @@ pub(crate) fn seat_of(number: usize) -> SeatNo
 }
 
 impl<O: Object, G: Drop, N: Ledgers> Place<O, G, N> {
-    /// A place over the book of a place that has no history yet, and its seats, one for each gate, numbered from 0. It
-    /// refuses BadSizes exactly where there is no gate or more than 65,536, then Memory; then all comes back.
+    /// A place over the book of a place that has no history yet and as many seats as there are gates, and its seats,
+    /// one for each gate, numbered from 0. It refuses BadSizes exactly where there is no gate or more than 65,536, then
+    /// Memory; then all comes back.
     pub fn new(
         alloc: Global,
         parts: NewPlace<O, G>,
@@ -74,6 +75,8 @@ impl<O: Object, G: Drop, N: Ledgers> Place<O, G, N> {
         requires first { parts.book.base ≡ O.no_base }
         requires ledgers { AreOf N.name N.folds N.parts parts.blanks }
         requires one_each { N.parts ≡ vec_len parts.gates }
+        requires seats { O.seat_count_of parts.book.object ≡ vec_len parts.gates }
+        requires cap { parts.book.cap ≡ N.cap }
         ensures count { IfOk result (λ made. made.0 ≡ vec_len parts.gates) }
         ensures seats { IfOk result (λ made. vec_len made.1 ≡ vec_len parts.gates) }
         ensures numbers { IfOk result (λ made. AreFresh made.1.items) }
@@ -112,6 +115,8 @@ impl<O: Object, G: Drop, N: Ledgers> Place<O, G, N> {
         requires limit { vec_len parts.gates ≤ most_seats }
         requires ledgers { AreOf N.name N.folds N.parts parts.blanks }
         requires one_each { N.parts ≡ vec_len parts.gates }
+        requires seats { O.seat_count_of parts.book.object ≡ vec_len parts.gates }
+        requires cap { parts.book.cap ≡ N.cap }
         requires empty { (padded.items ≡ []) × (seats.items ≡ []) }
         requires room { (vec_len parts.gates ≤ vec_capacity padded) × (vec_len parts.gates ≤ vec_capacity seats) }
         ensures count { result.0 ≡ vec_len parts.gates }
@@ -156,7 +161,7 @@ impl<O: Object, G, N: Ledgers> Place<O, G, N> {
     /// What this closure answers of the place as it is at some time, under one hold of the lock.
     pub fn look<R: Wait, A, F: FnOnce(&O) -> A>(&self, rt: &R, look: F) -> A
         requires { F.IsAlwaysCallable look }
-        ensures { (object : O) × FnOnceReturnsAt F.FnOnce look object result }
+        ensures { (object : O) × (O.seat_count_of object ≡ N.parts) × FnOnceReturnsAt F.FnOnce look object result }
     {
         let shared = self.hold(rt);
         look(shared.probe())
@@ -232,14 +237,19 @@ impl<O: Wakes, G, N: Ledgers> Place<O, G, N> {
     ) -> Result<(O::Answer, Option<SeatNo>), Refused<O::Call>>
         requires room { 0 < seat.old.room }
         ensures number { seat.new.number ≡ seat.old.number }
+        ensures within { seat.old.number < N.parts }
         ensures past { seat.new.past ≡ seat.old.past }
         ensures room { length seat.new.list + seat.new.room ≡ length seat.old.list + seat.old.room }
         ensures adds { IfOk result (λ made. Adds seat.old.list seat.new.list
             (option_to_list (O.record_of seat.old.number call made.0))) }
-        ensures step { IfOk result (λ made. (old : O) × (new : O) × O.steps old seat.old.number call made.0 new) }
+        ensures step { IfOk result (λ made. (book : Booked O O.Base O.Deed) × (new : O)
+            × IsBookOf O.seat_count_of N.parts N.cap book
+            × (book_refusal (O.refusal_of book.object seat.old.number call) (O.owed_of book.object) (O.need_of call)
+            book ≡ None) × O.steps book.object seat.old.number call made.0 new) }
         ensures why { IfErr result (λ refused. (book : Booked O O.Base O.Deed)
-            × BookRefuses (O.refusal_of book.object seat.old.number call) (O.owed_of book.object) (O.need_of call) book
-            refused.why) }
+            × IsBookOf O.seat_count_of N.parts N.cap book
+            × BookRefuses (O.refusal_of book.object seat.old.number call) (O.owed_of book.object) (O.need_of call)
+            (O.spare book.object) (O.room_of call) book refused.why) }
         ensures back { IfErr result (λ refused. refused.back ≡ call) }
         ensures same { IfErr result (λ _. seat.new ≡ seat.old) }
     {

@@ -90,6 +90,8 @@ where
     ensures shares { IfOk result (λ c. O.gone_of c.base + length c.records.items ≡ shares_in seats.items) }
     ensures folded { IfOk result (λ c. O.gone_of c.base ≡ folded_in seats.items) }
     ensures few { IfOk result (λ c. O.gone_of c.base + length c.records.items < 2 ^ 64) }
+    ensures cap { IfOk result (λ c. length c.records.items ≤ N.cap) }
+    ensures seats { IfOk result (λ c. O.seat_count_of c.object ≡ N.parts) }
     ensures same { IfOk result (λ c. c.object ≡ shared.object) }
     ensures book { IfErr result (λ fault. fault.book ≡ shared) }
     ensures ordered { IfErr result (λ fault. AreOrdered seats.items fault.seats.items) }

@@ -5,7 +5,7 @@ ghost use Rattle.meet_book.specs.Booked.{Booked};
 ghost use Rattle.meet_book.specs.Booking.{book_refusal, cut_refusal};
 ghost use Rattle.meet_tickets.specs.Refusals.{IsWhy};
 ghost use Rattle.meet_place.specs.Seats.{SeatView, Adds, Checkpoints, share_in};
-ghost use Rattle.meet_place.specs.Holds.{BookRefuses};
+ghost use Rattle.meet_place.specs.Holds.{BookRefuses, IsBookOf};
 
 use crate::ledgers::{Ledgers, Stake, Totals};
 use crate::seats::Seat;
@@ -14,8 +14,8 @@ use meet_tickets::{Refusal, Refused};
 use std::marker::Model;
 
 /// A book beside two ledgers: the total of the one is the number of the book's records, those that were folded away
-/// included, that of the other the number of these. Where none were, the base is that of no records. A contract sees it
-/// as the book.
+/// included, that of the other the number of these. Where none were, the base is that of no records. The book's object
+/// has as many seats as the ledgers have parts, and the book the cap that they tell. A contract sees it as the book.
 #[derive(Drop)]
 pub struct Shared<O: Object, N: Ledgers> {
     pub(crate) book: Book<O>,
@@ -26,6 +26,7 @@ pub struct Shared<O: Object, N: Ledgers> {
 impl<O: Object, N: Ledgers> Model for Shared<O, N> {
     ghost use Rattle.std.specs.Prelude.{◌≡◌, ◌+◌, length};
     ghost use Rattle.meet_book.specs.Booked.{Booked};
+    ghost use Rattle.meet_place.specs.Holds.{IsBookOf};
 
     ghost Value = { Booked O O.Base O.Deed };
 
@@ -35,31 +36,28 @@ impl<O: Object, N: Ledgers> Model for Shared<O, N> {
         (O.gone_of s.book.base + length s.book.records ≡ s.total.total)
         × (O.gone_of s.book.base ≡ s.total.folds)
         × (O.gone_of s.book.base ≡ 0 → s.book.base ≡ O.no_base)
-        × (s.rest.parts ≡ 0) × (s.rest.amount ≡ 0) × (s.rest.folds ≡ 0) };
+        × (s.rest.parts ≡ 0) × (s.rest.amount ≡ 0) × (s.rest.folds ≡ 0)
+        × IsBookOf O.seat_count_of N.parts N.cap s.book };
 }
 
 impl<O: Object, N: Ledgers> Shared<O, N> {
-    /// A book, the totals of both ledgers, and a share that has no part.
+    /// A book whose object has a seat for each part, the totals of both ledgers, and a share that has no part.
     pub fn new(book: Book<O>, total: Totals<N>, rest: Stake<N>) -> Self
         requires total { O.gone_of book.base + length book.records ≡ total.total }
         requires folds { O.gone_of book.base ≡ total.folds }
         requires first { O.gone_of book.base ≡ 0 → book.base ≡ O.no_base }
         requires rest { (rest.parts ≡ 0) × (rest.amount ≡ 0) × (rest.folds ≡ 0) }
+        requires seats { O.seat_count_of book.object ≡ N.parts }
+        requires cap { book.cap ≡ N.cap }
         ensures { result ≡ book }
     {
         Shared { book, total, rest }
     }
 
-    /// The book, to be looked at.
-    pub fn book(&self) -> &Book<O>
-        ensures { result.now ≡ self.now }
-    {
-        &self.book
-    }
-
     /// The object itself, to be looked at.
     pub fn probe(&self) -> &O
-        ensures { result.now ≡ self.now.object }
+        ensures object { result.now ≡ self.now.object }
+        ensures seats { O.seat_count_of result.now ≡ N.parts }
     {
         self.book.probe()
     }
@@ -71,6 +69,7 @@ impl<O: Object, N: Ledgers> Shared<O, N> {
         ensures folds { O.gone_of result.0.base ≡ result.1.folds }
         ensures first { O.gone_of result.0.base ≡ 0 → result.0.base ≡ O.no_base }
         ensures rest { (result.2.parts ≡ 0) × (result.2.amount ≡ 0) × (result.2.folds ≡ 0) }
+        ensures place { IsBookOf O.seat_count_of N.parts N.cap result.0 }
     {
         let Shared { book, total, rest } = self;
         (book, total, rest)
@@ -94,8 +93,11 @@ impl<O: Object, N: Ledgers> Shared<O, N> {
             ≡ self.old.records ++ option_to_list (O.record_of seat.old.number call answer)) }
         ensures admitted { IfOk result (λ _. book_refusal (O.refusal_of self.old.object seat.old.number call)
             (O.owed_of self.old.object) (O.need_of call) self.old ≡ None) }
+        ensures place { IsBookOf O.seat_count_of N.parts N.cap self.old }
+        ensures within { seat.old.number < N.parts }
         ensures why { IfErr result (λ refused. BookRefuses (O.refusal_of self.old.object seat.old.number call)
-            (O.owed_of self.old.object) (O.need_of call) self.old refused.why) }
+            (O.owed_of self.old.object) (O.need_of call) (O.spare self.old.object) (O.room_of call) self.old
+            refused.why) }
         ensures back { IfErr result (λ refused. refused.back ≡ call) }
         ensures unchanged { IfErr result (λ _. self.new ≡ record self.old { room = self.new.room }) }
         ensures same { IfErr result (λ _. seat.new ≡ seat.old) }

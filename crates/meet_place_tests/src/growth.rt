@@ -25,6 +25,8 @@ fn made<N: Ledgers>(
     requires fresh { (parts.book.base ≡ 0) × (parts.book.records ≡ []) }
     requires ledgers { AreOf N.name N.folds N.parts parts.blanks }
     requires one_each { N.parts ≡ vec_len parts.gates }
+    requires seats { parts.book.object.seats ≡ vec_len parts.gates }
+    requires cap { N.cap ≡ parts.book.cap }
 {
     match Shop::<N>::new(alloc, parts) {
         Ok(made) => Ok(made),
@@ -124,6 +126,8 @@ fn lives<N: Ledgers, R: Abort + Wait>(
     requires fresh { (parts.book.base ≡ 0) × (parts.book.records ≡ []) }
     requires ledgers { AreOf N.name N.folds N.parts parts.blanks }
     requires one_each { N.parts ≡ vec_len parts.gates }
+    requires seats { parts.book.object.seats ≡ vec_len parts.gates }
+    requires cap { N.cap ≡ parts.book.cap }
 {
     let mut backs = list_for_one(alloc)?;
     let (shop, mut seats) = made::<N>(rt, alloc, parts)?;
@@ -147,7 +151,7 @@ fn a_place_lives(rt: HostRuntime) -> Result<(), Fail> {
     let alloc = rt.alloc();
     let mut gates = list_for_one(alloc)?;
     gates.push(ParkGate::new()).map_err(|_| "memory")?;
-    let till = Till::new().ok_or("till")?;
+    let till = Till::new(1).ok_or("till")?;
     let parts = NewPlace {
         book: Book::new(alloc, till, 10),
         gates,

@@ -164,8 +164,10 @@ fn refusal<N: Ledgers>(
 ) -> Result<Option<(Refusal, usize)>, Fail>
     requires ledgers { AreOf N.name N.folds N.parts blanks }
     requires one_each { N.parts ≡ vec_len gates }
+    requires cap { N.cap ≡ 100 }
 {
-    let book = Book::new(alloc, Till::new().ok_or("till")?, 100);
+    let till = Till::new(gates.len() as u64).ok_or("till")?;
+    let book = Book::new(alloc, till, 100);
     match Shop::<N>::new(
         alloc,
         NewPlace {
@@ -249,9 +251,10 @@ fn meeting<N: Ledgers + Send + Sync, R: Threads + Wait + Clock + Sync>(
 ) -> Result<(u64, bool, Ending), &'static str>
     requires ledgers { AreOf N.name N.folds N.parts blanks }
     requires two { N.parts ≡ 2 }
+    requires cap { N.cap ≡ 1000000 }
 {
     let ticket = Ticket::new(1).ok_or("no such ticket number")?;
-    let till = Till::new().ok_or("till")?;
+    let till = Till::new(2).ok_or("till")?;
     let mut gates = Vec::new(alloc);
     gates.push(ParkGate::new()).map_err(|_| "memory")?;
     gates.push(ParkGate::new()).map_err(|_| "memory")?;

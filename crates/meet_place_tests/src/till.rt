@@ -1,7 +1,7 @@
 //! A till, in which amounts are added up: an object with nothing of queues in it.
 
 ghost use Rattle.std.specs.Prelude.{◌≡◌, ◌+◌, ◌<◌, ◌≤◌, ℕ, List, [], Some, None, ⊤, refl, nat_lt, length};
-ghost use Rattle.std.specs.Prelude.{if◌then◌else◌};
+ghost use Rattle.std.specs.Prelude.{if◌then◌else◌, IfSome};
 ghost use Rattle.std.specs.Vec.{vec_capacity};
 ghost use Rattle.meet_tickets.specs.declared.records.Record.{Record as Entered};
 ghost use Rattle.meet_place_tests.specs.declared.till.Amount.{Amount as Added};
@@ -33,17 +33,21 @@ pub struct Added {
     pub sum: u64,
 }
 
-/// The till of two seats, which holds 1,000,000 at most.
+/// The till of so many seats, which holds 1,000,000 at most.
 #[derive(Drop)]
 pub struct Till {
+    pub seats: u64,
     pub sum: u64,
     pub next: Ticket,
 }
 
 impl Till {
     /// An empty till.
-    pub fn new() -> Option<Till> {
+    pub fn new(seats: u64) -> Option<Till>
+        ensures { IfSome result (λ till. till.seats ≡ seats) }
+    {
         Some(Till {
+            seats,
             sum: 0,
             next: Ticket::new(1)?,
         })
@@ -65,19 +69,22 @@ impl Object for Till {
 
     ghost leads = { λ base records till. ⊤ };
 
-    ghost steps = { λ old seat amount added new. (new.sum ≡ old.sum + amount) × (added.sum ≡ new.sum) };
+    ghost steps = { λ old seat amount added new. (new.sum ≡ old.sum + amount) × (added.sum ≡ new.sum)
+        × (new.seats ≡ old.seats) };
 
     ghost record_of = { λ seat amount added.
         Some (record { seat = seat; ticket = added.ticket; deed = record { amount = amount } }) };
 
     ghost refusal_of = { λ till seat amount.
-        if nat_lt seat 2
+        if nat_lt seat till.seats
         then (if nat_lt 1000000 (till.sum + amount) then Some TicketsSpent else None)
         else Some NoSuchSeat };
 
     ghost owed_of = { λ till. 0 };
 
     ghost need_of = { λ amount. 1 };
+
+    ghost seat_count_of = { λ till. till.seats };
 
     ghost room_of = { λ amount. 0 };
 
@@ -88,6 +95,10 @@ impl Object for Till {
     ghost own_record = { λ seat amount added. refl };
 
     ghost same_place = { λ till. refl };
+
+    ghost same_seats = { λ old seat amount added new step. step.2 };
+
+    ghost roomy_seats = { λ till room. refl };
 
     ghost same_refusal = { λ till room seat amount. refl };
 
@@ -112,7 +123,7 @@ impl Object for Till {
     }
 
     fn admit(&self, seat: SeatNo, amount: &u64) -> Result<(), Refusal> {
-        if seat.number() >= 2 {
+        if seat.number() >= self.seats {
             Err(Refusal::NoSuchSeat)
         } else if self.sum > 1_000_000 || *amount > 1_000_000 - self.sum {
             Err(Refusal::TicketsSpent)

@@ -13,6 +13,7 @@ ghost use Rattle.meet_calls.specs.DualRoom.{roomy, roomy-leads, roomless, roomy-
 ghost use Rattle.meet_calls.specs.QueueSteps.{QueueStep, dual_call, queue_refusal, queue_need, queue_room};
 ghost use Rattle.meet_calls.specs.QueueSteps.{queue_record};
 ghost use Rattle.meet_calls.specs.QueueRoom.{roomy-queue-refusal, roomy-queue-steps, own-queue-record};
+ghost use Rattle.meet_calls.specs.SeatCounts.{queue-count};
 ghost use Rattle.meet_calls.specs.declared.queue_calls.DualCall.TheVariants.{Poll};
 ghost use Rattle.meet_calls.specs.declared.queue_calls.QueueCall.TheVariants.{Dual as EachHas};
 
@@ -200,6 +201,8 @@ impl Object for AnyQueue {
 
     ghost need_of = { λ call. queue_need call };
 
+    ghost seat_count_of = { λ any. count_of any.queue };
+
     ghost room_of = { λ call. queue_room call };
 
     ghost spare = { λ any. any.queue.room };
@@ -209,6 +212,11 @@ impl Object for AnyQueue {
     ghost own_record = { λ seat call answer. own-queue-record (λ mark. mark) seat call answer };
 
     ghost same_place = { λ any. refl };
+
+    ghost same_seats = { λ old seat call answer new step.
+        queue-count (λ mark. mark) old.kind old.queue seat call answer new.queue step.1 };
+
+    ghost roomy_seats = { λ any room. refl };
 
     ghost same_refusal = { λ any room seat call. roomy-queue-refusal any.queue room seat call };
 

@@ -1,6 +1,5 @@
 //! The very parcel comes to whom it should, in each call that hands one on or back.
 
-use crate::admitted::Admitted;
 use crate::parcels::{Ask, Parcel, Row, Told};
 use crate::places::{Place, plays};
 use meet_book::Book;
@@ -147,16 +146,6 @@ fn meets<L: Line<Parcel> + Drop>(rt: &impl Abort, alloc: Global, rows: &[Row]) -
     hands_on(rt, &mut queue, rows)
 }
 
-/// A synchronous queue, called by the forms that never fail.
-fn meets_admitted<L: Line<Parcel> + Drop>(
-    rt: &impl Abort,
-    alloc: Global,
-    rows: &[Row],
-) -> Result<(), Fail> {
-    let queue: Dual<Parcel, L> = Dual::new(alloc, 6, 1).ok().ok_or("memory")?;
-    hands_on(rt, &mut Admitted { queue }, rows)
-}
-
 /// A synchronous queue under a book.
 fn meets_in_a_book<L: Line<Parcel> + Drop>(
     rt: &impl Abort,
@@ -171,14 +160,12 @@ fn meets_in_a_book<L: Line<Parcel> + Drop>(
 #[test]
 fn a_fair_queue(rt: HostRuntime) -> Result<(), Fail> {
     meets::<FairLine<Parcel>>(&rt, rt.alloc(), &FIRST)?;
-    meets_admitted::<FairLine<Parcel>>(&rt, rt.alloc(), &FIRST)?;
     meets_in_a_book::<FairLine<Parcel>>(&rt, rt.alloc(), &FIRST)
 }
 
 #[test]
 fn an_unfair_queue(rt: HostRuntime) -> Result<(), Fail> {
     meets::<StackLine<Parcel>>(&rt, rt.alloc(), &LAST)?;
-    meets_admitted::<StackLine<Parcel>>(&rt, rt.alloc(), &LAST)?;
     meets_in_a_book::<StackLine<Parcel>>(&rt, rt.alloc(), &LAST)
 }
 
@@ -213,12 +200,6 @@ fn a_transfer_queue(rt: HostRuntime) -> Result<(), Fail> {
     let mut queue = transfer(rt.alloc())?;
     plays(&rt, &mut queue, &REFUSED)?;
     keeps(&rt, &mut queue)
-}
-
-#[test]
-fn a_transfer_queue_whose_requests_are_admitted(rt: HostRuntime) -> Result<(), Fail> {
-    let queue = transfer(rt.alloc())?;
-    keeps(&rt, &mut Admitted { queue })
 }
 
 #[test]

@@ -3,8 +3,6 @@
 #![tactic(auto)]
 
 #[cfg(test)]
-mod admitted;
-#[cfg(test)]
 mod answers;
 #[cfg(test)]
 mod bases;

@@ -3,6 +3,7 @@
 ghost use Rattle.std.specs.Prelude.{◌≡◌, ◌≤◌, [], vec_len};
 ghost use Rattle.meet_place.specs.Ledgers.{AreOf};
 ghost use Rattle.std.specs.Vec.{vec_capacity};
+ghost use Rattle.meet_tickets.specs.Limits.{most_records};
 
 use crate::command_line::Race;
 use crate::round::Finish;
@@ -128,6 +129,7 @@ where
     R: Threads + Wait + Clock + Sync,
     requires ledgers { AreOf N.name N.folds N.parts parts.blanks }
     requires one_each { N.parts ≡ vec_len parts.gates }
+    requires cap { N.cap ≡ most_records }
 {
     let count = parts.gates.len();
     let Ok(slots) = Vec::with_capacity(alloc, count) else {

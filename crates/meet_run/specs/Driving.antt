@@ -14,10 +14,10 @@ drive_text drive =
     codes "items " ++ decimal drive.items ++ codes "\nsum " ++ decimal drive.sum ++ codes "\npairs "
     ++ decimal drive.pairs ++ codes "\n" ++ last_line drive.records drive.standing
 
--- what came of a drive whose text was to be written: all of it was; or the fault is in no line, and nothing was
--- written, or a prefix of the text
-abbrev pub DriveEnds : Result Bool RunFault → (old new : Option (List ℕ)) → Type 0
-DriveEnds (Ok legal) old new =
-    (legal ≡ true) × ((drive : Drive) × IsDriven drive × Appends old new (drive_text drive))
-DriveEnds (Err fault) old new = (fault.line ≡ None)
-    × ((new ≡ old) ⊎ ((drive : Drive) × IsDriven drive × AppendsPrefix old new (drive_text drive)))
+-- what came of a drive of so many givers of so many items each, whose text was to be written: all of it was; or the
+-- fault is in no line, and nothing was written, or a prefix of the text
+abbrev pub DriveEnds : (givers each : ℕ) → Result Bool RunFault → (old new : Option (List ℕ)) → Type 0
+DriveEnds givers each (Ok legal) old new =
+    (legal ≡ true) × ((drive : Drive) × IsDriven givers each drive × Appends old new (drive_text drive))
+DriveEnds givers each (Err fault) old new = (fault.line ≡ None)
+    × ((new ≡ old) ⊎ ((drive : Drive) × IsDriven givers each drive × AppendsPrefix old new (drive_text drive)))

@@ -43,7 +43,7 @@ pub fn run_drive<R, W: Write, P: Progress>(
 where
     R: Threads + Wait + Clock + Sync,
     requires { IsSized givers each }
-    ensures { DriveEnds result (W.contents writer.old) (W.contents writer.new) }
+    ensures { DriveEnds givers each result (W.contents writer.old) (W.contents writer.new) }
 {
     let drive = match drive_told(rt, alloc, givers, each, progress) {
         Ok(drive) => drive,

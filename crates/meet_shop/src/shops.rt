@@ -89,6 +89,7 @@ impl<G: Gate + Drop, N: Ledgers> Shop<G, N> {
     ) -> Result<(Self, Vec<Seat<Deed, N>>), Refused<NewQueue<G>>>
         requires ledgers { AreOf N.name N.folds N.parts parts.blanks }
         requires one_each { N.parts ≡ vec_len parts.gates }
+        requires cap { N.cap ≡ cap }
         ensures seats { IfOk result (λ made. vec_len made.1 ≡ vec_len parts.gates) }
         ensures back { IfErr result (λ refused. refused.back ≡ parts) }
     {

@@ -4,6 +4,7 @@
 ghost use Rattle.std.specs.Prelude.{◌≡◌, None, IfOk, vec_len};
 ghost use Rattle.meet_tickets.specs.Bases.{IsWellFormed};
 ghost use Rattle.meet_place.specs.Ledgers.{AreOf};
+ghost use Rattle.meet_tickets.specs.Limits.{most_records};
 
 use crate::accounts::Account;
 use crate::work::{Done, Round, interrupts, works};
@@ -219,6 +220,7 @@ fn held<G: Fresh + Sync, N: Ledgers + Send + Sync, R: Threads + Wait + Clock + S
 ) -> Result<(), &'static str>
     requires ledgers { AreOf N.name N.folds N.parts parts.blanks }
     requires one_each { N.parts ≡ vec_len parts.gates }
+    requires cap { N.cap ≡ most_records }
 {
     let (shop, made) = match Shop::<G, N>::with_cap(alloc, round.order, parts, MOST_RECORDS) {
         Ok(made) => made,

@@ -1,3 +1,4 @@
+pub mod Reasons
 pub mod SameSeat
 pub mod Takings
 pub mod Wholes

@@ -1,5 +1,7 @@
 -- What a drain's polls take.
-use Rattle.std.proofs.Common.{◌≡◌, ℕ, zero, suc, Bool, true, false, inl, inr, ◌⊎◌, ◌≤◌, ◌+◌, refl, sym, ap, ◌∙◌, Option, Some, None, List, [], ◌∷◌, map, arith}
+use Rattle.std.proofs.Common.{◌≡◌, ℕ, zero, suc, Bool, true, false, inl, inr, ◌⊎◌, ◌≤◌, ◌+◌, refl, sym, ap, ◌∙◌, Option, Some, None, List, [], ◌∷◌, map, min, length, ◌<◌, arith}
+use Rattle.std.specs.List.{range_with_len}
+use Rattle.std.proofs.lemmas.List.{length-map}
 use Rattle.std.specs.Prelude.{IsSome, nat_le, nat_lt, if◌then◌else◌}
 use Rattle.meet_tickets.specs.declared.places.Side.TheVariants.{Giver}
 use Rattle.meet_tickets.specs.declared.places.End.{End}
@@ -13,7 +15,7 @@ use Rattle.meet_tickets.specs.BySeat.{is_open}
 use Rattle.meet_tickets.specs.Limits.{last_ticket}
 use Rattle.meet_tickets.specs.Meeting.{count_on}
 use Rattle.meet_tickets.specs.Refusals.{IsWhy}
-use Rattle.meet_book.specs.Draining.{TakingPolls, drain_refusal_by, book_drain_refusal}
+use Rattle.meet_book.specs.Draining.{TakingPolls, AreNumbered, drain_refusal_by, book_drain_refusal}
 use Rattle.meet_book.specs.Booked.{Booked}
 use Rattle.meet_book.specs.Booking.{is_book_full}
 use Rattle.meet_book.specs.Received.{Received}
@@ -29,7 +31,9 @@ use Rattle.meet_calls.specs.declared.queue_calls.DualAnswer.TheVariants.{TakenBa
 use Rattle.meet_calls.specs.declared.queue_calls.QueueCall.TheVariants.{Dual as EachHas}
 use Rattle.meet_calls.specs.declared.queue_calls.QueueAnswer.{QueueAnswer}
 use Rattle.meet_calls.specs.declared.queue_calls.QueueAnswer.TheVariants.{Put, Dual}
+use Rattle.meet_place.specs.Holds.{IsBookOf}
 use Rattle.meet_place.specs.Seats.{SeatView, DrainedAs}
+use Rattle.meet_sync.proofs.Reasons.{is_there}
 use Rattle.meet_sync.specs.Told.{IsRequestWhy}
 use Rattle.meet_sync.specs.Drained.{Taken, taken_record, item_in, item_within, AllBring, AreItemsOf, DrainedTo}
 
@@ -75,6 +79,12 @@ pub transfer_takes : {T : Type 0} (mark : T → ℕ) (i : ℕ) (old : Queue T) (
 transfer_takes mark i old (Dual answer) new e step fewer is = dual_takes mark Front i old answer new e step fewer is
 transfer_takes mark i old (Put answer) new e step fewer is = absurd step
 
+-- the receipts of a drain are numbered on
+numbers : {A D : Type 0} (last : ℕ) (got : List (A × Received D)) → AreNumbered last got
+    → map (λ r. r.place) (map (λ one. one.1) got) ≡ range_with_len (last + 1) (length (map (λ one. one.1) got))
+numbers last [] h = refl
+numbers last (one ∷ got) (first, rest) = (λ j. first j ∷ numbers (last + 1) got rest j)
+
 module _ {O A T : Type 0} (item_of : A → Option T) (mark : T → ℕ) (i : ℕ) (steps : O → A → O → Type 0)
     (record_of : A → Option (Record Deed)) (refusal_of : O → Option Refusal) (available_of left_of owed_of : O → ℕ)
     (takes : (old : O) (answer : A) (new : O) (e : Record Deed) → steps old answer new
@@ -96,23 +106,47 @@ module _ {O A T : Type 0} (item_of : A → Option T) (mark : T → ℕ) (i : ℕ
         (brings first.1, rest.3),
       )
 
+  -- what a drain of a place with so many seats says of the list and the answers
+  abbrev Drains : (count_of : O → ℕ) → (seats max : ℕ) → (old new : List (Received Deed)) → List A → Type 0
+  Drains count_of seats max old new answers = (before : O) × (after : O) × (last : ℕ) × (count_of before ≡ seats)
+      × (length answers ≡ min max (available_of before))
+      × DrainedAs (λ got. TakingPolls steps record_of refusal_of available_of left_of owed_of before got after
+      × AreNumbered last got) old new answers
+
   -- so the answers bring items
-  pub all_bring : (old new : List (Received Deed)) (answers : List A)
-      → (before : O) × (after : O) × DrainedAs (λ got. TakingPolls steps record_of refusal_of available_of left_of owed_of
-      before got after) old new answers → AllBring item_of answers
-  all_bring old new answers (before, after, (got, polls, list, is)) =
+  pub all_bring : (count_of : O → ℕ) (seats max : ℕ) (old new : List (Received Deed)) (answers : List A)
+      → Drains count_of seats max old new answers → AllBring item_of answers
+  all_bring count_of seats max old new answers (before, after, last, all, count, (got, (polls, numbered), list, is)) =
       rw is (all_taken before got after polls).3
 
   -- and these are what was drained
-  pub all_drained : (old new : SeatView Deed) (answers : List A) (items : List T) → old.number ≡ i
-      → (before : O) × (after : O) × DrainedAs (λ got. TakingPolls steps record_of refusal_of available_of left_of owed_of
-      before got after) old.list new.list answers → AreItemsOf item_of answers items → DrainedTo mark old new items
-  all_drained old new answers items number (before, after, (got, polls, list, is)) are =
+  pub all_drained : (count_of : O → ℕ) (seats max : ℕ) (old new : SeatView Deed) (answers : List A) (items : List T)
+      → old.number ≡ i → Drains count_of seats max old.list new.list answers → AreItemsOf item_of answers items
+      → DrainedTo mark old new items
+  all_drained count_of seats max old new answers items number
+      (before, after, last, all, count, (got, (polls, numbered), list, is)) are =
       let h = all_taken before got after polls in (
+        last,
         h.0,
         same_somes _ items (sym h.1 ∙ ap (map item_of) (sym is) ∙ are),
-        (map (λ one. one.1) got, list, h.2 ∙ ap (λ n. map (taken_record mark n) h.0) (sym number)),
+        (
+          map (λ one. one.1) got,
+          list,
+          h.2 ∙ ap (λ n. map (taken_record mark n) h.0) (sym number),
+          numbers last got numbered,
+        ),
       )
+
+  -- as many as the least of what was there when it looked, of `max`, and of what is there
+  pub least_of : (count_of : O → ℕ) (seats max : ℕ) (look : O) (looked there : ℕ) (old new : List (Received Deed))
+      (answers : List A) (items : List T) → count_of look ≡ seats → looked ≡ available_of look → there ≡ min looked max
+      → Drains count_of seats there old new answers → AreItemsOf item_of answers items
+      → (before : O) × (held : O) × (count_of before ≡ seats) × (count_of held ≡ seats)
+      × (length items ≡ min (min (available_of before) max) (available_of held))
+  least_of count_of seats max look looked there old new answers items both seen is
+      (before, after, last, all, count, rest) are =
+      let same = sym (length-map items (λ item. Some item)) ∙ sym (ap length are) ∙ length-map answers item_of in
+      (look, before, both, all, same ∙ count ∙ ap (λ n. min n (available_of before)) (is ∙ ap (λ n. min n max) seen))
 
 -- why a drain of a queue may be refused
 last_why : (spent full : Bool) (why : Refusal)
@@ -121,25 +155,26 @@ last_why true full why e = rw e tt
 last_why false true why e = rw e tt
 last_why false false why e = rw e tt
 
-drain_why_by : (absent taken spent : Bool) (left k : ℕ) (full : Bool) (why : Refusal)
+drain_why_by : (absent taken spent : Bool) (left k : ℕ) (full : Bool) (why : Refusal) → (absent ≡ true → ⊥)
     → IsWhy (drain_refusal_by (if absent then Some NoSuchSeat
     else (if taken then Some SeatOpen else (if spent then Some TicketsSpent else None))) left k full) why
     → IsRequestWhy why
-drain_why_by true taken spent left zero full why e = rw e tt
-drain_why_by true taken spent left (suc k) full why e = rw e tt
-drain_why_by false true spent left zero full why e = rw e tt
-drain_why_by false true spent left (suc k) full why e = rw e tt
-drain_why_by false false true left zero full why e = rw e tt
-drain_why_by false false true left (suc k) full why e = last_why (nat_lt left (suc k)) full why e
-drain_why_by false false false left zero full why e = rw e tt
-drain_why_by false false false left (suc k) full why e = last_why (nat_lt left (suc k)) full why e
+drain_why_by true taken spent left k full why there e = absurd (there refl)
+drain_why_by false true spent left zero full why there e = rw e tt
+drain_why_by false true spent left (suc k) full why there e = rw e tt
+drain_why_by false false true left zero full why there e = rw e tt
+drain_why_by false false true left (suc k) full why there e = last_why (nat_lt left (suc k)) full why e
+drain_why_by false false false left zero full why there e = rw e tt
+drain_why_by false false false left (suc k) full why there e = last_why (nat_lt left (suc k)) full why e
 
-pub drain_why : {O T B D : Type 0} (queue_of : O → Queue T) (left_of owed_of : O → ℕ) (i most : ℕ) (why : Refusal)
-    → (why ≡ Memory) ⊎ ((book : Booked O B D) × (k : ℕ) × (k ≤ most)
+pub drain_why : {O T B D : Type 0} (queue_of : O → Queue T) (left_of owed_of : O → ℕ) (seats cap i most : ℕ)
+    (why : Refusal) → (why ≡ Memory) ⊎ ((book : Booked O B D) × (k : ℕ) × (k ≤ most)
+    × IsBookOf (λ o. count_of (queue_of o)) seats cap book × (i < seats)
     × IsWhy (book_drain_refusal (dual_refusal (queue_of book.object) i Poll) (left_of book.object) (owed_of book.object)
     book k) why) → IsRequestWhy why
-drain_why queue_of left_of owed_of i most why (inl e) = rw e tt
-drain_why queue_of left_of owed_of i most why (inr (book, k, few, e)) =
+drain_why queue_of left_of owed_of seats cap i most why (inl e) = rw e tt
+drain_why queue_of left_of owed_of seats cap i most why (inr (book, k, few, of, there, e)) =
     let q = queue_of book.object in
     drain_why_by (nat_le (count_of q) i) (is_open ((seats_of q).holds i)) (nat_lt last_ticket q.next)
-    (left_of book.object) k (is_book_full book (owed_of book.object) (k + 1)) why e
+    (left_of book.object) k (is_book_full book (owed_of book.object) (k + 1)) why
+    (is_there (count_of q) seats i of.0 there) e

@@ -94,7 +94,7 @@ module _ {T N : Type 0} where
   WithdrawnAs mark p cause (Late q) = q ≡ p
 
 module _ {N : Type 0} where
-  -- an interrupt left one receipt, with its target and the ticket that it cut, or 0
+  -- an interrupt left one receipt, with its target and the ticket that it cut, or 0 where it cut none
   abbrev pub StruckAs : SeatView Deed → (target : ℕ) → Struck N → Type 0
   StruckAs seat target (Cut s t) =
       SameSeat seat s × Adds seat.list s.list (made seat.number t (Interrupt target) ∷ [])

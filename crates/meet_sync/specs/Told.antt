@@ -1,12 +1,12 @@
 -- What one step under the lock tells of itself, where the queue's state at that time isn't known (our choice).
-use Rattle.std.specs.Prelude.{⊤, ℕ, Option, Bool}
+use Rattle.std.specs.Prelude.{◌≡◌, ◌<◌, ◌≤◌, ⊤, ℕ, Option, None, Bool}
 use Rattle.meet_tickets.specs.declared.places.End.{End}
 use Rattle.meet_tickets.specs.declared.refusals.Refusal.{Refusal}
 use Rattle.meet_tickets.specs.declared.refusals.Refusal.TheVariants.{Memory, HistoryFull, TicketsSpent, SeatOpen}
 use Rattle.meet_tickets.specs.declared.refusals.Refusal.TheVariants.{NoSuchSeat}
 use Rattle.meet_tickets.specs.Refusals.{IsWhy}
 use Rattle.meet_book.specs.Booking.{call_refusal}
-use Rattle.meet_line.specs.Queue.{Queue, seats_of}
+use Rattle.meet_line.specs.Queue.{Queue, seats_of, count_of}
 use Rattle.meet_line.specs.Awaits.{AwaitsAs}
 use Rattle.meet_calls.specs.declared.queue_calls.DualCall.{DualCall}
 use Rattle.meet_calls.specs.declared.queue_calls.DualCall.TheVariants.{FollowUp, Cancel, Expire}
@@ -22,18 +22,20 @@ use Rattle.meet_sync.specs.declared.steps.Ending.TheVariants.{FollowUp as ToFoll
 use Rattle.meet_sync.specs.declared.steps.Ending.TheVariants.{Expire as ToExpire}
 
 module _ {T : Type 0} where
-  -- some queue makes this step of a seat's call
-  abbrev pub IsAnswer : (T → ℕ) → (seat : ℕ) → DualCall T → DualAnswer T → Type 0
-  IsAnswer mark seat call answer = (end : End) × (old new : Queue T) × DualStep mark end old seat call answer new
+  -- some queue with so many seats admits a call of this one of them, and makes this step of it
+  abbrev pub IsAnswer : (T → ℕ) → (seats seat : ℕ) → DualCall T → DualAnswer T → Type 0
+  IsAnswer mark seats seat call answer = (end : End) × (old new : Queue T) × (count_of old ≡ seats) × (seat < seats)
+      × (dual_refusal old seat call ≡ None) × DualStep mark end old seat call answer new
 
   -- the same of a queue in which the seat awaits this ticket, whose request brought this mark
   abbrev pub IsEnding : (T → ℕ) → (seat ticket : ℕ) → Option ℕ → DualCall T → DualAnswer T → Type 0
   IsEnding mark seat ticket own call answer = (end : End) × (old new : Queue T)
       × AwaitsAs mark (seats_of old) seat ticket own × DualStep mark end old seat call answer new
 
-  -- some queue refuses a seat's call for this reason, or its history has no room, or there is no memory
-  abbrev pub IsRefusalOf : (seat : ℕ) → DualCall T → Refusal → Type 0
-  IsRefusalOf seat call why = (queue : Queue T) × (full : Bool)
+  -- some queue with so many seats refuses a call of this one of them for this reason, or its history has no room, or
+  -- there is no memory
+  abbrev pub IsRefusalOf : (seats seat : ℕ) → DualCall T → Refusal → Type 0
+  IsRefusalOf seats seat call why = (queue : Queue T) × (full : Bool) × (count_of queue ≡ seats) × (seat < seats)
       × IsWhy (call_refusal (dual_refusal queue seat call) full) why
 
   -- the call that ends this ticket so
@@ -83,15 +85,15 @@ IsRequestWhy Memory = ⊤
 IsRequestWhy HistoryFull = ⊤
 IsRequestWhy TicketsSpent = ⊤
 IsRequestWhy SeatOpen = ⊤
-IsRequestWhy NoSuchSeat = ⊤
 IsRequestWhy why = ⊥
 
--- why an interrupt may be refused (our choice)
-abbrev pub IsInterruptWhy : Refusal → Type 0
-IsInterruptWhy Memory = ⊤
-IsInterruptWhy HistoryFull = ⊤
-IsInterruptWhy NoSuchSeat = ⊤
-IsInterruptWhy why = ⊥
+-- why an interrupt of this target may be refused, where there are so many seats: NoSuchSeat where it is none of them
+-- (our choice)
+abbrev pub IsInterruptWhy : (seats target : ℕ) → Refusal → Type 0
+IsInterruptWhy seats target Memory = ⊤
+IsInterruptWhy seats target HistoryFull = ⊤
+IsInterruptWhy seats target NoSuchSeat = seats ≤ target
+IsInterruptWhy seats target why = ⊥
 
 -- why a checkpoint may be refused (our choice)
 abbrev pub IsCutWhy : Refusal → Type 0

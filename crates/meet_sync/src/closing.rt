@@ -1,6 +1,6 @@
 //! The end of a queue for threads: its one history.
 
-ghost use Rattle.std.specs.Prelude.{◌≡◌, ◌+◌, ◌<◌, ◌^◌, None, List, length, map, vec_len, IfOk, IfErr};
+ghost use Rattle.std.specs.Prelude.{◌≡◌, ◌+◌, ◌<◌, ◌≤◌, ◌^◌, None, List, length, map, vec_len, IfOk, IfErr};
 ghost use Rattle.meet_calls.specs.DualSteps.{kind_of};
 ghost use Rattle.meet_calls.specs.QueueSteps.{bounded_kind};
 ghost use Rattle.meet_place.specs.Backs.{list_of, AreOrdered, shares_in, folded_in};
@@ -124,6 +124,7 @@ impl<T: Marked, L: Line<T>, G: Drop, N: Ledgers> SyncQueue<T, L, G, N> {
         ensures shares { IfOk result (λ c. c.base.gone + length c.records.items ≡ shares_in seats.items) }
         ensures folded { IfOk result (λ c. c.base.gone ≡ folded_in seats.items) }
         ensures few { IfOk result (λ c. c.base.gone + length c.records.items < 2 ^ 64) }
+        ensures cap { IfOk result (λ c. length c.records.items ≤ N.cap) }
         ensures fault { IfErr result (λ fault. QueueFaultFits self seats.items fault) }
     {
         let SyncQueue { place } = self;
@@ -193,6 +194,7 @@ impl<T: Marked, G: Drop, N: Ledgers> TransferQueue<T, G, N> {
         ensures shares { IfOk result (λ c. c.base.gone + length c.records.items ≡ shares_in seats.items) }
         ensures folded { IfOk result (λ c. c.base.gone ≡ folded_in seats.items) }
         ensures few { IfOk result (λ c. c.base.gone + length c.records.items < 2 ^ 64) }
+        ensures cap { IfOk result (λ c. length c.records.items ≤ N.cap) }
         ensures fault { IfErr result (λ fault. QueueFaultFits self seats.items fault) }
     {
         let TransferQueue { place } = self;

@@ -2,7 +2,8 @@
 
 ghost use Rattle.std.specs.Prelude.{◌≡◌, ◌≤◌, Some, None, [], length, vec_len, IfOk, IfErr, IsSome};
 ghost use Rattle.std.specs.Vec.{vec_capacity};
-ghost use Rattle.meet_sync.specs.Drained.{DrainedTo, AllBring, AreItemsOf, item_in, item_within};
+ghost use Rattle.meet_sync.specs.Drained.{DrainedTo, IsLeastFor, AllBring, AreItemsOf, item_in};
+ghost use Rattle.meet_sync.specs.Drained.{item_within};
 ghost use Rattle.meet_sync.specs.Told.{IsRequestWhy};
 
 use crate::asked::SeatRefused;
@@ -88,12 +89,12 @@ fn drain_dual<T: Marked, L: Line<T>, G: Gate, N: Ledgers, R: Wait>(
 ) -> Result<Vec<T>, Refusal>
     ensures number { seat.new.number ≡ seat.old.number }
     ensures past { seat.new.past ≡ seat.old.past }
-    ensures few { IfOk result (λ items. length items.items ≤ max) }
+    ensures count { IfOk result (λ items. IsLeastFor T N.parts max (length items.items)) }
     ensures drained { IfOk result (λ items. DrainedTo T.mark_of seat.old seat.new items.items) }
     ensures why { IfErr result IsRequestWhy }
     ensures same { IfErr result (λ _. seat.new.list ≡ seat.old.list) }
 {
-    let there = place.hold(rt).probe().available().min(max);
+    let there = place.available(rt).min(max);
     let Ok(empty) = Vec::with_capacity(alloc, there as usize) else {
         return Err(Refusal::Memory);
     };
@@ -116,12 +117,12 @@ fn drain_transfer<T: Marked, G: Gate, N: Ledgers, R: Wait>(
 ) -> Result<Vec<T>, Refusal>
     ensures number { seat.new.number ≡ seat.old.number }
     ensures past { seat.new.past ≡ seat.old.past }
-    ensures few { IfOk result (λ items. length items.items ≤ max) }
+    ensures count { IfOk result (λ items. IsLeastFor T N.parts max (length items.items)) }
     ensures drained { IfOk result (λ items. DrainedTo T.mark_of seat.old seat.new items.items) }
     ensures why { IfErr result IsRequestWhy }
     ensures same { IfErr result (λ _. seat.new.list ≡ seat.old.list) }
 {
-    let there = place.hold(rt).probe().available().min(max);
+    let there = place.available(rt).min(max);
     let Ok(empty) = Vec::with_capacity(alloc, there as usize) else {
         return Err(Refusal::Memory);
     };
@@ -145,8 +146,9 @@ pub struct DrainedItems<T, N: Ledgers> {
 
 impl<T: Marked, L: Line<T>, G: Gate, N: Ledgers> SyncQueue<T, L, G, N> {
     /// `SynchronousQueue.drainTo`: takes up to `max` items that givers in the line brought, in the order in which polls
-    /// would, all under one hold of the lock, each by a recorded poll. It refuses Memory where a list can't grow, else
-    /// NoSuchSeat, SeatOpen, TicketsSpent, HistoryFull or Memory, the first that applies; then nothing was taken.
+    /// would, all under one hold of the lock, each by a recorded poll: as many as were there when it looked, and still
+    /// are. It refuses Memory where a list can't grow, else SeatOpen, TicketsSpent, HistoryFull or Memory, the first
+    /// that applies; then nothing was taken.
     pub fn drain<R: Wait>(
         &self,
         rt: &R,
@@ -156,7 +158,7 @@ impl<T: Marked, L: Line<T>, G: Gate, N: Ledgers> SyncQueue<T, L, G, N> {
     ) -> Result<DrainedItems<T, N>, SeatRefused<T, N>>
         ensures number { IfOk result (λ drained. drained.seat.number ≡ seat.number) }
         ensures past { IfOk result (λ drained. drained.seat.past ≡ seat.past) }
-        ensures few { IfOk result (λ drained. length drained.items.items ≤ max) }
+        ensures count { IfOk result (λ drained. IsLeastFor T N.parts max (length drained.items.items)) }
         ensures drained { IfOk result (λ drained. DrainedTo T.mark_of seat drained.seat drained.items.items) }
         ensures back { IfErr result (λ refused. refused.seat.number ≡ seat.number) }
         ensures back_past { IfErr result (λ refused. refused.seat.past ≡ seat.past) }
@@ -177,8 +179,9 @@ impl<T: Marked, L: Line<T>, G: Gate, N: Ledgers> SyncQueue<T, L, G, N> {
 
 impl<T: Marked, G: Gate, N: Ledgers> TransferQueue<T, G, N> {
     /// `LinkedTransferQueue.drainTo`: takes up to `max` items that givers in the line brought, in the order in which
-    /// polls would, all under one hold of the lock, each by a recorded poll. It refuses Memory where a list can't grow,
-    /// else NoSuchSeat, SeatOpen, TicketsSpent, HistoryFull or Memory, the first that applies; then nothing was taken.
+    /// polls would, all under one hold of the lock, each by a recorded poll: as many as were there when it looked, and
+    /// still are. It refuses Memory where a list can't grow, else SeatOpen, TicketsSpent, HistoryFull or Memory, the
+    /// first that applies; then nothing was taken.
     pub fn drain<R: Wait>(
         &self,
         rt: &R,
@@ -188,7 +191,7 @@ impl<T: Marked, G: Gate, N: Ledgers> TransferQueue<T, G, N> {
     ) -> Result<DrainedItems<T, N>, SeatRefused<T, N>>
         ensures number { IfOk result (λ drained. drained.seat.number ≡ seat.number) }
         ensures past { IfOk result (λ drained. drained.seat.past ≡ seat.past) }
-        ensures few { IfOk result (λ drained. length drained.items.items ≤ max) }
+        ensures count { IfOk result (λ drained. IsLeastFor T N.parts max (length drained.items.items)) }
         ensures drained { IfOk result (λ drained. DrainedTo T.mark_of seat drained.seat drained.items.items) }
         ensures back { IfErr result (λ refused. refused.seat.number ≡ seat.number) }
         ensures back_past { IfErr result (λ refused. refused.seat.past ≡ seat.past) }

@@ -16,7 +16,8 @@ use meet_queues::{ready_queue_book, ready_transfer_book};
 use meet_tickets::{Deed, MOST_RECORDS, MOST_SEATS, Marked, Refusal, Refused};
 use std::alloc::Global;
 
-/// What a queue for threads is made of.
+/// What a queue for threads is made of. Beside the names and the parts of the ledgers, who makes a queue picks `N.cap`:
+/// how many records it has at most at a time.
 #[derive(Drop)]
 pub struct NewQueue<G> {
     /// A gate for each seat.
@@ -42,6 +43,7 @@ impl<T: Marked, L: Line<T>, G: Drop, N: Ledgers> SyncQueue<T, L, G, N> {
     ) -> Result<(Self, Vec<Seat<Deed, N>>), Refused<NewQueue<G>>>
         requires ledgers { AreOf N.name N.folds N.parts parts.blanks }
         requires one_each { N.parts ≡ vec_len parts.gates }
+        requires cap { N.cap ≡ cap }
         ensures count { IfOk result (λ made. made.0 ≡ vec_len parts.gates) }
         ensures seats { IfOk result (λ made. vec_len made.1 ≡ vec_len parts.gates) }
         ensures numbers { IfOk result (λ made. AreFresh made.1.items) }
@@ -92,6 +94,7 @@ impl<T: Marked, L: Line<T>, G: Drop, N: Ledgers> SyncQueue<T, L, G, N> {
     ) -> Result<(Self, Vec<Seat<Deed, N>>), Refused<NewQueue<G>>>
         requires ledgers { AreOf N.name N.folds N.parts parts.blanks }
         requires one_each { N.parts ≡ vec_len parts.gates }
+        requires cap { N.cap ≡ most_records }
         ensures count { IfOk result (λ made. made.0 ≡ vec_len parts.gates) }
         ensures seats { IfOk result (λ made. vec_len made.1 ≡ vec_len parts.gates) }
         ensures numbers { IfOk result (λ made. AreFresh made.1.items) }
@@ -113,6 +116,7 @@ impl<T: Marked, G: Drop, N: Ledgers> TransferQueue<T, G, N> {
     ) -> Result<(Self, Vec<Seat<Deed, N>>), Refused<NewQueue<G>>>
         requires ledgers { AreOf N.name N.folds N.parts parts.blanks }
         requires one_each { N.parts ≡ vec_len parts.gates }
+        requires cap { N.cap ≡ cap }
         ensures count { IfOk result (λ made. made.0 ≡ vec_len parts.gates) }
         ensures seats { IfOk result (λ made. vec_len made.1 ≡ vec_len parts.gates) }
         ensures numbers { IfOk result (λ made. AreFresh made.1.items) }
@@ -163,6 +167,7 @@ impl<T: Marked, G: Drop, N: Ledgers> TransferQueue<T, G, N> {
     ) -> Result<(Self, Vec<Seat<Deed, N>>), Refused<NewQueue<G>>>
         requires ledgers { AreOf N.name N.folds N.parts parts.blanks }
         requires one_each { N.parts ≡ vec_len parts.gates }
+        requires cap { N.cap ≡ most_records }
         ensures count { IfOk result (λ made. made.0 ≡ vec_len parts.gates) }
         ensures seats { IfOk result (λ made. vec_len made.1 ≡ vec_len parts.gates) }
         ensures numbers { IfOk result (λ made. AreFresh made.1.items) }
@@ -170,6 +175,6 @@ impl<T: Marked, G: Drop, N: Ledgers> TransferQueue<T, G, N> {
         ensures why { IfErr result (λ refused. IsWhy (making_refusal (vec_len parts.gates) most_records) refused.why) }
         ensures back { IfErr result (λ refused. refused.back ≡ parts) }
     {
-        Self::with_cap(alloc, parts, MOST_RECORDS)
+        TransferQueue::with_cap(alloc, parts, MOST_RECORDS)
     }
 }

@@ -1,6 +1,6 @@
 //! The split requests of a queue.
 
-ghost use Rattle.std.specs.Prelude.{◌≡◌, ◌≤◌, None, IfOk, IfErr};
+ghost use Rattle.std.specs.Prelude.{◌≡◌, ◌<◌, ◌≤◌, None, IfOk, IfErr};
 ghost use Rattle.meet_sync.specs.Asking.{item_of, AskedAs, StruckAs};
 ghost use Rattle.meet_sync.specs.Told.{IsRequestWhy, IsInterruptWhy};
 ghost use Rattle.meet_sync.specs.declared.asked.Request.TheVariants.{Give, Offer, Take, Poll};
@@ -205,11 +205,12 @@ impl<T: Marked, L: Line<T>, G: Gate, N: Ledgers> QueueRef<'_, T, L, G, N> {
         target: SeatNo,
     ) -> Result<Struck<N>, SeatRefused<T, N>>
         ensures struck { IfOk result (λ struck. StruckAs seat target struck) }
+        ensures there { IfOk result (λ _. target < N.parts) }
         ensures number { IfErr result (λ refused. refused.seat.number ≡ seat.number) }
         ensures past { IfErr result (λ refused. refused.seat.past ≡ seat.past) }
         ensures list { IfErr result (λ refused. refused.seat.list ≡ seat.list) }
         ensures item { IfErr result (λ refused. refused.item ≡ None) }
-        ensures why { IfErr result (λ refused. IsInterruptWhy refused.why) }
+        ensures why { IfErr result (λ refused. IsInterruptWhy N.parts target refused.why) }
     {
         if seat.reserve(1).is_err() {
             return Err(SeatRefused {

@@ -77,8 +77,8 @@ fn step_dual<T: Marked, L: Line<T>, G: Gate, N: Ledgers, R: Wait>(
     ensures room { length seat.new.list + seat.new.room ≡ length seat.old.list + seat.old.room }
     ensures adds { IfOk result (λ answer. Adds seat.old.list seat.new.list
         (option_to_list (dual_record T.mark_of seat.old.number call answer))) }
-    ensures step { IfOk result (λ answer. IsAnswer T.mark_of seat.old.number call answer) }
-    ensures why { IfErr result (λ refused. IsRefusalOf seat.old.number call refused.why) }
+    ensures step { IfOk result (λ answer. IsAnswer T.mark_of N.parts seat.old.number call answer) }
+    ensures why { IfErr result (λ refused. IsRefusalOf N.parts seat.old.number call refused.why) }
     ensures back { IfErr result (λ refused. refused.back ≡ call) }
     ensures same { IfErr result (λ _. seat.new ≡ seat.old) }
 {
@@ -104,8 +104,8 @@ fn step_transfer<T: Marked, G: Gate, N: Ledgers, R: Wait>(
     ensures room { length seat.new.list + seat.new.room ≡ length seat.old.list + seat.old.room }
     ensures adds { IfOk result (λ answer. Adds seat.old.list seat.new.list
         (option_to_list (dual_record T.mark_of seat.old.number call answer))) }
-    ensures step { IfOk result (λ answer. IsAnswer T.mark_of seat.old.number call answer) }
-    ensures why { IfErr result (λ refused. IsRefusalOf seat.old.number call refused.why) }
+    ensures step { IfOk result (λ answer. IsAnswer T.mark_of N.parts seat.old.number call answer) }
+    ensures why { IfErr result (λ refused. IsRefusalOf N.parts seat.old.number call refused.why) }
     ensures back { IfErr result (λ refused. refused.back ≡ call) }
     ensures same { IfErr result (λ _. seat.new ≡ seat.old) }
 {
@@ -201,8 +201,8 @@ impl<T: Marked, L: Line<T>, G: Gate, N: Ledgers> QueueRef<'_, T, L, G, N> {
         ensures room { length seat.new.list + seat.new.room ≡ length seat.old.list + seat.old.room }
         ensures adds { IfOk result (λ answer. Adds seat.old.list seat.new.list
             (option_to_list (dual_record T.mark_of seat.old.number call answer))) }
-        ensures step { IfOk result (λ answer. IsAnswer T.mark_of seat.old.number call answer) }
-        ensures why { IfErr result (λ refused. IsRefusalOf seat.old.number call refused.why) }
+        ensures step { IfOk result (λ answer. IsAnswer T.mark_of N.parts seat.old.number call answer) }
+        ensures why { IfErr result (λ refused. IsRefusalOf N.parts seat.old.number call refused.why) }
         ensures back { IfErr result (λ refused. refused.back ≡ call) }
         ensures same { IfErr result (λ _. seat.new ≡ seat.old) }
     {

@@ -39,8 +39,8 @@ impl<T: Marked, L: Line<T>, G: Gate, N: Ledgers> SyncQueue<T, L, G, N> {
     }
 
     /// Makes a request of a seat of this queue: settled at once, or parked with its ticket open. It refuses Memory
-    /// where its seat's list can't grow, else NoSuchSeat, SeatOpen, TicketsSpent, HistoryFull or Memory, the first that
-    /// applies; then nothing was written, and the seat and the item come back.
+    /// where its seat's list can't grow, else SeatOpen, TicketsSpent, HistoryFull or Memory, the first that applies;
+    /// then nothing was written, and the seat and the item come back.
     pub fn request<R: Wait>(
         &self,
         rt: &R,
@@ -79,7 +79,8 @@ impl<T: Marked, L: Line<T>, G: Gate, N: Ledgers> SyncQueue<T, L, G, N> {
     }
 
     /// `Thread.interrupt` of a target: its ticket is cut where it waits in the line, and its gate is woken; else it is
-    /// flagged. It refuses Memory where its seat's list can't grow, else NoSuchSeat, HistoryFull or Memory.
+    /// flagged. It refuses Memory where its seat's list can't grow, else NoSuchSeat where the queue has no such target,
+    /// HistoryFull or Memory.
     pub fn interrupt<R: Wait>(
         &self,
         rt: &R,
@@ -87,11 +88,12 @@ impl<T: Marked, L: Line<T>, G: Gate, N: Ledgers> SyncQueue<T, L, G, N> {
         target: SeatNo,
     ) -> Result<Struck<N>, SeatRefused<T, N>>
         ensures struck { IfOk result (λ struck. StruckAs seat target struck) }
+        ensures there { IfOk result (λ _. target < N.parts) }
         ensures number { IfErr result (λ refused. refused.seat.number ≡ seat.number) }
         ensures past { IfErr result (λ refused. refused.seat.past ≡ seat.past) }
         ensures list { IfErr result (λ refused. refused.seat.list ≡ seat.list) }
         ensures item { IfErr result (λ refused. refused.item ≡ None) }
-        ensures why { IfErr result (λ refused. IsInterruptWhy refused.why) }
+        ensures why { IfErr result (λ refused. IsInterruptWhy N.parts target refused.why) }
     {
         self.lent().interrupt(rt, seat, target)
     }

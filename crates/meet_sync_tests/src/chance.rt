@@ -130,6 +130,7 @@ fn walking<N: Ledgers + Send + Sync, R: Threads + Wait + Sync>(
 ) -> Result<Walked, &'static str>
     requires ledgers { AreOf N.name N.folds N.parts parts.blanks }
     requires one_each { N.parts ≡ vec_len parts.gates }
+    requires cap { N.cap ≡ 1048576 }
 {
     let (shop, made) = match Shop::<Idle, N>::with_cap(alloc, order, parts, 1_048_576) {
         Ok(made) => made,

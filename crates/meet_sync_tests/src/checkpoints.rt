@@ -66,8 +66,8 @@ fn trims<N: Ledgers, R: Abort + Wait>(
 }
 
 /// Two givers wait, the records are folded away, a third waits, and a taker has no room until they are folded away
-/// again; then it meets the first, who follows up and lets go of the receipt that was folded away. The second lets go of
-/// its only one, and still waits.
+/// again; then it meets the first, who follows up and lets go of the receipt that was folded away. The second lets go
+/// of its only one, and still waits.
 fn folding<N: Ledgers, R: Abort + Wait>(rt: &R, shop: &Shop<Idle, N>, seats: &mut Seats<N>) {
     let full = Told::Refused(Refusal::HistoryFull, None);
     ask_all(
@@ -105,6 +105,7 @@ fn folding<N: Ledgers, R: Abort + Wait>(rt: &R, shop: &Shop<Idle, N>, seats: &mu
 fn five_records<N: Ledgers, R: Abort + Wait>(rt: &R, alloc: Global, parts: NewQueue<Idle>) -> Came
     requires ledgers { AreOf N.name N.folds N.parts parts.blanks }
     requires one_each { N.parts ≡ vec_len parts.gates }
+    requires cap { N.cap ≡ 5 }
 {
     let (shop, made) = match Shop::<Idle, N>::with_cap(alloc, Order::Fair, parts, 5) {
         Ok(made) => made,
@@ -126,6 +127,7 @@ fn five_records<N: Ledgers, R: Abort + Wait>(rt: &R, alloc: Global, parts: NewQu
 fn untouched<N: Ledgers, R: Abort + Wait>(rt: &R, alloc: Global, parts: NewQueue<Idle>) -> Came
     requires ledgers { AreOf N.name N.folds N.parts parts.blanks }
     requires one_each { N.parts ≡ vec_len parts.gates }
+    requires cap { N.cap ≡ 5 }
 {
     let (queue, mut made) = match SyncQueue::<u64, FairLine<u64>, Idle, N>::with_cap(
         alloc, parts, 5,
@@ -154,6 +156,7 @@ fn untouched<N: Ledgers, R: Abort + Wait>(rt: &R, alloc: Global, parts: NewQueue
 fn whole<N: Ledgers, R: Wait>(rt: &R, alloc: Global, parts: NewQueue<Idle>) -> Came
     requires ledgers { AreOf N.name N.folds N.parts parts.blanks }
     requires one_each { N.parts ≡ vec_len parts.gates }
+    requires cap { N.cap ≡ 5 }
     ensures { IfOk result (λ chronicle. chronicle.base ≡ no_base) }
 {
     let (queue, mut made) = match SyncQueue::<u64, FairLine<u64>, Idle, N>::with_cap(

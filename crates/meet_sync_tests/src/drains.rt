@@ -2,13 +2,14 @@
 
 ghost use Rattle.std.specs.Prelude.{◌≡◌, vec_len};
 ghost use Rattle.meet_place.specs.Ledgers.{AreOf};
+ghost use Rattle.meet_tickets.specs.Limits.{most_records};
 
 use meet_shop::{Idle, gates, keep};
 use meet_sync::{
-    Asked, Back, Blanks, DrainedItems, End, Ended, Ledgers, NewQueue, QueueFault, Request, Seat,
-    SeatRefused, TransferQueue,
+    Asked, Back, Blanks, DrainedItems, End, Ended, Ledgers, NewQueue, Pending, QueueFault, Request,
+    Seat, SeatRefused, TransferQueue,
 };
-use meet_tickets::Deed;
+use meet_tickets::{Deed, Refusal};
 use std::alloc::Global;
 use std::marker::Brand;
 use std::sync::Wait;
@@ -147,6 +148,7 @@ fn a_day<N: Ledgers, R: Wait>(
 ) -> Result<Day, &'static str>
     requires ledgers { AreOf N.name N.folds N.parts parts.blanks }
     requires one_each { N.parts ≡ vec_len parts.gates }
+    requires cap { N.cap ≡ most_records }
 {
     let mut backs = Vec::with_capacity(alloc, 2).map_err(|_| "memory")?;
     let (store, mut seats) = match Store::<N>::new(alloc, parts) {
@@ -197,5 +199,87 @@ fn a_taker_waits(rt: HostRuntime) -> Result<(), Fail> {
     assert_eq!(rt; day.shown[0], (0, None, 0, false));
     assert_eq!(rt; day.shown[1], (0, None, 1, true));
     assert_eq!(rt; day.records, 1);
+    Ok(())
+}
+
+/// What two drains are refused, one of a seat whose ticket is open and one for whose poll the history has no room; then
+/// the seats.
+fn drain_in_vain<N: Ledgers, R: Wait>(
+    rt: &R,
+    alloc: Global,
+    store: &Store<N>,
+    giver: Seat<Deed, N>,
+    taker: Seat<Deed, N>,
+) -> Result<([Refusal; 2], Back<Deed, N>, Back<Deed, N>), &'static str> {
+    let Ok(Asked::Parked(giver)) = store.request(rt, giver, Request::Give(4)) else {
+        return Err("give");
+    };
+    let (seat, ticket, mark) = giver.into_parts();
+    let Err(
+        SeatRefused {
+            why: open,
+            seat: mut giver,
+            ..
+        },
+    ) = store.drain(rt, alloc, seat, 1)
+    else {
+        return Err("a drain of a seat whose ticket is open");
+    };
+    giver.reserve(1).map_err(|_| "memory")?;
+    let Err(
+        SeatRefused {
+            why: full,
+            seat: taker,
+            ..
+        },
+    ) = store.drain(rt, alloc, taker, 1)
+    else {
+        return Err("a drain into a full history");
+    };
+    let giver = Pending::new(giver, ticket, mark);
+    Ok(([open, full], Back::Held(giver), Back::Free(taker)))
+}
+
+/// The same, at a queue with room for three records: the give's, its ending's and one more. Then it is closed.
+fn in_vain<N: Ledgers, R: Wait>(
+    rt: &R,
+    alloc: Global,
+    parts: NewQueue<Idle>,
+) -> Result<[Refusal; 2], &'static str>
+    requires ledgers { AreOf N.name N.folds N.parts parts.blanks }
+    requires one_each { N.parts ≡ vec_len parts.gates }
+    requires cap { N.cap ≡ 3 }
+{
+    let mut backs = Vec::with_capacity(alloc, 2).map_err(|_| "memory")?;
+    let (store, mut seats) = match Store::<N>::with_cap(alloc, parts, 3) {
+        Ok(made) => made,
+        Err(refused) => return Err(refused.why.name()),
+    };
+    let made = match (seats.pop(), seats.pop()) {
+        (Some(taker), Some(giver)) => drain_in_vain(rt, alloc, &store, giver, taker),
+        _ => Err("seats"),
+    };
+    let (whys, giver, taker) = match made {
+        Ok(made) => made,
+        Err(why) => {
+            keep(store);
+            return Err(why);
+        }
+    };
+    backs.push_reserved(taker);
+    backs.push_reserved(giver);
+    match closed(alloc, store, backs) {
+        Some(1) => Ok(whys),
+        _ => Err("close"),
+    }
+}
+
+/// Why a drain is refused, Memory aside.
+#[test]
+fn drains_are_refused(rt: HostRuntime) -> Result<(), Fail> {
+    let gates = gates::<Idle>(rt.alloc(), 2)?;
+    let blanks = Blanks::new(gates.len() as u64);
+    let whys = in_vain::<Brand, _>(&rt, rt.alloc(), NewQueue { gates, blanks })?;
+    assert!(rt; whys == [Refusal::SeatOpen, Refusal::HistoryFull]);
     Ok(())
 }

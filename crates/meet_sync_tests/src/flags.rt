@@ -86,6 +86,7 @@ fn dealing<N: Ledgers + Send + Sync, R: Abort + Threads + Wait + Clock + Sync>(
 ) -> Result<Chronicle<u64>, &'static str>
     requires ledgers { AreOf N.name N.folds N.parts parts.blanks }
     requires one_each { N.parts ≡ vec_len parts.gates }
+    requires cap { N.cap ≡ 100 }
 {
     match Shop::<FlagGate, N>::with_cap(alloc, order, parts, 100) {
         Ok((shop, seats)) => dealt(rt, alloc, shop, seats, flags, timed),

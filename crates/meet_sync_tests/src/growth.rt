@@ -12,7 +12,7 @@ use meet_sync::{
     Back, Blanks, Chronicle, DrainedItems, Ledgers, LeftStanding, NewQueue, QueueFault, Seat,
     SeatRefused, SyncQueue, TransferQueue,
 };
-use meet_tickets::{Base, Deed, Refusal, Refused};
+use meet_tickets::{Base, Deed, MOST_RECORDS, Refusal, Refused};
 use std::alloc::Global;
 use std::marker::Brand;
 use std::process::Abort;
@@ -26,26 +26,27 @@ type Turn = (u64, Ask, Told);
 #[derive(Clone, Copy)]
 struct Day<'a> {
     order: Order,
-    /// The queue has at most so many records, or as many as a new one.
-    cap: Option<u64>,
+    /// The queue has at most so many records; as many as a new one where these are `MOST_RECORDS`.
+    cap: u64,
     turns: &'a [Turn],
     drained: &'a [u64],
     /// What is left, by rising ticket.
     left: &'a [Found],
 }
 
-/// A shop of this order, with at most so many records, or as many as a new one, and its seats.
+/// A shop of this order, with at most so many records, and its seats.
 fn shop<N: Ledgers>(
     alloc: Global,
     order: Order,
-    cap: Option<u64>,
+    cap: u64,
     parts: NewQueue<ParkGate>,
 ) -> Result<(Shop<ParkGate, N>, Vec<Seat<Deed, N>>), Refused<NewQueue<ParkGate>>>
     requires ledgers { AreOf N.name N.folds N.parts parts.blanks }
     requires one_each { N.parts ≡ vec_len parts.gates }
+    requires cap { N.cap ≡ cap }
     ensures back { IfErr result (λ refused. refused.back ≡ parts) }
 {
-    if let Some(cap) = cap {
+    if cap != MOST_RECORDS {
         return Shop::with_cap(alloc, order, parts, cap);
     }
     match order {
@@ -67,6 +68,7 @@ fn made<N: Ledgers>(
 ) -> (Shop<ParkGate, N>, Vec<Seat<Deed, N>>)
     requires ledgers { AreOf N.name N.folds N.parts parts.blanks }
     requires one_each { N.parts ≡ vec_len parts.gates }
+    requires cap { N.cap ≡ day.cap }
 {
     let count = parts.gates.len();
     match shop::<N>(alloc, day.order, day.cap, parts) {
@@ -241,6 +243,7 @@ fn lives<N: Ledgers, R: Abort + Wait>(
 ) -> Chronicle<u64>
     requires ledgers { AreOf N.name N.folds N.parts parts.blanks }
     requires one_each { N.parts ≡ vec_len parts.gates }
+    requires cap { N.cap ≡ day.cap }
 {
     let mut backs = list(rt, alloc, parts.gates.len());
     let (shop, mut seats) = made::<N>(rt, alloc, parts, day);
@@ -314,6 +317,7 @@ fn cuts<N: Ledgers, R: Abort + Wait>(
 ) -> Chronicle<u64>
     requires ledgers { AreOf N.name N.folds N.parts parts.blanks }
     requires one_each { N.parts ≡ vec_len parts.gates }
+    requires cap { N.cap ≡ day.cap }
 {
     let mut backs = list(rt, alloc, parts.gates.len());
     let (shop, mut seats) = made::<N>(rt, alloc, parts, day);
@@ -331,7 +335,7 @@ fn cuts<N: Ledgers, R: Abort + Wait>(
 fn forgets<R: Abort + Wait>(rt: &R, alloc: Global, order: Order) {
     let day = Day {
         order,
-        cap: None,
+        cap: MOST_RECORDS,
         turns: &[(1, Ask::Poll, Told::Failed(None))],
         drained: &[],
         left: &[],
@@ -392,7 +396,7 @@ const ASKED: [Turn; 16] = [
 fn asked<R: Abort + Wait>(rt: &R, alloc: Global, order: Order, drained: &[u64], last: Found) {
     let day = Day {
         order,
-        cap: None,
+        cap: MOST_RECORDS,
         turns: &ASKED,
         drained,
         left: &[
@@ -438,7 +442,7 @@ const PUT: [Turn; 7] = [
 fn seats_that_put(rt: HostRuntime) {
     let day = Day {
         order: Order::Transfer,
-        cap: None,
+        cap: MOST_RECORDS,
         turns: &PUT,
         drained: &[30, 40],
         left: &[(2, 10, LeftStanding::Ready), (7, 50, LeftStanding::Kept)],
@@ -451,7 +455,7 @@ fn seats_that_put(rt: HostRuntime) {
 fn line<R: Abort + Wait>(rt: &R, alloc: Global, turn: Turn, standing: LeftStanding) {
     let day = Day {
         order: Order::Transfer,
-        cap: None,
+        cap: MOST_RECORDS,
         turns: &[(4, Ask::Put(10), Told::Kept), turn],
         drained: &[10, 10],
         left: &[
@@ -490,7 +494,7 @@ fn grows<R: Abort + Wait>(
 ) {
     let day = Day {
         order,
-        cap: Some(10_000),
+        cap: 10_000,
         turns: &[FILLED[0], FILLED[1], FILLED[2], turn],
         drained,
         left,
@@ -517,7 +521,7 @@ fn book<R: Abort + Wait>(rt: &R, alloc: Global, order: Order, both: &[u64]) {
     );
     let day = Day {
         order,
-        cap: Some(10_000),
+        cap: 10_000,
         turns: &FILLED,
         drained: &[10],
         left: &[],

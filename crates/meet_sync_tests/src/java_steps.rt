@@ -177,6 +177,7 @@ fn stepping<N: Ledgers, R: Abort + Wait + Clock>(
 ) -> Result<Chronicle<u64>, &'static str>
     requires ledgers { AreOf N.name N.folds N.parts parts.blanks }
     requires one_each { N.parts ≡ vec_len parts.gates }
+    requires cap { N.cap ≡ 100 }
 {
     let (shop, made) = match Shop::<Idle, N>::with_cap(alloc, order, parts, 100) {
         Ok(made) => made,

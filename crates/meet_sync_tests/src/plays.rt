@@ -188,6 +188,7 @@ fn playing<N: Ledgers, R: Abort + Wait>(
 ) -> Result<Chronicle<u64>, &'static str>
     requires ledgers { AreOf N.name N.folds N.parts parts.blanks }
     requires one_each { N.parts ≡ vec_len parts.gates }
+    requires cap { N.cap ≡ story.cap }
 {
     let (shop, made) = match Shop::<Idle, N>::with_cap(alloc, story.order, parts, story.cap) {
         Ok(made) => made,

@@ -234,6 +234,7 @@ fn passing<L: Line<Seal>, N: Ledgers, R: Abort + Wait>(
 )
     requires ledgers { AreOf N.name N.folds N.parts parts.blanks }
     requires one_each { N.parts ≡ vec_len parts.gates }
+    requires cap { N.cap ≡ 100 }
 {
     let (queue, made) = match Sealed::<L, N>::with_cap(alloc, parts, 100) {
         Ok(made) => made,

@@ -163,11 +163,12 @@ fn a_put_is_kept(rt: HostRuntime) -> Result<(), Fail> {
 }
 
 /// A seat has one open ticket at most, but may interrupt, also itself; and no target that isn't there.
-const OPEN: [Row; 7] = [
+const OPEN: [Row; 8] = [
     (0, Ask::Give(5), Told::Parks(1)),
     (0, Ask::Give(6), Told::Refused(Refusal::SeatOpen, Some(6))),
     (0, Ask::Offer(7), Told::Refused(Refusal::SeatOpen, Some(7))),
     (0, Ask::Take, Told::Refused(Refusal::SeatOpen, None)),
+    (0, Ask::Poll, Told::Refused(Refusal::SeatOpen, None)),
     (
         0,
         Ask::Interrupt(4),
@@ -177,33 +178,52 @@ const OPEN: [Row; 7] = [
     (0, Ask::Follow, Told::WasCut(Some(5))),
 ];
 
+/// Nor does it put an item that is kept.
+const OPEN_PUT: [Row; 3] = [
+    (0, Ask::Give(5), Told::Parks(1)),
+    (0, Ask::Put(8), Told::Refused(Refusal::SeatOpen, Some(8))),
+    (0, Ask::Cancel, Told::Back(Some(5))),
+];
+
 #[test]
 fn what_is_refused(rt: HostRuntime) -> Result<(), Fail> {
     told(&rt, rt.alloc(), Order::Fair, &OPEN, 3)?;
     told(&rt, rt.alloc(), Order::Unfair, &OPEN, 3)?;
-    told(&rt, rt.alloc(), Order::Transfer, &OPEN, 3)
+    told(&rt, rt.alloc(), Order::Transfer, &OPEN, 3)?;
+    told(&rt, rt.alloc(), Order::Transfer, &OPEN_PUT, 2)
 }
 
-/// There is room for what is owed, and for no request more.
-const FULL: [Row; 5] = [
+/// There is room for what is owed, and for no request or interrupt more.
+const FULL: [Row; 9] = [
     (0, Ask::Give(1), Told::Parks(1)),
     (1, Ask::Give(2), Told::Parks(2)),
-    (
-        2,
-        Ask::Give(3),
-        Told::Refused(Refusal::HistoryFull, Some(3)),
-    ),
+    (2, Ask::Give(3), Told::Refused(FULL_UP, Some(3))),
+    (2, Ask::Offer(4), Told::Refused(FULL_UP, Some(4))),
+    (2, Ask::Take, Told::Refused(FULL_UP, None)),
+    (2, Ask::Poll, Told::Refused(FULL_UP, None)),
+    (2, Ask::Interrupt(0), Told::Refused(FULL_UP, None)),
     (0, Ask::Cancel, Told::Back(Some(1))),
     (1, Ask::Cancel, Told::Back(Some(2))),
 ];
 
-/// A queue of three seats and four records.
-fn full(order: Order) -> Story<'static> {
+const FULL_UP: Refusal = Refusal::HistoryFull;
+
+/// Nor for a put.
+const FULL_PUT: [Row; 5] = [
+    (0, Ask::Give(1), Told::Parks(1)),
+    (1, Ask::Give(2), Told::Parks(2)),
+    (2, Ask::Put(3), Told::Refused(FULL_UP, Some(3))),
+    (0, Ask::Cancel, Told::Back(Some(1))),
+    (1, Ask::Cancel, Told::Back(Some(2))),
+];
+
+/// What is asked of a queue of three seats and four records.
+fn full(order: Order, rows: &[Row]) -> Story<'_> {
     Story {
         order,
         seats: 3,
         cap: 4,
-        rows: &FULL,
+        rows,
         standing: NOTHING,
         left: &[],
     }
@@ -211,9 +231,10 @@ fn full(order: Order) -> Story<'static> {
 
 #[test]
 fn a_history_is_full(rt: HostRuntime) -> Result<(), Fail> {
-    assert_eq!(rt; play(&rt, rt.alloc(), full(Order::Fair))?, 4);
-    assert_eq!(rt; play(&rt, rt.alloc(), full(Order::Unfair))?, 4);
-    assert_eq!(rt; play(&rt, rt.alloc(), full(Order::Transfer))?, 4);
+    assert_eq!(rt; play(&rt, rt.alloc(), full(Order::Fair, &FULL))?, 4);
+    assert_eq!(rt; play(&rt, rt.alloc(), full(Order::Unfair, &FULL))?, 4);
+    assert_eq!(rt; play(&rt, rt.alloc(), full(Order::Transfer, &FULL))?, 4);
+    assert_eq!(rt; play(&rt, rt.alloc(), full(Order::Transfer, &FULL_PUT))?, 4);
     Ok(())
 }
 

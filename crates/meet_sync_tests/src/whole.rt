@@ -273,6 +273,7 @@ fn dealing<G: Fresh + Sync, N: Ledgers + Send + Sync, R: Abort + Threads + Wait 
 ) -> Result<Came, &'static str>
     requires ledgers { AreOf N.name N.folds N.parts parts.blanks }
     requires one_each { N.parts ≡ vec_len parts.gates }
+    requires cap { N.cap ≡ 1048576 }
 {
     match Shop::<G, N>::with_cap(alloc, order, parts, 1_048_576) {
         Ok((shop, seats)) => dealt_by(rt, alloc, shop, seats, dealt),

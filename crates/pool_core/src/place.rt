@@ -12,6 +12,7 @@ ghost use Rattle.pool_core.specs.Placed.{PoolStep, pool_refusal, pool_need, pool
 ghost use Rattle.pool_core.specs.Placed.{idle_record, own-record, roomy-refusal, roomless, roomy-leads};
 ghost use Rattle.pool_core.specs.Moves.{IsMade, roomy-made};
 ghost use Rattle.pool_core.specs.Fresh.{fresh-owes};
+ghost use Rattle.pool_core.specs.SettingsStay.{seats_with, seats-stay};
 
 use crate::answers::{Executed, FollowedUp, IdleEnd, Ready};
 use crate::base::PoolBase;
@@ -48,6 +49,8 @@ impl<J: Marked> Object for PoolCore<J> {
 
     ghost need_of = { λ call. pool_need call };
 
+    ghost seat_count_of = { λ p. seats_with p.settings };
+
     ghost room_of = { λ call. pool_room call };
 
     ghost spare = { λ p. p.room };
@@ -57,6 +60,10 @@ impl<J: Marked> Object for PoolCore<J> {
     ghost own_record = { λ seat call answer. own-record J.mark_of seat call answer };
 
     ghost same_place = { λ p. refl };
+
+    ghost same_seats = { λ old seat call answer new made. seats-stay old seat call answer new made };
+
+    ghost roomy_seats = { λ p room. refl };
 
     ghost same_refusal = { λ p room seat call. roomy-refusal p room seat call };
 

@@ -1,8 +1,8 @@
 //! Ten jobs, each a closure, that a pool of two threads runs. Its answers are collected from the records of the pool,
 //! once it is shut down, at its end and closed.
 //!
-//! A job ends: that each function returns is proved of it, as of every function. Nor does it end its thread alone: there
-//! is no panic, and a job that stops the program, for which it needs a handle (`Abort`), stops all of it.
+//! A job ends: that each function returns is proved of it, as of every function. Nor does it end its thread alone:
+//! there is no panic, and a job that stops the program, for which it needs a handle (`Abort`), stops all of it.
 #![tactic(auto)]
 
 mod running;

@@ -3,6 +3,7 @@
 ghost use Rattle.std.specs.Prelude.{◌≡◌, ◌+◌, IfOk, vec_len};
 ghost use Rattle.meet_place.specs.Ledgers.{AreOf};
 ghost use Rattle.pool_core.specs.Histories.{IsLegalOn};
+ghost use Rattle.meet_tickets.specs.Limits.{most_records};
 
 use meet_cells::ParkGate;
 use meet_place::Back;
@@ -36,6 +37,7 @@ where
     R: Threads + Wait + Clock + Copy + Send + 'static,
     requires ledgers { AreOf N.name N.folds N.parts parts.blanks }
     requires one_each { N.parts ≡ parts.sizes.callers + parts.sizes.maximum }
+    requires cap { N.cap ≡ most_records }
     requires gates { vec_len parts.gates ≡ parts.sizes.maximum }
     requires settings { N.settings ≡ record { sizes = parts.sizes; queue = parts.queue; policy = parts.policy } }
     requires one_caller { parts.sizes.callers ≡ 1 }

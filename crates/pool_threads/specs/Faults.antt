@@ -23,9 +23,10 @@ module _ {W C G S N : Type 0} where
   why_of (Differs seat index book seats left) = ListDiffers
 
   -- this is why a pool of these settings with so many seats isn't closed with these. Fewer seats than were made, those
-  -- of absent workers counted too, or no memory: the pool and the seats come back. A difference: the book of such a pool
-  -- comes back, with as many records as the shares of all seats are together; these seats and the workers', in the order
-  -- of their numbers, by which this is the first difference; and the jobs that the book's pool keeps, in their order
+  -- of absent workers counted too, or no memory: the pool and the seats come back. A difference: the book of such a
+  -- pool comes back, with as many records as the shares of all seats are together; these seats and the workers', in
+  -- the order of their numbers, by which this is the first difference; and the jobs that the book's pool keeps, in
+  -- their order
   abbrev pub FaultFits : Settings → (worth : ℕ → ℕ) → (count : ℕ) → List (Back (PoolDeed ℕ) N) → PoolFault W C G S N
       → Type 0
   FaultFits settings worth count seats (SeatMissing have made pool back) =

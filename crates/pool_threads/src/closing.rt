@@ -287,6 +287,7 @@ impl<W: Work, C: Drop, G: Gate + Drop, S: Drop, N: PoolLedgers> Pool<W, C, G, S,
             × AreOrdered all ordered × (map (λ list. list.items) c.lists.items ≡ map list_of ordered)
             × (c.base.gone + length c.records.items ≡ shares_in all) × (c.base.gone ≡ folded_in all)) }
         ensures few { IfOk result (λ c. c.base.gone + length c.records.items < 2 ^ 64) }
+        ensures cap { IfOk result (λ c. length c.records.items ≤ N.cap) }
         ensures fault { IfErr result (λ fault. FaultFits N.settings W.worth N.parts seats.items fault) }
     {
         let made = self.home.made.count();

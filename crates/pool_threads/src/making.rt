@@ -3,7 +3,7 @@
 ghost use Rattle.std.specs.Prelude.{◌≡◌, ◌+◌, ◌<◌, ◌≤◌, [], ◌∷◌, All, IfOk, IfErr, IfSome, vec_len, replicate, map};
 ghost use Rattle.std.specs.Prelude.{None, false, ℕ};
 ghost use Rattle.std.specs.Vec.{vec_capacity};
-ghost use Rattle.meet_tickets.specs.Limits.{most_seats};
+ghost use Rattle.meet_tickets.specs.Limits.{most_seats, most_records};
 ghost use Rattle.meet_tickets.specs.Refusals.{IsWhy};
 ghost use Rattle.meet_tickets.specs.declared.refusals.Refusal.TheVariants.{Memory};
 ghost use Rattle.meet_place.specs.Ledgers.{AreOf};
@@ -94,6 +94,7 @@ impl<W: Work, C: Drop, G: Drop, S: Drop, N: PoolLedgers> Pool<W, C, G, S, N> {
     ) -> Result<(Self, Vec<Seat<PoolDeed<u64>, N>>), Refusal>
         requires ledgers { AreOf N.name N.folds N.parts parts.blanks }
         requires one_each { N.parts ≡ parts.sizes.callers + parts.sizes.maximum }
+        requires cap { N.cap ≡ most_records }
         requires gates { vec_len parts.gates ≡ parts.sizes.maximum }
         requires settings { N.settings ≡ record { sizes = parts.sizes; queue = parts.queue; policy = parts.policy } }
         ensures count { IfOk result (λ made. vec_len made.1 ≡ parts.sizes.callers) }

@@ -86,7 +86,8 @@ impl<N: Ledgers> Debug for SeatRefused<N> {
 }
 
 impl<N: Ledgers> SeatRefused<N> {
-    /// The reason alone. The seat is let go: match the refusal to keep it, since a pool is closed with all of its seats.
+    /// The reason alone. The seat is let go: match the refusal to keep it, since a pool is closed with all of its
+    /// seats.
     pub fn into_why(self) -> Refusal
         ensures { result ≡ self.why }
     {

@@ -3,6 +3,7 @@
 
 ghost use Rattle.std.specs.Prelude.{◌≡◌, ◌+◌, IfSome, vec_len};
 ghost use Rattle.meet_place.specs.Ledgers.{AreOf};
+ghost use Rattle.meet_tickets.specs.Limits.{most_records};
 
 use meet_cells::ParkGate;
 use meet_place::{Back, Blanks, Ledgers, Seat};
@@ -179,6 +180,7 @@ where
     R: Abort + Threads + Wait + Clock + Copy + Send + 'static,
     requires ledgers { AreOf N.name N.folds N.parts parts.blanks }
     requires one_each { N.parts ≡ parts.sizes.callers + parts.sizes.maximum }
+    requires cap { N.cap ≡ most_records }
     requires gates { vec_len parts.gates ≡ parts.sizes.maximum }
     requires settings { N.settings ≡ record { sizes = parts.sizes; queue = parts.queue; policy = parts.policy } }
 {

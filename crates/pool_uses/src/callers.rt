@@ -3,6 +3,7 @@
 ghost use Rattle.std.specs.Prelude.{◌≡◌, ◌+◌, vec_len};
 ghost use Rattle.meet_place.specs.Ledgers.{AreOf};
 ghost use Rattle.pool_uses.specs.Parts.{IsOneEach};
+ghost use Rattle.meet_tickets.specs.Limits.{most_records};
 
 use crate::pools::{OurSeat, Ours, closed_by, last, made, shut};
 use crate::{Boxed, ItsTag, JobFn};
@@ -79,6 +80,7 @@ where
     R: Threads + Wait + Clock + Copy + Send + Sync + 'static,
     requires ledgers { AreOf N.name N.folds N.parts parts.blanks }
     requires one_each { N.parts ≡ parts.sizes.callers + parts.sizes.maximum }
+    requires cap { N.cap ≡ most_records }
     requires gates { vec_len parts.gates ≡ parts.sizes.maximum }
     requires settings { N.settings ≡ record { sizes = parts.sizes; queue = parts.queue; policy = parts.policy } }
 {

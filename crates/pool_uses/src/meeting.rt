@@ -3,6 +3,7 @@
 ghost use Rattle.std.specs.Prelude.{◌≡◌, ◌+◌, IfOk, vec_len};
 ghost use Rattle.meet_place.specs.Ledgers.{AreOf};
 ghost use Rattle.pool_uses.specs.Parts.{IsOneEach};
+ghost use Rattle.meet_tickets.specs.Limits.{most_records};
 
 use crate::ItsTag;
 use crate::chores::{Before, Chore, Flags};
@@ -76,6 +77,7 @@ where
     R: Threads + Wait + Clock + Copy + Send + 'static,
     requires ledgers { AreOf N.name N.folds N.parts parts.blanks }
     requires one_each { N.parts ≡ parts.sizes.callers + parts.sizes.maximum }
+    requires cap { N.cap ≡ most_records }
     requires gates { vec_len parts.gates ≡ parts.sizes.maximum }
     requires settings { N.settings ≡ record { sizes = parts.sizes; queue = parts.queue; policy = parts.policy } }
 {

@@ -4,6 +4,7 @@
 ghost use Rattle.std.specs.Prelude.{◌≡◌, ◌+◌, false, IfOk, vec_len};
 ghost use Rattle.meet_place.specs.Ledgers.{AreOf};
 ghost use Rattle.pool_uses.specs.Parts.{IsOneEach};
+ghost use Rattle.meet_tickets.specs.Limits.{most_records};
 
 use crate::ItsTag;
 use meet_cells::{Gate, Turn};
@@ -91,6 +92,7 @@ where
     S: Drop,
     requires ledgers { AreOf N.name N.folds N.parts parts.blanks }
     requires one_each { N.parts ≡ parts.sizes.callers + parts.sizes.maximum }
+    requires cap { N.cap ≡ most_records }
     requires gates { vec_len parts.gates ≡ parts.sizes.maximum }
     requires settings { N.settings ≡ record { sizes = parts.sizes; queue = parts.queue; policy = parts.policy } }
 {

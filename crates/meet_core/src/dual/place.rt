@@ -1,7 +1,7 @@
 //! The synchronous queue as a book's place, over either line.
 
 ghost use Rattle.std.specs.Prelude.{◌≡◌, ◌≤◌, None, [], List, length, refl};
-ghost use Rattle.meet_line.specs.Queue.{places_of};
+ghost use Rattle.meet_line.specs.Queue.{places_of, count_of};
 ghost use Rattle.meet_calls.specs.DualRecords.{dual_record};
 ghost use Rattle.meet_tickets.specs.Bases.{Based, no_base, IsBaseOf};
 ghost use Rattle.std.specs.Vec.{vec_capacity};
@@ -14,6 +14,7 @@ ghost use Rattle.meet_calls.specs.DualSteps.{DualStep, LeadsTo, kind_of, dual_re
 ghost use Rattle.meet_calls.specs.DualSteps.{dual_owed, dual_available, dual_left};
 ghost use Rattle.meet_calls.specs.DualRoom.{roomy, roomy-refusal, roomy-leads, roomy-steps, roomless, roomy-fresh};
 ghost use Rattle.meet_calls.specs.DualRoom.{own-record};
+ghost use Rattle.meet_calls.specs.SeatCounts.{dual-count};
 ghost use Rattle.meet_calls.specs.declared.queue_calls.DualCall.TheVariants.{Poll};
 
 use super::Dual;
@@ -48,6 +49,8 @@ impl<T: Marked, L: Line<T>> Object for Dual<T, L> {
 
     ghost need_of = { λ call. dual_need call };
 
+    ghost seat_count_of = { λ q. count_of q };
+
     ghost room_of = { λ call. dual_room call };
 
     ghost spare = { λ q. q.room };
@@ -57,6 +60,10 @@ impl<T: Marked, L: Line<T>> Object for Dual<T, L> {
     ghost own_record = { λ seat call answer. own-record T.mark_of seat call answer };
 
     ghost same_place = { λ q. refl };
+
+    ghost same_seats = { λ old seat call answer new step. dual-count T.mark_of L.end old seat call answer new step };
+
+    ghost roomy_seats = { λ q room. refl };
 
     ghost same_refusal = { λ q room seat call. roomy-refusal q room seat call };
 

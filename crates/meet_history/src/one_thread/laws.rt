@@ -21,9 +21,9 @@ pub fn one_thread_is_recorded()
     ensures { (setup : Setup) (calls : List Call) → IsInLimits setup → IsRecorded setup calls }
 {}
 
-/// A call that isn't refused has one legal deed, the one that it writes, and none where it writes none: what it writes is
-/// legal (`one_thread_is_recorded`), and of the deeds that are such a call's (`IsOfCall`) whichever the rules allow next,
-/// a request's with the next ticket, is what it writes. It does nothing.
+/// A call that isn't refused has one legal deed, the one that it writes, and none where it writes none: what it writes
+/// is legal (`one_thread_is_recorded`), and of the deeds that are such a call's (`IsOfCall`) whichever the rules allow
+/// next, a request's with the next ticket, is what it writes. It does nothing.
 pub fn calls_have_one_deed()
     ensures { (setup : Setup) (p : Place) (seat ticket : ℕ) (verb : Verb) (deed : Deed)
         → IsOfCall setup.kind p.seats.line verb deed → Allows setup.kind p.seats seat ticket deed

@@ -2,7 +2,7 @@
 
 ghost use Rattle.std.specs.Prelude.{◌≡◌, ◌≤◌, None, [], List, length, refl, Option};
 ghost use Rattle.meet_tickets.specs.declared.places.End.TheVariants.{Front};
-ghost use Rattle.meet_line.specs.Queue.{places_of};
+ghost use Rattle.meet_line.specs.Queue.{places_of, count_of};
 ghost use Rattle.meet_tickets.specs.Bases.{Based, no_base, IsBaseOf};
 ghost use Rattle.std.specs.Vec.{vec_capacity};
 ghost use Rattle.meet_tickets.specs.declared.records.Deed.{Deed as Told};
@@ -16,6 +16,7 @@ ghost use Rattle.meet_calls.specs.QueueSteps.{bounded_kind, dual_call, queue_ref
 ghost use Rattle.meet_calls.specs.QueueSteps.{queue_record};
 ghost use Rattle.meet_calls.specs.DualRoom.{roomy, roomy-leads, roomless, roomy-fresh};
 ghost use Rattle.meet_calls.specs.QueueRoom.{roomy-queue-refusal, roomy-queue-steps, own-queue-record};
+ghost use Rattle.meet_calls.specs.SeatCounts.{queue-count};
 ghost use Rattle.meet_calls.specs.declared.queue_calls.DualCall.TheVariants.{Poll};
 ghost use Rattle.meet_calls.specs.declared.queue_calls.QueueCall.TheVariants.{Dual as EachHas};
 
@@ -51,6 +52,8 @@ impl<T: Marked> Object for Transfer<T> {
 
     ghost need_of = { λ call. queue_need call };
 
+    ghost seat_count_of = { λ b. count_of b.queue };
+
     ghost room_of = { λ call. queue_room call };
 
     ghost spare = { λ b. b.queue.room };
@@ -60,6 +63,11 @@ impl<T: Marked> Object for Transfer<T> {
     ghost own_record = { λ seat call answer. own-queue-record T.mark_of seat call answer };
 
     ghost same_place = { λ b. refl };
+
+    ghost same_seats = { λ old seat call answer new step.
+        queue-count T.mark_of (bounded_kind old.bound) old.queue seat call answer new.queue step.1 };
+
+    ghost roomy_seats = { λ b room. refl };
 
     ghost same_refusal = { λ b room seat call. roomy-queue-refusal b.queue room seat call };
 

@@ -6,12 +6,14 @@ ghost use Rattle.meet_tickets.specs.declared.places.End.TheVariants.{Front};
 ghost use Rattle.meet_tickets.specs.declared.records.Deed.{Deed as Told};
 ghost use Rattle.meet_tickets.specs.declared.records.Record.{Record as Entered};
 ghost use Rattle.meet_tickets.specs.Bases.{Based, no_base, IsBaseOf};
+ghost use Rattle.meet_line.specs.Queue.{count_of};
 ghost use Rattle.meet_line.specs.Left.{left_in};
 ghost use Rattle.meet_line.specs.LeftTold.{AreLeftOn};
 ghost use Rattle.meet_line.specs.Seen.{moment_of_queue};
 ghost use Rattle.meet_calls.specs.DualSteps.{LeadsTo, dual_owed, dual_available, dual_left};
 ghost use Rattle.meet_calls.specs.DualRoom.{roomy, roomy-leads, roomless, roomy-fresh};
 ghost use Rattle.meet_calls.specs.QueueRoom.{roomy-queue-refusal, roomy-queue-steps, own-queue-record};
+ghost use Rattle.meet_calls.specs.SeatCounts.{queue-count};
 ghost use Rattle.meet_calls.specs.QueueSteps.{QueueStep, bounded_kind, dual_call, queue_refusal, queue_need};
 ghost use Rattle.meet_calls.specs.QueueSteps.{queue_room, queue_record};
 ghost use Rattle.meet_calls.specs.declared.queue_calls.DualCall.TheVariants.{Poll};
@@ -50,6 +52,8 @@ impl<T: Marked> Object for Unbounded<T> {
 
     ghost need_of = { λ call. queue_need call };
 
+    ghost seat_count_of = { λ q. count_of q };
+
     ghost room_of = { λ call. queue_room call };
 
     ghost spare = { λ q. q.room };
@@ -59,6 +63,11 @@ impl<T: Marked> Object for Unbounded<T> {
     ghost own_record = { λ seat call answer. own-queue-record T.mark_of seat call answer };
 
     ghost same_place = { λ q. refl };
+
+    ghost same_seats = { λ old seat call answer new step.
+        queue-count T.mark_of (bounded_kind None) old seat call answer new step };
+
+    ghost roomy_seats = { λ q room. refl };
 
     ghost same_refusal = { λ q room seat call. roomy-queue-refusal q room seat call };
 

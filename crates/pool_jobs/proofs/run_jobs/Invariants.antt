@@ -1,3 +1,4 @@
+use Rattle.meet_tickets.specs.Limits.{most_records}
 use Rattle.pool_jobs.proofs.run_jobs.Given as goal
 
 -- the ledgers of the pool that is made
@@ -5,7 +6,7 @@ abbrev pub ghosts-run_all-N-Ledger : goal.ghosts-run_all-N-Ledger
 ghosts-run_all-N-Ledger g a = record { name = a.parts.blanks.records.name; parts = a.parts.blanks.records.parts }
 
 abbrev pub ghosts-run_all-N-Ledgers : goal.ghosts-run_all-N-Ledgers
-ghosts-run_all-N-Ledgers g a = record { folds = a.parts.blanks.folds.name }
+ghosts-run_all-N-Ledgers g a = record { folds = a.parts.blanks.folds.name; cap = most_records }
 
 -- what it is made with
 abbrev pub ghosts-run_all-N-PoolLedgers : goal.ghosts-run_all-N-PoolLedgers

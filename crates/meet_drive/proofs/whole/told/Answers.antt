@@ -15,4 +15,14 @@ returns-in-Ok c =
     let first = subst (λ (b : Based). c.laws.result ≡ tally_in (opening b ++ c.args.chronicle.now.records.items)) (is.first none) told in
     let legal = subst (λ (b : Based). IsLegalOn fair b c.as_slice-records.result.now) (is.first none) c.in-Ok.ensures.legal in
     let standing = subst (λ (b : Based). c.in-Ok.standing ≡ standing_on b c.as_slice-records.result.now) (is.first none) c.in-Ok.ensures.standing in
-    (c.as_slice-records.result.now, legal, refl, subst (λ h. c.laws.result.delivered ≡ (tally_in h).delivered) (sym records) (ap (λ t. t.delivered) first), standing)
+    record {
+      history = c.as_slice-records.result.now;
+      legal = legal;
+      records = refl;
+      pairs = subst (λ h. c.laws.result.delivered ≡ (tally_in h).delivered) (sym records) (ap (λ t. t.delivered) first);
+      standing = standing;
+      items = c.count_got-items.ensures;
+      sum = search rules;
+      all = search (rules, arith);
+      whole = search (rules, arith);
+    }

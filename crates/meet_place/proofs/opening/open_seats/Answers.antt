@@ -1,4 +1,4 @@
-use Rattle.std.proofs.Common.{rules, arith}
+use Rattle.std.proofs.Common.{arith}
 use Rattle.meet_place.proofs.Fresh.{fresh_push}
 use Rattle.meet_place.proofs.opening.open_seats.Goals as goal
 

@@ -4,4 +4,4 @@ abbrev pub ghosts-refusal-N-Ledger : goal.ghosts-refusal-N-Ledger
 ghosts-refusal-N-Ledger a = record { name = a.blanks.records.name; parts = a.blanks.records.parts }
 
 abbrev pub ghosts-refusal-N-Ledgers : goal.ghosts-refusal-N-Ledgers
-ghosts-refusal-N-Ledgers a = record { folds = a.blanks.folds.name }
+ghosts-refusal-N-Ledgers a = record { folds = a.blanks.folds.name; cap = 100 }

@@ -1,7 +1,8 @@
+use Rattle.meet_tickets.specs.Limits.{most_records}
 use Rattle.meet_sync_tests.proofs.drains.two_are_drained.Given as goal
 
 abbrev pub ghosts-a_day-N-Ledger : goal.ghosts-a_day-N-Ledger
 ghosts-a_day-N-Ledger a call = record { name = call.parts.blanks.records.name; parts = call.parts.blanks.records.parts }
 
 abbrev pub ghosts-a_day-N-Ledgers : goal.ghosts-a_day-N-Ledgers
-ghosts-a_day-N-Ledgers a call = record { folds = call.parts.blanks.folds.name }
+ghosts-a_day-N-Ledgers a call = record { folds = call.parts.blanks.folds.name; cap = most_records }

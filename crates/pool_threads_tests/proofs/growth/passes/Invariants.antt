@@ -1,3 +1,4 @@
+use Rattle.meet_tickets.specs.Limits.{most_records}
 use Rattle.pool_threads_tests.proofs.growth.passes.Given as goal
 
 -- the ledgers of the pool that is made
@@ -5,7 +6,7 @@ abbrev pub ghosts-lives-N-Ledger : goal.ghosts-lives-N-Ledger
 ghosts-lives-N-Ledger g a = record { name = a.parts.blanks.records.name; parts = a.parts.blanks.records.parts }
 
 abbrev pub ghosts-lives-N-Ledgers : goal.ghosts-lives-N-Ledgers
-ghosts-lives-N-Ledgers g a = record { folds = a.parts.blanks.folds.name }
+ghosts-lives-N-Ledgers g a = record { folds = a.parts.blanks.folds.name; cap = most_records }
 
 -- what it is made with
 abbrev pub ghosts-lives-N-PoolLedgers : goal.ghosts-lives-N-PoolLedgers

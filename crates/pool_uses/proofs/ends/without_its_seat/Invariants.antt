@@ -1,3 +1,4 @@
+use Rattle.meet_tickets.specs.Limits.{most_records}
 use Rattle.pool_uses.proofs.ends.without_its_seat.Given as goal
 
 -- the ledgers of the pool that is made
@@ -5,7 +6,7 @@ abbrev pub ghosts-play_missing-N-Ledger : goal.ghosts-play_missing-N-Ledger
 ghosts-play_missing-N-Ledger g a = record { name = a.parts.blanks.records.name; parts = a.parts.blanks.records.parts }
 
 abbrev pub ghosts-play_missing-N-Ledgers : goal.ghosts-play_missing-N-Ledgers
-ghosts-play_missing-N-Ledgers g a = record { folds = a.parts.blanks.folds.name }
+ghosts-play_missing-N-Ledgers g a = record { folds = a.parts.blanks.folds.name; cap = most_records }
 
 -- what it is made with
 abbrev pub ghosts-play_missing-N-PoolLedgers : goal.ghosts-play_missing-N-PoolLedgers

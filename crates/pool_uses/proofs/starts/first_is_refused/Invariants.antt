@@ -1,3 +1,4 @@
+use Rattle.meet_tickets.specs.Limits.{most_records}
 use Rattle.pool_uses.proofs.starts.first_is_refused.Given as goal
 
 -- the ledgers of the pool that is made
@@ -5,7 +6,7 @@ abbrev pub ghosts-play-N-Ledger : goal.ghosts-play-N-Ledger
 ghosts-play-N-Ledger g a = record { name = a.parts.blanks.records.name; parts = a.parts.blanks.records.parts }
 
 abbrev pub ghosts-play-N-Ledgers : goal.ghosts-play-N-Ledgers
-ghosts-play-N-Ledgers g a = record { folds = a.parts.blanks.folds.name }
+ghosts-play-N-Ledgers g a = record { folds = a.parts.blanks.folds.name; cap = most_records }
 
 -- what it is made with
 abbrev pub ghosts-play-N-PoolLedgers : goal.ghosts-play-N-PoolLedgers

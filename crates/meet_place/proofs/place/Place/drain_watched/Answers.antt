@@ -1,4 +1,5 @@
-use Rattle.std.proofs.Common.{ap, subst, ◌∙◌, ◌++◌, ◌≤◌, map, min, vec_capacity, inr, arith}
+use Rattle.std.proofs.Common.{ap, subst, ◌∙◌, ◌<◌, ◌+◌, ◌++◌, ◌≤◌, length, map, min, vec_capacity, inr, arith}
+use Rattle.std.proofs.Math.Nat.{min-eq_left}
 use Rattle.meet_tickets.specs.Refusals.{IsWhy}
 use Rattle.meet_book.specs.Draining.{TakingPolls, book_drain_refusal}
 use Rattle.meet_place.proofs.place.Place.drain_watched.Goals as goal
@@ -7,11 +8,19 @@ pub returns-in-Ok-clause-polls : goal.returns-in-Ok-clause-polls
 returns-in-Ok-clause-polls g c =
     let o = g.O.Object in
     let d = g.O.Drains in
-    let old = c.deref_mut.result.now.object in
+    let book = c.deref_mut.result.now in
     let new = c.drain.new.self.object in
     let drained = c.in-Ok.ensures.polls in
-    let polls = subst (λ n. TakingPolls (λ before answer after. o.steps before n d.poll answer after) (o.record_of n d.poll) (λ x. o.refusal_of x n d.poll) d.available_of d.left_of o.owed_of old drained.0 new) c.reserve.ensures.number drained.1 in
-    (old, new, (drained.0, polls, drained.2 ∙ ap (λ list. list ++ map (λ one. one.1) drained.0) c.reserve.ensures.list, drained.3))
+    let last = o.gone_of book.base + length book.records in
+    let polls = subst (λ n. TakingPolls (λ before answer after. o.steps before n d.poll answer after) (o.record_of n d.poll) (λ x. o.refusal_of x n d.poll) d.available_of d.left_of o.owed_of book.object drained.0 new) c.reserve.ensures.number drained.1.0 in
+    let fits = min-eq_left c.in-Some.ensures.room in (
+      book.object,
+      new,
+      last,
+      c.drain.ensures.place.0,
+      c.in-Ok.ensures.count ∙ ap (λ n. min n (d.available_of book.object)) fits,
+      (drained.0, (polls, drained.1.1), drained.2 ∙ ap (λ list. list ++ map (λ one. one.1) drained.0) c.reserve.ensures.list, drained.3),
+    )
 
 pub returns-clause-why : goal.returns-clause-why
 returns-clause-why g c =
@@ -21,4 +30,4 @@ returns-clause-why g c =
     let k = min (min c.args.max (vec_capacity c.in-Some.room.polled)) (d.available_of book.object) in
     let few : k ≤ c.args.max = grind arith in
     let why = subst (λ n. IsWhy (book_drain_refusal (o.refusal_of book.object n d.poll) (d.left_of book.object) (o.owed_of book.object) book k) c.in-Err.refused.why) c.reserve.ensures.number c.in-Err.ensures.why in
-    inr (book, k, few, why)
+    inr (book, k, few, c.drain.ensures.place, subst (λ n. n < g.N.Ledger.parts) c.reserve.ensures.number c.drain.ensures.within, why)

@@ -1,5 +1,7 @@
-use Rattle.std.proofs.Common.{◌≡◌, ap, subst, ◌∙◌, ◌++◌, map}
-use Rattle.meet_book.specs.Draining.{TakingPolls}
+use Rattle.std.proofs.Common.{◌≡◌, ap, subst, ◌∙◌, ◌+◌, ◌++◌, length, map, sym, arith}
+use Rattle.std.proofs.lemmas.List.{length-append, length-map}
+use Rattle.meet_book.specs.Draining.{TakingPolls, AreNumbered}
+use Rattle.meet_place.proofs.Kept.{polls_keep}
 use Rattle.meet_place.proofs.shared.Shared.drain.Goals as goal
 
 pub returns-clause-polls : goal.returns-clause-polls
@@ -12,4 +14,27 @@ returns-clause-polls g c =
     let new = c.drain_into.new.self.object in
     let polls = subst (λ n. TakingPolls (λ old answer next. o.steps old n d.poll answer next) (o.record_of n d.poll) (λ x. o.refusal_of x n d.poll) d.available_of d.left_of o.owed_of c.self.inside.book.object got new) seat c.in-Ok.ensures.polls in
     let from_here = subst (λ x. TakingPolls (λ old answer next. o.steps old c.args.seat.now.number d.poll answer next) (o.record_of c.args.seat.now.number d.poll) (λ y. o.refusal_of y c.args.seat.now.number d.poll) d.available_of d.left_of o.owed_of x got new) object polls in
-    (got, from_here, c.hand_out.ensures.receipts ∙ ap (λ s. s.list ++ map (λ one. one.1) got) c.seat.view_is, c.hand_out.ensures.answers)
+    let numbered = subst (λ b. AreNumbered (o.gone_of b.base + length b.records) got) c.self.view_is c.in-Ok.ensures.places in
+    (got, (from_here, numbered), c.hand_out.ensures.receipts ∙ ap (λ s. s.list ++ map (λ one. one.1) got) c.seat.view_is, c.hand_out.ensures.answers)
+
+pub invariant_of-self-2 : goal.invariant_of-self-2
+invariant_of-self-2 g c =
+    let o = g.O.Object in
+    let d = g.O.Drains in
+    let n = c.seat.inside.number in
+    let was = c.self.invariant in
+    let stay = polls_keep (λ old answer next. o.steps old n d.poll answer next) (o.record_of n d.poll) (λ x. o.refusal_of x n d.poll) d.available_of d.left_of o.owed_of o.seat_count_of (λ old answer next step. g.met.O.Object.same_seats old n d.poll answer next step) c.self.inside.book.object c.in-Ok.got.items c.drain_into.new.self.object c.in-Ok.ensures.polls in
+    let base = c.drain_into.ensures.base in
+    let gone = ap o.gone_of base in
+    let more = ap length c.in-Ok.ensures.records ∙ length-append c.self.inside.book.records (map (λ one. one.1.entry) c.in-Ok.got.items) in
+    let same = length-map c.in-Ok.got.items (λ one. one.1.entry) in
+    let total = ap (λ t. t.total) c.add.ensures.totals in
+    let folds = ap (λ t. t.folds) c.add.ensures.totals in (
+      omega (arith, gone, more, same, total, was.0),
+      omega (arith, gone, folds, was.1),
+      λ none. base ∙ was.2 (sym gone ∙ none),
+      was.3,
+      was.4,
+      was.5,
+      (stay ∙ was.6.0, c.drain_into.ensures.cap ∙ was.6.1),
+    )

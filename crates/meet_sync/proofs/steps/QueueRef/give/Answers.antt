@@ -34,7 +34,7 @@ returns-in-EntryInterrupted-clause-asked g c =
     let step = rw c.in-EntryInterrupted.is at rw c.told_gave-answer.ensures at c.in-Ok.ensures.step in (
       (c.in-Ok.ensures.number, c.in-Ok.ensures.past),
       (
-        ap (λ i. Some i) step.3.2,
+        ap (λ i. Some i) step.6.2,
         (
           c.in-EntryInterrupted.field-0,
           EntryInterrupted Giver,

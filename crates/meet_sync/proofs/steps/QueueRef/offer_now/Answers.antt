@@ -21,7 +21,7 @@ returns-in-Fails-clause-asked g c =
     let step = rw c.in-Fails.is at rw c.told_offered-answer.ensures at c.in-Ok.ensures.step in (
       (c.in-Ok.ensures.number, c.in-Ok.ensures.past),
       (
-        ap (λ i. Some i) step.3.1,
+        ap (λ i. Some i) step.6.1,
         (
           c.in-Fails.field-0,
           GiveFails (g.T.Marked.mark_of c.args.item),

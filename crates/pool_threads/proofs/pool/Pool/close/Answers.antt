@@ -1,9 +1,10 @@
-use Rattle.std.proofs.Common.{◌∙◌, sym, ap, map, arith, not}
+use Rattle.std.proofs.Common.{◌∙◌, sym, ap, subst, map, arith, not}
 use Rattle.std.specs.Prelude.{count_by}
 use Rattle.std.specs.List.{filter_map}
 use Rattle.pool_core.specs.Pools.{kept_tasks, task_at}
 use Rattle.pool_core.specs.Moves.{job_in}
 use Rattle.pool_threads.specs.Mirrored.{absent}
+use Rattle.pool_threads.specs.Seated.{AddsWorthy}
 use Rattle.pool_threads.proofs.Lying.{lying}
 use Rattle.pool_threads.proofs.Rising.{left_rise}
 use Rattle.pool_threads.proofs.pool.Pool.close.Goals as goal
@@ -52,3 +53,15 @@ returns-in-Ok-clause-rises g c =
     (c.with_tickets.ensures (kept_tasks c.in-Ok.field-0.object.pool.line) (filter_map task_at c.in-Ok.field-0.object.pool.workers)
     c.into_left-tasks.ensures
     (ap (λ j. j.kept) c.inside.invariant.0 ∙ ap (λ o. map job_in (kept_tasks o.pool.line)) (sym c.in-Ok.ensures.same)))
+
+pub returns-in-Ok-clause-lists : goal.returns-in-Ok-clause-lists
+returns-in-Ok-clause-lists g c =
+    let lists = c.in-Ok.ensures.lists in (
+      c.take_seats.new.backs.items,
+      lists.0,
+      subst (λ seats. AddsWorthy g.W.Work.worth seats c.take_seats.new.backs.items) c.new.ensures.same c.take_seats.ensures.adds,
+      lists.1,
+      lists.2,
+      c.in-Ok.ensures.shares,
+      c.in-Ok.ensures.folded,
+    )

@@ -16,7 +16,7 @@ pub returns-clause-worker : goal.returns-clause-worker
 returns-clause-worker g c = elim c.match-step.branch [
   | in-Ok+in-Executed b ↦ rw b.result-is
       (worker_has b.place.result.worker c.prepared.new.seats.items _ b.in-Executed.answer c.free-free.result b.place.ensures.told
-      (λ w starts. c.free-free.ensures ∙ ap (λ o. free o.pool) c.probe.ensures
+      (λ w starts. c.free-free.ensures ∙ ap (λ o. free o.pool) c.probe.ensures.object
       ∙ started_free c.self.inside.shared.object c.step.new.self.object c.args.seat.now.number b.in-Executed._ticket c.tag.result b.in-Ok.answer
       b.in-Executed.answer b.in-Executed.is b.in-Ok.ensures.step w starts)
       (c.if-not-prepared.ensures.room refl) b.place.ensures.worker)

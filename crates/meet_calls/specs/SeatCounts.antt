@@ -1,0 +1,82 @@
+-- No step of a queue changes the number of its seats.
+use Rattle.std.proofs.Common.{◌≡◌, ℕ, ap}
+use Rattle.meet_tickets.specs.declared.places.End.{End}
+use Rattle.meet_tickets.specs.declared.places.Kind.{Kind}
+use Rattle.meet_tickets.specs.Meeting.{end_of}
+use Rattle.meet_line.specs.Queue.{Queue, count_of}
+use Rattle.meet_line.specs.Steps.{HandsTo, GetsFrom}
+use Rattle.meet_line.specs.declared.answers.Gave.TheVariants.{Waits as GiverWaits, Meets as GiverMeets}
+use Rattle.meet_line.specs.declared.answers.Gave.TheVariants.{EntryInterrupted as GiverInterrupted}
+use Rattle.meet_line.specs.declared.answers.Took.TheVariants.{Waits as TakerWaits, Meets as TakerMeets}
+use Rattle.meet_line.specs.declared.answers.Took.TheVariants.{EntryInterrupted as TakerInterrupted}
+use Rattle.meet_line.specs.declared.answers.Offered.TheVariants.{Meets as OfferMeets, Fails as OfferFails}
+use Rattle.meet_line.specs.declared.answers.Put.TheVariants.{Kept, Meets as PutMeets, Fails as PutFails}
+use Rattle.meet_line.specs.declared.answers.Polled.TheVariants.{Meets as PollMeets, Fails as PollFails}
+use Rattle.meet_line.specs.declared.answers.Followed.TheVariants.{Done, Got, Interrupted as WasCut, NotYet}
+use Rattle.meet_line.specs.declared.answers.TakenBack.{TakenBack}
+use Rattle.meet_line.specs.declared.answers.TakenBack.TheVariants.{Back, Late}
+use Rattle.meet_line.specs.declared.answers.Interrupted.TheVariants.{Cut as CutOff, Flagged}
+use Rattle.meet_line.specs.Steps.{WithdrawStep}
+use Rattle.meet_calls.specs.declared.queue_calls.DualCall.{DualCall}
+use Rattle.meet_calls.specs.declared.queue_calls.DualCall.TheVariants.{Give, Offer, Take, Poll, FollowUp, Cancel}
+use Rattle.meet_calls.specs.declared.queue_calls.DualCall.TheVariants.{Expire, Interrupt}
+use Rattle.meet_calls.specs.declared.queue_calls.DualAnswer.{DualAnswer}
+use Rattle.meet_calls.specs.declared.queue_calls.DualAnswer.TheVariants.{Gave as ToGive, Offered as ToOffer}
+use Rattle.meet_calls.specs.declared.queue_calls.DualAnswer.TheVariants.{Took as ToTake, Polled as ToPoll}
+use Rattle.meet_calls.specs.declared.queue_calls.DualAnswer.TheVariants.{Followed as ToFollowUp}
+use Rattle.meet_calls.specs.declared.queue_calls.DualAnswer.TheVariants.{TakenBack as ToWithdrawal}
+use Rattle.meet_calls.specs.declared.queue_calls.DualAnswer.TheVariants.{Interrupted as ToInterrupt}
+use Rattle.meet_calls.specs.declared.queue_calls.QueueCall.{QueueCall}
+use Rattle.meet_calls.specs.declared.queue_calls.QueueCall.TheVariants.{Put, Dual}
+use Rattle.meet_calls.specs.declared.queue_calls.QueueAnswer.{QueueAnswer}
+use Rattle.meet_calls.specs.declared.queue_calls.QueueAnswer.TheVariants.{Put as ToPut, Dual as ToDual}
+use Rattle.meet_calls.specs.DualSteps.{DualStep}
+use Rattle.meet_calls.specs.QueueSteps.{QueueStep}
+
+module _ {T : Type 0} (mark : T → ℕ) where
+  hands-count : (end : End) (old : Queue T) (item : T) (t u : ℕ) (new : Queue T) → HandsTo mark end old item t u new
+      → count_of new ≡ count_of old
+  hands-count end old item t u new (e, found, ticket, none, uses) = uses.count
+
+  gets-count : (end : End) (old : Queue T) (t u : ℕ) (item : T) (new : Queue T) → GetsFrom mark end old t u item new
+      → count_of new ≡ count_of old
+  gets-count end old t u item new (e, found, ticket, own, uses) = uses.count
+
+  withdraw-count : (old : Queue T) (seat t : ℕ) (answer : TakenBack T) (new : Queue T)
+      → WithdrawStep old seat t answer new → count_of new ≡ count_of old
+  withdraw-count old seat t (Back item) new (e, holds, entry, own, leaves) = leaves.count
+  withdraw-count old seat t Late new (gone, same) = ap (λ (q : Queue T). count_of q) same
+
+  pub dual-count : (end : End) (old : Queue T) (seat : ℕ) (call : DualCall T) (answer : DualAnswer T) (new : Queue T)
+      → DualStep mark end old seat call answer new → count_of new ≡ count_of old
+  dual-count end old seat (Give item) (ToGive (GiverWaits t)) new (alone, flag, uses) = uses.count
+  dual-count end old seat (Give item) (ToGive (GiverMeets t u)) new step = hands-count end old item t u new step
+  dual-count end old seat (Give item) (ToGive (GiverInterrupted t back)) new (alone, flag, same, uses) = uses.count
+  dual-count end old seat (Offer item) (ToOffer (OfferMeets t u)) new step = hands-count end old item t u new step
+  dual-count end old seat (Offer item) (ToOffer (OfferFails t back)) new (alone, same, uses) = uses.count
+  dual-count end old seat Take (ToTake (TakerWaits t)) new (alone, flag, uses) = uses.count
+  dual-count end old seat Take (ToTake (TakerMeets t u item)) new step = gets-count end old t u item new step
+  dual-count end old seat Take (ToTake (TakerInterrupted t)) new (alone, flag, uses) = uses.count
+  dual-count end old seat Poll (ToPoll (PollMeets t u item)) new step = gets-count end old t u item new step
+  dual-count end old seat Poll (ToPoll (PollFails t)) new (alone, uses) = uses.count
+  dual-count end old seat (FollowUp t) (ToFollowUp Done) new (u, m, holds, leaves) = leaves.count
+  dual-count end old seat (FollowUp t) (ToFollowUp (Got u item)) new (holds, leaves) = leaves.count
+  dual-count end old seat (FollowUp t) (ToFollowUp (WasCut item)) new (holds, leaves) = leaves.count
+  dual-count end old seat (FollowUp t) (ToFollowUp NotYet) new (holds, same) = ap (λ (q : Queue T). count_of q) same
+  dual-count end old seat (Cancel t) (ToWithdrawal answer) new step = withdraw-count old seat t answer new step
+  dual-count end old seat (Expire t) (ToWithdrawal answer) new step = withdraw-count old seat t answer new step
+  dual-count end old seat (Interrupt j) (ToInterrupt (CutOff t)) new (e, entry, ticket, leaves) = leaves.count
+  dual-count end old seat (Interrupt j) (ToInterrupt Flagged) new (none, leaves) = leaves.count
+  dual-count end old seat call answer new step = absurd step
+
+  pub queue-count : (k : Kind) (old : Queue T) (seat : ℕ) (call : QueueCall T) (answer : QueueAnswer T) (new : Queue T)
+      → QueueStep mark k old seat call answer new → count_of new ≡ count_of old
+  queue-count k old seat (Put item) (ToPut (Kept t)) new (keeps, (alone, few, uses)) = uses.count
+  queue-count k old seat (Put item) (ToPut (PutMeets t u)) new (keeps, step) =
+      hands-count (end_of k.order) old item t u new step
+  queue-count k old seat (Put item) (ToPut (PutFails t back)) new (keeps, (alone, full, same, uses)) = uses.count
+  queue-count k old seat (Put item) (ToDual answer) new (waits, step) =
+      dual-count (end_of k.order) old seat (Give item) answer new step
+  queue-count k old seat (Dual call) (ToDual answer) new step =
+      dual-count (end_of k.order) old seat call answer new step
+  queue-count k old seat (Dual call) (ToPut answer) new step = absurd step

@@ -1,0 +1,7 @@
+use Rattle.std.proofs.Common.{◌≡◌, take}
+use Rattle.meet_drive.specs.Driven.{sum_got}
+use Rattle.meet_drive.proofs.takings.sum_got.Given as goal
+
+-- the sum so far
+abbrev pub invariant-loop-entry : goal.invariant-loop-entry
+invariant-loop-entry l = l.sum ≡ sum_got (take l.entry-index l.records)

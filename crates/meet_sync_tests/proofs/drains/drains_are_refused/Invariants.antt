@@ -1,0 +1,7 @@
+use Rattle.meet_sync_tests.proofs.drains.drains_are_refused.Given as goal
+
+abbrev pub ghosts-in_vain-N-Ledger : goal.ghosts-in_vain-N-Ledger
+ghosts-in_vain-N-Ledger a call = record { name = call.parts.blanks.records.name; parts = call.parts.blanks.records.parts }
+
+abbrev pub ghosts-in_vain-N-Ledgers : goal.ghosts-in_vain-N-Ledgers
+ghosts-in_vain-N-Ledgers a call = record { folds = call.parts.blanks.folds.name; cap = 3 }
