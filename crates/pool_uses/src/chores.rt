@@ -13,7 +13,7 @@ use std::time::{Clock, Duration};
 
 /// What jobs and their test tell one another.
 #[derive(Drop)]
-pub struct Flags {
+pub(crate) struct Flags {
     first: AtomicBool,
     second: AtomicBool,
     seen: AtomicU64,
@@ -22,7 +22,7 @@ pub struct Flags {
 
 impl Flags {
     /// None is set.
-    pub fn new(alloc: Global) -> Result<Arc<Self>, Fail> {
+    pub(crate) fn new(alloc: Global) -> Result<Arc<Self>, Fail> {
         let flags = Flags {
             first: AtomicBool::new(false),
             second: AtomicBool::new(false),
@@ -33,12 +33,12 @@ impl Flags {
     }
 
     /// Lets the jobs come to their ends.
-    pub fn set(&self) {
+    pub(crate) fn set(&self) {
         self.go.store(true, Ordering::SeqCst);
     }
 
     /// How many jobs saw another one at work.
-    pub fn seen(&self) -> u64 {
+    pub(crate) fn seen(&self) -> u64 {
         self.seen.load(Ordering::SeqCst)
     }
 }
@@ -56,7 +56,7 @@ fn look<R: Clock>(rt: &R, flag: &AtomicBool) -> bool {
 
 /// What a job does before it answers.
 #[derive(Drop)]
-pub enum Before<R> {
+pub(crate) enum Before<R> {
     Nothing,
     /// It sets the first flag, looks for the second, and then for the test's.
     First(R, Arc<Flags>),
@@ -90,14 +90,14 @@ fn meet<R: Clock>(rt: &R, flags: &Flags, mine: &AtomicBool, other: &AtomicBool) 
 
 /// A job of this tag, which it answers.
 #[derive(Drop)]
-pub struct Chore<R> {
+pub(crate) struct Chore<R> {
     pub tag: u64,
     pub before: Before<R>,
 }
 
 impl<R> Chore<R> {
     /// A job that does nothing else.
-    pub fn new(tag: u64) -> Self {
+    pub(crate) fn new(tag: u64) -> Self {
         Chore {
             tag,
             before: Before::Nothing,

@@ -20,14 +20,14 @@ use std::thread::Threads;
 use std::time::Clock;
 
 /// A pool whose jobs are worth their tags.
-pub type Ours<C, G, S, N> = Pool<ItsTag, C, G, S, N>;
+pub(crate) type Ours<C, G, S, N> = Pool<ItsTag, C, G, S, N>;
 
 /// A seat of it.
-pub type OurSeat<N> = Seat<PoolDeed<u64>, N>;
+pub(crate) type OurSeat<N> = Seat<PoolDeed<u64>, N>;
 
 /// A gate that answers at once that it was woken.
 #[derive(Drop)]
-pub struct AtOnce {}
+pub(crate) struct AtOnce {}
 
 impl Gate for AtOnce {
     fn wait<R: Wait + Clock>(&self, _rt: &R, _limit: Option<u64>) -> Turn {
@@ -39,7 +39,7 @@ impl Gate for AtOnce {
 }
 
 /// So many workers, and one caller; who is idle for a minute may end.
-pub fn sizes(core: u64, maximum: u64) -> Sizes
+pub(crate) fn sizes(core: u64, maximum: u64) -> Sizes
     ensures { result ≡ record {
       core = core;
       maximum = maximum;
@@ -58,7 +58,7 @@ pub fn sizes(core: u64, maximum: u64) -> Sizes
 }
 
 /// The parts of a pool with one worker at most, at this gate, and one caller.
-pub fn one_worker<G: Drop, S: Drop>(
+pub(crate) fn one_worker<G: Drop, S: Drop>(
     alloc: Global,
     core: u64,
     queue: PoolQueue,
@@ -81,7 +81,7 @@ pub fn one_worker<G: Drop, S: Drop>(
 }
 
 /// A pool, and the seats of its callers.
-pub fn made<N, C, G, S>(
+pub(crate) fn made<N, C, G, S>(
     alloc: Global,
     parts: NewPool<G, S>,
 ) -> Result<(Ours<C, G, S, N>, Vec<OurSeat<N>>), Fail>
@@ -103,7 +103,7 @@ where
 }
 
 /// The last of these seats.
-pub fn last<N: Ledgers>(seats: &mut Vec<OurSeat<N>>) -> Result<OurSeat<N>, Fail> {
+pub(crate) fn last<N: Ledgers>(seats: &mut Vec<OurSeat<N>>) -> Result<OurSeat<N>, Fail> {
     match seats.pop() {
         Some(seat) => Ok(seat),
         None => Err("no seat".into()),
@@ -111,7 +111,7 @@ pub fn last<N: Ledgers>(seats: &mut Vec<OurSeat<N>>) -> Result<OurSeat<N>, Fail>
 }
 
 /// Hands a job in.
-pub fn handed<N, C, R, G, S>(
+pub(crate) fn handed<N, C, R, G, S>(
     rt: &R,
     pool: &Ours<C, G, S, N>,
     seat: OurSeat<N>,
@@ -131,7 +131,7 @@ where
 }
 
 /// Shuts a pool down, and waits for its end.
-pub fn shut<N, C, R, G, S>(
+pub(crate) fn shut<N, C, R, G, S>(
     rt: &R,
     pool: &Ours<C, G, S, N>,
     seat: OurSeat<N>,
@@ -153,7 +153,7 @@ where
 }
 
 /// Shuts a pool down at once: the kept jobs come back.
-pub fn stopped<N, C, R, G, S>(
+pub(crate) fn stopped<N, C, R, G, S>(
     rt: &R,
     pool: &Ours<C, G, S, N>,
     seat: OurSeat<N>,
@@ -172,7 +172,7 @@ where
 }
 
 /// Closes a pool.
-pub fn closed_by<N, C, R, G, S>(
+pub(crate) fn closed_by<N, C, R, G, S>(
     rt: &R,
     alloc: Global,
     pool: Ours<C, G, S, N>,
@@ -196,7 +196,7 @@ where
 }
 
 /// Closes a pool of one caller.
-pub fn closed<N, C, R, G, S>(
+pub(crate) fn closed<N, C, R, G, S>(
     rt: &R,
     alloc: Global,
     pool: Ours<C, G, S, N>,
@@ -215,7 +215,7 @@ where
 }
 
 /// How many jobs have given this answer, as their workers' records say.
-pub fn answers<C>(chronicle: &PoolChronicle<C>, answer: u64) -> usize {
+pub(crate) fn answers<C>(chronicle: &PoolChronicle<C>, answer: u64) -> usize {
     let mut count: usize = 0;
     for record in chronicle.records.as_slice() {
         if record.deed == PoolDeed::Finished(answer) {
