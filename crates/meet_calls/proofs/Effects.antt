@@ -50,7 +50,8 @@ use Rattle.meet_calls.specs.QueueSteps.{dual_call, QueueStep, queue_refusal, que
 use Rattle.meet_calls.specs.DualRecords.{made, give_record, offer_record, take_record, poll_record, follow_record, back_record, interrupt_record, dual_record}
 use Rattle.meet_line.specs.Seen.{marked_entry, marked_hold, marked}
 use Rattle.meet_calls.specs.DualSteps.{DualStep, synchronous, kind_of, dual_refusal, dual_need, dual_room, dual_owed}
-use Rattle.meet_calls.proofs.Marking.{partner-marked, entry_of-marked, kept-marked, queued-marked, paired-marked, released-marked, left-marked, cut_off-marked}
+use Rattle.meet_line.proofs.Marks.{partner-marked}
+use Rattle.meet_calls.proofs.Marking.{entry_of-marked, kept-marked, queued-marked, paired-marked, released-marked, left-marked, cut_off-marked}
 use Rattle.meet_calls.proofs.Owed.{owed-same, owed-more, owed-fewer}
 
 -- what a step that writes this record does to the queue, in the words of histories

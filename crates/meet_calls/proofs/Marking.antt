@@ -15,52 +15,9 @@ use Rattle.std.proofs.lemmas.List.Sums.{sum_by-cons}
 use Rattle.meet_tickets.specs.Meeting.{is_on, met, partner, kept_count}
 use Rattle.meet_tickets.specs.BySeat.{Seats, put_at, unmet, without_first, entry_of, queued, paired, paired_hold, released, left, cut_off}
 use Rattle.meet_line.specs.Seen.{marked_entry, marked_hold, marked}
+use Rattle.meet_line.proofs.Marks.{unmet-marked, find-marked, without-marked}
 
 module _ {T : Type 0} (mark : T → ℕ) where
-  -- an entry has an item, or a mark
-  some-marked : (o : Option T) → is_some (option_map mark o) ≡ is_some o
-  some-marked None = refl
-  some-marked (Some x) = refl
-
-  is_on-marked : (side : Side) (e : Entry T) → is_on side (marked_entry mark e) ≡ is_on side e
-  is_on-marked Giver e = some-marked e.item
-  is_on-marked Taker e = ap not (some-marked e.item)
-
-  -- whom a request meets
-  met-marked : (end : End) (line : List (Entry T)) → met end (map (marked_entry mark) line) ≡ option_map (marked_entry mark) (met end line)
-  met-marked Front line = slice_get-map (marked_entry mark) line 0
-  met-marked Back line = ap (λ n. slice_get (map (marked_entry mark) line) (n - 1)) (length-map line (marked_entry mark)) ∙ slice_get-map (marked_entry mark) line (length line - 1)
-
-  pub partner-marked : (end : End) (line : List (Entry T)) (side : Side) → partner end (map (marked_entry mark) line) side ≡ option_map (marked_entry mark) (partner end line side)
-  partner-marked end [] side = refl
-  partner-marked end (e ∷ line) side =
-      (λ i. cond (is_on-marked side e i) None (met-marked end (e ∷ line) i)) ∙ by_test (is_on side e) (met end (e ∷ line))
-    where
-      by_test : (b : Bool) (o : Option (Entry T)) → cond b None (option_map (marked_entry mark) o) ≡ option_map (marked_entry mark) (cond b None o)
-      by_test true o = refl
-      by_test false o = refl
-
-  -- what is left of a line
-  unmet-marked : (end : End) (line : List (Entry T)) → map (marked_entry mark) (unmet end line) ≡ unmet end (map (marked_entry mark) line)
-  unmet-marked Front line = sym (drop-map (marked_entry mark) 1 line)
-  unmet-marked Back line = sym (ap (λ n. take (n - 1) (map (marked_entry mark) line)) (length-map line (marked_entry mark)) ∙ take-map (marked_entry mark) (length line - 1) line)
-
-  find-marked : (t : ℕ) (line : List (Entry T)) → find (λ e. e.ticket == t) (map (marked_entry mark) line) ≡ option_map (marked_entry mark) (find (λ e. e.ticket == t) line)
-  find-marked t [] = refl
-  find-marked t (e ∷ line) = by_test (e.ticket == t) (find-marked t line)
-    where
-      by_test : (b : Bool) → find (λ e. e.ticket == t) (map (marked_entry mark) line) ≡ option_map (marked_entry mark) (find (λ e. e.ticket == t) line) → cond b (Some (marked_entry mark e)) (find (λ e. e.ticket == t) (map (marked_entry mark) line)) ≡ option_map (marked_entry mark) (cond b (Some e) (find (λ e. e.ticket == t) line))
-      by_test true more = refl
-      by_test false more = more
-
-  without-marked : (t : ℕ) (line : List (Entry T)) → map (marked_entry mark) (without_first (λ e. e.ticket == t) line) ≡ without_first (λ e. e.ticket == t) (map (marked_entry mark) line)
-  without-marked t [] = refl
-  without-marked t (e ∷ line) = by_test (e.ticket == t) (without-marked t line)
-    where
-      by_test : (b : Bool) → map (marked_entry mark) (without_first (λ e. e.ticket == t) line) ≡ without_first (λ e. e.ticket == t) (map (marked_entry mark) line) → map (marked_entry mark) (cond b line (e ∷ without_first (λ e. e.ticket == t) line)) ≡ cond b (map (marked_entry mark) line) (marked_entry mark e ∷ without_first (λ e. e.ticket == t) (map (marked_entry mark) line))
-      by_test true more = refl
-      by_test false more = ap (λ l. marked_entry mark e ∷ l) more
-
   -- how many are kept
   pub kept-marked : (line : List (Entry T)) → kept_count (map (marked_entry mark) line) ≡ kept_count line
   kept-marked [] = refl
@@ -72,7 +29,7 @@ module _ {T : Type 0} (mark : T → ℕ) where
   -- the entry of what a seat holds
   pub entry_of-marked : (line : List (Entry T)) (hold : Hold T) → entry_of (map (marked_entry mark) line) (marked_hold mark hold) ≡ option_map (marked_entry mark) (entry_of line hold)
   entry_of-marked line Free = refl
-  entry_of-marked line (Waiting t) = find-marked t line
+  entry_of-marked line (Waiting t) = find-marked mark t line
   entry_of-marked line (Handed t u m) = refl
   entry_of-marked line (Served t u item) = refl
   entry_of-marked line (Cut t item) = refl
@@ -102,7 +59,7 @@ module _ {T : Type 0} (mark : T → ℕ) where
       by_test false = refl
 
   pub paired-marked : (end : End) (s : Seats T) (t : ℕ) (item : Option T) (e : Entry T) → marked mark (paired mark end s t item e) ≡ paired (λ m. m) end (marked mark s) t (option_map mark item) (marked_entry mark e)
-  paired-marked end s t item e = λ j. record { line = unmet-marked end s.line j; holds = by_test e.waits j; flags = s.flags }
+  paired-marked end s t item e = λ j. record { line = unmet-marked mark end s.line j; holds = by_test e.waits j; flags = s.flags }
     where
       hold : Hold T
       hold = paired_hold mark e.ticket e.item t item
@@ -115,7 +72,7 @@ module _ {T : Type 0} (mark : T → ℕ) where
   released-marked s i = λ j. record { line = map (marked_entry mark) s.line; holds = put_at-marked s.holds i Free j; flags = s.flags }
 
   pub left-marked : (s : Seats T) (i t : ℕ) → marked mark (left s i t) ≡ left (marked mark s) i t
-  left-marked s i t = λ j. record { line = without-marked t s.line j; holds = put_at-marked s.holds i Free j; flags = s.flags }
+  left-marked s i t = λ j. record { line = without-marked mark t s.line j; holds = put_at-marked s.holds i Free j; flags = s.flags }
 
   pub cut_off-marked : (s : Seats T) (i : ℕ) (e : Entry T) → marked mark (cut_off s i e) ≡ cut_off (marked mark s) i (marked_entry mark e)
-  cut_off-marked s i e = λ j. record { line = without-marked e.ticket s.line j; holds = put_at-marked s.holds i (Cut e.ticket e.item) j; flags = s.flags }
+  cut_off-marked s i e = λ j. record { line = without-marked mark e.ticket s.line j; holds = put_at-marked s.holds i (Cut e.ticket e.item) j; flags = s.flags }

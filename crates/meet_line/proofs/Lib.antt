@@ -9,6 +9,7 @@ pub mod Leaving
 pub mod LeftThere
 pub mod LeftTold
 pub mod Looking
+pub mod Marks
 pub mod Moved
 pub mod Moves
 pub mod Occurs
