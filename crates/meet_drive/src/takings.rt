@@ -1,7 +1,6 @@
 //! What the takers of a drive got, by its records.
 
-ghost use Rattle.std.specs.Prelude.{◌≡◌, ◌<◌, ◌^◌, is_some, count_by, sum_by, IfSome};
-ghost use Rattle.std.specs.Option.{option_map_or};
+ghost use Rattle.std.specs.Prelude.{◌≡◌, IfSome};
 ghost use Rattle.meet_drive.specs.Driven.{mark_got, items_got, sum_got};
 
 use meet_tickets::{Deed, Record};

@@ -1,6 +1,8 @@
 //! The threads of a drive. Each works with a seat that it takes out of its slot, and puts it back there at its end: so
 //! a seat comes back whatever happens, also where its thread can't be started.
 
+ghost use Rattle.std.specs.Prelude.{◌≡◌, false, Some, None};
+
 use crate::course::{Course, Passed};
 use crate::progress::Progress;
 use meet_cells::Gate;
@@ -45,7 +47,10 @@ pub struct Slot<N: Ledgers> {
 
 impl Count {
     /// The count after a call that ended so; and whether the thread goes on.
-    fn after(self, passed: Passed) -> (Count, bool) {
+    fn after(self, passed: Passed) -> (Count, bool)
+        ensures refused { (why : Refusal) → passed ≡ Passed.Refused why → result.0.why ≡ Some why }
+        ensures ends { (why : Refusal) → passed ≡ Passed.Refused why → result.1 ≡ false }
+    {
         match passed {
             Passed::Gave => (self, true),
             Passed::Got(item) => (
@@ -68,7 +73,10 @@ impl Count {
     }
 
     /// Both counts together, and the first reason.
-    pub fn with(self, other: Count) -> Count {
+    pub fn with(self, other: Count) -> Count
+        ensures first { (why : Refusal) → self.why ≡ Some why → result.why ≡ Some why }
+        ensures second { self.why ≡ None → result.why ≡ other.why }
+    {
         Count {
             items: self.items.saturating_add(other.items),
             sum: self.sum.saturating_add(other.sum),

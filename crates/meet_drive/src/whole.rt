@@ -1,9 +1,10 @@
 //! A drive from its start to its end.
 
-ghost use Rattle.std.specs.Prelude.{◌≡◌, ℕ, ◌<◌, ◌≤◌, ◌*◌, [], List, IfOk, vec_len};
+ghost use Rattle.std.specs.Prelude.{◌≡◌, ℕ, ◌<◌, ◌≤◌, ◌*◌, true, false, Some, [], List, length, IfOk, vec_len};
 ghost use Rattle.std.specs.Vec.{vec_capacity};
 ghost use Rattle.meet_place.specs.Ledgers.{AreOf};
 ghost use Rattle.meet_tickets.specs.declared.records.Deed.{Deed};
+ghost use Rattle.meet_tickets.specs.declared.refusals.Refusal.TheVariants.{NoThread};
 ghost use Rattle.meet_book.specs.Received.{Received};
 ghost use Rattle.meet_sync.specs.Chronicles.{IsChronicle};
 ghost use Rattle.meet_drive.specs.Driven.{IsDriven, IsSized, fair};
@@ -76,6 +77,18 @@ fn seats_of<N: Ledgers>(
     (backs, counted)
 }
 
+/// Why a drive ended early, if it did: a thread couldn't be started, or else what the queue refused first.
+fn ended_early(all_started: bool, counted: Count) -> Option<Refusal>
+    ensures unstarted { all_started ≡ false → result ≡ Some NoThread }
+    ensures refused { all_started ≡ true → result ≡ counted.why }
+{
+    if all_started {
+        counted.why
+    } else {
+        Some(Refusal::NoThread)
+    }
+}
+
 /// What a chronicle tells of a drive of so many givers and takers of so many items each, whose takers counted so. A
 /// drive's records aren't folded away, and by them the takers got what they counted, and all that was given: were it
 /// otherwise, Differs were told.
@@ -89,7 +102,8 @@ fn told(
     requires sized { IsSized givers each }
     requires history { (mark : ℕ → ℕ) × (lists : List (List (Received Deed))) × IsChronicle mark fair
         chronicle.now.base chronicle.now.records.items lists chronicle.now.left.items }
-    ensures { IfOk result (λ drive. IsDriven givers each drive) }
+    ensures driven { IfOk result (λ drive. IsDriven givers each drive) }
+    ensures all { IfOk result (λ drive. drive.records ≡ length chronicle.now.records.items) }
 {
     if chronicle.base.gone > 0 {
         return Err(Refusal::Differs);
@@ -97,10 +111,10 @@ fn told(
     let records = chronicle.records.as_slice();
     let items = count_got(records);
     let sum = sum_got(records).ok_or(Refusal::Differs)?;
-    if items != givers * each || items != counted.items || sum != counted.sum {
+    if items != counted.items || sum != counted.sum {
         return Err(Refusal::Differs);
     }
-    if sum.checked_mul(2) != Some(items * (each + 1)) {
+    if items != givers * each || sum.checked_mul(2) != Some(items * (each + 1)) {
         return Err(Refusal::Differs);
     }
     match check(alloc, FAIR, &chronicle.base, records) {
@@ -136,7 +150,8 @@ where
     requires one_each { N.parts ≡ vec_len parts.gates }
     requires cap { N.cap ≡ cap }
     requires sized { IsSized givers each }
-    ensures { IfOk result (λ drive. IsDriven givers each drive) }
+    ensures driven { IfOk result (λ drive. IsDriven givers each drive) }
+    ensures cap { IfOk result (λ drive. drive.records ≤ cap) }
 {
     let count = parts.gates.len();
     let Ok(slots) = Vec::with_capacity(alloc, count) else {
@@ -162,10 +177,7 @@ where
             return Err(why);
         }
     };
-    if !all_started {
-        return Err(Refusal::NoThread);
-    }
-    match counted.why {
+    match ended_early(all_started, counted) {
         Some(why) => Err(why),
         None => told(alloc, &chronicle, counted, givers, each),
     }
@@ -213,7 +225,8 @@ pub fn drive_within<R>(
 where
     R: Threads + Wait + Clock + Sync,
     requires { IsSized givers each }
-    ensures { IfOk result (λ drive. IsDriven givers each drive) }
+    ensures driven { IfOk result (λ drive. IsDriven givers each drive) }
+    ensures cap { IfOk result (λ drive. drive.records ≤ cap) }
 {
     drive_with(rt, alloc, givers, each, cap, &Silent {})
 }
@@ -231,7 +244,8 @@ where
     R: Threads + Wait + Clock + Sync,
     P: Progress,
     requires { IsSized givers each }
-    ensures { IfOk result (λ drive. IsDriven givers each drive) }
+    ensures driven { IfOk result (λ drive. IsDriven givers each drive) }
+    ensures cap { IfOk result (λ drive. drive.records ≤ cap) }
 {
     let mut gates = Vec::new(alloc);
     for _ in 0..givers {

@@ -1,6 +1,6 @@
 -- What a queue's split calls leave in a seat's list, and what they answer: the words of SynchronousQueue and
 -- LinkedTransferQueue, each call one record of its own form (our choice).
-use Rattle.std.specs.Prelude.{◌≡◌, ℕ, ⊤, Option, Some, None, option_map, [], ◌∷◌}
+use Rattle.std.specs.Prelude.{◌≡◌, ℕ, ◌<◌, ⊤, Option, Some, None, option_map, [], ◌∷◌}
 use Rattle.meet_tickets.specs.declared.places.Side.TheVariants.{Giver, Taker}
 use Rattle.meet_tickets.specs.declared.records.Cause.{Cause}
 use Rattle.meet_tickets.specs.declared.records.Cause.TheVariants.{Interrupted as ByInterrupt}
@@ -94,9 +94,9 @@ module _ {T N : Type 0} where
   WithdrawnAs mark p cause (Late q) = q ≡ p
 
 module _ {N : Type 0} where
-  -- an interrupt left one receipt, with its target and the ticket that it cut, or 0 where it cut none
+  -- an interrupt left one receipt, with its target and the ticket that it cut, a number above 0, or 0 where it cut none
   abbrev pub StruckAs : SeatView Deed → (target : ℕ) → Struck N → Type 0
   StruckAs seat target (Cut s t) =
-      SameSeat seat s × Adds seat.list s.list (made seat.number t (Interrupt target) ∷ [])
+      SameSeat seat s × (0 < t) × Adds seat.list s.list (made seat.number t (Interrupt target) ∷ [])
   StruckAs seat target (Flagged s) =
       SameSeat seat s × Adds seat.list s.list (made seat.number 0 (Interrupt target) ∷ [])

@@ -236,7 +236,14 @@ impl<T: Marked, L: Line<T>, G: Gate, N: Ledgers> QueueRef<'_, T, L, G, N> {
             }
         };
         match struck {
-            Interrupted::Cut(ticket) => Ok(Struck::Cut(seat, ticket)),
+            Interrupted::Cut(ticket) => {
+                // No request has the ticket 0, so a ticket that was cut is above it.
+                if ticket.number() == 0 {
+                    Ok(Struck::Flagged(seat))
+                } else {
+                    Ok(Struck::Cut(seat, ticket))
+                }
+            }
             Interrupted::Flagged => Ok(Struck::Flagged(seat)),
         }
     }

@@ -1,4 +1,4 @@
-use Rattle.std.proofs.Common.{◌≡◌, ◌++◌, refl, sym, ap, subst, ◌∙◌, arith, rules}
+use Rattle.std.proofs.Common.{◌≡◌, ◌++◌, length, refl, sym, ap, subst, ◌∙◌, arith, rules}
 use Rattle.meet_tickets.specs.Bases.{Based, IsLegalOn}
 use Rattle.meet_tickets.specs.Fates.{opening}
 use Rattle.meet_history.specs.Standings.{standing_on}
@@ -16,13 +16,16 @@ returns-in-Ok c =
     let legal = subst (λ (b : Based). IsLegalOn fair b c.as_slice-records.result.now) (is.first none) c.in-Ok.ensures.legal in
     let standing = subst (λ (b : Based). c.in-Ok.standing ≡ standing_on b c.as_slice-records.result.now) (is.first none) c.in-Ok.ensures.standing in
     record {
-      history = c.as_slice-records.result.now;
-      legal = legal;
-      records = refl;
-      pairs = subst (λ h. c.laws.result.delivered ≡ (tally_in h).delivered) (sym records) (ap (λ t. t.delivered) first);
-      standing = standing;
-      items = c.count_got-items.ensures;
-      sum = search rules;
-      all = search (rules, arith);
-      whole = search (rules, arith);
+      driven = record {
+        history = c.as_slice-records.result.now;
+        legal = legal;
+        records = refl;
+        pairs = subst (λ h. c.laws.result.delivered ≡ (tally_in h).delivered) (sym records) (ap (λ t. t.delivered) first);
+        standing = standing;
+        items = c.count_got-items.ensures;
+        sum = search rules;
+        all = search (rules, arith);
+        whole = search (rules, arith);
+      };
+      all = ap length records;
     }
