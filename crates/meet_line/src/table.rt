@@ -173,9 +173,17 @@ impl<T> SeatTable<T> {
         self.settled
     }
 
-    /// The seat whose hold was changed last, where one was: a hint, of which nothing is promised.
+    /// The seat whose hold was changed last, where one was and that wasn't forgotten: a hint, of which nothing is
+    /// promised.
     pub fn changed(&self) -> Option<SeatNo> {
         self.changed
+    }
+
+    /// Forgets which seat's hold was changed last.
+    pub fn forget_changed(&mut self)
+        ensures same { self.new ≡ self.old }
+    {
+        self.changed = None;
     }
 
     /// How many items the seats hold. It looks at every seat.

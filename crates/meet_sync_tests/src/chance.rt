@@ -21,7 +21,7 @@ use std::thread::Threads;
 const STEPS: u64 = 20_000;
 
 /// What a seat asks whose ticket is open.
-fn ending(chance: &mut Chance, seats: u64) -> Ask {
+pub fn ending(chance: &mut Chance, seats: u64) -> Ask {
     match chance.below(9) {
         0 => Ask::Interrupt(chance.below(seats)),
         1 => Ask::Cancel,
@@ -31,7 +31,7 @@ fn ending(chance: &mut Chance, seats: u64) -> Ask {
 }
 
 /// What a seat asks that has no ticket, with this item.
-fn request(chance: &mut Chance, seats: u64, item: u64) -> Ask {
+pub fn request(chance: &mut Chance, seats: u64, item: u64) -> Ask {
     match chance.below(9) {
         0 => Ask::Interrupt(chance.below(seats)),
         1 => Ask::Offer(item),

@@ -21,6 +21,8 @@ use std::time::Clock;
 #[derive(Clone, Copy)]
 struct Timed {
     call: Call,
+    /// For how many milliseconds it waits.
+    limit: u64,
     told: Told,
     other: Call,
     other_told: Told,
@@ -94,7 +96,7 @@ fn dealing<N: Ledgers + Send + Sync, R: Abort + Threads + Wait + Clock + Sync>(
     }
 }
 
-/// The timed call waits for all of its 50 milliseconds at first, is woken, and meets the other call.
+/// The timed call waits for all of its limit at first, is woken, and meets the other call.
 fn meets<R: Abort + Threads + Wait + Clock + Sync>(
     rt: &R,
     alloc: Global,
@@ -108,7 +110,7 @@ fn meets<R: Abort + Threads + Wait + Clock + Sync>(
     let blanks = Blanks::new(gates.len() as u64);
     let parts = NewQueue { gates, blanks };
     let chronicle = dealing::<Brand, _>(rt, alloc, order, parts, &flags, timed)?;
-    assert_eq!(rt; flags.limit(), 50);
+    assert_eq!(rt; flags.limit(), timed.limit);
     assert!(rt; flags.is_raised());
     let story = Story {
         order,
@@ -123,9 +125,10 @@ fn meets<R: Abort + Threads + Wait + Clock + Sync>(
 }
 
 /// A timed give that a poll meets.
-const fn given(call: Call) -> Timed {
+const fn given(call: Call, limit: u64) -> Timed {
     Timed {
         call,
+        limit,
         told: Told::Done,
         other: Call::Poll,
         other_told: Told::Got(1, 3),
@@ -135,6 +138,7 @@ const fn given(call: Call) -> Timed {
 /// A timed poll that an offer meets.
 const POLLED: Timed = Timed {
     call: Call::PollFor(50),
+    limit: 50,
     told: Told::Got(2, 3),
     other: Call::Offer(3),
     other_told: Told::Gave(1),
@@ -143,6 +147,7 @@ const POLLED: Timed = Timed {
 /// A poll that waits, and a transfer that meets it.
 const TRANSFERRED: Timed = Timed {
     call: Call::PollFor(50),
+    limit: 50,
     told: Told::Got(2, 5),
     other: Call::Transfer(5),
     other_told: Told::Gave(1),
@@ -150,8 +155,16 @@ const TRANSFERRED: Timed = Timed {
 
 #[test]
 fn a_timed_offer_waits_for_a_poll(rt: HostRuntime) -> Result<(), Fail> {
-    meets(&rt, rt.alloc(), Order::Fair, given(Call::OfferFor(3, 50)))?;
-    meets(&rt, rt.alloc(), Order::Unfair, given(Call::OfferFor(3, 50)))
+    meets(&rt, rt.alloc(), Order::Fair, given(Call::OfferFor(3, 50), 50))?;
+    meets(&rt, rt.alloc(), Order::Unfair, given(Call::OfferFor(3, 50), 50))
+}
+
+/// Also where it is longer than a second.
+#[test]
+fn a_timed_offer_waits_for_all_of_its_limit(rt: HostRuntime) -> Result<(), Fail> {
+    let long = given(Call::OfferFor(3, 8_000), 8_000);
+    meets(&rt, rt.alloc(), Order::Fair, long)?;
+    meets(&rt, rt.alloc(), Order::Unfair, long)
 }
 
 #[test]
@@ -164,6 +177,6 @@ fn a_timed_poll_waits_for_an_offer(rt: HostRuntime) -> Result<(), Fail> {
 
 #[test]
 fn a_timed_transfer_waits_for_a_poll(rt: HostRuntime) -> Result<(), Fail> {
-    let transferred = given(Call::TransferFor(3, 50));
+    let transferred = given(Call::TransferFor(3, 50), 50);
     meets(&rt, rt.alloc(), Order::Transfer, transferred)
 }

@@ -2,6 +2,8 @@
 #![tactic(auto)]
 
 #[cfg(test)]
+mod at_size;
+#[cfg(test)]
 mod chance;
 #[cfg(test)]
 mod checkpoints;
@@ -33,5 +35,7 @@ mod seals;
 mod split;
 #[cfg(test)]
 mod wakes;
+#[cfg(test)]
+mod wakes_of_chance;
 #[cfg(test)]
 mod whole;

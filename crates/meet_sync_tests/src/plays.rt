@@ -66,7 +66,7 @@ pub fn given<N: Ledgers>(alloc: Global, all: Seats<N>) -> Result<Vec<Back<Deed, 
 }
 
 /// A seat asks: what it is told.
-fn asks<G: Gate + Drop, N: Ledgers, R: Wait>(
+pub fn asks<G: Gate + Drop, N: Ledgers, R: Wait>(
     rt: &R,
     shop: &Shop<G, N>,
     seat: &mut Option<Back<Deed, N>>,

@@ -16,7 +16,7 @@ use std::sync::Wait;
 use std::test::*;
 use std::thread;
 use std::thread::Threads;
-use std::time::Clock;
+use std::time::{Clock, Instant};
 
 /// What two seats do, or one of them.
 #[derive(Clone, Copy)]
@@ -364,6 +364,20 @@ fn nobody_is_there(rt: HostRuntime) -> Result<(), Fail> {
     alone::<Idle, _>(&rt, rt.alloc())?;
     alone::<Eager, _>(&rt, rt.alloc())?;
     alone::<ParkGate, _>(&rt, rt.alloc())
+}
+
+/// A poll that waits for a while.
+const LONG: [(Call, Told); 1] = [(Call::PollFor(300), Told::TimedOut(None))];
+
+/// Wakes for nothing neither end a wait nor begin its limit anew.
+#[test]
+fn wakes_for_nothing_leave_the_limit(rt: HostRuntime) -> Result<(), Fail> {
+    let start = Instant::now(&rt)?;
+    let made = trade::<Eager, _>(&rt, rt.alloc(), Order::Fair, Deal::Calls(&LONG))?;
+    let passed = start.elapsed(&rt)?.as_millis();
+    assert_eq!(&rt; made, (0, 0, 2));
+    assert!(&rt; passed >= 300 && passed < 100_000, "{passed} milliseconds");
+    Ok(())
 }
 
 /// Calls of one seat at gates whose time is up at once, of which these deeds are recorded.

@@ -86,6 +86,8 @@ impl<T: Marked, L: Line<T>> Meetings<T, L> {
             Some(collect(&mut self.seats, giver, ticket))
         } else {
             self.kept -= 1;
+            // Nobody waits for this item.
+            self.seats.forget_changed();
             Some(release(giver))
         }
     }

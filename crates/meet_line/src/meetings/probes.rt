@@ -36,7 +36,7 @@ impl<T: Marked, L: Line<T>> Meetings<T, L> {
     }
 
     /// The seat whose hold was changed last, where one was: after two tickets met, or one was cut, that of the one that
-    /// waited. It is a hint, of which nothing is promised.
+    /// waited; none after a kept item was met. It is a hint, of which nothing is promised.
     pub fn changed(&self) -> Option<SeatNo> {
         self.seats.changed()
     }

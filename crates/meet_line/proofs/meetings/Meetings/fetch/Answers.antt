@@ -46,7 +46,7 @@ pub invariant_of-self-else-giver : goal.invariant_of-self-else-giver
 invariant_of-self-else-giver g c =
     let one = giver-fetched g.L.Line.end _ _ c.in_ok-giver.giver (HasOneSide-sound c.self.invariant.0) (sym c.in_ok-giver.ensures.partner) c.in_ok-giver.ensures.rest in
     let less = kept-fetched g.L.Line.end _ _ Taker c.in_ok-giver.giver (sym c.in_ok-giver.ensures.partner) c.in_ok-giver.ensures.rest c.if-giver.false in (
-      rw c.in_ok-giver.ensures.rest (IsSound-unmet g.L.Line.end c.self.invariant.0),
+      rw (c.in_ok-giver.ensures.rest, c.forget_changed.ensures.same) (IsSound-unmet g.L.Line.end c.self.invariant.0),
       omega (arith, less, c.self.invariant.1),
       omega (arith, c.self.invariant.2),
       omega (arith, one, c.self.invariant.3),
