@@ -12,6 +12,7 @@ use Rattle.pool_core.specs.declared.deeds.PoolDeed.{PoolDeed}
 use Rattle.pool_core.specs.declared.deeds.PoolDeed.TheVariants.{Handed, Started, Kept, KeptStart, Aborted, Dropped, DroppedOldest, Runs, Waits, Exits, Finished, IdleExit, ShutDown, ShutDownNow}
 use Rattle.pool_core.specs.Pools.{Pool, owed, executed}
 use Rattle.pool_core.specs.Histories.{Moment, Based, IsLegalOn, no_base, moment_of_base, moment_from}
+use Rattle.pool_core.specs.Promise.{pair, runs_in, jobs_run, handed_on}
 use Rattle.pool_core.specs.Standings.{job, standings, StartsAt, RunsAt, IsDone, IsBack, IsDropped}
 
 abbrev pool : (core maximum : ℕ) → PoolQueue → Policy → Settings
@@ -170,6 +171,19 @@ handing_is_legal = (
 
 handing_end : (left hand handing).workers ≡ Waiting 9 ∷ Absent ∷ []
 handing_end = refl
+
+-- the fourth job met the take of record 6, also where this is folded away; and each job ran with a take
+handing_handed : handed_on hand no_base handing ≡ pair 6 7 ∷ []
+handing_handed = refl
+
+handing_kept : handed_on hand (record { gone = 8; last = 7; pool = (before hand handing 8).pool }) [] ≡ pair 6 7 ∷ []
+handing_kept = refl
+
+handing_runs : runs_in handing ≡ pair 2 1 ∷ pair 4 3 ∷ pair 6 7 ∷ []
+handing_runs = refl
+
+handing_running : jobs_run hand (record { gone = 2; last = 2; pool = (before hand handing 2).pool }) (of 0 3 (Started 1 2) ∷ of 2 4 (Runs 3 2) ∷ []) ≡ 1 ∷ 3 ∷ []
+handing_running = refl
 
 -- a pool that is shut: a new job is dropped, the kept one still runs
 abbrev shut : Settings

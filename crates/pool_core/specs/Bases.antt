@@ -1,5 +1,7 @@
 -- What stands for the records of a pool that were folded away.
-use Rattle.std.specs.Prelude.{◌≡◌, ℕ, ◌+◌, ◌<◌, ◌≤◌, option_map, List, map, IsPermutation}
+use Rattle.std.specs.Prelude.{◌≡◌, ℕ, ◌+◌, ◌<◌, ◌≤◌, ◌==◌, Bool, false, option_map, List, map, count_by}
+use Rattle.std.specs.Prelude.{IsPermutation}
+use Rattle.std.specs.Option.{option_map_or}
 use Rattle.std.specs.List.Sorted.{IsNonDecreasingBy}
 use Rattle.meet_tickets.specs.declared.records.Record.{Record}
 use Rattle.meet_line.specs.Seen.{marked_entry}
@@ -13,6 +15,7 @@ use Rattle.pool_core.specs.declared.deeds.PoolDeed.TheVariants.{KeptStart, Abort
 use Rattle.pool_core.specs.declared.deeds.PoolDeed.TheVariants.{Runs, Waits, Exits, IdleExit, Leaves, StartFailed}
 use Rattle.pool_core.specs.declared.deeds.PoolDeed.TheVariants.{ShutDown, ShutDownNow}
 use Rattle.pool_core.specs.Pools.{Pool, left_in}
+use Rattle.pool_core.specs.Calls.{take_of}
 use Rattle.pool_core.specs.Histories.{Moment, Based, IsLegalOn, moment_of_base, moment_from}
 use Rattle.pool_core.specs.Standings.{jobs_in, standing_count}
 use Rattle.pool_core.specs.Shown.{Shown}
@@ -61,11 +64,17 @@ tagged_deed mark StartFailed = StartFailed
 tagged_deed mark ShutDown = ShutDown
 tagged_deed mark (ShutDownNow count) = ShutDownNow count
 
--- a moment that legal records may have led to: the pool is sound, and each of its jobs stands there once
+-- whether a worker has this take, that it awaits, was met or was cut
+abbrev pub has_take : (take : ℕ) → Stage ℕ → Bool
+has_take t stage = option_map_or (λ u. u == t) (take_of stage) false
+
+-- a moment that legal records may have led to: the pool is sound, each of its jobs stands there once, and each take is
+-- one worker's
 pub record IsOrderly (s : Settings) (m : Moment) : Type 0 where
   pub sound : IsSound s m.pool (m.last + 1)
   pub once : (t : ℕ) → standing_count (jobs_in m.pool) t ≤ 1
   pub used : (t : ℕ) → m.last < t → standing_count (jobs_in m.pool) t ≡ 0
+  pub takes : (t : ℕ) → count_by (has_take t) m.pool.workers ≤ 1
 
 -- a base is well formed
 abbrev pub IsWellFormed : Settings → Based → Type 0

@@ -9,6 +9,7 @@ ghost use Rattle.pool_core.specs.Histories.{Based, IsLegalOn, moment_of_base};
 ghost use Rattle.pool_core.specs.Standings.{jobs_in, standings, standing_count, brought};
 ghost use Rattle.pool_core.specs.Bases.{IsWellFormed};
 ghost use Rattle.pool_core.specs.Worked.{RanOn};
+ghost use Rattle.pool_core.specs.Promise.{JobsMeetOnce, TakesMeetOnce, PartnersMeet, WithdrawnMeetNone};
 ghost use Rattle.pool_core.specs.Placed.{PoolStep, pool_refusal, pool_need};
 
 use crate::calls::{PoolAnswer, PoolCall};
@@ -34,6 +35,22 @@ pub fn answers_follow_starts()
         (rest : List (Entered (Told ℕ)))
         → IsLegalOn s b (front ++ record { seat = seat; ticket = ticket; deed = Finished answer } ∷ rest)
         → RanOn s b front seat ticket }
+{}
+
+/// Each job and each take of a worker is met at most once. A job is handed over once at most and runs once at most,
+/// with the take that it met, and not after it was over (`jobs`). A take is handed one job at most and runs one at
+/// most, no other than it was handed (`takes`). A job meets the take that the queue's order meets, and a worker that
+/// starts without one runs the job that was kept first (`partners`). A take whose worker ended, or that a shutdown cut,
+/// meets no job afterwards (`withdrawn`). It does nothing.
+pub fn promise_is_kept()
+    ensures jobs { (s : Made) (b : Based) (records : List (Entered (Told ℕ))) → IsWellFormed s b → IsLegalOn s b records
+        → JobsMeetOnce s b records }
+    ensures takes { (s : Made) (b : Based) (records : List (Entered (Told ℕ))) → IsWellFormed s b
+        → IsLegalOn s b records → TakesMeetOnce s b records }
+    ensures partners { (s : Made) (b : Based) (records : List (Entered (Told ℕ))) → IsWellFormed s b
+        → IsLegalOn s b records → PartnersMeet s b records }
+    ensures withdrawn { (s : Made) (b : Based) (records : List (Entered (Told ℕ))) → IsWellFormed s b
+        → IsLegalOn s b records → WithdrawnMeetNone s b records }
 {}
 
 /// A worker's step on a book, which is never refused in a state that the call names.
