@@ -1,7 +1,7 @@
 //! The end of an arena.
 
 use crate::shared::{gets, opened, posts, swaps, withdraws};
-use meet_exchange::{Back, Closed, Part, Round, RoundEnd, SlotDeed, Standing};
+use meet_exchange::{Arena, Back, Closed, Part, Round, RoundEnd, SlotDeed, Standing};
 use meet_tickets::{Refusal, SeatNo};
 use std::process::Abort;
 use std::test::*;
@@ -110,5 +110,21 @@ fn a_seat_is_missing_and_then_back(rt: HostRuntime) -> Result<(), Fail> {
         panic!(rt; "not closed")
     };
     assert!(rt; closed.lists.len() == 3 && closed.slots.len() == 1 && closed.left.len() == 0);
+    Ok(())
+}
+
+#[test]
+fn an_arena_of_64_slots(rt: HostRuntime) -> Result<(), Fail> {
+    let Ok((arena, seats)) = Arena::<u64>::new(rt.alloc(), 64, 2) else {
+        panic!(rt; "no arena")
+    };
+    let mut all = Vec::new(rt.alloc());
+    for seat in seats {
+        all.push(Back::Free(seat))?;
+    }
+    let Ok(closed) = arena.close(rt.alloc(), all) else {
+        panic!(rt; "not closed")
+    };
+    assert!(rt; closed.lists.len() == 2 && closed.slots.len() == 64 && closed.left.len() == 0);
     Ok(())
 }

@@ -12,7 +12,7 @@ use std::test::*;
 pub type Opened = (Arena<u64>, Seat<u64>, Seat<u64>, Seat<u64>);
 
 /// Takes the last of an arena's new seats out.
-fn last_seat(rt: &impl Abort, arena: &Arena<u64>, seats: &mut Vec<Seat<u64>>) -> Seat<u64>
+pub fn last_seat(rt: &impl Abort, arena: &Arena<u64>, seats: &mut Vec<Seat<u64>>) -> Seat<u64>
     requires { AreNew arena.now.id 0 seats.old.items }
     ensures seat { result.arena ≡ arena.now.id }
     ensures rest { AreNew arena.now.id 0 seats.new.items }
@@ -120,6 +120,29 @@ pub fn swaps(
             assert_eq!(rt; (got, arena.word(slot)), (items.1, word));
             seat
         }
+        _ => panic!(rt; "not swapped"),
+    }
+}
+
+/// One seat posts in a slot and another takes that: the slot is contended until the first has been there.
+pub fn keeps_busy(
+    rt: &impl Abort,
+    arena: &Arena<u64>,
+    poster: Seat<u64>,
+    other: Seat<u64>,
+    slot: usize,
+) -> (Pending<u64>, Seat<u64>)
+    requires poster { poster.arena ≡ arena.now.id }
+    requires other { other.arena ≡ arena.now.id }
+    requires slot { slot < arena.now.slots }
+    ensures poster { result.0.seat.arena ≡ arena.now.id }
+    ensures other { result.1.arena ≡ arena.now.id }
+{
+    let Offered::Posted(pending) = arena.offer(poster, slot, 8) else {
+        panic!(rt; "not posted")
+    };
+    match arena.offer(other, slot, 9) {
+        Offered::Swapped(other, 8) => (pending, other),
         _ => panic!(rt; "not swapped"),
     }
 }

@@ -2,7 +2,7 @@
 
 ghost use Rattle.std.specs.Prelude.{◌≡◌, ◌<◌};
 
-use crate::shared::{opened, posts};
+use crate::shared::{keeps_busy, last_seat, opened, posts};
 use meet_exchange::{Arena, Exchanged, Part, Seat, SlotDeed};
 use std::process::Abort;
 use std::sync::Wait;
@@ -93,5 +93,39 @@ fn an_exchange_goes_on_from_a_busy_slot(rt: HostRuntime) -> Result<(), Fail> {
     tried(&rt, two.parts(), &[]);
     let two = times_out(&rt, &arena, two, 1, 2);
     tried(&rt, two.parts(), &[0]);
+    Ok(())
+}
+
+#[test]
+fn an_exchange_goes_on_over_four_slots(rt: HostRuntime) -> Result<(), Fail> {
+    let Ok((arena, mut seats)) = Arena::<u64>::new(rt.alloc(), 4, 5) else {
+        panic!(&rt; "no arena")
+    };
+    let seat = last_seat(&rt, &arena, &mut seats);
+    let other = last_seat(&rt, &arena, &mut seats);
+    let poster = last_seat(&rt, &arena, &mut seats);
+    let (_first, other) = keeps_busy(&rt, &arena, poster, other, 1);
+    let poster = last_seat(&rt, &arena, &mut seats);
+    let (_second, other) = keeps_busy(&rt, &arena, poster, other, 2);
+    let poster = last_seat(&rt, &arena, &mut seats);
+    let (_third, _other) = keeps_busy(&rt, &arena, poster, other, 3);
+    // Each contended slot takes a turn, and the way goes from the last slot to the first.
+    let seat = times_out(&rt, &arena, seat, 1, 3);
+    tried(&rt, seat.parts(), &[]);
+    let seat = times_out(&rt, &arena, seat, 1, 4);
+    tried(&rt, seat.parts(), &[0]);
+    Ok(())
+}
+
+#[test]
+fn an_exchange_in_a_worn_slot(rt: HostRuntime) -> Result<(), Fail> {
+    let Ok((arena, mut seats)) = Arena::<u64>::starting(rt.alloc(), 1, 1, (1 << 44) - 1) else {
+        panic!(&rt; "no arena")
+    };
+    let seat = last_seat(&rt, &arena, &mut seats);
+    match arena.exchange(&rt, seat, 0, 5, Some(1_000)) {
+        Exchanged::Worn(seat, item) => assert_eq!(&rt; (item, seat.parts().len()), (5, 0)),
+        _ => panic!(&rt; "not worn"),
+    }
     Ok(())
 }

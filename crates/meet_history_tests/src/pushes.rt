@@ -1,8 +1,10 @@
-//! Records that are pushed on a checker one by one.
+//! Records that are pushed on a checker one by one, and more of them than a book has.
 
 use crate::calls::{record, ticket};
-use meet_history::{CheckFault, Checker, Kind, Order, Standing, Why};
-use meet_tickets::{Base, Deed};
+use meet_history::{CheckFault, Checker, Kind, Order, Standing, Why, check};
+use meet_tickets::{Base, Deed, Record};
+use std::alloc::Global;
+use std::process::Abort;
 use std::test::Fail;
 
 /// A fair queue.
@@ -62,5 +64,43 @@ fn a_fault_stays(rt: HostRuntime) -> Result<(), Fail> {
                 why: Why::WrongReply
             })
     );
+    Ok(())
+}
+
+/// How many records are checked: a text may have more than a book.
+const MANY: u64 = 1_100_000;
+
+/// Nothing stands there.
+const NOTHING: Standing = Standing {
+    waiting: 0,
+    uncollected: 0,
+    kept: 0,
+};
+
+/// Polls of one seat that find nobody.
+fn polls(alloc: Global, count: u64) -> Result<Vec<Record<Deed>>, Fail> {
+    let mut records = Vec::new(alloc);
+    for number in 1..=count {
+        records.push(record(0, number, Deed::TakeFails)?)?;
+    }
+    Ok(records)
+}
+
+/// Each of the records can stand.
+fn stands(rt: &impl Abort, checker: &mut Checker, records: &[Record<Deed>]) {
+    for entry in records {
+        assert_eq!(rt; checker.push(*entry), Ok(()));
+    }
+}
+
+#[test]
+fn more_records_than_a_book_has(rt: HostRuntime) -> Result<(), Fail> {
+    let records = polls(rt.alloc(), MANY)?;
+    let base = Base::empty(rt.alloc());
+    let found = check(rt.alloc(), FAIR, &base, records.as_slice());
+    assert_eq!(&rt; found, Ok(NOTHING));
+    let mut checker = Checker::new(rt.alloc(), FAIR, &base).ok().ok_or("memory")?;
+    stands(&rt, &mut checker, records.as_slice());
+    assert_eq!(&rt; checker.standing(), Ok(NOTHING));
     Ok(())
 }
