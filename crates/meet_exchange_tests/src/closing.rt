@@ -1,7 +1,7 @@
 //! The end of an arena.
 
-use crate::shared::{gets, opened, posts, swaps, withdraws};
-use meet_exchange::{Arena, Back, Closed, Part, Round, RoundEnd, SlotDeed, Standing};
+use crate::shared::{gets, last_and_first, opened, posts, swaps, withdraws};
+use meet_exchange::{Back, Closed, Part, Round, RoundEnd, SlotDeed, Standing};
 use meet_tickets::{Refusal, SeatNo};
 use std::process::Abort;
 use std::test::*;
@@ -115,16 +115,14 @@ fn a_seat_is_missing_and_then_back(rt: HostRuntime) -> Result<(), Fail> {
 
 #[test]
 fn an_arena_of_64_slots(rt: HostRuntime) -> Result<(), Fail> {
-    let Ok((arena, seats)) = Arena::<u64>::new(rt.alloc(), 64, 2) else {
-        panic!(rt; "no arena")
-    };
+    let (arena, two, zero, one) = last_and_first(&rt, rt.alloc(), 64, 3);
     let mut all = Vec::new(rt.alloc());
-    for seat in seats {
-        all.push(Back::Free(seat))?;
-    }
+    all.push(Back::Free(two))?;
+    all.push(Back::Free(zero))?;
+    all.push(Back::Free(one))?;
     let Ok(closed) = arena.close(rt.alloc(), all) else {
         panic!(rt; "not closed")
     };
-    assert!(rt; closed.lists.len() == 2 && closed.slots.len() == 64 && closed.left.len() == 0);
+    assert!(rt; closed.lists.len() == 3 && closed.slots.len() == 64 && closed.left.len() == 0);
     Ok(())
 }
