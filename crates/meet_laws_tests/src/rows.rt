@@ -29,6 +29,44 @@ fn remains(number: u64, standing: LeftStanding) -> Result<Left<u64>, Fail> {
     })
 }
 
+/// So many items were handed over and came back, and so many are kept and offered.
+fn tallies(
+    rt: &impl Abort,
+    alloc: Global,
+    records: &[Record<Deed>],
+    left: &[Left<u64>],
+    wanted: Tally,
+) {
+    let base = Base::empty(alloc);
+    assert_eq!(rt; reckon(&base, records, left), wanted);
+}
+
+/// This became of a ticket.
+fn becomes(rt: &impl Abort, alloc: Global, records: &[Record<Deed>], own: Ticket, wanted: Fate) {
+    let base = Base::empty(alloc);
+    assert_eq!(rt; fate(&base, records, own), wanted);
+}
+
+/// The records at these places stay where the others are erased.
+fn stay(
+    rt: &impl Abort,
+    alloc: Global,
+    records: &[Record<Deed>],
+    places: &[usize],
+) -> Result<(), Fail> {
+    let kept = erase(alloc, records).ok().ok_or("memory")?;
+    are_at(rt, kept.as_slice(), records, places);
+    Ok(())
+}
+
+/// What was kept of the records are those at these places.
+fn are_at(rt: &impl Abort, kept: &[Record<Deed>], records: &[Record<Deed>], places: &[usize]) {
+    assert_eq!(rt; kept.len(), places.len());
+    for (index, place) in places.iter().enumerate() {
+        assert_eq!(rt; kept.get(index), records.get(*place));
+    }
+}
+
 #[test]
 fn one_of_three_givers_expires(rt: HostRuntime) -> Result<(), Fail> {
     let alloc = rt.alloc();
@@ -40,30 +78,18 @@ fn one_of_three_givers_expires(rt: HostRuntime) -> Result<(), Fail> {
         entry(3, 4, Deed::TakeMeets(1, ticket(1)?))?,
         entry(4, 5, Deed::TakeMeets(3, ticket(3)?))?,
     ];
-    let base = Base::empty(alloc);
-    let left: [Left<u64>; 0] = [];
-    let tally = reckon(&base, &records, &left);
-    assert_eq!(rt;
-        tally,
-        Tally {
-            delivered: 2,
-            returned: 1,
-            kept: 0,
-            offered: 0
-        }
-    );
-    let kept = erase(alloc, &records).ok().ok_or("memory")?;
-    assert_eq!(rt; kept.len(), 4);
-    assert_eq!(rt; kept[0], records[0]);
-    assert_eq!(rt; kept[1], records[2]);
-    assert_eq!(rt; kept[2], records[4]);
-    assert_eq!(rt; kept[3], records[5]);
-    assert_eq!(rt;
-        fate(&base, &records, ticket(2)?),
-        Fate::Withdrawn(Cause::Expired)
-    );
-    assert_eq!(rt; fate(&base, &records, ticket(3)?), Fate::Paired(ticket(5)?));
-    assert_eq!(rt; fate(&base, &records, ticket(6)?), Fate::Never);
+    let tally = Tally {
+        delivered: 2,
+        returned: 1,
+        kept: 0,
+        offered: 0,
+    };
+    tallies(&rt, alloc, &records, &[], tally);
+    stay(&rt, alloc, &records, &[0, 2, 4, 5])?;
+    let expired = Fate::Withdrawn(Cause::Expired);
+    becomes(&rt, alloc, &records, ticket(2)?, expired);
+    becomes(&rt, alloc, &records, ticket(3)?, Fate::Paired(ticket(5)?));
+    becomes(&rt, alloc, &records, ticket(6)?, Fate::Never);
     Ok(())
 }
 
@@ -77,34 +103,24 @@ fn a_giver_is_cut(rt: HostRuntime) -> Result<(), Fail> {
         entry(0, 1, Deed::Withdrawn(Cause::Interrupted))?,
         entry(0, 2, Deed::GiveWaits(6))?,
     ];
-    let base = Base::empty(alloc);
-    assert_eq!(rt; fate(&base, &records[..2], ticket(1)?), Fate::Cut);
+    becomes(&rt, alloc, &records[..2], ticket(1)?, Fate::Cut);
+    let tally = Tally {
+        delivered: 0,
+        returned: 1,
+        kept: 0,
+        offered: 1,
+    };
     let left = [remains(2, LeftStanding::Offered)?];
-    let tally = reckon(&base, &records, &left);
-    assert_eq!(rt;
-        tally,
-        Tally {
-            delivered: 0,
-            returned: 1,
-            kept: 0,
-            offered: 1
-        }
-    );
+    tallies(&rt, alloc, &records, &left, tally);
+    let early = Tally {
+        delivered: 0,
+        returned: 0,
+        kept: 0,
+        offered: 1,
+    };
     let still = [remains(1, LeftStanding::Ready)?];
-    let early = reckon(&base, &records[..2], &still);
-    assert_eq!(rt;
-        early,
-        Tally {
-            delivered: 0,
-            returned: 0,
-            kept: 0,
-            offered: 1
-        }
-    );
-    let kept = erase(alloc, &records).ok().ok_or("memory")?;
-    assert_eq!(rt; kept.len(), 1);
-    assert_eq!(rt; kept[0], records[3]);
-    Ok(())
+    tallies(&rt, alloc, &records[..2], &still, early);
+    stay(&rt, alloc, &records, &[3])
 }
 
 #[test]
@@ -118,37 +134,25 @@ fn items_are_kept_and_wait_for_takers(rt: HostRuntime) -> Result<(), Fail> {
         entry(3, 5, Deed::TakeMeets(2, ticket(2)?))?,
         entry(1, 2, Deed::Done)?,
     ];
-    let base = Base::empty(alloc);
-    let left: [Left<u64>; 0] = [];
-    let tally = reckon(&base, &records, &left);
-    assert_eq!(rt;
-        tally,
-        Tally {
-            delivered: 2,
-            returned: 1,
-            kept: 0,
-            offered: 0
-        }
-    );
+    let tally = Tally {
+        delivered: 2,
+        returned: 1,
+        kept: 0,
+        offered: 0,
+    };
+    tallies(&rt, alloc, &records, &[], tally);
+    let four = Tally {
+        delivered: 1,
+        returned: 1,
+        kept: 0,
+        offered: 1,
+    };
     let early = [remains(2, LeftStanding::Offered)?];
-    let four = reckon(&base, &records[..4], &early);
-    assert_eq!(rt;
-        four,
-        Tally {
-            delivered: 1,
-            returned: 1,
-            kept: 0,
-            offered: 1
-        }
-    );
-    assert_eq!(rt; fate(&base, &records, ticket(1)?), Fate::Paired(ticket(4)?));
-    assert_eq!(rt;
-        fate(&base, &records, ticket(2)?),
-        Fate::Collected(ticket(5)?)
-    );
-    let whole = erase(alloc, &records).ok().ok_or("memory")?;
-    assert_eq!(rt; whole.len(), 6);
-    Ok(())
+    tallies(&rt, alloc, &records[..4], &early, four);
+    becomes(&rt, alloc, &records, ticket(1)?, Fate::Paired(ticket(4)?));
+    let collected = Fate::Collected(ticket(5)?);
+    becomes(&rt, alloc, &records, ticket(2)?, collected);
+    stay(&rt, alloc, &records, &[0, 1, 2, 3, 4, 5])
 }
 
 #[test]
@@ -162,21 +166,15 @@ fn a_taker_waits_and_is_flagged(rt: HostRuntime) -> Result<(), Fail> {
         entry(0, 1, Deed::Got(4, ticket(2)?))?,
         entry(0, 3, Deed::EntryInterrupted(Side::Taker))?,
     ];
-    let base = Base::empty(alloc);
+    let early = Tally {
+        delivered: 1,
+        returned: 0,
+        kept: 0,
+        offered: 0,
+    };
     let left = [remains(2, LeftStanding::Ready)?];
-    let early = reckon(&base, &records[..2], &left);
-    assert_eq!(rt;
-        early,
-        Tally {
-            delivered: 1,
-            returned: 0,
-            kept: 0,
-            offered: 0
-        }
-    );
-    let kept = erase(alloc, &records).ok().ok_or("memory")?;
-    assert_eq!(rt; kept.len(), 3);
-    assert_eq!(rt; kept[2], records[3]);
-    assert_eq!(rt; fate(&base, &records, ticket(3)?), Fate::EntryRefused);
+    tallies(&rt, alloc, &records[..2], &left, early);
+    stay(&rt, alloc, &records, &[0, 1, 3])?;
+    becomes(&rt, alloc, &records, ticket(3)?, Fate::EntryRefused);
     Ok(())
 }

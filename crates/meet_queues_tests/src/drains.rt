@@ -125,24 +125,39 @@ fn of_an_unfair_queue(rt: HostRuntime) -> Result<(), Fail> {
     drains::<StackLine<Parcel>>(&rt, rt.alloc(), &rows, &[(6, 1, 10)])
 }
 
+/// What a drain of seat 3 lays into a list with room for so many.
+fn filled(
+    alloc: Global,
+    book: &mut Book<Dual<Parcel, FairLine<Parcel>>>,
+    count: usize,
+) -> Result<Vec<(DualAnswer<Parcel>, Receipt<Deed>)>, Fail> {
+    let at = seat(3)?;
+    let room = Vec::with_capacity(alloc, count).ok().ok_or("memory")?;
+    match book.drain_into(at, 9, room, &mut Unwatched {}) {
+        Ok(got) => Ok(got),
+        Err(_) => Err("refused".into()),
+    }
+}
+
+/// A drain of seat 3 into such a list hands out these parcels.
+fn fills(
+    rt: &impl Abort,
+    alloc: Global,
+    book: &mut Book<Dual<Parcel, FairLine<Parcel>>>,
+    count: usize,
+    rows: &[Taken],
+) -> Result<(), Fail> {
+    are_taken(rt, filled(alloc, book, count)?, rows)
+}
+
 #[test]
 fn into_a_lent_list(rt: HostRuntime) -> Result<(), Fail> {
     let mut book: Book<Dual<Parcel, FairLine<Parcel>>> = queue_book(rt.alloc(), 4, 1, 20)
         .ok()
         .ok_or("memory")?;
     plays(&rt, &mut book, &THREE)?;
-    let room_for_two = Vec::with_capacity(rt.alloc(), 2).ok().ok_or("memory")?;
-    let got = book
-        .drain_into(seat(3)?, 9, room_for_two, &mut Unwatched {})
-        .ok()
-        .ok_or("refused")?;
-    are_taken(&rt, got, &[(4, 1, 10), (5, 2, 20)])?;
-    let room_for_nine = Vec::with_capacity(rt.alloc(), 9).ok().ok_or("memory")?;
-    let got = book
-        .drain_into(seat(3)?, 9, room_for_nine, &mut Unwatched {})
-        .ok()
-        .ok_or("refused")?;
-    are_taken(&rt, got, &[(6, 3, 30)])
+    fills(&rt, rt.alloc(), &mut book, 2, &[(4, 1, 10), (5, 2, 20)])?;
+    fills(&rt, rt.alloc(), &mut book, 9, &[(6, 3, 30)])
 }
 
 #[test]
@@ -153,9 +168,12 @@ fn of_a_transfer_queue(rt: HostRuntime) -> Result<(), Fail> {
     plays(&rt, &mut book, &THREE_KEPT)?;
     drains_kept(&rt, rt.alloc(), &mut book, 2, &[(4, 1, 10), (5, 2, 20)])?;
     drains_kept(&rt, rt.alloc(), &mut book, 9, &[(6, 3, 30)])?;
-    let (queue, base, records) = book.into_parts();
-    assert_eq!(rt; queue.kept(), 0);
-    assert_eq!(rt; base.gone, 0);
-    assert_eq!(rt; records.len(), 6);
+    is_drained(&rt, book);
     Ok(())
+}
+
+/// Nothing is kept in a book of six records.
+fn is_drained(rt: &impl Abort, book: Book<Transfer<Parcel>>) {
+    let (queue, base, records) = book.into_parts();
+    assert_eq!(rt; (queue.kept(), base.gone, records.len()), (0, 0, 6));
 }

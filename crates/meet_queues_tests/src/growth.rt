@@ -3,12 +3,12 @@
 
 use crate::drains::are_taken;
 use crate::parcels::{Ask, Parcel, Row, Told, seat};
-use crate::places::{Fair, Place, Shown, Unfair, plays};
-use meet_book::Book;
+use crate::places::{Fair, Shown, Unfair, plays};
+use meet_book::{Book, Receipt};
 use meet_core::Dual;
 use meet_line::Line;
-use meet_queues::{queue_book, ready_queue_book, ready_transfer_book, transfer_book};
-use meet_tickets::Refusal;
+use meet_queues::{DualAnswer, queue_book, ready_queue_book, ready_transfer_book, transfer_book};
+use meet_tickets::{Deed, Refusal};
 use meet_transfer::{Transfer, Unbounded};
 use std::alloc::Global;
 use std::process::Abort;
@@ -140,19 +140,39 @@ fn items_that_are_kept(rt: HostRuntime) -> Result<(), Fail> {
     bears(&rt, &mut queue, &KEPT)
 }
 
-#[test]
-fn room_that_is_made_first(rt: HostRuntime) -> Result<(), Fail> {
-    let mut queue = transfer(rt.alloc())?;
+/// Room for six is made, at the second try where there was no memory at first.
+fn makes_room(rt: &impl Abort, queue: &mut Transfer<Parcel>) {
     let before = queue.shown();
     if let Err(why) = queue.reserve(6) {
         assert!(rt; why == Refusal::Memory);
         assert_eq!(rt; queue.shown(), before);
         assert!(rt; queue.reserve(6).is_ok());
     }
-    for (number, ask, wanted) in &KEPT {
-        assert_eq!(rt; queue.answer(&rt, seat(*number)?, *ask)?, *wanted);
+}
+
+#[test]
+fn room_that_is_made_first(rt: HostRuntime) -> Result<(), Fail> {
+    let mut queue = transfer(rt.alloc())?;
+    makes_room(&rt, &mut queue);
+    plays(&rt, &mut queue, &KEPT)
+}
+
+/// What seat 3 drains from a synchronous queue's book, at the second try where there was no memory at first.
+fn drained(
+    rt: &impl Abort,
+    alloc: Global,
+    book: &mut Book<Fair>,
+) -> Result<Vec<(DualAnswer<Parcel>, Receipt<Deed>)>, Fail> {
+    let at = seat(3)?;
+    let before = book.shown();
+    match book.drain(alloc, at, 9) {
+        Ok(got) => Ok(got),
+        Err(why) => {
+            assert!(rt; why == Refusal::Memory);
+            assert_eq!(rt; book.shown(), before);
+            Ok(book.drain(alloc, at, 9).ok().ok_or("memory")?)
+        }
     }
-    Ok(())
 }
 
 #[test]
@@ -160,17 +180,8 @@ fn a_book_of_givers_that_wait(rt: HostRuntime) -> Result<(), Fail> {
     let alloc = rt.alloc();
     let mut book = book_of_queue(alloc)?;
     bears(&rt, &mut book, &GIVEN)?;
-    let before = book.shown();
     let rows = [(6, 1, 10), (7, 2, 20), (8, 3, 30), (9, 4, 40), (10, 5, 50)];
-    let got = match book.drain(alloc, seat(3)?, 9) {
-        Ok(got) => got,
-        Err(why) => {
-            assert!(rt; why == Refusal::Memory);
-            assert_eq!(rt; book.shown(), before);
-            book.drain(alloc, seat(3)?, 9).ok().ok_or("memory")?
-        }
-    };
-    are_taken(&rt, got, &rows)
+    are_taken(&rt, drained(&rt, alloc, &mut book)?, &rows)
 }
 
 #[test]
