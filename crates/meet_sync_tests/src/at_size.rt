@@ -117,9 +117,15 @@ fn bears<R: Abort + Wait>(rt: &R, alloc: Global, load: Load) -> Result<(), Fail>
     let parts = NewQueue { gates, blanks };
     let chronicle = loading::<Brand, _>(rt, alloc, parts, load)?;
     let calls = load.puts.saturating_add(load.polls);
-    assert_eq!(rt; chronicle.records.len() as u64, calls.saturating_add(load.drained));
+    assert_eq!(rt;
+        chronicle.records.len() as u64,
+        calls.saturating_add(load.drained)
+    );
     assert_eq!(rt; chronicle.lists.len() as u64, load.seats);
-    assert_eq!(rt; chronicle.left.len() as u64, load.puts.saturating_sub(load.drained));
+    assert_eq!(rt;
+        chronicle.left.len() as u64,
+        load.puts.saturating_sub(load.drained)
+    );
     Ok(())
 }
 

@@ -155,8 +155,18 @@ const TRANSFERRED: Timed = Timed {
 
 #[test]
 fn a_timed_offer_waits_for_a_poll(rt: HostRuntime) -> Result<(), Fail> {
-    meets(&rt, rt.alloc(), Order::Fair, given(Call::OfferFor(3, 50), 50))?;
-    meets(&rt, rt.alloc(), Order::Unfair, given(Call::OfferFor(3, 50), 50))
+    meets(
+        &rt,
+        rt.alloc(),
+        Order::Fair,
+        given(Call::OfferFor(3, 50), 50),
+    )?;
+    meets(
+        &rt,
+        rt.alloc(),
+        Order::Unfair,
+        given(Call::OfferFor(3, 50), 50),
+    )
 }
 
 /// Also where it is longer than a second.
