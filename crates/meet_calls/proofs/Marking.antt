@@ -1,19 +1,15 @@
 -- The moves of the rules are the same for items and for their marks.
-use Rattle.std.proofs.Common.{◌≡◌, ℕ, ◌+◌, ◌-◌, ◌==◌, refl, sym, ap, ◌∙◌, Bool, true, false, cond, Option, Some, None, is_some, not, List, [], ◌∷◌, map, length, take, slice_get, find}
+use Rattle.std.proofs.Common.{◌≡◌, ℕ, ◌+◌, ◌==◌, refl, sym, ap, ◌∙◌, Bool, true, false, cond, Option, Some, None, not, List, [], ◌∷◌, map}
 use Rattle.std.specs.Prelude.{option_map}
 use Rattle.std.proofs.Math.Path.{fun_ext}
-use Rattle.std.proofs.lemmas.List.{map-append, take-map, drop-map, length-map}
-use Rattle.std.proofs.lemmas.Option.{slice_get-map}
+use Rattle.std.proofs.lemmas.List.{map-append}
 use Rattle.meet_tickets.specs.declared.lines.Entry.{Entry}
 use Rattle.meet_tickets.specs.declared.lines.Hold.{Hold}
 use Rattle.meet_tickets.specs.declared.lines.Hold.TheVariants.{Free, Waiting, Handed, Served, Cut}
-use Rattle.meet_tickets.specs.declared.places.Side.{Side}
-use Rattle.meet_tickets.specs.declared.places.Side.TheVariants.{Giver, Taker}
 use Rattle.meet_tickets.specs.declared.places.End.{End}
-use Rattle.meet_tickets.specs.declared.places.End.TheVariants.{Front, Back}
 use Rattle.std.proofs.lemmas.List.Sums.{sum_by-cons}
-use Rattle.meet_tickets.specs.Meeting.{is_on, met, partner, kept_count}
-use Rattle.meet_tickets.specs.BySeat.{Seats, put_at, unmet, without_first, entry_of, queued, paired, paired_hold, released, left, cut_off}
+use Rattle.meet_tickets.specs.Meeting.{kept_count}
+use Rattle.meet_tickets.specs.BySeat.{Seats, put_at, entry_of, queued, paired, paired_hold, released, left, cut_off}
 use Rattle.meet_line.specs.Seen.{marked_entry, marked_hold, marked}
 use Rattle.meet_line.proofs.Marks.{unmet-marked, find-marked, without-marked}
 
