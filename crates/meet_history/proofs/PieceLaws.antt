@@ -105,6 +105,23 @@ few-more k line e few kept = ⊎_elim
     by_bound None is = tt
     by_bound (Some most) is = omega (arith, ltb-true (kept_count line) most is)
 
+-- what a base with an entry more names, and what its seats hold
+line-names : (gone last : ℕ) (line : List (Entry ℕ)) (e : Entry ℕ) → named_in (line_base gone last (line ++ e ∷ [])) ≡ named_in (line_base gone last line) ++ e.ticket ∷ []
+line-names gone last line e =
+    append-nil (map (λ f. f.ticket) (line ++ e ∷ [])) ∙ map-append (λ f. f.ticket) line (e ∷ []) ∙ ap (λ ns. ns ++ e.ticket ∷ []) (sym (append-nil (map (λ f. f.ticket) line)))
+
+line-held : (gone last : ℕ) (line : List (Entry ℕ)) (e : Entry ℕ) (w : Bool) → e.waits ≡ w → held_in (line_base gone last (line ++ e ∷ [])) ≡ held_in (line_base gone last line) ++ cond w (waiting_held e ∷ []) []
+line-held gone last line e w is =
+    append-nil (map waiting_held (filter (λ f. f.waits) (line ++ e ∷ [])))
+    ∙ (ap (map waiting_held) (filter-append (λ f. f.waits) line (e ∷ []))
+    ∙ (map-append waiting_held (filter (λ f. f.waits) line) (filter (λ f. f.waits) (e ∷ []))
+    ∙ (ap (λ hs. hs ++ map waiting_held (filter (λ f. f.waits) (e ∷ []))) (sym (append-nil (map waiting_held (filter (λ f. f.waits) line))))
+    ∙ ap (λ hs. (map waiting_held (filter (λ f. f.waits) line) ++ []) ++ hs) (one e.waits ∙ ap (λ v. cond v (waiting_held e ∷ []) []) is))))
+  where
+    one : (v : Bool) → map waiting_held (cond v (e ∷ []) []) ≡ cond v (waiting_held e ∷ []) []
+    one true = refl
+    one false = refl
+
 -- an entry more
 line-well : (k : Kind) (gone last : ℕ) (line : List (Entry ℕ)) (e : Entry ℕ) → IsWellFormed k (line_base gone last line) → entry_fits k (line_base gone last line) e ≡ true → IsWellFormed k (line_base gone last (line ++ e ∷ []))
 line-well k gone last line e well is =
@@ -114,8 +131,7 @@ line-well k gone last line e well is =
     let rest = and_parts (is_new b e.ticket) (if e.waits then is_unheld b e.seat else (is_some e.item && keeps_more k line)) side.1 in
     let kept : e.waits ≡ false → (is_some e.item && keeps_more k line) ≡ true = λ stays. subst (λ w. (if w then is_unheld b e.seat else (is_some e.item && keeps_more k line)) ≡ true) stays rest.1 in
     let unheld : e.waits ≡ true → is_unheld b e.seat ≡ true = λ waits. subst (λ w. (if w then is_unheld b e.seat else (is_some e.item && keeps_more k line)) ≡ true) waits rest.1 in
-    let names = one-named b e.ticket (named_in (line_base gone last (line ++ e ∷ []))) (names-of k b well) rest.0
-    (append-nil (map (λ f. f.ticket) (line ++ e ∷ [])) ∙ map-append (λ f. f.ticket) line (e ∷ []) ∙ ap (λ ns. ns ++ e.ticket ∷ []) (sym (append-nil (map (λ f. f.ticket) line)))) in
+    let names = one-named b e.ticket (named_in (line_base gone last (line ++ e ∷ []))) (names-of k b well) rest.0 (line-names gone last line e) in
     record {
       one_side = all_pairs_push (λ f g. is_some f.item ≡ is_some g.item) line e well.one_side (λ j d lt. same-side (is_some (get_or line j d).item) (is_some e.item) (passes (λ f. if is_some f.item then is_some e.item else not (is_some e.item)) line side.0 j d lt));
       line_rises = rises-more (λ f. f.ticket) line e well.line_rises rises.0;
@@ -129,23 +145,32 @@ line-well k gone last line e well is =
       apart = names.0;
       named = names.1;
       seats = ⊎_elim
-          (λ (waits : e.waits ≡ true). one-held b (waiting_held e) (held_in (line_base gone last (line ++ e ∷ []))) well.seats (unheld waits) (held-line true waits))
-          (λ (stays : e.waits ≡ false). subst (AllPairs (λ (g f : Held). g.seat ≢ f.seat)) (sym (held-line false stays ∙ append-nil (held_in b))) well.seats)
+          (λ (waits : e.waits ≡ true). one-held b (waiting_held e) (held_in (line_base gone last (line ++ e ∷ []))) well.seats (unheld waits) (line-held gone last line e true waits))
+          (λ (stays : e.waits ≡ false). subst (AllPairs (λ (g f : Held). g.seat ≢ f.seat)) (sym (line-held gone last line e false stays ∙ append-nil (held_in b))) well.seats)
           (cases_Bool e.waits);
       unflagged = All-push (λ f. f.waits ≡ true → Contains [] f.seat → ⊥) line e well.unflagged (λ waits flagged. Contains-nil e.seat flagged);
     }
-  where
-    held-line : (w : Bool) → e.waits ≡ w → held_in (line_base gone last (line ++ e ∷ [])) ≡ held_in (line_base gone last line) ++ cond w (waiting_held e ∷ []) []
-    held-line w is =
-        append-nil (map waiting_held (filter (λ f. f.waits) (line ++ e ∷ [])))
-        ∙ (ap (map waiting_held) (filter-append (λ f. f.waits) line (e ∷ []))
-        ∙ (map-append waiting_held (filter (λ f. f.waits) line) (filter (λ f. f.waits) (e ∷ []))
-        ∙ (ap (λ hs. hs ++ map waiting_held (filter (λ f. f.waits) (e ∷ []))) (sym (append-nil (map waiting_held (filter (λ f. f.waits) line))))
-        ∙ ap (λ hs. (map waiting_held (filter (λ f. f.waits) line) ++ []) ++ hs) (one e.waits ∙ ap (λ v. cond v (waiting_held e ∷ []) []) is))))
-      where
-        one : (v : Bool) → map waiting_held (cond v (e ∷ []) []) ≡ cond v (waiting_held e ∷ []) []
-        one true = refl
-        one false = refl
+
+-- the same with one more that was met
+module _ (gone last : ℕ) (line : List (Entry ℕ)) (pairs : List OpenPair) (p : OpenPair) where
+  -- a base of nothing but a line and pairs
+  abbrev pairs_base : Based
+  pairs_base = record { gone = gone; last = last; line = line; pairs = pairs; cut = []; flags = [] }
+
+  pair-names : named_in (with_piece pairs_base (Met p)) ≡ named_in pairs_base ++ p.ticket ∷ p.partner ∷ []
+  pair-names =
+      let told : OpenPair → List ℕ = λ q. q.ticket ∷ q.partner ∷ [] in
+      let tickets = map (λ (e : Entry ℕ). e.ticket) line in
+      ap (λ ns. tickets ++ ns) (append-nil (flat_map told (pairs ++ p ∷ [])) ∙ flat_map-append told pairs (p ∷ []))
+      ∙ (sym (append_assoc tickets (flat_map told pairs) (p.ticket ∷ p.partner ∷ []))
+      ∙ ap (λ ns. (tickets ++ ns) ++ p.ticket ∷ p.partner ∷ []) (sym (append-nil (flat_map told pairs))))
+
+  pair-held : held_in (with_piece pairs_base (Met p)) ≡ held_in pairs_base ++ paired_held p ∷ []
+  pair-held =
+      let waiting = map waiting_held (filter (λ (e : Entry ℕ). e.waits) line) in
+      ap (λ hs. waiting ++ hs) (append-nil (map paired_held (pairs ++ p ∷ [])) ∙ map-append paired_held pairs (p ∷ []))
+      ∙ (sym (append_assoc waiting (map paired_held pairs) (paired_held p ∷ []))
+      ∙ ap (λ hs. (waiting ++ hs) ++ paired_held p ∷ []) (sym (append-nil (map paired_held pairs))))
 
 -- an open ticket more that was met
 pair-well : (k : Kind) (gone last : ℕ) (line : List (Entry ℕ)) (pairs : List OpenPair) (p : OpenPair) → let b : Based = record { gone = gone; last = last; line = line; pairs = pairs; cut = []; flags = [] } in IsWellFormed k b → pair_fits b p ≡ true → IsWellFormed k (with_piece b (Met p))
@@ -155,13 +180,7 @@ pair-well k gone last line pairs p well is =
     let first = and_parts (is_new b p.ticket) _ rises.1 in
     let second = and_parts (is_new b p.partner) _ first.1 in
     let other = and_parts (not (p.ticket == p.partner)) (is_unheld b p.seat) second.1 in
-    let told : OpenPair → List ℕ = λ q. q.ticket ∷ q.partner ∷ [] in
-    let tickets = map (λ (e : Entry ℕ). e.ticket) line in
-    let names = two-named b p.ticket p.partner (named_in (with_piece b (Met p))) (names-of k b well) first.0 second.0 other.0
-    (ap (λ ns. tickets ++ ns) (append-nil (flat_map told (pairs ++ p ∷ [])) ∙ flat_map-append told pairs (p ∷ []))
-    ∙ (sym (append_assoc tickets (flat_map told pairs) (p.ticket ∷ p.partner ∷ []))
-    ∙ ap (λ ns. (tickets ++ ns) ++ p.ticket ∷ p.partner ∷ []) (sym (append-nil (flat_map told pairs))))) in
-    let waiting = map waiting_held (filter (λ (e : Entry ℕ). e.waits) line) in
+    let names = two-named b p.ticket p.partner (named_in (with_piece b (Met p))) (names-of k b well) first.0 second.0 other.0 (pair-names gone last line pairs p) in
     record {
       one_side = well.one_side;
       line_rises = well.line_rises;
@@ -172,12 +191,27 @@ pair-well k gone last line pairs p well is =
       flags_rise = well.flags_rise;
       apart = names.0;
       named = names.1;
-      seats = one-held b (paired_held p) (held_in (with_piece b (Met p))) well.seats other.1
-          (ap (λ hs. waiting ++ hs) (append-nil (map paired_held (pairs ++ p ∷ [])) ∙ map-append paired_held pairs (p ∷ []))
-          ∙ (sym (append_assoc waiting (map paired_held pairs) (paired_held p ∷ []))
-          ∙ ap (λ hs. (waiting ++ hs) ++ paired_held p ∷ []) (sym (append-nil (map paired_held pairs)))));
+      seats = one-held b (paired_held p) (held_in (with_piece b (Met p))) well.seats other.1 (pair-held gone last line pairs p);
       unflagged = well.unflagged;
     }
+
+-- the same with one more that was cut
+module _ (b : Based) (c : OpenCut) where
+  cut-names : named_in (with_piece b (Cut c)) ≡ named_in b ++ c.ticket ∷ []
+  cut-names =
+      let tickets = map (λ (e : Entry ℕ). e.ticket) b.line in
+      let met = flat_map (λ (q : OpenPair). q.ticket ∷ q.partner ∷ []) b.pairs in
+      let cuts = map (λ (d : OpenCut). d.ticket) b.cut in
+      ap (λ ns. tickets ++ (met ++ ns)) (map-append (λ (d : OpenCut). d.ticket) b.cut (c ∷ []))
+      ∙ (ap (λ ns. tickets ++ ns) (sym (append_assoc met cuts (c.ticket ∷ [])))
+      ∙ sym (append_assoc tickets (met ++ cuts) (c.ticket ∷ [])))
+
+  cut-held : held_in (with_piece b (Cut c)) ≡ held_in b ++ cut_held c ∷ []
+  cut-held =
+      let waiting = map waiting_held (filter (λ (e : Entry ℕ). e.waits) b.line) in
+      ap (λ hs. waiting ++ (map paired_held b.pairs ++ hs)) (map-append cut_held b.cut (c ∷ []))
+      ∙ (ap (λ hs. waiting ++ hs) (sym (append_assoc (map paired_held b.pairs) (map cut_held b.cut) (cut_held c ∷ [])))
+      ∙ sym (append_assoc waiting (map paired_held b.pairs ++ map cut_held b.cut) (cut_held c ∷ [])))
 
 -- one more that was cut
 cut-well : (k : Kind) (gone last : ℕ) (line : List (Entry ℕ)) (pairs : List OpenPair) (cut : List OpenCut) (c : OpenCut) → let b : Based = record { gone = gone; last = last; line = line; pairs = pairs; cut = cut; flags = [] } in IsWellFormed k b → cut_fits b c ≡ true → IsWellFormed k (with_piece b (Cut c))
@@ -185,14 +219,7 @@ cut-well k gone last line pairs cut c well is =
     let b : Based = record { gone = gone; last = last; line = line; pairs = pairs; cut = cut; flags = [] } in
     let rises = and_parts (list_all (λ d. nat_lt d.ticket c.ticket) cut) _ is in
     let rest = and_parts (is_new b c.ticket) (is_unheld b c.seat) rises.1 in
-    let tickets = map (λ (e : Entry ℕ). e.ticket) line in
-    let met = flat_map (λ (q : OpenPair). q.ticket ∷ q.partner ∷ []) pairs in
-    let cuts = map (λ (d : OpenCut). d.ticket) cut in
-    let names = one-named b c.ticket (named_in (with_piece b (Cut c))) (names-of k b well) rest.0
-    (ap (λ ns. tickets ++ (met ++ ns)) (map-append (λ (d : OpenCut). d.ticket) cut (c ∷ []))
-    ∙ (ap (λ ns. tickets ++ ns) (sym (append_assoc met cuts (c.ticket ∷ [])))
-    ∙ sym (append_assoc tickets (met ++ cuts) (c.ticket ∷ [])))) in
-    let waiting = map waiting_held (filter (λ (e : Entry ℕ). e.waits) line) in
+    let names = one-named b c.ticket (named_in (with_piece b (Cut c))) (names-of k b well) rest.0 (cut-names b c) in
     record {
       one_side = well.one_side;
       line_rises = well.line_rises;
@@ -203,10 +230,7 @@ cut-well k gone last line pairs cut c well is =
       flags_rise = well.flags_rise;
       apart = names.0;
       named = names.1;
-      seats = one-held b (cut_held c) (held_in (with_piece b (Cut c))) well.seats rest.1
-          (ap (λ hs. waiting ++ (map paired_held pairs ++ hs)) (map-append cut_held cut (c ∷ []))
-          ∙ (ap (λ hs. waiting ++ hs) (sym (append_assoc (map paired_held pairs) (map cut_held cut) (cut_held c ∷ [])))
-          ∙ sym (append_assoc waiting (map paired_held pairs ++ map cut_held cut) (cut_held c ∷ []))));
+      seats = one-held b (cut_held c) (held_in (with_piece b (Cut c))) well.seats rest.1 (cut-held b c);
       unflagged = well.unflagged;
     }
 
@@ -345,19 +369,8 @@ line-only k gone last line e well =
 pair-only : (k : Kind) (gone last : ℕ) (line : List (Entry ℕ)) (pairs : List OpenPair) (p : OpenPair) → let b : Based = record { gone = gone; last = last; line = line; pairs = pairs; cut = []; flags = [] } in IsWellFormed k (with_piece b (Met p)) → pair_fits b p ≡ true
 pair-only k gone last line pairs p well =
     let b : Based = record { gone = gone; last = last; line = line; pairs = pairs; cut = []; flags = [] } in
-    let told : OpenPair → List ℕ = λ q. q.ticket ∷ q.partner ∷ [] in
-    let tickets = map (λ (e : Entry ℕ). e.ticket) line in
-    let names : named_in (with_piece b (Met p)) ≡ named_in b ++ p.ticket ∷ p.partner ∷ [] =
-    ap (λ ns. tickets ++ ns) (append-nil (flat_map told (pairs ++ p ∷ [])) ∙ flat_map-append told pairs (p ∷ []))
-    ∙ (sym (append_assoc tickets (flat_map told pairs) (p.ticket ∷ p.partner ∷ []))
-    ∙ ap (λ ns. (tickets ++ ns) ++ p.ticket ∷ p.partner ∷ []) (sym (append-nil (flat_map told pairs)))) in
-    let waiting = map waiting_held (filter (λ (e : Entry ℕ). e.waits) line) in
-    let held : held_in (with_piece b (Met p)) ≡ held_in b ++ paired_held p ∷ [] =
-    ap (λ hs. waiting ++ hs) (append-nil (map paired_held (pairs ++ p ∷ [])) ∙ map-append paired_held pairs (p ∷ []))
-    ∙ (sym (append_assoc waiting (map paired_held pairs) (paired_held p ∷ []))
-    ∙ ap (λ hs. (waiting ++ hs) ++ paired_held p ∷ []) (sym (append-nil (map paired_held pairs)))) in
     -- the names but the partner, and then the names with the partner
-    let all : AreNames last ((named_in b ++ p.ticket ∷ []) ++ p.partner ∷ []) = subst (AreNames last) (names ∙ sym (append_assoc (named_in b) (p.ticket ∷ []) (p.partner ∷ []))) (well.apart, well.named) in
+    let all : AreNames last ((named_in b ++ p.ticket ∷ []) ++ p.partner ∷ []) = subst (AreNames last) (pair-names gone last line pairs p ∙ sym (append_assoc (named_in b) (p.ticket ∷ []) (p.partner ∷ []))) (well.apart, well.named) in
     let first : AreNames last (named_in b ++ p.ticket ∷ []) = (pairs-front (λ t u. t ≢ u) (named_in b ++ p.ticket ∷ []) p.partner all.0, all-front (λ t. (1 ≤ t) × (t ≤ last)) (named_in b ++ p.ticket ∷ []) p.partner all.1) in
     let none : list_any (λ u. u == p.partner) (named_in b ++ p.ticket ∷ []) ≡ false = apart-only (λ u. u) (named_in b ++ p.ticket ∷ []) p.partner all.0 in
     let parts = or_parts (list_any (λ u. u == p.partner) (named_in b)) (p.ticket == p.partner || false) (sym (list_any-append (λ u. u == p.partner) (named_in b) (p.ticket ∷ [])) ∙ none) in
@@ -366,26 +379,14 @@ pair-only k gone last line pairs p well =
     (both _ _ (new-only b p.ticket first)
     (both _ _ (both _ _ (le-leb 1 p.partner within.0) (both _ _ (le-leb p.partner last within.1) (not_from_false (list_any (λ u. u == p.partner) (named_in b)) parts.0)))
     (both _ _ (not_from_false (p.ticket == p.partner) ((or_parts (p.ticket == p.partner) false parts.1).0))
-    (unheld-only b (paired_held p) (held_in (with_piece b (Met p))) held well.seats))))
+    (unheld-only b (paired_held p) (held_in (with_piece b (Met p))) (pair-held gone last line pairs p) well.seats))))
 
 cut-only : (k : Kind) (gone last : ℕ) (line : List (Entry ℕ)) (pairs : List OpenPair) (cut : List OpenCut) (c : OpenCut) → let b : Based = record { gone = gone; last = last; line = line; pairs = pairs; cut = cut; flags = [] } in IsWellFormed k (with_piece b (Cut c)) → cut_fits b c ≡ true
 cut-only k gone last line pairs cut c well =
     let b : Based = record { gone = gone; last = last; line = line; pairs = pairs; cut = cut; flags = [] } in
-    let tickets = map (λ (e : Entry ℕ). e.ticket) line in
-    let met = flat_map (λ (q : OpenPair). q.ticket ∷ q.partner ∷ []) pairs in
-    let cuts = map (λ (d : OpenCut). d.ticket) cut in
-    let names : named_in (with_piece b (Cut c)) ≡ named_in b ++ c.ticket ∷ [] =
-    ap (λ ns. tickets ++ (met ++ ns)) (map-append (λ (d : OpenCut). d.ticket) cut (c ∷ []))
-    ∙ (ap (λ ns. tickets ++ ns) (sym (append_assoc met cuts (c.ticket ∷ [])))
-    ∙ sym (append_assoc tickets (met ++ cuts) (c.ticket ∷ []))) in
-    let waiting = map waiting_held (filter (λ (e : Entry ℕ). e.waits) line) in
-    let held : held_in (with_piece b (Cut c)) ≡ held_in b ++ cut_held c ∷ [] =
-    ap (λ hs. waiting ++ (map paired_held pairs ++ hs)) (map-append cut_held cut (c ∷ []))
-    ∙ (ap (λ hs. waiting ++ hs) (sym (append_assoc (map paired_held pairs) (map cut_held cut) (cut_held c ∷ [])))
-    ∙ sym (append_assoc waiting (map paired_held pairs ++ map cut_held cut) (cut_held c ∷ []))) in
     both _ _ (rises-only (λ d. d.ticket) cut c well.cut_rises)
-    (both _ _ (new-only b c.ticket (subst (AreNames last) names (well.apart, well.named)))
-    (unheld-only b (cut_held c) (held_in (with_piece b (Cut c))) held well.seats))
+    (both _ _ (new-only b c.ticket (subst (AreNames last) (cut-names b c) (well.apart, well.named)))
+    (unheld-only b (cut_held c) (held_in (with_piece b (Cut c))) (cut-held b c) well.seats))
 
 flag-only : (k : Kind) (b : Based) (i : ℕ) → IsWellFormed k (with_piece b (Flagged i)) → flag_fits b i ≡ true
 flag-only k b i well =
@@ -401,7 +402,7 @@ flag-only k b i well =
         by true waits = ne_eqb e.seat i (λ same. not_there waits (subst (λ j. Contains (b.flags ++ i ∷ []) j) (sym same) (Contains-push b.flags i)))
         by false stays = refl
 
-nil-of : {A : Type 0} (xs : List A) → is_nil xs ≡ true → xs ≡ []
+pub nil-of : {A : Type 0} (xs : List A) → is_nil xs ≡ true → xs ≡ []
 nil-of [] is = refl
 nil-of (x ∷ xs) is = let clash : true ≡ false = sym is in absurd (cc)
 
@@ -420,6 +421,104 @@ follows-only k b (Stands e) well order =
     let parts = and_parts (is_nil b.cut) (is_nil b.flags) first.1 in
     let same : b ≡ line_base b.gone b.last b.line = λ i. record b { pairs = nil-of b.pairs first.0 i; cut = nil-of b.cut parts.0 i; flags = nil-of b.flags parts.1 i } in
     both _ _ order (subst (λ x. entry_fits k x e ≡ true) (sym same) (line-only k b.gone b.last b.line e (subst (λ x. IsWellFormed k (with_piece x (Stands e))) same well)))
+
+-- ---- and without it
+
+module _ (k : Kind) where
+  few-front : (line : List (Entry ℕ)) (e : Entry ℕ) → MatchOption k.bound ⊤ (λ most. kept_count (line ++ e ∷ []) ≤ most) → MatchOption k.bound ⊤ (λ most. kept_count line ≤ most)
+  few-front line e few = by_bound k.bound few
+    where
+      fewer : kept_count line ≤ kept_count (line ++ e ∷ [])
+      fewer = ⊎_elim
+          (λ (waits : e.waits ≡ true). omega (arith, kept-queued line e waits))
+          (λ (stays : e.waits ≡ false). omega (arith, kept-kept line e stays))
+          (cases_Bool e.waits)
+
+      by_bound : (bound : Option ℕ) → MatchOption bound ⊤ (λ most. kept_count (line ++ e ∷ []) ≤ most) → MatchOption bound ⊤ (λ most. kept_count line ≤ most)
+      by_bound None few = tt
+      by_bound (Some most) few = omega (arith, few, fewer)
+
+  line-front : (gone last : ℕ) (line : List (Entry ℕ)) (e : Entry ℕ) → IsWellFormed k (line_base gone last (line ++ e ∷ [])) → IsWellFormed k (line_base gone last line)
+  line-front gone last line e well =
+      let b = line_base gone last line in
+      record {
+        one_side = pairs-front (λ f g. is_some f.item ≡ is_some g.item) line e well.one_side;
+        line_rises = pairs-front (λ f g. f.ticket < g.ticket) line e well.line_rises;
+        kept = all-front (MayStand k) line e well.kept;
+        few = few-front line e well.few;
+        pairs_rise = well.pairs_rise;
+        cut_rises = well.cut_rises;
+        flags_rise = well.flags_rise;
+        apart = pairs-front (λ t u. t ≢ u) (named_in b) e.ticket (subst (AllPairs (λ t u. t ≢ u)) (line-names gone last line e) well.apart);
+        named = all-front (λ t. (1 ≤ t) × (t ≤ last)) (named_in b) e.ticket (subst (All (λ t. (1 ≤ t) × (t ≤ last))) (line-names gone last line e) well.named);
+        seats = ⊎_elim
+            (λ (waits : e.waits ≡ true). pairs-front (λ (g f : Held). g.seat ≢ f.seat) (held_in b) (waiting_held e) (subst (AllPairs (λ (g f : Held). g.seat ≢ f.seat)) (line-held gone last line e true waits) well.seats))
+            (λ (stays : e.waits ≡ false). subst (AllPairs (λ (g f : Held). g.seat ≢ f.seat)) (line-held gone last line e false stays ∙ append-nil (held_in b)) well.seats)
+            (cases_Bool e.waits);
+        unflagged = all-front (λ f. f.waits ≡ true → Contains [] f.seat → ⊥) line e well.unflagged;
+      }
+
+  pair-front : (gone last : ℕ) (line : List (Entry ℕ)) (pairs : List OpenPair) (p : OpenPair) → IsWellFormed k (with_piece (pairs_base gone last line pairs p) (Met p)) → IsWellFormed k (pairs_base gone last line pairs p)
+  pair-front gone last line pairs p well =
+      let b = pairs_base gone last line pairs p in
+      let all : AreNames last ((named_in b ++ p.ticket ∷ []) ++ p.partner ∷ []) = subst (AreNames last) (pair-names gone last line pairs p ∙ sym (append_assoc (named_in b) (p.ticket ∷ []) (p.partner ∷ []))) (well.apart, well.named) in
+      record {
+        one_side = well.one_side;
+        line_rises = well.line_rises;
+        kept = well.kept;
+        few = well.few;
+        pairs_rise = pairs-front (λ q r. q.ticket < r.ticket) pairs p well.pairs_rise;
+        cut_rises = well.cut_rises;
+        flags_rise = well.flags_rise;
+        apart = pairs-front (λ t u. t ≢ u) (named_in b) p.ticket (pairs-front (λ t u. t ≢ u) (named_in b ++ p.ticket ∷ []) p.partner all.0);
+        named = all-front (λ t. (1 ≤ t) × (t ≤ last)) (named_in b) p.ticket (all-front (λ t. (1 ≤ t) × (t ≤ last)) (named_in b ++ p.ticket ∷ []) p.partner all.1);
+        seats = pairs-front (λ (g f : Held). g.seat ≢ f.seat) (held_in b) (paired_held p) (subst (AllPairs (λ (g f : Held). g.seat ≢ f.seat)) (pair-held gone last line pairs p) well.seats);
+        unflagged = well.unflagged;
+      }
+
+  cut-front : (b : Based) (c : OpenCut) → IsWellFormed k (with_piece b (Cut c)) → IsWellFormed k b
+  cut-front b c well = record {
+    one_side = well.one_side;
+    line_rises = well.line_rises;
+    kept = well.kept;
+    few = well.few;
+    pairs_rise = well.pairs_rise;
+    cut_rises = pairs-front (λ d f. d.ticket < f.ticket) b.cut c well.cut_rises;
+    flags_rise = well.flags_rise;
+    apart = pairs-front (λ t u. t ≢ u) (named_in b) c.ticket (subst (AllPairs (λ t u. t ≢ u)) (cut-names b c) well.apart);
+    named = all-front (λ t. (1 ≤ t) × (t ≤ b.last)) (named_in b) c.ticket (subst (All (λ t. (1 ≤ t) × (t ≤ b.last))) (cut-names b c) well.named);
+    seats = pairs-front (λ (g f : Held). g.seat ≢ f.seat) (held_in b) (cut_held c) (subst (AllPairs (λ (g f : Held). g.seat ≢ f.seat)) (cut-held b c) well.seats);
+    unflagged = well.unflagged;
+  }
+
+  flag-front : (b : Based) (i : ℕ) → IsWellFormed k (with_piece b (Flagged i)) → IsWellFormed k b
+  flag-front b i well = record {
+    one_side = well.one_side;
+    line_rises = well.line_rises;
+    kept = well.kept;
+    few = well.few;
+    pairs_rise = well.pairs_rise;
+    cut_rises = well.cut_rises;
+    flags_rise = pairs-front (λ i j. i < j) b.flags i well.flags_rise;
+    apart = well.apart;
+    named = well.named;
+    seats = well.seats;
+    unflagged = All-weaker (λ e. e.waits ≡ true → Contains (b.flags ++ i ∷ []) e.seat → ⊥) (λ e. e.waits ≡ true → Contains b.flags e.seat → ⊥) (λ e none waits flagged. none waits (Contains-append_left b.flags (i ∷ []) e.seat flagged)) b.line well.unflagged;
+  }
+
+  -- a base is well formed where it is so with a piece in its order
+  pub front-well : (b : Based) (piece : Piece) → in_order b piece ≡ true → IsWellFormed k (with_piece b piece) → IsWellFormed k b
+  front-well b (Flagged i) order well = flag-front b i well
+  front-well b (Cut c) order well = cut-front b c well
+  front-well b (Met p) order well =
+      let parts = and_parts (is_nil b.cut) (is_nil b.flags) order in
+      let same : b ≡ record b { cut = []; flags = [] } = λ i. record b { cut = nil-of b.cut parts.0 i; flags = nil-of b.flags parts.1 i } in
+      subst (IsWellFormed k) (sym same) (pair-front b.gone b.last b.line b.pairs p (subst (λ x. IsWellFormed k (with_piece x (Met p))) same well))
+  front-well b (Stands e) order well =
+      let first = and_parts (is_nil b.pairs) (is_nil b.cut && is_nil b.flags) order in
+      let parts = and_parts (is_nil b.cut) (is_nil b.flags) first.1 in
+      let same : b ≡ line_base b.gone b.last b.line = λ i. record b { pairs = nil-of b.pairs first.0 i; cut = nil-of b.cut parts.0 i; flags = nil-of b.flags parts.1 i } in
+      subst (IsWellFormed k) (sym same) (line-front b.gone b.last b.line e (subst (λ x. IsWellFormed k (with_piece x (Stands e))) same well))
 
 -- a base of nothing but its numbers is well formed
 pub bare-well : (k : Kind) (gone last : ℕ) → IsWellFormed k (bare_base gone last)

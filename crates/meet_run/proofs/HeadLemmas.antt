@@ -17,7 +17,7 @@ use Rattle.meet_run.proofs.CallLemmas.{bind-some, chosen-second}
 use Rattle.meet_run.proofs.SetupLemmas.{option-is, order-is, bound-of, bound-tail, bound-again, place-no_space, order-again, may-of, option-short, place-short}
 
 -- a place's word, and its bound where there is one
-abbrev kind_text : Kind → List ℕ
+abbrev pub kind_text : Kind → List ℕ
 kind_text kind = place_text kind.order ++ option_text (codes " bound ") kind.bound
 
 -- ---- what is read is spelled
@@ -27,7 +27,7 @@ unfolding kind_at_end
 end-is order bound [] kind e = let p = cond_some (may_have order bound) (record { order = order; bound = bound }) kind e in (refl, p.0, p.1)
 end-is order bound (b ∷ rest) kind e = absurd cc
 
-kind_in-is : (text : List ℕ) (kind : Kind) → kind_in text ≡ Some kind → (text ≡ kind_text kind) × FitsBound kind.order kind.bound
+pub kind_in-is : (text : List ℕ) (kind : Kind) → kind_in text ≡ Some kind → (text ≡ kind_text kind) × FitsBound kind.order kind.bound
 unfolding kind_in
 kind_in-is text kind e =
     let o = bind-some (order_of (word_of text)) _ kind e in
@@ -50,7 +50,7 @@ head_in-is line kind e =
 
 -- ---- what is spelled is read
 
-kind_in-again : (kind : Kind) → FitsBound kind.order kind.bound → kind_in (kind_text kind) ≡ Some kind
+pub kind_in-again : (kind : Kind) → FitsBound kind.order kind.bound → kind_in (kind_text kind) ≡ Some kind
 unfolding kind_in kind_at_end
 kind_in-again kind h =
     let may = may-of kind.order kind.bound h in
@@ -61,7 +61,7 @@ head_in-again : (kind : Kind) → FitsBound kind.order kind.bound → head_in (h
 unfolding head_in behind
 head_in-again kind h = kind_in-again kind h
 
-head-short : (kind : Kind) → FitsBound kind.order kind.bound → length (head_text kind) ≤ 128
+pub head-short : (kind : Kind) → FitsBound kind.order kind.bound → length (head_text kind) ≤ 128
 head-short kind h =
     let p : List ℕ = place_text kind.order in
     let b : List ℕ = option_text (codes " bound ") kind.bound in

@@ -23,19 +23,19 @@ use Rattle.meet_run.proofs.RunLemmas.{ended-lines}
 use Rattle.meet_run.proofs.ScriptLemmas.{listed-fault}
 
 module _ (k : Kind) (b : Based) (n : ℕ) (line : List ℕ) (lines : List (List ℕ)) where
-  told-more : (piece : Piece) → piece_of line ≡ Some piece → may_follow k b piece ≡ true → told_from k b n (line ∷ lines) ≡ told_from k (with_piece b piece) (n + 1) lines
+  pub told-more : (piece : Piece) → piece_of line ≡ Some piece → may_follow k b piece ≡ true → told_from k b n (line ∷ lines) ≡ told_from k (with_piece b piece) (n + 1) lines
   unfolding told_from
   told-more piece is follows =
       ap (λ o. option_map_or (λ p. if may_follow k b p then told_from k (with_piece b p) (n + 1) lines else ill_at b n) o (records_told b n (line ∷ lines))) is
       ∙ ap (λ c. if c then told_from k (with_piece b piece) (n + 1) lines else ill_at b n) follows
 
-  told-ill : (piece : Piece) → piece_of line ≡ Some piece → may_follow k b piece ≡ false → told_from k b n (line ∷ lines) ≡ ill_at b n
+  pub told-ill : (piece : Piece) → piece_of line ≡ Some piece → may_follow k b piece ≡ false → told_from k b n (line ∷ lines) ≡ ill_at b n
   unfolding told_from
   told-ill piece is clash =
       ap (λ o. option_map_or (λ p. if may_follow k b p then told_from k (with_piece b p) (n + 1) lines else ill_at b n) o (records_told b n (line ∷ lines))) is
       ∙ ap (λ c. if c then told_from k (with_piece b piece) (n + 1) lines else ill_at b n) clash
 
-  told-other : piece_of line ≡ None → told_from k b n (line ∷ lines) ≡ records_told b n (line ∷ lines)
+  pub told-other : piece_of line ≡ None → told_from k b n (line ∷ lines) ≡ records_told b n (line ∷ lines)
   unfolding told_from
   told-other is =
       ap (λ o. option_map_or (λ p. if may_follow k b p then told_from k (with_piece b p) (n + 1) lines else ill_at b n) o (records_told b n (line ∷ lines))) is
@@ -51,7 +51,7 @@ module _ (k : Kind) (b : Based) (n : ℕ) (line : List ℕ) (lines : List (List 
       either o true = refl
       either o false = refl
 
-told-end : (k : Kind) (b : Based) (n : ℕ) → told_from k b n [] ≡ record { base = b; records = []; fault = None }
+pub told-end : (k : Kind) (b : Based) (n : ℕ) → told_from k b n [] ≡ record { base = b; records = []; fault = None }
 unfolding told_from
 told-end k b n = refl
 
@@ -110,15 +110,15 @@ piece-gone b (Flagged i) = refl
 -- ---- behind a first line
 
 module _ (k : Kind) where
-  behind-more : (line : List ℕ) (lines : List (List ℕ)) (numbers : ℕ × ℕ) → numbers_of line ≡ Some numbers → told_behind k (line ∷ lines) ≡ told_from k (bare_base numbers.0 numbers.1) 3 lines
+  pub behind-more : (line : List ℕ) (lines : List (List ℕ)) (numbers : ℕ × ℕ) → numbers_of line ≡ Some numbers → told_behind k (line ∷ lines) ≡ told_from k (bare_base numbers.0 numbers.1) 3 lines
   unfolding told_behind
   behind-more line lines numbers is = ap (λ o. option_map_or (λ (n : ℕ × ℕ). told_from k (bare_base n.0 n.1) 3 lines) o (ill_at (bare_base 0 0) 2)) is
 
-  behind-none : (line : List ℕ) (lines : List (List ℕ)) → numbers_of line ≡ None → told_behind k (line ∷ lines) ≡ ill_at (bare_base 0 0) 2
+  pub behind-none : (line : List ℕ) (lines : List (List ℕ)) → numbers_of line ≡ None → told_behind k (line ∷ lines) ≡ ill_at (bare_base 0 0) 2
   unfolding told_behind
   behind-none line lines is = ap (λ o. option_map_or (λ (n : ℕ × ℕ). told_from k (bare_base n.0 n.1) 3 lines) o (ill_at (bare_base 0 0) 2)) is
 
-  behind-end : told_behind k [] ≡ ill_at (bare_base 0 0) 2
+  pub behind-end : told_behind k [] ≡ ill_at (bare_base 0 0) 2
   unfolding told_behind
   behind-end = refl
 
@@ -149,7 +149,7 @@ module _ (k : Kind) where
 
 -- ---- a whole base and the records behind it
 
-told-records : (b : Based) (n : ℕ) (lines : List (List ℕ)) → records_told b n lines ≡ record { base = b; records = (listed (record_from n) n lines).items; fault = (listed (record_from n) n lines).fault }
+pub told-records : (b : Based) (n : ℕ) (lines : List (List ℕ)) → records_told b n lines ≡ record { base = b; records = (listed (record_from n) n lines).items; fault = (listed (record_from n) n lines).fault }
 unfolding records_told
 told-records b n lines = refl
 

@@ -1,4 +1,5 @@
 mod WorkedTraces
+pub mod BaseSpellings
 pub mod BlockLemmas
 pub mod CallLemmas
 pub mod Erasing
@@ -7,6 +8,7 @@ pub mod Laid
 pub mod LineLemmas
 pub mod NextLemmas
 pub mod PieceLines
+pub mod PieceOrder
 pub mod Ran
 pub mod Reached
 pub mod ReadFrom
@@ -14,9 +16,12 @@ pub mod Recorded
 pub mod RunLemmas
 pub mod ScriptLemmas
 pub mod SetupLemmas
+pub mod SpelledLines
+pub mod TextLines
 pub mod TraceLemmas
 pub mod TraceReading
 pub mod TraceWriting
+pub mod WholeTexts
 pub mod WordLemmas
 pub mod WorkedScripts
 pub mod WritingLemmas

@@ -14,7 +14,7 @@ plain-push [] b h e = (e, tt)
 plain-push (x ∷ line) b h e = (h.0, plain-push line b h.1 e)
 
 -- a line that is ended
-lines-ended : (line rest : List ℕ) → HasNoEnd line → lines_of (line ++ 10 ∷ rest) ≡ line ∷ lines_of rest
+pub lines-ended : (line rest : List ℕ) → HasNoEnd line → lines_of (line ++ 10 ∷ rest) ≡ line ∷ lines_of rest
 unfolding lines_of
 lines-ended [] rest h = refl
 lines-ended (b ∷ line) rest h = rw (h.0, lines-ended line rest h.1) refl

@@ -22,7 +22,7 @@ use Rattle.meet_run.proofs.CallLemmas.{bind-some, chosen, chosen-second, seat-is
 -- ---- what is read is spelled
 
 -- a ticket's word is its number
-ticket-is : (word : List ℕ) (t : ℕ) → ticket_of word ≡ Some t → (word ≡ decimal t) × (t ≤ last_ticket)
+pub ticket-is : (word : List ℕ) (t : ℕ) → ticket_of word ≡ Some t → (word ≡ decimal t) × (t ≤ last_ticket)
 unfolding ticket_of ticket_in
 ticket-is word t e =
     let b = bind-some (number_spelled word) ticket_in t e in
@@ -31,7 +31,7 @@ ticket-is word t e =
     (number.0 ∙ ap (λ (k : ℕ). decimal k) p.1, subst (λ (k : ℕ). k ≤ last_ticket) p.1 (leb-true b.0 last_ticket p.0))
 
 -- a seat's word is its number
-seat_word-is : (word : List ℕ) (seat : ℕ) → seat_of word ≡ Some seat → (word ≡ decimal seat) × (seat < most_seats)
+pub seat_word-is : (word : List ℕ) (seat : ℕ) → seat_of word ≡ Some seat → (word ≡ decimal seat) × (seat < most_seats)
 unfolding seat_of
 seat_word-is word seat e =
     let b = bind-some (number_spelled word) seat_in seat e in
@@ -39,7 +39,7 @@ seat_word-is word seat e =
     let p = seat-is b.0 seat b.2 in
     (number.0 ∙ ap (λ (k : ℕ). decimal k) p.0, subst (λ (k : ℕ). k < most_seats) p.0 p.1)
 
-side-is : (word : List ℕ) (side : Side) → side_of word ≡ Some side → word ≡ side_text side
+pub side-is : (word : List ℕ) (side : Side) → side_of word ≡ Some side → word ≡ side_text side
 unfolding side_of
 side-is word side e =
     let P : Type 0 = word ≡ side_text side in
@@ -64,7 +64,7 @@ made text a d spelled fits e =
     subst (λ (v : Deed). IsDeed text v) same (spelled, fits)
 
 -- two words, parted by a space
-both : (word value w v : List ℕ) → word ≡ w → value ≡ v → word ++ 32 ∷ value ≡ w ++ 32 ∷ v
+pub both : (word value w v : List ℕ) → word ≡ w → value ≡ v → word ++ 32 ∷ value ≡ w ++ 32 ∷ v
 both word value w v p q = ap (λ (t : List ℕ). t ++ 32 ∷ value) p ∙ ap (λ (t : List ℕ). w ++ 32 ∷ t) q
 
 -- what follows a word
@@ -129,13 +129,13 @@ paired-is word m u d lm lu e =
     chosen word (codes "got") (Some (Got m u)) _ d P e2 (λ is f. made text (Got m u) d (prefix word (codes "got") pair is) (lm, lu) f) (λ e3. absurd cc)))
 
 -- a text whose word is all of it
-word-whole : (text : List ℕ) → rest_of text ≡ [] → word_of text ≡ text
+pub word-whole : (text : List ℕ) → rest_of text ≡ [] → word_of text ≡ text
 word-whole text r =
     let end : word_of text ≡ word_of text ++ [] = search rules in
     end ∙ (ap (λ (t : List ℕ). word_of text ++ t) (sym r) ∙ word-rest text)
 
 -- a text with something behind its word
-word-more : (text : List ℕ) (space : ℕ) (more : List ℕ) → rest_of text ≡ space ∷ more → word_of text ++ 32 ∷ more ≡ text
+pub word-more : (text : List ℕ) (space : ℕ) (more : List ℕ) → rest_of text ≡ space ∷ more → word_of text ++ 32 ∷ more ≡ text
 word-more text space more r =
     let head : space ≡ 32 = rest-space text space more r in
     let rest : 32 ∷ more ≡ rest_of text = cc in
@@ -206,16 +206,16 @@ record_in-is line r e =
 
 -- ---- what is spelled is read
 
-ticket-again : (t : ℕ) → t ≤ last_ticket → ticket_of (decimal t) ≡ Some t
+pub ticket-again : (t : ℕ) → t ≤ last_ticket → ticket_of (decimal t) ≡ Some t
 unfolding ticket_of ticket_in
 ticket-again t lt = rw (number_spelled-decimal t (omega arith), le-leb t last_ticket lt) refl
 
-seat_word-again : (seat : ℕ) → seat < most_seats → seat_of (decimal seat) ≡ Some seat
+pub seat_word-again : (seat : ℕ) → seat < most_seats → seat_of (decimal seat) ≡ Some seat
 unfolding seat_of
 seat_word-again seat lt = rw (number_spelled-decimal seat (omega arith), seat-again seat lt) refl
 
 -- a word without a space is cut at its end
-word-alone : (word : List ℕ) → HasNoSpace word → (word_of word ≡ word) × (rest_of word ≡ [])
+pub word-alone : (word : List ℕ) → HasNoSpace word → (word_of word ≡ word) × (rest_of word ≡ [])
 word-alone word h =
     let end : word ++ [] ≡ word = search rules in
     subst (λ (w : List ℕ). (word_of w ≡ word) × (rest_of w ≡ [])) end (tail-none word h)
@@ -234,11 +234,11 @@ paired-again word m u d lm lu e =
     let cut = tail-space (decimal u) (decimal m) (no_space-decimal m lm) in
     rw (cut.0, cut.1, number_spelled-decimal m lm, ticket-again u lu) e
 
-side-no_space : (side : Side) → HasNoSpace (side_text side)
+pub side-no_space : (side : Side) → HasNoSpace (side_text side)
 side-no_space Giver = (refl, (refl, (refl, (refl, tt))))
 side-no_space Taker = (refl, (refl, (refl, (refl, tt))))
 
-side-again : (side : Side) → side_of (side_text side) ≡ Some side
+pub side-again : (side : Side) → side_of (side_text side) ≡ Some side
 unfolding side_of
 side-again Giver = refl
 side-again Taker = refl
@@ -304,7 +304,7 @@ pair-short : (word : List ℕ) (m u : ℕ) → m < 2 ^ 64 → u ≤ last_ticket 
 pair-short word m u lm lu h =
     omega (arith, h, length-append word (decimal m ++ 32 ∷ decimal u), length-append (decimal m) (32 ∷ decimal u), number-short m lm, number-short u (omega arith))
 
-side-short : (side : Side) → length (side_text side) ≤ 4
+pub side-short : (side : Side) → length (side_text side) ≤ 4
 side-short Giver = lit≤ tt
 side-short Taker = lit≤ tt
 

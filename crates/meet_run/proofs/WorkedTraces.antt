@@ -1,22 +1,19 @@
 -- Worked traces with a base, computed by the definitions.
-use Rattle.std.proofs.Common.{◌≡◌, ℕ, ◌+◌, ◌<◌, arith, subst, refl, true, false, Some, None, List, [], ◌∷◌, ◌++◌}
+use Rattle.std.proofs.Common.{◌≡◌, inr, sym, lit<, ℕ, ◌+◌, ◌<◌, arith, subst, refl, true, Some, None, List, [], ◌∷◌}
 use Rattle.std.specs.Prelude.{codes}
 use Rattle.meet_tickets.specs.declared.lines.Entry.{Entry}
 use Rattle.meet_tickets.specs.declared.places.Order.TheVariants.{Fair}
-use Rattle.meet_tickets.specs.declared.places.Side.TheVariants.{Giver, Taker}
 use Rattle.meet_tickets.specs.declared.places.Kind.{Kind}
-use Rattle.meet_tickets.specs.declared.records.Deed.{Deed}
-use Rattle.meet_tickets.specs.declared.records.Deed.TheVariants.{TakeMeets, Done}
-use Rattle.meet_tickets.specs.declared.records.Record.{Record}
 use Rattle.meet_tickets.specs.Bases.{Based}
-use Rattle.meet_history.specs.declared.pieces.Piece.TheVariants.{Stands, Met, Cut, Flagged}
-use Rattle.meet_run.specs.BaseGrammar.{waits_of, giver_entry, entry_of_line, pair_of_line, pair_behind, cut_of_line, ticketed_piece, piece_with_ticket, piece_with_seat, piece_behind, piece_of, numbers_in, numbers_of, based_head_of}
+use Rattle.meet_history.specs.declared.pieces.Piece.TheVariants.{Stands}
+use Rattle.meet_run.specs.BaseGrammar.{waits_of, giver_entry, entry_of_line, ticketed_piece, piece_with_ticket, piece_with_seat, piece_behind, piece_of}
 use Rattle.std.proofs.lemmas.Fmt.{decimal_digit}
 use Rattle.meet_run.specs.Words.{word_of, rest_of, number_spelled}
 use Rattle.meet_run.specs.Grammar.{seat_of, seat_in}
 use Rattle.meet_run.specs.TraceGrammar.{ticket_of, ticket_in}
-use Rattle.meet_run.proofs.WordLemmas.{number_spelled-decimal}
-use Rattle.meet_run.specs.BasedTraces.{Told, record_from, records_told, told_from, told_behind}
+use Rattle.meet_run.proofs.WordLemmas.{number_spelled-decimal, long-zero}
+use Rattle.meet_run.specs.BaseWording.{piece_text, piece_line, numbers_line, based_head_line, based_text}
+use Rattle.meet_run.specs.TraceTexts.{IsTextOf}
 
 abbrev fair : Kind
 fair = record { order = Fair; bound = None }
@@ -34,3 +31,22 @@ digit n small = subst (λ (w : List ℕ). number_spelled w ≡ Some n) (decimal_
 reads_line : piece_of (codes "line 0 1 give 1 waits") ≡ Some (Stands (giver 0 1 1))
 unfolding piece_of piece_behind piece_with_seat piece_with_ticket ticketed_piece entry_of_line giver_entry waits_of word_of rest_of seat_of seat_in ticket_of ticket_in
 reads_line = rw (digit 0 (omega arith), digit 1 (omega arith)) refl
+
+spells_line : piece_text (Stands (giver 0 1 1)) ≡ codes "line 0 1 give 1 waits"
+spells_line = rw (decimal_digit 0 (omega arith), decimal_digit 1 (omega arith)) refl
+
+-- a 0 in front is no spelling
+reads_no_zero : piece_of (codes "line 00 1 give 1 waits") ≡ None
+unfolding piece_of piece_behind piece_with_seat word_of rest_of seat_of
+reads_no_zero = rw (long-zero (codes "00") refl (lit< tt)) refl
+
+-- a flag alone, and a text that lacks its last end of line
+one_flag : Based
+one_flag = record { gone = 3; last = 3; line = []; pairs = []; cut = []; flags = 5 ∷ [] }
+
+spells_text : based_text fair one_flag [] ≡ codes "trace 2 fair\nbase 3 3\nflag 5\n"
+unfolding based_text based_head_line numbers_line piece_line one_flag
+spells_text = rw (decimal_digit 3 (omega arith), decimal_digit 5 (omega arith)) refl
+
+is_text : IsTextOf (codes "trace 2 fair\nbase 3 3\nflag 5") (based_text fair one_flag [])
+is_text = inr (sym spells_text)

@@ -44,14 +44,21 @@ piece_line piece = piece_text piece ++ codes "\n"
 abbrev pub pieces_of : Based → List Piece
 pieces_of b = map Stands b.line ++ (map Met b.pairs ++ (map Cut b.cut ++ map Flagged b.flags))
 
+-- the one spelling of a base's numbers
+abbrev pub numbers_text : (gone last : ℕ) → List ℕ
+numbers_text gone last = codes "base " ++ (decimal gone ++ 32 ∷ decimal last)
+
 -- a base's first line
 unfoldable pub numbers_line : Based → List ℕ
-numbers_line b = codes "base " ++ (decimal b.gone ++ 32 ∷ decimal b.last) ++ codes "\n"
+numbers_line b = numbers_text b.gone b.last ++ codes "\n"
+
+-- the one spelling of the first line of a trace that has a base
+abbrev pub based_head_text : Kind → List ℕ
+based_head_text kind = codes "trace 2 " ++ (place_text kind.order ++ option_text (codes " bound ") kind.bound)
 
 -- the first line of a trace that has a base
 unfoldable pub based_head_line : Kind → List ℕ
-based_head_line kind =
-    codes "trace 2 " ++ (place_text kind.order ++ option_text (codes " bound ") kind.bound) ++ codes "\n"
+based_head_line kind = based_head_text kind ++ codes "\n"
 
 -- a whole trace with a base
 unfoldable pub based_text : Kind → Based → List (Record Deed) → List ℕ

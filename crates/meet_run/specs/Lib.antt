@@ -1,4 +1,5 @@
 pub mod BaseGrammar
+pub mod BaseSpelling
 pub mod BaseWording
 pub mod BasedTraces
 pub mod Blocks
@@ -12,6 +13,7 @@ pub mod Script
 pub mod Spelling
 pub mod TraceGrammar
 pub mod TraceSpelling
+pub mod TraceTexts
 pub mod TraceWording
 pub mod Traces
 pub mod Wording

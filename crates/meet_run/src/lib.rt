@@ -3,6 +3,7 @@
 #![tactic(auto)]
 
 pub mod base_grammar;
+pub mod base_spellings;
 pub mod base_wording;
 pub mod based;
 pub mod blocks;
