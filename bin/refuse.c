@@ -1,21 +1,22 @@
 /*
  * Stands before a program (LD_PRELOAD), counts what it asks of the machine, and refuses one of these calls. `bin/refuse` uses it.
  *
- * REFUSE=allocation:N, read:N, write:N or report:N refuses the Nth allocation, read of standard input, write to standard output, or
- * write to standard error. COUNTS=FILE has the counts written there at the end.
+ * REFUSE=allocation:N, read:N, write:N, report:N or thread:N refuses the Nth allocation, read of standard input, write to standard
+ * output, write to standard error, or start of a thread. COUNTS=FILE has the counts written there at the end.
  */
 #define _GNU_SOURCE
 #include <dlfcn.h>
 #include <errno.h>
 #include <fcntl.h>
+#include <pthread.h>
 #include <stdio.h>
 #include <stdlib.h>
 #include <string.h>
 #include <unistd.h>
 
-enum kind { ALLOCATION, READ, WRITE, REPORT, KINDS };
+enum kind { ALLOCATION, READ, WRITE, REPORT, THREAD, KINDS };
 
-static const char *const NAMES[KINDS] = { "allocation", "read", "write", "report" };
+static const char *const NAMES[KINDS] = { "allocation", "read", "write", "report", "thread" };
 static long counts[KINDS];
 
 /* Counts this call, and says whether it is the one to refuse. */
@@ -73,13 +74,22 @@ ssize_t write(int file, const void *bytes, size_t size)
     return next(file, bytes, size);
 }
 
+int pthread_create(pthread_t *thread, const pthread_attr_t *how, void *(*body)(void *), void *given)
+{
+    static int (*next)(pthread_t *, const pthread_attr_t *, void *(*)(void *), void *);
+
+    if (next == NULL)
+        next = (int (*)(pthread_t *, const pthread_attr_t *, void *(*)(void *), void *))dlsym(RTLD_NEXT, "pthread_create");
+    return is_refused(THREAD) ? EAGAIN : next(thread, how, body, given);
+}
+
 __attribute__((destructor)) static void tell(void)
 {
     const char *path = getenv("COUNTS");
     int file = path == NULL ? -1 : open(path, O_WRONLY | O_CREAT | O_TRUNC, 0644);
 
     if (file >= 0) {
-        dprintf(file, "%ld %ld %ld %ld\n", counts[ALLOCATION], counts[READ], counts[WRITE], counts[REPORT]);
+        dprintf(file, "%ld %ld %ld %ld %ld\n", counts[ALLOCATION], counts[READ], counts[WRITE], counts[REPORT], counts[THREAD]);
         close(file);
     }
 }

@@ -9,10 +9,12 @@ ghost use Rattle.meet_tickets.specs.Refusals.{IsWhy};
 ghost use Rattle.meet_tickets.specs.declared.refusals.Refusal.TheVariants.{Memory, HistoryFull};
 ghost use Rattle.meet_tickets.specs.Limits.{most_records, most_gone};
 
+mod chapters;
 mod drain;
 
 use crate::object::{Bases, Object};
 use crate::receipt::Receipt;
+pub use chapters::Chapter;
 use meet_tickets::{MOST_GONE, Record, Refusal, Refused, SeatNo};
 use std::alloc::Global;
 use std::marker::Model;
@@ -87,6 +89,13 @@ impl<O: Object> Book<O> {
         ensures room { O.owed_of self.now.object ≤ self.now.room }
     {
         self.records.as_slice()
+    }
+
+    /// How many records it may have at a time.
+    pub fn cap(&self) -> u64
+        ensures { result ≡ self.now.cap }
+    {
+        self.cap
     }
 
     /// How many records were written since the first, those that were folded away included.

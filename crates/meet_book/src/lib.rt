@@ -6,7 +6,7 @@ mod comparing;
 mod object;
 mod receipt;
 
-pub use book::Book;
+pub use book::{Book, Chapter};
 pub use comparing::{Holds, Same, compare};
 pub use object::{Bases, Drains, Leaves, Object, Unwatched, Wakes, Watch};
 pub use receipt::Receipt;

@@ -160,6 +160,11 @@ pub trait Bases: Object {
         ensures leads { IfOk result (λ new. (base : Self.Base) (records : List (Record Self.Deed))
             → Self.leads base records self.now → Self.leads new [] self.now) }
         ensures memory { IfErr result (λ why. why ≡ Memory) };
+
+    /// The same base once more. The only refusal is Memory.
+    fn copy_base(alloc: Global, base: &Self::Base) -> Result<Self::Base, Refusal>
+        ensures same { IfOk result (λ copy. copy ≡ base.now) }
+        ensures memory { IfErr result (λ why. why ≡ Memory) };
 }
 
 /// A place whose items can be drained: one poll after another, all under one hold.

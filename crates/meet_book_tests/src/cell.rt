@@ -48,7 +48,7 @@ pub struct Wait {
 }
 
 /// What stands for the records that were folded away: how many these are, and who waited then.
-#[derive(Drop)]
+#[derive(Clone, Copy)]
 pub struct Past {
     pub gone: u64,
     pub wait: Option<Wait>,
@@ -343,6 +343,10 @@ impl Bases for Cell {
             gone,
             wait: self.wait,
         })
+    }
+
+    fn copy_base(_alloc: Global, base: &Past) -> Result<Past, Refusal> {
+        Ok(*base)
     }
 }
 

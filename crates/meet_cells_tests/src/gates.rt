@@ -12,6 +12,9 @@ use std::{io, thread};
 /// How long a limit lasts here, in milliseconds.
 const SHORT: u64 = 20;
 
+/// When the wait for it is over at the latest, also on a busy machine.
+const LATE: u64 = 10_000;
+
 /// A limit that doesn't pass while a test runs, in milliseconds.
 const LONG: u64 = 60_000;
 
@@ -25,13 +28,15 @@ fn keeps_one_wake<G: Gate, R: Wait + Clock + Abort>(rt: &R, gate: &G) {
     }
 }
 
-/// A limit passes, and not too soon. The wake before leaves the parker a wakeup for no reason.
+/// A limit passes, not too soon, and not seconds later. The wake before leaves the parker a wakeup for no reason.
 fn elapses<G: Gate, R: Wait + Clock + Abort>(rt: &R, gate: &G) -> Result<(), Fail> {
     gate.wake();
     assert_eq!(rt; gate.wait(rt, None), Turn::Woken);
     let start = Instant::now(rt)?;
     assert_eq!(rt; gate.wait(rt, Some(SHORT)), Turn::Elapsed);
-    assert!(rt; start.elapsed(rt)? >= Duration::from_millis(SHORT));
+    let passed = start.elapsed(rt)?;
+    assert!(rt; passed >= Duration::from_millis(SHORT));
+    assert!(rt; passed < Duration::from_millis(LATE));
     Ok(())
 }
 

@@ -44,6 +44,12 @@ fn two_givers_of_a_thousand(rt: HostRuntime) {
     assert_eq!(&rt; drive(&rt, rt.alloc(), 2, 1_000), whole(2_000, 1_001_000));
 }
 
+/// It has 75,000 records.
+#[test]
+fn twenty_five_givers_of_a_thousand(rt: HostRuntime) {
+    assert_eq!(&rt; drive(&rt, rt.alloc(), 25, 1_000), whole(25_000, 12_512_500));
+}
+
 /// The call that waits has a record, and is owed one; the other needs two, since it might wait as well. So four records
 /// are enough for one item, and three aren't, though three are written.
 #[test]

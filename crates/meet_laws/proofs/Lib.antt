@@ -1,3 +1,4 @@
+pub mod Chaptered
 pub mod Speaking
 pub mod Steps
 pub mod Begun

@@ -1,3 +1,4 @@
+pub mod Chapters
 pub mod Laws
 pub mod Rows
 pub mod Erasing

@@ -6,6 +6,7 @@ ghost use Rattle.meet_tickets.specs.declared.records.Record.{Record};
 ghost use Rattle.meet_tickets.specs.declared.records.Deed.{Deed};
 ghost use Rattle.meet_laws.specs.Laws.{FatesMove, AreMutual, IsInOrder};
 ghost use Rattle.meet_tickets.specs.ByLists.{IsLegal};
+ghost use Rattle.meet_laws.specs.Chapters.{FollowOn, records_in};
 ghost use Rattle.meet_laws.specs.Erasing.{IsErased};
 ghost use Rattle.meet_laws.specs.Promise.{KeepsPromise};
 ghost use Rattle.meet_laws.specs.Tally.{CountsOnce};
@@ -61,4 +62,11 @@ pub fn promise_is_kept()
 pub fn legal_begins_legal()
     ensures { (k : Kind) (base : Based) (before after : List (Record Deed)) → IsLegalOn k base (before ++ after)
         → IsLegalOn k base before }
+{}
+
+/// Chapters that follow one another, each on a base that stands for those before it, are one legal history. It does
+/// nothing.
+pub fn chapters_are_one()
+    ensures { (k : Kind) (base : Based) (chapters : List (Based × List (Record Deed))) → IsWellFormed k base
+        → FollowOn k base chapters → IsLegalOn k base (records_in chapters) }
 {}

@@ -10,7 +10,7 @@ mod tally;
 pub use erasing::erase;
 pub use fates::fate;
 pub use laws::{
-    erased_is_legal, fates_move, gives_count_once, legal_begins_legal, partners_are_mutual,
-    promise_is_kept, tickets_are_met_in_order, tickets_have_one_fate,
+    chapters_are_one, erased_is_legal, fates_move, gives_count_once, legal_begins_legal,
+    partners_are_mutual, promise_is_kept, tickets_are_met_in_order, tickets_have_one_fate,
 };
 pub use tally::{Tally, reckon};

@@ -1,6 +1,6 @@
 //! Lines that find tickets in buckets: how many nodes a removal looks at; and that all four lines do alike.
 
-ghost use Rattle.std.specs.Prelude.{◌≡◌, ◌≤◌, OnOk};
+ghost use Rattle.std.specs.Prelude.{◌≡◌, ◌<◌, ◌≤◌, ◌^◌, OnOk};
 
 use crate::parcels::{Parcel, join, meets_in_order, serial, ticket};
 use meet_line::{FairLine, Line, ListFair, ListStack, StackLine};
@@ -8,11 +8,13 @@ use std::alloc::Global;
 use std::process::Abort;
 use std::test::Fail;
 
-/// The tickets 1 to 1,024, as many as there was room made for.
-fn crowd<L: Line<Parcel> + Drop>(alloc: Global) -> Result<L, Fail> {
+/// The tickets from 1 to this one, as many as there was room made for.
+fn crowd<L: Line<Parcel> + Drop>(alloc: Global, last: u64) -> Result<L, Fail>
+    requires few { last < 2 ^ 32 }
+{
     let mut line = L::empty(alloc);
-    line.reserve(1024).ok().ok_or("memory")?;
-    for number in 1..1025 {
+    line.reserve(last).ok().ok_or("memory")?;
+    for number in 1..last + 1 {
         join(&mut line, number, number)?;
     }
     Ok(line)
@@ -20,7 +22,7 @@ fn crowd<L: Line<Parcel> + Drop>(alloc: Global) -> Result<L, Fail> {
 
 #[test]
 fn a_fair_line_looks_at_one(rt: HostRuntime) -> Result<(), Fail> {
-    let mut line: FairLine<Parcel> = crowd(rt.alloc())?;
+    let mut line: FairLine<Parcel> = crowd(rt.alloc(), 1_024)?;
     assert_eq!(rt; line.looks(), 0);
     assert_eq!(rt; serial(line.remove(ticket(512)?)), Some(512));
     assert_eq!(rt; line.looks(), 1);
@@ -30,12 +32,32 @@ fn a_fair_line_looks_at_one(rt: HostRuntime) -> Result<(), Fail> {
 
 #[test]
 fn a_stack_looks_at_one(rt: HostRuntime) -> Result<(), Fail> {
-    let mut line: StackLine<Parcel> = crowd(rt.alloc())?;
+    let mut line: StackLine<Parcel> = crowd(rt.alloc(), 1_024)?;
     assert_eq!(rt; line.looks(), 0);
     assert_eq!(rt; serial(line.remove(ticket(512)?)), Some(512));
     assert_eq!(rt; line.looks(), 1);
     assert_eq!(rt; line.len(), 1023);
     Ok(())
+}
+
+/// How many a large line has.
+const MANY: u64 = 66_000;
+
+/// A large line lists all who are there, in the order in which they came.
+fn lists_many<L: Line<Parcel> + Drop>(rt: &impl Abort, alloc: Global) -> Result<(), Fail> {
+    let line: L = crowd(alloc, MANY)?;
+    let list = line.list(alloc).ok().ok_or("memory")?;
+    assert_eq!(rt; list.len() as u64, MANY);
+    for (at, entry) in list.iter().enumerate() {
+        assert_eq!(rt; entry.ticket.number(), (at as u64).saturating_add(1));
+    }
+    Ok(())
+}
+
+#[test]
+fn a_large_line_is_listed(rt: HostRuntime) -> Result<(), Fail> {
+    lists_many::<FairLine<Parcel>>(&rt, rt.alloc())?;
+    lists_many::<StackLine<Parcel>>(&rt, rt.alloc())
 }
 
 /// Which ticket leaves, none for a meeting, and the serial of the item that it has.

@@ -6,7 +6,7 @@ ghost use Rattle.meet_tickets.specs.Bases.{IsLegalOn};
 ghost use Rattle.meet_calls.specs.QueueSteps.{bounded_kind};
 
 use meet_cells::ParkGate;
-use meet_sync::{Back, Chronicle, End, Ledgers, NewQueue, Seat, TransferQueue};
+use meet_sync::{Back, Chronicle, End, Ledgers, NewQueue, Seat, SeatRefused, TransferQueue};
 use meet_tickets::{Deed, Marked, Refusal};
 use std::alloc::Global;
 use std::mem::ManuallyDrop;
@@ -108,7 +108,18 @@ fn parcel_of(end: End<Parcel>) -> Option<Parcel> {
     }
 }
 
-/// Transfers parcels, each once the one before it was taken or came back. Those that came back are in hand then.
+/// A thread whose call was refused stops: the parcel that went in comes back.
+fn stopped<N: Ledgers>(refused: SeatRefused<Parcel, N>, hand: Hand) -> Part<N> {
+    let SeatRefused { why, seat, item } = refused;
+    Part {
+        seat,
+        hand: hand.with(item),
+        refused: Some(why),
+    }
+}
+
+/// Transfers parcels, each once the one before it was taken or came back. Those that came back are in
+/// hand then. Behind each call the queue is tended, so that its history never fills.
 fn send<N: Ledgers, R: Wait + Clock>(
     rt: &R,
     counter: &Counter<N>,
@@ -121,16 +132,13 @@ fn send<N: Ledgers, R: Wait + Clock>(
         let parcel = Parcel { mark, grams: 250 };
         match counter.transfer_for(rt, seat, parcel, plan.patience) {
             Ok(ended) => {
-                seat = ended.seat;
                 hand = hand.with(parcel_of(ended.end)); // End::Gave(with), End::Done, End::TimedOut(Some(parcel)), ..
+                match counter.tend(rt, ended.seat) {
+                    Ok(tended) => seat = tended,
+                    Err(refused) => return stopped(refused, hand),
+                }
             }
-            Err(refused) => {
-                return Part {
-                    seat: refused.seat,
-                    hand: hand.with(refused.item), // the parcel that went in
-                    refused: Some(refused.why),
-                };
-            }
+            Err(refused) => return stopped(refused, hand),
         }
     }
     Part {
@@ -140,7 +148,7 @@ fn send<N: Ledgers, R: Wait + Clock>(
     }
 }
 
-/// Takes parcels, which are in hand then.
+/// Takes parcels, which are in hand then. Behind each call the queue is tended.
 fn receive<N: Ledgers, R: Wait + Clock>(
     rt: &R,
     counter: &Counter<N>,
@@ -152,16 +160,13 @@ fn receive<N: Ledgers, R: Wait + Clock>(
     for _ in 0..plan.takes {
         match counter.poll_for(rt, seat, plan.patience) {
             Ok(ended) => {
-                seat = ended.seat;
                 hand = hand.with(parcel_of(ended.end)); // End::Got(with, parcel), End::TimedOut(None), ..
+                match counter.tend(rt, ended.seat) {
+                    Ok(tended) => seat = tended,
+                    Err(refused) => return stopped(refused, hand),
+                }
             }
-            Err(refused) => {
-                return Part {
-                    seat: refused.seat,
-                    hand,
-                    refused: Some(refused.why),
-                };
-            }
+            Err(refused) => return stopped(refused, hand),
         }
     }
     Part {

@@ -43,18 +43,40 @@ fn what_nobody_takes_comes_back(rt: HostRuntime) -> Result<(), Fail> {
     Ok(())
 }
 
-/// A handoff takes three records, and the first call behind it is promised two; so whoever comes second to the next
-/// handoff finds no room, and then nor does who waited for it, once its time is up.
+/// A call that may wait is promised two records, so where there is room for one it is refused, and its parcel comes
+/// back.
 #[test]
 fn a_full_history_is_told(rt: HostRuntime) -> Result<(), Fail> {
     let plan = Plan {
         patience: 100,
-        cap: 6,
+        cap: 1,
         ..FIVE
     };
     let passed = pass_by_plan(&rt, rt.alloc(), plan)?;
     assert_eq!(rt; passed.refused, Some(Refusal::HistoryFull));
-    assert_eq!(rt; passed.came.parcels <= 1, true);
-    assert_eq!(rt; passed.back.parcels >= 1, true);
+    assert_eq!(rt;
+        (passed.came, passed.back),
+        (of_250_grams(0), of_250_grams(1))
+    );
+    Ok(())
+}
+
+/// Each of a hundred handoffs takes three records, where there is room for 32 at a time.
+#[test]
+fn a_tended_queue_goes_on(rt: HostRuntime) -> Result<(), Fail> {
+    let plan = Plan {
+        gives: 100,
+        takes: 100,
+        cap: 32,
+        ..FIVE
+    };
+    let passed = pass_by_plan(&rt, rt.alloc(), plan)?;
+    assert_eq!(rt; (passed.came, passed.refused), (of_250_grams(100), None));
+    let since = passed.chronicle.records.len();
+    assert_eq!(rt; since <= 32, true);
+    assert_eq!(rt;
+        passed.chronicle.base.gone.saturating_add(since as u64),
+        300
+    );
     Ok(())
 }

@@ -1,3 +1,5 @@
+pub mod Numbered
+pub mod Folded
 pub mod Fresh
 pub mod Kept
 pub mod Lists

@@ -1,5 +1,8 @@
 -- What contracts see of seats that are given back (our choice).
-use Rattle.std.specs.Prelude.{ℕ, ◌+◌, Option, Some, None, List, length, sum_by, IsPermutation}
+use Rattle.std.specs.Prelude.{ℕ, ◌+◌, ◌==◌, not, min, Bool, Option, Some, None, List, length, filter, sum_by}
+use Rattle.std.specs.Prelude.{IsPermutation}
+use Rattle.std.specs.List.{list_any, range_with_len}
+use Rattle.meet_tickets.specs.Limits.{most_seats}
 use Rattle.std.specs.List.Sorted.{IsNonDecreasingBy}
 use Rattle.meet_book.specs.Received.{Received}
 use Rattle.meet_place.specs.declared.seats.Past.{Past}
@@ -47,3 +50,11 @@ module _ {D N : Type 0} where
   pub record AreOrdered (seats ordered : List (Back D N)) : Type 0 where
     pub same : IsPermutation seats ordered
     pub rising : IsNonDecreasingBy number_of ordered
+
+  -- the seat of this number is among these
+  abbrev pub is_back : List (Back D N) → (number : ℕ) → Bool
+  is_back seats number = list_any (λ back. number_of back == number) seats
+
+  -- the numbers of those of so many seats that aren't among these, in rising order
+  abbrev pub missing_of : (made : ℕ) → List (Back D N) → List ℕ
+  missing_of made seats = filter (λ number. not (is_back seats number)) (range_with_len 0 (min made most_seats))

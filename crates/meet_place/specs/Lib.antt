@@ -3,3 +3,4 @@ pub mod Faults
 pub mod Holds
 pub mod Ledgers
 pub mod Seats
+pub mod Tending

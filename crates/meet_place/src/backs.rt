@@ -52,6 +52,7 @@ impl<D: Copy, N: Ledgers> BareSeat<D, N> {
             past,
             list,
             share,
+            seen: 0,
         };
         match held {
             None => Back::Free(seat),
@@ -109,6 +110,7 @@ fn part<D: Copy, N: Ledgers>(back: Back<D, N>) -> (BareSeat<D, N>, Stake<N>)
         past,
         list,
         share,
+        ..
     } = seat;
     let bare = BareSeat {
         number,

@@ -3,10 +3,12 @@
 ghost use Rattle.std.specs.Prelude.{◌≡◌, ◌+◌, ◌<◌, ◌≤◌, ◌^◌, List, length, map, IfSome, IfOk, IfErr, [], vec_len};
 ghost use Rattle.meet_book.specs.Listed.{AreListed};
 ghost use Rattle.meet_place.specs.Backs.{list_of, AreOrdered, shares_in, folded_in};
-ghost use Rattle.meet_place.specs.Faults.{FaultFits, why_of};
+ghost use Rattle.meet_place.specs.Faults.{FaultFits, missing_in, why_of};
+ghost use Rattle.meet_tickets.specs.declared.refusals.Refusal.TheVariants.{Memory as NoMemory};
 ghost use Rattle.meet_place.specs.declared.seats.Back.{Back};
 
 use crate::ledgers::Ledgers;
+use crate::missing::missing_seats;
 use crate::place::Place;
 use crate::seats::Back;
 use crate::settling::{SeatRoom, Settled, Unsettled, settle};
@@ -68,6 +70,21 @@ impl<O: Object, G, N: Ledgers> CloseFault<O, G, N> {
             CloseFault::SeatMissing { .. } => Refusal::SeatMissing,
             CloseFault::Memory { .. } => Refusal::Memory,
             CloseFault::Differs { .. } => Refusal::Differs,
+        }
+    }
+
+    /// The numbers of the seats that are missing, in rising order; none where no seat is. The only refusal is Memory.
+    pub fn missing(&self, alloc: Global) -> Result<Vec<SeatNo>, Refusal>
+        ensures numbers { IfOk result (λ list. list.items ≡ missing_in self.now) }
+        ensures memory { IfErr result (λ why. why ≡ NoMemory) }
+    {
+        match self {
+            CloseFault::SeatMissing { made, seats, .. } => missing_seats(
+                alloc,
+                *made,
+                seats.as_slice(),
+            ),
+            _ => Ok(Vec::new(alloc)),
         }
     }
 }

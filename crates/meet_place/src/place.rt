@@ -40,7 +40,9 @@ pub struct NewPlace<O: Object, G> {
 /// changed by all threads, so it is known while one holds the lock, and not else.
 #[derive(Drop)]
 pub struct Place<O: Object, G, N: Ledgers> {
-    gates: Vec<CachePadded<G>>,
+    pub(crate) gates: Vec<CachePadded<G>>,
+    /// How many records there are at most at a time.
+    pub(crate) cap: u64,
     shared: Mutex<Shared<O, N>>,
 }
 
@@ -52,7 +54,7 @@ impl<O: Object, G, N: Ledgers> Model for Place<O, G, N> {
 
     ghost view = { λ p. vec_len p.gates };
 
-    ghost invariant = { λ p. (vec_len p.gates ≡ N.parts) × (vec_len p.gates ≤ most_seats) };
+    ghost invariant = { λ p. (vec_len p.gates ≡ N.parts) × (vec_len p.gates ≤ most_seats) × (p.cap ≡ N.cap) };
 }
 
 /// The seat of this number.
@@ -136,6 +138,7 @@ impl<O: Object, G: Drop, N: Ledgers> Place<O, G, N> {
         }
         let place = Place {
             gates: padded,
+            cap: book.cap(),
             shared: Mutex::new(Shared::new(book, total, rest)),
         };
         (place, seats)
@@ -189,7 +192,7 @@ impl<O: Object, G, N: Ledgers> Place<O, G, N> {
     pub(crate) fn into_shared(self) -> (Vec<CachePadded<G>>, Shared<O, N>)
         ensures gates { (vec_len result.0 ≡ self) × (self ≡ N.parts) × (self ≤ most_seats) }
     {
-        let Place { gates, shared } = self;
+        let Place { gates, shared, .. } = self;
         (gates, shared.into_inner())
     }
 
@@ -200,6 +203,7 @@ impl<O: Object, G, N: Ledgers> Place<O, G, N> {
     {
         Place {
             gates,
+            cap: shared.cap(),
             shared: Mutex::new(shared),
         }
     }

@@ -1,11 +1,12 @@
 //! Seats, and seats whose ticket is open.
 
-ghost use Rattle.std.specs.Prelude.{◌≡◌, ◌<◌, ◌≤◌, ◌+◌, ◌^◌, [], length, filter, vec_len, IsOk, IfErr, OnOk};
+ghost use Rattle.std.specs.Prelude.{◌≡◌, ◌<◌, ◌≤◌, ◌+◌, ◌^◌, [], length, filter, vec_len, IsOk, IfErr, OnOk, true};
 ghost use Rattle.std.specs.Vec.{vec_capacity};
 ghost use Rattle.meet_tickets.specs.declared.refusals.Refusal.TheVariants.{Memory};
 ghost use Rattle.meet_place.specs.Backs.{number_of, list_of};
 ghost use Rattle.meet_book.specs.Listed.{is_since};
 ghost use Rattle.meet_place.specs.Seats.{SeatView, PendingView, Trims, share_in};
+ghost use Rattle.meet_place.specs.Tending.{may_lie};
 
 use crate::ledgers::{Ledgers, Stake};
 use meet_book::Receipt;
@@ -32,6 +33,8 @@ pub struct Seat<D: Copy, N: Ledgers> {
     pub(crate) past: Past,
     pub(crate) list: Vec<Receipt<D>>,
     pub(crate) share: Stake<N>,
+    /// How many records were folded away when it let go of receipts last.
+    pub(crate) seen: u64,
 }
 
 impl<D: Copy, N: Ledgers> Model for Seat<D, N> {
@@ -69,6 +72,7 @@ impl<D: Copy, N: Ledgers> Seat<D, N> {
             },
             list: Vec::new(alloc),
             share,
+            seen: 0,
         }
     }
 
@@ -106,8 +110,26 @@ impl<D: Copy, N: Ledgers> Seat<D, N> {
         requires { share_in self.old < 2 ^ 64 }
         ensures { Trims gone self.old self.new }
     {
-        let Seat { past, list, .. } = self;
+        let Seat {
+            past,
+            list,
+            seen,
+            ..
+        } = self;
         past.trimmed += drop_folded(list, gone);
+        *seen = gone;
+    }
+
+    /// Whether a seat that tends a place of so many seats, whose book holds this many records at most, looks at the
+    /// book: more receipts lie in its list than may, and by the number of the last, and by what was folded away when
+    /// it let go of receipts last, the book may be more than half full.
+    pub fn is_to_look(&self, cap: u64, seats: u64) -> bool
+        requires { seats ≡ N.parts }
+        ensures { result ≡ true → may_lie cap seats < length self.now.list }
+    {
+        let _ = self.number;
+        let last = self.list.last().map_or(0, |receipt| receipt.place());
+        self.list.len() as u64 > cap / seats / 4 && last.saturating_sub(self.seen) > cap / 2
     }
 
     /// How many more receipts its list has room for.

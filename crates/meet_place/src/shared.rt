@@ -6,6 +6,7 @@ ghost use Rattle.meet_book.specs.Booking.{book_refusal, cut_refusal};
 ghost use Rattle.meet_tickets.specs.Refusals.{IsWhy};
 ghost use Rattle.meet_place.specs.Seats.{SeatView, Adds, Checkpoints, share_in};
 ghost use Rattle.meet_place.specs.Holds.{BookRefuses, IsBookOf};
+ghost use Rattle.meet_place.specs.Tending.{is_half_full};
 
 use crate::ledgers::{Ledgers, Stake, Totals};
 use crate::seats::Seat;
@@ -60,6 +61,20 @@ impl<O: Object, N: Ledgers> Shared<O, N> {
         ensures seats { O.seat_count_of result.now ≡ N.parts }
     {
         self.book.probe()
+    }
+
+    /// How many records the book may hold.
+    pub(crate) fn cap(&self) -> u64
+        ensures { result ≡ N.cap }
+    {
+        self.book.cap()
+    }
+
+    /// Whether the book holds more than half of the records that it may hold.
+    pub(crate) fn is_half_full(&self) -> bool
+        ensures { result ≡ is_half_full self.now }
+    {
+        self.book.cap() < 2 * self.book.records().len() as u64
     }
 
     /// The book, the totals of both ledgers, and a share that has no part.

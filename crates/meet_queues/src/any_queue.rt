@@ -297,6 +297,10 @@ impl Bases for AnyQueue {
             ByKind::Transfer(queue) => queue.base(alloc, gone),
         }
     }
+
+    fn copy_base(alloc: Global, base: &Base) -> Result<Base, Refusal> {
+        base.copy(alloc)
+    }
 }
 
 impl Drains for AnyQueue {

@@ -2,23 +2,17 @@
 
 ghost use Rattle.std.specs.Prelude.{◌≤◌, IsTrue, IfOk};
 
-use meet_tickets::MOST_RECORDS;
-
 /// How many threads put at most, and how many take.
 const MOST_PAIRS: u64 = 64;
 
 /// How many items each of them puts or takes at most.
-const MOST_EACH: u64 = 100_000;
-
-/// How many records an item has at most: the call that waits, the one that meets it, and the ending of the first.
-const RECORDS_OF_AN_ITEM: u64 = 3;
+const MOST_EACH: u64 = 100_000_000;
 
 /// What is said of words that can't be read.
 pub const USAGE: &str = "usage: meet_race park|spin|bare PAIRS EACH ROUNDS";
 
 /// What is said of numbers out of their limits.
-pub const LIMITS: &str =
-    "meet_race: PAIRS is 1 to 64, EACH 1 to 100000, and 3 * PAIRS * EACH at most 1048576, the cap on records";
+pub const LIMITS: &str = "meet_race: PAIRS is 1 to 64, and EACH 1 to 100000000";
 
 /// The queues over which threads race.
 #[derive(Clone, Copy, PartialEq, Eq, Debug)]
@@ -80,7 +74,7 @@ fn number_of(word: &str) -> Result<u64, Wrong> {
 impl Race {
     /// Reads the words of a command line, the program's name first.
     pub fn of_words(words: &[String]) -> Result<Race, Wrong>
-        ensures { IfOk result (λ race. (race.pairs ≤ 64) × (race.each ≤ 100000)) }
+        ensures { IfOk result (λ race. (race.pairs ≤ 64) × (race.each ≤ 100000000)) }
     {
         let [_, queue, pairs, each, rounds] = words else {
             return Err(Wrong::Words);
@@ -105,10 +99,9 @@ impl Race {
 
     /// Whether its numbers are within their limits.
     fn is_within_limits(&self) -> bool
-        ensures { IsTrue result → (self.now.pairs ≤ 64) × (self.now.each ≤ 100000) }
+        ensures { IsTrue result → (self.now.pairs ≤ 64) × (self.now.each ≤ 100000000) }
     {
-        let items = self.pairs.saturating_mul(self.each);
-        let is_within = self.pairs <= MOST_PAIRS && self.each <= MOST_EACH;
-        is_within && items != 0 && items.saturating_mul(RECORDS_OF_AN_ITEM) <= MOST_RECORDS
+        let is_some = self.pairs != 0 && self.each != 0;
+        is_some && self.pairs <= MOST_PAIRS && self.each <= MOST_EACH
     }
 }

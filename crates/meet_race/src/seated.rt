@@ -41,6 +41,7 @@ fn passed_of(end: End<u64>) -> Passed {
 }
 
 impl<G: Gate, N: Ledgers> Track<Seat<Deed, N>> for Fair<G, N> {
+    /// Behind the call the queue is tended, so that it takes as many as there are.
     fn pass<R: Wait + Clock>(
         &self,
         rt: &R,
@@ -54,7 +55,10 @@ impl<G: Gate, N: Ledgers> Track<Seat<Deed, N>> for Fair<G, N> {
         match called {
             Ok(ended) => {
                 let Ended { seat, end } = ended;
-                (seat, passed_of(end))
+                match self.tend(rt, seat) {
+                    Ok(seat) => (seat, passed_of(end)),
+                    Err(refused) => (refused.seat, Passed::Refused(refused.why)),
+                }
             }
             Err(refused) => (refused.seat, Passed::Refused(refused.why)),
         }

@@ -19,6 +19,19 @@ impl<G: Gate, N: Ledgers> Shop<G, N> {
         }
     }
 
+    /// A seat tends the queue.
+    pub fn tend<R: Wait>(
+        &self,
+        rt: &R,
+        seat: Seat<Deed, N>,
+    ) -> Result<Seat<Deed, N>, SeatRefused<u64, N>> {
+        match self {
+            Shop::Fair(queue) => queue.tend(rt, seat),
+            Shop::Unfair(queue) => queue.tend(rt, seat),
+            Shop::Transfer(queue) => queue.tend(rt, seat),
+        }
+    }
+
     /// A seat without a ticket drops its receipts for records that are folded away.
     fn trim_free<R: Wait>(&self, rt: &R, seat: Seat<Deed, N>) -> Seat<Deed, N> {
         match self {

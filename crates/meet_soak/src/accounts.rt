@@ -1,13 +1,16 @@
 //! What a thread gave to calls, and what came to it.
 
 use meet_shop::Told;
+use meet_stamps::Stamped;
 use std::alloc::Global;
 
-/// The items that a thread gave, those that it took or got back, and what went wrong first.
+/// The items that a thread gave, those that it took or got back, its calls that wrote records, and what went wrong
+/// first.
 #[derive(Drop)]
 pub struct Account {
     pub given: Vec<u64>,
     pub came: Vec<u64>,
+    pub calls: Vec<Stamped>,
     pub fault: Option<&'static str>,
 }
 
@@ -26,8 +29,8 @@ fn come_with(told: Told, given: Option<u64>) -> Option<u64> {
     }
 }
 
-/// Puts these items to the others.
-fn push_all(items: &mut Vec<u64>, new: &[u64]) -> Result<(), &'static str> {
+/// Puts these items, or calls, to the others.
+fn push_all<X: Copy + Drop>(items: &mut Vec<X>, new: &[X]) -> Result<(), &'static str> {
     for item in new {
         items.push(*item).map_err(|_| "memory")?;
     }
@@ -40,6 +43,7 @@ impl Account {
         Account {
             given: Vec::new(alloc),
             came: Vec::new(alloc),
+            calls: Vec::new(alloc),
             fault: None,
         }
     }
@@ -63,6 +67,18 @@ impl Account {
         if let Err(fault) = push_all(&mut self.came, items) {
             self.blame(fault);
         }
+    }
+
+    /// Notes calls that wrote records.
+    fn call(&mut self, calls: &[Stamped]) {
+        if let Err(fault) = push_all(&mut self.calls, calls) {
+            self.blame(fault);
+        }
+    }
+
+    /// A call wrote these records.
+    pub fn note_call(&mut self, call: Stamped) {
+        self.call(&[call]);
     }
 
     /// Who gave this item, or none, was told this. No call of a round is refused.
@@ -90,6 +106,7 @@ impl Account {
     pub fn add(&mut self, other: Account) {
         self.give(other.given.as_slice());
         self.take(other.came.as_slice());
+        self.call(other.calls.as_slice());
         if let Some(fault) = other.fault {
             self.blame(fault);
         }

@@ -8,8 +8,8 @@ mod rounds;
 mod work;
 
 use meet_cells::{ParkGate, SpinGate};
-use meet_tickets::Order;
-use rounds::hold;
+use meet_tickets::{MOST_RECORDS, Order};
+use rounds::{Fault, hold};
 use std::alloc::Global;
 use std::process::ExitCode;
 use std::sync::Wait;
@@ -18,19 +18,29 @@ use std::time::Clock;
 use std::{env, io};
 use work::Round;
 
-/// The round of this number: by it the queue's order, from 2 to 8 workers, and the gate.
+/// How many records a seat a queue has room for that is tended, so that it never fills.
+const ROOM: u64 = 32;
+
+/// The round of this number: by it the queue's order, from 2 to 8 workers, the gate, and whether the queue has room for
+/// few records or for many.
 fn hold_one<R: Threads + Wait + Clock + Sync>(
     rt: &R,
     alloc: Global,
     number: u64,
-) -> Result<(), &'static str> {
+) -> Result<(), Fault> {
+    let seats = 3 + number / 6 % 7;
     let round = Round {
         order: match number % 3 {
             0 => Order::Fair,
             1 => Order::Unfair,
             _ => Order::Transfer,
         },
-        seats: 3 + number / 6 % 7,
+        seats,
+        cap: if number / 42 % 2 == 0 {
+            ROOM * seats
+        } else {
+            MOST_RECORDS
+        },
         seed: number,
     };
     if number / 3 % 2 == 0 {

@@ -1,24 +1,50 @@
 //! A round: a queue, workers that make calls of chance, and one that interrupts them until they are done. Then the
-//! queue is closed, its records are checked once more, and every item is looked for.
+//! queue is closed, its records are checked once more, every item is looked for, and the calls are to have their records
+//! in the order in which they were made.
 
 ghost use Rattle.std.specs.Prelude.{◌≡◌, None, IfOk, vec_len};
 ghost use Rattle.meet_tickets.specs.Bases.{IsWellFormed};
 ghost use Rattle.meet_place.specs.Ledgers.{AreOf};
-ghost use Rattle.meet_tickets.specs.Limits.{most_records};
 
 use crate::accounts::Account;
 use crate::work::{Done, Round, interrupts, works};
 use meet_history::{Kind, check};
 use meet_shop::{Fresh, Shop, gates, keep};
+use meet_stamps::{Disorder, Stamps, find_disorder};
 use meet_sync::{Back, Blanks, Chronicle, Ledgers, NewQueue, QueueFault, Seat};
-use meet_tickets::{Deed, MOST_RECORDS, Order};
+use meet_tickets::{Deed, Order};
 use std::alloc::Global;
+use std::fmt::{Display, Formatter, Write};
 use std::marker::Brand;
 use std::sync::atomic::{AtomicU64, Ordering};
 use std::sync::{Mutex, Wait};
 use std::thread::Threads;
 use std::time::Clock;
-use std::{mem, thread};
+use std::{fmt, mem, thread};
+
+/// What went wrong in a round.
+#[derive(Clone, Copy)]
+pub enum Fault {
+    /// A reason, in words.
+    Plain(&'static str),
+    /// These calls.
+    Order(Disorder),
+}
+
+impl From<&'static str> for Fault {
+    fn from(why: &'static str) -> Fault {
+        Fault::Plain(why)
+    }
+}
+
+impl Display for Fault {
+    fn fmt<W: Write>(&self, f: &mut Formatter<W>) -> fmt::Result {
+        match *self {
+            Fault::Plain(why) => write!(f, "{why}"),
+            Fault::Order(calls) => write!(f, "{calls}"),
+        }
+    }
+}
 
 /// Where a worker's seat lies before its thread starts and after it ended, and its account.
 #[derive(Drop)]
@@ -48,12 +74,13 @@ fn work<G: Fresh, N: Ledgers, R: Wait + Clock>(
     rt: &R,
     alloc: Global,
     shop: &Shop<G, N>,
+    stamps: &Stamps,
     slot: &Mutex<Slot<N>>,
     round: Round,
 ) {
     let taken = slot.lock(rt).back.take();
     if let Some(back) = taken {
-        let (back, account) = works(rt, alloc, shop, back, round);
+        let (back, account) = works(rt, alloc, shop, stamps, back, round);
         let mut slot = slot.lock(rt);
         slot.account = account;
         let before = mem::replace(&mut slot.back, Some(back));
@@ -73,11 +100,13 @@ fn work_all<G: Fresh + Sync, N: Ledgers + Send + Sync, R: Threads + Wait + Clock
 ) -> (Done<N>, bool) {
     let at_work = AtomicU64::new(slots.len() as u64);
     let busy = &at_work;
+    let counter = Stamps::new();
+    let stamps = &counter;
     thread::scope(thread::scope_env(), rt, |scope| {
         let mut all_started = true;
         for slot in slots {
             let started = scope.spawn(move || {
-                work(rt, alloc, shop, slot, round);
+                work(rt, alloc, shop, stamps, slot, round);
                 busy.fetch_sub(1, Ordering::SeqCst);
             });
             if started.is_err() {
@@ -85,7 +114,10 @@ fn work_all<G: Fresh + Sync, N: Ledgers + Send + Sync, R: Threads + Wait + Clock
                 all_started = false;
             }
         }
-        (interrupts(rt, alloc, shop, last, round, busy), all_started)
+        (
+            interrupts(rt, alloc, shop, stamps, last, round, busy),
+            all_started,
+        )
     })
 }
 
@@ -117,24 +149,29 @@ fn are_same(one: Vec<u64>, other: Vec<u64>) -> Result<bool, &'static str> {
     Ok(one.as_slice() == other.as_slice())
 }
 
-/// The records are legal behind the base, each stands in a list, and every item that was given is there once: it came
-/// to somebody, or is left.
+/// The records are legal behind the base, each stands in a list, every item that was given is there once: it came to
+/// somebody, or is left; and no two calls are in wrong order.
 fn finds_all(
     alloc: Global,
     order: Order,
     chronicle: Chronicle<u64>,
     account: Account,
-) -> Result<(), &'static str>
+) -> Result<(), Fault>
     requires { IsWellFormed (record { order = order; bound = None }) chronicle.base }
 {
-    let Account { given, came, fault } = account;
+    let Account {
+        given,
+        came,
+        calls,
+        fault,
+    } = account;
     if let Some(fault) = fault {
-        return Err(fault);
+        return Err(Fault::Plain(fault));
     }
     let records = chronicle.records.as_slice();
     let kind = Kind { order, bound: None };
     if check(alloc, kind, &chronicle.base, records).is_err() {
-        return Err("the records aren't legal");
+        return Err(Fault::Plain("the records aren't legal"));
     }
     let gone = chronicle.base.gone;
     let mut listed = 0usize;
@@ -143,16 +180,18 @@ fn finds_all(
         listed = listed.saturating_add(since.count());
     }
     if listed != records.len() {
-        return Err("a record stands in no list");
+        return Err(Fault::Plain("a record stands in no list"));
     }
     let mut found = came;
     for left in chronicle.left {
         found.push(left.item).map_err(|_| "memory")?;
     }
-    match are_same(given, found) {
-        Ok(true) => Ok(()),
-        Ok(false) => Err("an item is lost or doubled"),
-        Err(why) => Err(why),
+    if !are_same(given, found)? {
+        return Err(Fault::Plain("an item is lost or doubled"));
+    }
+    match find_disorder(alloc, calls.as_slice())? {
+        None => Ok(()),
+        Some(pair) => Err(Fault::Order(pair)),
     }
 }
 
@@ -162,7 +201,7 @@ fn judged<Q: Drop, B: Drop, N: Ledgers>(
     order: Order,
     closed: Result<Chronicle<u64>, QueueFault<Q, B, N>>,
     account: Account,
-) -> Result<(), &'static str>
+) -> Result<(), Fault>
     requires { IfOk closed (λ c. IsWellFormed (record { order = order; bound = None }) c.base) }
 {
     match closed {
@@ -170,7 +209,7 @@ fn judged<Q: Drop, B: Drop, N: Ledgers>(
         Err(fault) => {
             let why = fault.why();
             keep(fault);
-            Err(why.name())
+            Err(Fault::Plain(why.name()))
         }
     }
 }
@@ -181,7 +220,7 @@ fn closed<G: Fresh, N: Ledgers>(
     shop: Shop<G, N>,
     backs: Vec<Back<Deed, N>>,
     account: Account,
-) -> Result<(), &'static str> {
+) -> Result<(), Fault> {
     match shop {
         Shop::Fair(queue) => judged(alloc, Order::Fair, queue.close(alloc, backs), account),
         Shop::Unfair(queue) => judged(alloc, Order::Unfair, queue.close(alloc, backs), account),
@@ -217,20 +256,20 @@ fn held<G: Fresh + Sync, N: Ledgers + Send + Sync, R: Threads + Wait + Clock + S
     alloc: Global,
     parts: NewQueue<G>,
     round: Round,
-) -> Result<(), &'static str>
+) -> Result<(), Fault>
     requires ledgers { AreOf N.name N.folds N.parts parts.blanks }
     requires one_each { N.parts ≡ vec_len parts.gates }
-    requires cap { N.cap ≡ most_records }
+    requires cap { N.cap ≡ round.cap }
 {
-    let (shop, made) = match Shop::<G, N>::with_cap(alloc, round.order, parts, MOST_RECORDS) {
+    let (shop, made) = match Shop::<G, N>::with_cap(alloc, round.order, parts, round.cap) {
         Ok(made) => made,
-        Err(refused) => return Err(refused.why.name()),
+        Err(refused) => return Err(Fault::Plain(refused.why.name())),
     };
     match worked(rt, alloc, &shop, made, round) {
         Ok((backs, account)) => closed(alloc, shop, backs, account),
         Err(why) => {
             keep(shop);
-            Err(why)
+            Err(Fault::Plain(why))
         }
     }
 }
@@ -240,7 +279,7 @@ pub fn hold<G: Fresh + Sync, R: Threads + Wait + Clock + Sync>(
     rt: &R,
     alloc: Global,
     round: Round,
-) -> Result<(), &'static str> {
+) -> Result<(), Fault> {
     let gates = gates::<G>(alloc, round.seats)?;
     let blanks = Blanks::new(gates.len() as u64);
     let parts = NewQueue { gates, blanks };

@@ -3,6 +3,7 @@
 use crate::accounts::Account;
 use meet_cells::ParkGate;
 use meet_shop::{Ask, Call, Chance, Shop, Told, called};
+use meet_stamps::{Stamped, Stamps};
 use meet_sync::{Back, Gate, Ledgers, Seat, SeatRefused};
 use meet_tickets::{Deed, Order};
 use std::alloc::Global;
@@ -19,6 +20,8 @@ pub struct Round {
     pub order: Order,
     /// How many seats there are: of workers, and the last of who interrupts them.
     pub seats: u64,
+    /// How many records its queue has room for at a time.
+    pub cap: u64,
     /// Where its numbers of chance begin.
     pub seed: u64,
 }
@@ -123,6 +126,26 @@ fn drains<G: Gate, N: Ledgers, R: Wait>(
     }
 }
 
+/// A seat without a ticket tends the queue.
+fn tends<G: Gate, N: Ledgers, R: Wait>(
+    rt: &R,
+    shop: &Shop<G, N>,
+    back: Back<Deed, N>,
+    account: &mut Account,
+) -> Back<Deed, N> {
+    match back {
+        Back::Free(seat) => match shop.tend(rt, seat) {
+            Ok(seat) => Back::Free(seat),
+            Err(refused) => {
+                let SeatRefused { why, seat, item: _ } = refused;
+                account.note(None, Told::Refused(why, None));
+                Back::Free(seat)
+            }
+        },
+        Back::Held(pending) => Back::Held(pending),
+    }
+}
+
 /// A seat makes a checkpoint.
 fn folds<G: Gate, N: Ledgers, R: Wait>(
     rt: &R,
@@ -144,7 +167,7 @@ fn folds<G: Gate, N: Ledgers, R: Wait>(
 }
 
 /// A seat does this.
-fn acts<G: Gate + Drop, N: Ledgers, R: Wait + Clock>(
+fn does<G: Gate + Drop, N: Ledgers, R: Wait + Clock>(
     rt: &R,
     alloc: Global,
     shop: &Shop<G, N>,
@@ -169,11 +192,56 @@ fn acts<G: Gate + Drop, N: Ledgers, R: Wait + Clock>(
     }
 }
 
-/// A worker makes its calls; its last ticket may stay open.
+/// The call of this seat between two stamps, if it wrote records: their receipts stand behind so many.
+fn stamped<N: Ledgers>(
+    back: &Back<Deed, N>,
+    behind: usize,
+    begin: u64,
+    end: u64,
+) -> Option<Stamped> {
+    let seat = back.number().number();
+    let mut places = back
+        .receipts()
+        .iter()
+        .skip(behind)
+        .map(|receipt| receipt.place());
+    let first = places.next()?;
+    let last = places.last().unwrap_or(first);
+    Some(Stamped {
+        seat,
+        begin,
+        end,
+        first,
+        last,
+    })
+}
+
+/// A seat does this, and notes between which stamps it wrote records.
+fn acts<G: Gate + Drop, N: Ledgers, R: Wait + Clock>(
+    rt: &R,
+    alloc: Global,
+    shop: &Shop<G, N>,
+    stamps: &Stamps,
+    back: Back<Deed, N>,
+    account: &mut Account,
+    act: Act,
+) -> Back<Deed, N> {
+    let behind = back.receipts().len();
+    let begin = stamps.take();
+    let back = does(rt, alloc, shop, back, account, act);
+    let end = stamps.take();
+    if let Some(call) = stamped(&back, behind, begin, end) {
+        account.note_call(call);
+    }
+    back
+}
+
+/// A worker makes its calls, and tends the queue behind each; its last ticket may stay open.
 pub fn works<G: Gate + Drop, N: Ledgers, R: Wait + Clock>(
     rt: &R,
     alloc: Global,
     shop: &Shop<G, N>,
+    stamps: &Stamps,
     first: Back<Deed, N>,
     round: Round,
 ) -> Done<N> {
@@ -187,7 +255,8 @@ pub fn works<G: Gate + Drop, N: Ledgers, R: Wait + Clock>(
             Back::Free(_) => act_of_chance(&mut chance, item, round.seats),
             Back::Held(_) => ending_of_chance(&mut chance),
         };
-        back = acts(rt, alloc, shop, back, &mut account, act);
+        back = acts(rt, alloc, shop, stamps, back, &mut account, act);
+        back = tends(rt, shop, back, &mut account);
     }
     (back, account)
 }
@@ -197,6 +266,7 @@ pub fn interrupts<G: Gate + Drop, N: Ledgers, R: Wait + Clock>(
     rt: &R,
     alloc: Global,
     shop: &Shop<G, N>,
+    stamps: &Stamps,
     seat: Seat<Deed, N>,
     round: Round,
     busy: &AtomicU64,
@@ -213,7 +283,8 @@ pub fn interrupts<G: Gate + Drop, N: Ledgers, R: Wait + Clock>(
         for target in 0..workers {
             if chance.below(2) == 0 {
                 let act = Act::Part(Ask::Interrupt(target));
-                back = acts(rt, alloc, shop, back, &mut account, act);
+                back = acts(rt, alloc, shop, stamps, back, &mut account, act);
+                back = tends(rt, shop, back, &mut account);
             }
         }
         let _ = pause.wait(rt, Some(1));

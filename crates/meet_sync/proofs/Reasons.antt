@@ -1,15 +1,16 @@
 -- Why a call of a seat that is there may be refused.
-use Rattle.std.proofs.Common.{◌≡◌, ℕ, Bool, true, false, refl, Some, None, ◌<◌, ◌≤◌, arith}
-use Rattle.std.specs.Prelude.{nat_le, nat_lt, ◌||◌, if◌then◌else◌}
+use Rattle.std.proofs.Common.{◌≡◌, ℕ, Bool, true, false, refl, Ok, Err, Some, None, ◌+◌, ◌<◌, ◌≤◌, length, arith}
+use Rattle.std.specs.Prelude.{nat_le, nat_lt, ◌||◌, if◌then◌else◌, Result, IfErr}
 use Rattle.std.proofs.lemmas.Bool.{leb-true}
 use Rattle.meet_tickets.specs.BySeat.{is_open}
-use Rattle.meet_tickets.specs.Limits.{last_ticket}
+use Rattle.meet_tickets.specs.Limits.{last_ticket, most_gone}
 use Rattle.meet_tickets.specs.Refusals.{IsWhy}
 use Rattle.meet_tickets.specs.declared.refusals.Refusal.{Refusal}
-use Rattle.meet_tickets.specs.declared.refusals.Refusal.TheVariants.{NoSuchSeat, SeatOpen, TicketsSpent}
-use Rattle.meet_book.specs.Booking.{call_refusal}
+use Rattle.meet_tickets.specs.declared.refusals.Refusal.TheVariants.{NoSuchSeat, SeatOpen, TicketsSpent, HistoryFull}
+use Rattle.meet_book.specs.Booked.{Booked}
+use Rattle.meet_book.specs.Booking.{call_refusal, cut_refusal}
 use Rattle.meet_line.specs.Queue.{Queue, seats_of, count_of, admit_refusal}
-use Rattle.meet_sync.specs.Told.{IsRequestWhy, IsInterruptWhy}
+use Rattle.meet_sync.specs.Told.{IsRequestWhy, IsInterruptWhy, IsCutWhy}
 
 -- a seat that is there isn't missing
 pub is_there : (count seats seat : ℕ) → count ≡ seats → seat < seats → nat_le count seat ≡ true → ⊥
@@ -56,3 +57,13 @@ target_by : (absent missing : Bool) (target seats : ℕ) → (missing ≡ false 
 target_by true missing target seats below none = absurd (cc)
 target_by false true target seats below none = absurd (cc)
 target_by false false target seats below none = below refl
+
+cut_why_by : (full : Bool) (why : Refusal) → IsWhy (if full then Some HistoryFull else None) why → IsCutWhy why
+cut_why_by true why e = rw e tt
+cut_why_by false why e = rw e tt
+
+-- why a checkpoint may be refused
+pub cut_why : (O D : Type 0) {B A : Type 0} (gone_of : B → ℕ) (r : Result A Refusal)
+    → IfErr r (λ why. (book : Booked O B D) × IsWhy (cut_refusal (gone_of book.base) book) why) → IfErr r IsCutWhy
+cut_why O D gone_of (Ok done) is = is
+cut_why O D gone_of (Err why) (book, is) = cut_why_by (nat_lt most_gone (gone_of book.base + length book.records)) why is

@@ -12,11 +12,15 @@ use Rattle.meet_line.specs.LeftTold.{AreLeftOn}
 use Rattle.meet_book.specs.Listed.{AreListed}
 use Rattle.meet_book.specs.Received.{Received}
 
-pub record IsChronicle {T : Type 0} (mark : T → ℕ) (kind : Kind) (base : Based) (records : List (Record Deed))
-    (lists : List (List (Received Deed))) (items : List (Left T)) : Type 0 where
+-- records that followed one another, and the base on which they stand, as a queue of this kind hands them out
+pub record IsChapter (kind : Kind) (base : Based) (records : List (Record Deed)) : Type 0 where
   pub well_formed : IsWellFormed kind base
   pub first : base.gone ≡ 0 → base ≡ no_base  -- where no record was folded away, the base is that of no records
   pub legal : IsLegalOn kind base records  -- the records are a legal history of a queue of this kind, after this base
+
+pub record IsChronicle {T : Type 0} (mark : T → ℕ) (kind : Kind) (base : Based) (records : List (Record Deed))
+    (lists : List (List (Received Deed))) (items : List (Left T)) : Type 0 where
+  pub chapter : IsChapter kind base records
   pub listed : AreListed base.gone records lists  -- each seat's records are those of its receipts since, in order
   pub left : AreLeftOn mark base records items  -- the items that the records leave, each once, and no other
 

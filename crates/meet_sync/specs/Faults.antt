@@ -1,5 +1,5 @@
 -- Why a queue for threads was not closed (our choice).
-use Rattle.std.specs.Prelude.{◌≡◌, ℕ, ◌+◌, ◌<◌, ◌≤◌, List, length, map}
+use Rattle.std.specs.Prelude.{◌≡◌, ℕ, ◌+◌, ◌<◌, ◌≤◌, List, [], length, map}
 use Rattle.meet_tickets.specs.declared.records.Deed.{Deed}
 use Rattle.meet_tickets.specs.declared.refusals.Refusal.{Refusal}
 use Rattle.meet_tickets.specs.declared.refusals.Refusal.TheVariants.{Memory as NoMemory, Differs as ListDiffers}
@@ -7,7 +7,7 @@ use Rattle.meet_tickets.specs.declared.refusals.Refusal.TheVariants.{SeatMissing
 use Rattle.meet_tickets.specs.Bases.{Based}
 use Rattle.meet_book.specs.Booked.{Booked}
 use Rattle.meet_book.specs.Listed.{FirstDiffer}
-use Rattle.meet_place.specs.Backs.{list_of, AreOrdered, shares_in, folded_in}
+use Rattle.meet_place.specs.Backs.{missing_of, list_of, AreOrdered, shares_in, folded_in}
 use Rattle.meet_place.specs.declared.seats.Back.{Back}
 use Rattle.meet_sync.specs.declared.closing.QueueFault.{QueueFault}
 use Rattle.meet_sync.specs.declared.closing.QueueFault.TheVariants.{SeatMissing, Memory, Differs}
@@ -18,6 +18,11 @@ module _ {Q B N : Type 0} where
   why_of (SeatMissing have made queue seats) = NotAllSeats
   why_of (Memory queue seats) = NoMemory
   why_of (Differs seat index book seats) = ListDiffers
+
+  -- the numbers of the seats that are missing, in rising order
+  abbrev pub missing_in : QueueFault Q B N → List ℕ
+  missing_in (SeatMissing have made queue seats) = missing_of made seats.items
+  missing_in fault = []
 
 module _ {O N : Type 0} where
   -- this is why a queue with so many seats isn't closed with these. Fewer seats than were made, or no memory: the queue

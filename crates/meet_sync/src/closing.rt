@@ -6,14 +6,15 @@ ghost use Rattle.meet_calls.specs.QueueSteps.{bounded_kind};
 ghost use Rattle.meet_place.specs.Backs.{list_of, AreOrdered, shares_in, folded_in};
 ghost use Rattle.meet_place.specs.declared.seats.Back.{Back};
 ghost use Rattle.meet_sync.specs.Chronicles.{IsChronicle};
-ghost use Rattle.meet_sync.specs.Faults.{QueueFaultFits, why_of};
+ghost use Rattle.meet_sync.specs.Faults.{QueueFaultFits, missing_in, why_of};
+ghost use Rattle.meet_tickets.specs.declared.refusals.Refusal.TheVariants.{Memory as NoMemory};
 
 use crate::sync_queue::SyncQueue;
 use crate::transfer_queue::TransferQueue;
 use meet_book::{Book, Receipt};
 use meet_core::Dual;
 use meet_line::{Left, Line};
-use meet_place::{Back, CloseFault, Closed, Ledgers};
+use meet_place::{Back, CloseFault, Closed, Ledgers, missing_seats};
 use meet_tickets::{Base, Deed, Marked, Record, Refusal, SeatNo};
 use meet_transfer::Unbounded;
 use std::alloc::Global;
@@ -72,6 +73,21 @@ impl<Q, B, N: Ledgers> QueueFault<Q, B, N> {
             QueueFault::SeatMissing { .. } => Refusal::SeatMissing,
             QueueFault::Memory { .. } => Refusal::Memory,
             QueueFault::Differs { .. } => Refusal::Differs,
+        }
+    }
+
+    /// The numbers of the seats that are missing, in rising order; none where no seat is. The only refusal is Memory.
+    pub fn missing(&self, alloc: Global) -> Result<Vec<SeatNo>, Refusal>
+        ensures numbers { IfOk result (λ list. list.items ≡ missing_in self.now) }
+        ensures memory { IfErr result (λ why. why ≡ NoMemory) }
+    {
+        match self {
+            QueueFault::SeatMissing { made, seats, .. } => missing_seats(
+                alloc,
+                *made,
+                seats.as_slice(),
+            ),
+            _ => Ok(Vec::new(alloc)),
         }
     }
 }

@@ -3,6 +3,7 @@
 #![tactic(auto)]
 
 mod asked;
+mod chapters;
 mod checkpoints;
 mod closing;
 mod deadline;
@@ -22,6 +23,7 @@ mod waiting;
 mod whole;
 
 pub use asked::{Answer, Asked, End, Ended, FollowedUp, Request, SeatRefused, Struck, Withdrawn};
+pub use chapters::Chapter;
 pub use closing::{Chronicle, QueueFault};
 pub use draining::DrainedItems;
 pub use laws::closed_queues_keep_their_promise;

@@ -4,6 +4,8 @@
 ghost use Rattle.std.specs.Prelude.{◌≡◌, vec_len, IfErr};
 ghost use Rattle.meet_place.specs.Ledgers.{AreOf};
 
+mod chapters;
+
 use crate::plays::{Found, ended, has};
 use meet_cells::ParkGate;
 use meet_history::{Kind, Order, check};
@@ -181,7 +183,7 @@ fn receipts_of<N: Ledgers>(rt: &impl Abort, seats: &[Back<Deed, N>]) -> usize {
 }
 
 /// A queue that wasn't closed for want of memory, and its seats.
-fn open<Q: Drop, B: Drop, N: Ledgers>(
+pub(crate) fn open<Q: Drop, B: Drop, N: Ledgers>(
     rt: &impl Abort,
     fault: QueueFault<Q, B, N>,
 ) -> (Q, Vec<Back<Deed, N>>) {
@@ -227,7 +229,7 @@ fn ends<N: Ledgers>(
 }
 
 /// An empty list with room for so many, at the second try where there was no memory at first.
-fn list<X: Drop>(rt: &impl Abort, alloc: Global, count: usize) -> Vec<X> {
+pub(crate) fn list<X: Drop>(rt: &impl Abort, alloc: Global, count: usize) -> Vec<X> {
     match Vec::with_capacity(alloc, count) {
         Ok(list) => list,
         Err(_) => Vec::with_capacity(alloc, count).expect(rt, "memory"),

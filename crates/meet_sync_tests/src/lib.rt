@@ -6,6 +6,8 @@ mod at_size;
 #[cfg(test)]
 mod chance;
 #[cfg(test)]
+mod chapters;
+#[cfg(test)]
 mod checkpoints;
 #[cfg(test)]
 mod closing;
@@ -33,6 +35,8 @@ mod plays;
 mod seals;
 #[cfg(test)]
 mod split;
+#[cfg(test)]
+mod tending;
 #[cfg(test)]
 mod wakes;
 #[cfg(test)]

@@ -1,10 +1,12 @@
 //! What stands for the records that were folded away.
 
-ghost use Rattle.std.specs.Prelude.{◌≡◌};
+ghost use Rattle.std.specs.Prelude.{◌≡◌, IfOk, IfErr};
+ghost use Rattle.meet_tickets.specs.declared.refusals.Refusal.TheVariants.{Memory};
 
 use crate::lines::Entry;
 use crate::names::{SeatNo, Ticket};
 use crate::places::Side;
+use crate::refusals::Refusal;
 use std::alloc::Global;
 use std::marker::Model;
 
@@ -70,5 +72,30 @@ impl Base {
             cut: Vec::new(alloc),
             flags: Vec::new(alloc),
         }
+    }
+    /// The same base once more. The only refusal is Memory.
+    pub fn copy(&self, alloc: Global) -> Result<Self, Refusal>
+        ensures same { IfOk result (λ copy. copy ≡ self.now) }
+        ensures memory { IfErr result (λ why. why ≡ Memory) }
+    {
+        Ok(Base {
+            gone: self.gone,
+            last: self.last,
+            line: clones_of(alloc, self.line.as_slice())?,
+            pairs: clones_of(alloc, self.pairs.as_slice())?,
+            cut: clones_of(alloc, self.cut.as_slice())?,
+            flags: clones_of(alloc, self.flags.as_slice())?,
+        })
+    }
+}
+
+/// A list of clones of these items. The only refusal is Memory.
+pub fn clones_of<T: Clone>(alloc: Global, items: &[T]) -> Result<Vec<T>, Refusal>
+    ensures items { IfOk result (λ list. ((x y : T) → T.is_clone x y → y ≡ x) → list.items ≡ items.now) }
+    ensures memory { IfErr result (λ why. why ≡ Memory) }
+{
+    match items.to_vec(alloc) {
+        Ok(list) => Ok(list),
+        Err(_) => Err(Refusal::Memory),
     }
 }

@@ -16,7 +16,7 @@ pub mod places;
 pub mod records;
 pub mod refusals;
 
-pub use bases::{Base, OpenCut, OpenPair};
+pub use bases::{Base, OpenCut, OpenPair, clones_of};
 pub use fates::Fate;
 pub use items::Marked;
 pub use laws::{

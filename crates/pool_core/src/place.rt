@@ -159,6 +159,10 @@ impl<J: Marked> Bases for PoolCore<J> {
             Err(why) => Err(why),
         }
     }
+
+    fn copy_base(alloc: Global, base: &PoolBase) -> Result<PoolBase, Refusal> {
+        base.copy(alloc)
+    }
 }
 
 impl<J: Marked> Wakes for PoolCore<J> {

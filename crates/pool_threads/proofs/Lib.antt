@@ -1,3 +1,4 @@
+pub mod Tended
 pub mod Fitting
 pub mod Founded
 pub mod Keeping

@@ -1,10 +1,10 @@
 -- Why a pool was not closed.
-use Rattle.std.specs.Prelude.{◌≡◌, ℕ, ◌+◌, ◌<◌, ◌≤◌, List, length, map}
+use Rattle.std.specs.Prelude.{◌≡◌, ℕ, ◌+◌, ◌<◌, ◌≤◌, List, [], length, map}
 use Rattle.meet_tickets.specs.declared.refusals.Refusal.{Refusal}
 use Rattle.meet_tickets.specs.declared.refusals.Refusal.TheVariants.{Memory as NoMemory, Differs as ListDiffers}
 use Rattle.meet_tickets.specs.declared.refusals.Refusal.TheVariants.{SeatMissing as NotAllSeats}
 use Rattle.meet_book.specs.Listed.{FirstDiffer}
-use Rattle.meet_place.specs.Backs.{list_of, AreOrdered, shares_in, folded_in}
+use Rattle.meet_place.specs.Backs.{missing_of, list_of, AreOrdered, shares_in, folded_in}
 use Rattle.meet_place.specs.declared.seats.Back.{Back}
 use Rattle.pool_core.specs.Moves.{job_in}
 use Rattle.pool_core.specs.Pools.{Pool, kept_tasks}
@@ -21,6 +21,11 @@ module _ {W C G S N : Type 0} where
   why_of (SeatMissing have made pool seats) = NotAllSeats
   why_of (Memory pool seats) = NoMemory
   why_of (Differs seat index book seats left) = ListDiffers
+
+  -- the numbers of those of so many callers' seats that weren't given back, in rising order
+  abbrev pub missing_in : (callers : ℕ) → PoolFault W C G S N → List ℕ
+  missing_in callers (SeatMissing have made pool seats) = missing_of callers seats.items
+  missing_in callers fault = []
 
   -- this is why a pool of these settings with so many seats isn't closed with these. Fewer seats than were made, those
   -- of absent workers counted too, or no memory: the pool and the seats come back. A difference: the book of such a

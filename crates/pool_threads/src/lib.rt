@@ -1,6 +1,7 @@
 //! A pool of workers, each a thread of its own, which run jobs that callers hand in.
 #![tactic(auto)]
 
+mod chapters;
 mod checkpoints;
 mod closing;
 mod home;
@@ -17,6 +18,7 @@ mod steps;
 mod workers;
 mod worth;
 
+pub use chapters::PoolChapter;
 pub use closing::PoolChronicle;
 pub use home::Home;
 pub use jobs::{Call, Executed, Job, Work};

@@ -1,16 +1,18 @@
 //! Why a pool refuses a call, or isn't closed, with all that comes back. None of these is an error type, and no `From`
 //! makes one a `Refusal`: so a `?` hands it on whole or doesn't compile.
 
-ghost use Rattle.std.specs.Prelude.{◌≡◌};
-ghost use Rattle.pool_threads.specs.Faults.{why_of};
+ghost use Rattle.std.specs.Prelude.{◌≡◌, IfOk, IfErr};
+ghost use Rattle.meet_tickets.specs.declared.refusals.Refusal.TheVariants.{Memory as NoMemory};
+ghost use Rattle.pool_threads.specs.Faults.{missing_in, why_of};
 
 use crate::jobs::{Job, Work};
 use crate::ledgers::PoolLedgers;
 use crate::pool::Pool;
 use meet_book::Book;
-use meet_place::{Back, Ledgers, Seat};
+use meet_place::{Back, Ledgers, Seat, missing_seats};
 use meet_tickets::{Refusal, SeatNo};
 use pool_core::{PoolCore, PoolDeed};
+use std::alloc::Global;
 use std::collections::VecDeque;
 use std::fmt;
 use std::fmt::{Debug, Display, Formatter, Write};
@@ -135,6 +137,18 @@ impl<W: Work, C, G, S, N: PoolLedgers> PoolFault<W, C, G, S, N> {
             PoolFault::SeatMissing { .. } => Refusal::SeatMissing,
             PoolFault::Memory { .. } => Refusal::Memory,
             PoolFault::Differs { .. } => Refusal::Differs,
+        }
+    }
+
+    /// The numbers of those of so many callers' seats that weren't given back, in rising order; none where no seat is
+    /// missing. The only refusal is Memory.
+    pub fn missing(&self, alloc: Global, callers: usize) -> Result<Vec<SeatNo>, Refusal>
+        ensures numbers { IfOk result (λ list. list.items ≡ missing_in callers self.now) }
+        ensures memory { IfErr result (λ why. why ≡ NoMemory) }
+    {
+        match self {
+            PoolFault::SeatMissing { seats, .. } => missing_seats(alloc, callers, seats.as_slice()),
+            _ => Ok(Vec::new(alloc)),
         }
     }
 }

@@ -23,7 +23,7 @@ use std::thread::Threads;
 use std::time::Clock;
 
 /// Each job is worth its tag.
-struct ItsTag;
+pub struct ItsTag;
 
 impl Work for ItsTag {
     ghost worth = { λ tag. tag };

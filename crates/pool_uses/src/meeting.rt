@@ -15,6 +15,7 @@ use pool_core::{Policy, PoolQueue};
 use pool_threads::{NewPool, Outcome, PoolLedgers, ThreadStarter};
 use std::alloc::Global;
 use std::marker::Brand;
+use std::process::Abort;
 use std::sync::{Arc, Wait};
 use std::test::Fail;
 use std::thread::Threads;
@@ -40,41 +41,86 @@ struct Came {
     left: usize,
 }
 
-/// Makes a checkpoint, if one is wanted.
-fn folded<N, C, R, G, S>(
+/// What becomes of the records before the jobs may end.
+#[derive(Clone, Copy)]
+enum Keeping {
+    /// They stay.
+    Whole,
+    /// A checkpoint folds them away.
+    Folded,
+    /// They are handed out, and then looked at.
+    HandedOut,
+}
+
+/// The records so far are handed out, on the base of none; what is looked at then stands behind them. Tending changes
+/// nothing where so few receipts lie in the list.
+fn handed_out<N, C, R, G, S>(
     rt: &R,
+    alloc: Global,
     pool: &Ours<C, G, S, N>,
     seat: OurSeat<N>,
-    cut: bool,
 ) -> Result<OurSeat<N>, Fail>
 where
     N: PoolLedgers,
     C: Drop,
-    R: Wait,
+    R: Wait + Abort,
     G: Gate + Drop,
     S: Drop,
 {
-    if !cut {
-        return Ok(seat);
-    }
-    match pool.checkpoint(rt, seat) {
-        Ok((seat, _gone)) => Ok(seat),
-        Err(_) => Err("no checkpoint".into()),
+    let Ok((seat, chapter)) = pool.rotate(rt, seat, Vec::new(alloc)) else {
+        return Err("nothing is handed out".into());
+    };
+    let count = chapter.records.len() as u64;
+    assert_eq!(rt; (chapter.base.gone, count >= 3 && count <= 5), (0, true));
+    assert_eq!(rt; seat.folded(), count);
+    let Ok(since) = pool.history(rt) else {
+        return Err("nothing is there to be looked at".into());
+    };
+    assert_eq!(rt; since.base.gone, count);
+    let Ok(seat) = pool.tend(rt, seat) else {
+        return Err("the pool isn't tended".into());
+    };
+    assert_eq!(rt; (seat.trimmed(), seat.receipts().len()), (0, 3));
+    Ok(seat)
+}
+
+/// Keeps the records so.
+fn kept<N, C, R, G, S>(
+    rt: &R,
+    alloc: Global,
+    pool: &Ours<C, G, S, N>,
+    seat: OurSeat<N>,
+    keeping: Keeping,
+) -> Result<OurSeat<N>, Fail>
+where
+    N: PoolLedgers,
+    C: Drop,
+    R: Wait + Abort,
+    G: Gate + Drop,
+    S: Drop,
+{
+    match keeping {
+        Keeping::Whole => Ok(seat),
+        Keeping::Folded => match pool.checkpoint(rt, seat) {
+            Ok((seat, _gone)) => Ok(seat),
+            Err(_) => Err("no checkpoint".into()),
+        },
+        Keeping::HandedOut => handed_out(rt, alloc, pool, seat),
     }
 }
 
-/// Hands two jobs in, and a third, and makes a checkpoint, if one is wanted, before the jobs may end; then shuts the
-/// pool down, waits for its end, and closes it.
+/// Hands two jobs in, and a third, and keeps the records so before the jobs may end; then shuts the pool down, waits
+/// for its end, and closes it.
 fn play<N, R, G>(
     rt: &R,
     alloc: Global,
     parts: NewPool<G, ThreadStarter>,
-    cut: bool,
+    keeping: Keeping,
 ) -> Result<Came, Fail>
 where
     N: PoolLedgers + Send + Sync + 'static,
     G: Gate + Drop + Send + Sync + 'static,
-    R: Threads + Wait + Clock + Copy + Send + 'static,
+    R: Threads + Wait + Clock + Abort + Copy + Send + 'static,
     requires ledgers { AreOf N.name N.folds N.parts parts.blanks }
     requires one_each { N.parts ≡ parts.sizes.callers + parts.sizes.maximum }
     requires cap { N.cap ≡ most_records }
@@ -95,7 +141,7 @@ where
     let (seat, first) = handed(rt, &pool, seat, one)?;
     let (seat, second) = handed(rt, &pool, seat, two)?;
     let (seat, third) = handed(rt, &pool, seat, Chore::new(3))?;
-    let seat = folded(rt, &pool, seat, cut)?;
+    let seat = kept(rt, alloc, &pool, seat, keeping)?;
     flags.set();
     let seat = shut(rt, &pool, seat)?;
     let chronicle = closed(rt, alloc, pool, seat)?;
@@ -160,21 +206,21 @@ fn two_meet<R, G>(
     rt: &R,
     alloc: Global,
     parts: NewPool<G, ThreadStarter>,
-    cut: bool,
+    keeping: Keeping,
 ) -> Result<Came, Fail>
 where
-    R: Threads + Wait + Clock + Copy + Send + 'static,
+    R: Threads + Wait + Clock + Abort + Copy + Send + 'static,
     G: Gate + Drop + Send + Sync + 'static,
     requires one_each { IsOneEach parts.sizes parts.blanks (vec_len parts.gates) }
 {
-    play::<Brand, R, G>(rt, alloc, parts, cut)
+    play::<Brand, R, G>(rt, alloc, parts, keeping)
 }
 
 #[test]
 fn two_workers_meet(rt: HostRuntime) -> Result<(), Fail> {
     let alloc = rt.alloc();
     let parts = parts_of(alloc, Policy::Abort, ParkGate::new(), ParkGate::new())?;
-    let came = two_meet(&rt, alloc, parts, false)?;
+    let came = two_meet(&rt, alloc, parts, Keeping::Whole)?;
     assert_eq!(rt; (came.started, came.aborted), (true, true));
     assert_eq!(rt; (came.seen, came.answers), (2, (1, 1)));
     // Two jobs with three records each, one that came back, the shutdown, and two ends. A worker that is ready before
@@ -191,7 +237,7 @@ fn two_workers_meet(rt: HostRuntime) -> Result<(), Fail> {
 fn the_caller_runs(rt: HostRuntime) -> Result<(), Fail> {
     let alloc = rt.alloc();
     let parts = parts_of(alloc, Policy::CallerRuns, ParkGate::new(), ParkGate::new())?;
-    let came = two_meet(&rt, alloc, parts, false)?;
+    let came = two_meet(&rt, alloc, parts, Keeping::Whole)?;
     assert_eq!(rt; (came.started, came.ran_here), (true, Some(3)));
     assert_eq!(rt; (came.seen, came.answers), (2, (1, 1)));
     Ok(())
@@ -201,7 +247,7 @@ fn the_caller_runs(rt: HostRuntime) -> Result<(), Fail> {
 fn a_checkpoint_among_jobs(rt: HostRuntime) -> Result<(), Fail> {
     let alloc = rt.alloc();
     let parts = parts_of(alloc, Policy::Abort, ParkGate::new(), ParkGate::new())?;
-    let came = two_meet(&rt, alloc, parts, true)?;
+    let came = two_meet(&rt, alloc, parts, Keeping::Folded)?;
     assert_eq!(rt; (came.started, came.aborted), (true, true));
     assert_eq!(rt; (came.seen, came.answers), (2, (1, 1)));
     // Three jobs were handed in by then, and each worker has begun to run or not.
@@ -212,10 +258,22 @@ fn a_checkpoint_among_jobs(rt: HostRuntime) -> Result<(), Fail> {
 }
 
 #[test]
+fn a_chapter_is_handed_out_among_jobs(rt: HostRuntime) -> Result<(), Fail> {
+    let alloc = rt.alloc();
+    let parts = parts_of(alloc, Policy::Abort, ParkGate::new(), ParkGate::new())?;
+    let came = two_meet(&rt, alloc, parts, Keeping::HandedOut)?;
+    assert_eq!(rt; (came.seen, came.answers), (2, (1, 1)));
+    assert_eq!(rt; came.gone >= 3 && came.gone <= 5, true);
+    assert_eq!(rt; came.gone.saturating_add(came.records as u64) >= 10, true);
+    assert_eq!(rt; (came.lists, came.left), (3, 0));
+    Ok(())
+}
+
+#[test]
 fn two_workers_that_never_park(rt: HostRuntime) -> Result<(), Fail> {
     let alloc = rt.alloc();
     let parts = parts_of(alloc, Policy::Abort, AtOnce {}, AtOnce {})?;
-    let came = two_meet(&rt, alloc, parts, false)?;
+    let came = two_meet(&rt, alloc, parts, Keeping::Whole)?;
     assert_eq!(rt; (came.started, came.aborted), (true, true));
     assert_eq!(rt; (came.seen, came.answers), (2, (1, 1)));
     assert_eq!(rt; (came.lists, came.left), (3, 0));
@@ -226,7 +284,7 @@ fn two_workers_that_never_park(rt: HostRuntime) -> Result<(), Fail> {
 fn the_caller_runs_beside_workers_that_never_park(rt: HostRuntime) -> Result<(), Fail> {
     let alloc = rt.alloc();
     let parts = parts_of(alloc, Policy::CallerRuns, AtOnce {}, AtOnce {})?;
-    let came = two_meet(&rt, alloc, parts, false)?;
+    let came = two_meet(&rt, alloc, parts, Keeping::Whole)?;
     assert_eq!(rt; (came.started, came.ran_here), (true, Some(3)));
     assert_eq!(rt; (came.seen, came.answers), (2, (1, 1)));
     Ok(())

@@ -120,6 +120,10 @@ impl<T: Marked, L: Line<T>> Bases for Dual<T, L> {
     fn base(&self, alloc: Global, gone: u64) -> Result<Base, Refusal> {
         Dual::base(self, alloc, gone)
     }
+
+    fn copy_base(alloc: Global, base: &Base) -> Result<Base, Refusal> {
+        base.copy(alloc)
+    }
 }
 
 impl<T: Marked, L: Line<T>> Drains for Dual<T, L> {

@@ -132,6 +132,10 @@ impl<T: Marked> Bases for Transfer<T> {
     fn base(&self, alloc: Global, gone: u64) -> Result<Base, Refusal> {
         Transfer::base(self, alloc, gone)
     }
+
+    fn copy_base(alloc: Global, base: &Base) -> Result<Base, Refusal> {
+        base.copy(alloc)
+    }
 }
 
 impl<T: Marked> Drains for Transfer<T> {

@@ -124,6 +124,10 @@ impl<T: Marked> Bases for Unbounded<T> {
     fn base(&self, alloc: Global, gone: u64) -> Result<Base, Refusal> {
         Bases::base(&self.queue, alloc, gone)
     }
+
+    fn copy_base(alloc: Global, base: &Base) -> Result<Base, Refusal> {
+        base.copy(alloc)
+    }
 }
 
 impl<T: Marked> Drains for Unbounded<T> {

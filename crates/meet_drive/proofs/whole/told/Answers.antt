@@ -12,9 +12,9 @@ returns-in-Ok c =
     let records : c.as_slice-records.result.now ≡ c.args.chronicle.now.records.items = c.as_slice-records.ensures.value ∙ ap (λ v. v.records.items) c.chronicle.view_is in
     let none : c.args.chronicle.now.base.gone ≡ 0 = search (rules, arith) in
     let told = c.laws.ensures.tally _ c.requires.history.0 c.requires.history.1 is in
-    let first = subst (λ (b : Based). c.laws.result ≡ tally_in (opening b ++ c.args.chronicle.now.records.items)) (is.first none) told in
-    let legal = subst (λ (b : Based). IsLegalOn fair b c.as_slice-records.result.now) (is.first none) c.in-Ok.ensures.legal in
-    let standing = subst (λ (b : Based). c.in-Ok.standing ≡ standing_on b c.as_slice-records.result.now) (is.first none) c.in-Ok.ensures.standing in
+    let first = subst (λ (b : Based). c.laws.result ≡ tally_in (opening b ++ c.args.chronicle.now.records.items)) (is.chapter.first none) told in
+    let legal = subst (λ (b : Based). IsLegalOn fair b c.as_slice-records.result.now) (is.chapter.first none) c.in-Ok.ensures.legal in
+    let standing = subst (λ (b : Based). c.in-Ok.standing ≡ standing_on b c.as_slice-records.result.now) (is.chapter.first none) c.in-Ok.ensures.standing in
     record {
       driven = record {
         history = c.as_slice-records.result.now;

@@ -49,4 +49,4 @@ returns-in-Ok-close g c =
     let all = one_held _ _ c.push_reserved.new.self.items c.in-Ok-Parked.seat
     (c.push_reserved.ensures.items ∙ ap (λ l. l ++ Held c.in-Ok-Parked.seat ∷ []) c.in-Ok-with_capacity.ensures.items) in
     let gone = c.in-Ok-close.ensures.folded in
-    c.in-Ok-close.ensures.history.first (omega (arith, all, gone, same, new))
+    c.in-Ok-close.ensures.history.chapter.first (omega (arith, all, gone, same, new))

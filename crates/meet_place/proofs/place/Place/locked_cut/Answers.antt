@@ -5,6 +5,7 @@ use Rattle.meet_tickets.specs.Refusals.{IsWhy}
 use Rattle.meet_book.specs.Booked.{Booked}
 use Rattle.meet_book.specs.Booking.{cut_refusal}
 use Rattle.meet_place.specs.Seats.{SeatView, Checkpoints}
+use Rattle.meet_place.proofs.Folded.{refused}
 use Rattle.meet_place.proofs.place.Place.locked_cut.Goals as goal
 
 module _ {O B D : Type 0} (gone_of : B → ℕ) (book : Booked O B D) (old new : SeatView D) where
@@ -16,15 +17,10 @@ module _ {O B D : Type 0} (gone_of : B → ℕ) (book : Booked O B D) (old new :
   folded (Ok n) is admitted counted = (book, is, admitted, counted)
   folded (Err why) is admitted counted = is
 
-  refused : (r : Result ℕ Refusal) → IfErr r (IsWhy (cut_refusal (gone_of book.base) book))
-      → IfErr r (λ why. (b : Booked O B D) × IsWhy (cut_refusal (gone_of b.base) b) why)
-  refused (Ok n) is = is
-  refused (Err why) is = (book, is)
-
 pub returns-clause-gone : goal.returns-clause-gone
 returns-clause-gone g c =
     folded g.O.Object.gone_of c.deref_mut.result.now c.args.seat.now c.cut.new.seat c.cut.result c.cut.ensures.gone c.cut.ensures.admitted
     c.cut.ensures.counted
 
 pub returns-clause-why : goal.returns-clause-why
-returns-clause-why g c = refused g.O.Object.gone_of c.deref_mut.result.now c.args.seat.now c.cut.new.seat c.cut.result c.cut.ensures.why
+returns-clause-why g c = refused g.O.Object.gone_of c.deref_mut.result.now c.cut.result c.cut.ensures.why

@@ -5,4 +5,4 @@ use Rattle.meet_sync.proofs.closing.Chronicle.erased.Goals as goal
 
 pub returns-clause-legal : goal.returns-clause-legal
 returns-clause-legal g c = λ kind mark lists is none.
-    is_erased kind c.args.self.now.records.items (subst (λ b. IsLegalOn kind b c.args.self.now.records.items) (is.first none) is.legal)
+    is_erased kind c.args.self.now.records.items (subst (λ b. IsLegalOn kind b c.args.self.now.records.items) (is.chapter.first none) is.chapter.legal)

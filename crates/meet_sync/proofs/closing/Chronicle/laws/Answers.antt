@@ -10,6 +10,6 @@ returns-clause-tally g c = λ kind mark lists is.
     let base = c.args.self.now.base in
     let records = c.as_slice.ensures.value in
     let left = c.as_slice-2.ensures.value in
-    let legal = subst (IsLegalOn kind base) (sym records) is.legal in
+    let legal = subst (IsLegalOn kind base) (sym records) is.chapter.legal in
     let items = subst (λ rs. AreLeftOn mark base rs c.as_slice-2.result.now) (sym records) (subst (AreLeftOn mark base c.args.self.now.records.items) (sym left) is.left) in
-    subst (λ rs. c.reckon.result ≡ tally_in (opening base ++ rs)) records (c.reckon.ensures.tally kind mark is.well_formed legal items)
+    subst (λ rs. c.reckon.result ≡ tally_in (opening base ++ rs)) records (c.reckon.ensures.tally kind mark is.chapter.well_formed legal items)

@@ -1,0 +1,40 @@
+//! Which seats are missing where a place isn't closed.
+
+ghost use Rattle.std.specs.Prelude.{◌≡◌, IfOk, IfErr};
+ghost use Rattle.meet_tickets.specs.declared.refusals.Refusal.TheVariants.{Memory};
+ghost use Rattle.meet_place.specs.Backs.{is_back, missing_of};
+
+use crate::ledgers::Ledgers;
+use crate::place::seat_of;
+use crate::seats::Back;
+use meet_tickets::{MOST_SEATS, Refusal, SeatNo};
+use std::alloc::Global;
+
+/// Whether this seat is among these.
+fn is_back<D: Copy, N: Ledgers>(seats: &[Back<D, N>], number: u64) -> bool
+    ensures { result ≡ is_back seats.now number }
+{
+    seats.iter().any(|back| back.number().number() == number)
+}
+
+/// The numbers of those of so many seats that aren't among these, in rising order. It compares each number with each
+/// seat. The only refusal is Memory.
+pub fn missing_seats<D: Copy, N: Ledgers>(
+    alloc: Global,
+    made: usize,
+    seats: &[Back<D, N>],
+) -> Result<Vec<SeatNo>, Refusal>
+    ensures missing { IfOk result (λ list. list.items ≡ missing_of made seats.now) }
+    ensures memory { IfErr result (λ why. why ≡ Memory) }
+{
+    let mut list = Vec::new(alloc);
+    for number in 0..made.min(MOST_SEATS as usize) {
+        if is_back(seats, number as u64) {
+            continue;
+        }
+        if list.push(seat_of(number)).is_err() {
+            return Err(Refusal::Memory);
+        }
+    }
+    Ok(list)
+}

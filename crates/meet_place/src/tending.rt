@@ -1,0 +1,102 @@
+//! A seat tends its place: where each does so behind each call, the history never fills, and the lists stay short.
+
+ghost use Rattle.std.specs.Prelude.{◌≡◌, ◌⊎◌, ◌+◌, ◌<◌, ◌≤◌, ◌^◌, length, true, IsOk, IfOk, IfErr};
+ghost use Rattle.meet_tickets.specs.Refusals.{IsWhy};
+ghost use Rattle.meet_book.specs.Booked.{Booked};
+ghost use Rattle.meet_book.specs.Booking.{cut_refusal};
+ghost use Rattle.meet_place.specs.Holds.{IsBookOf};
+ghost use Rattle.meet_place.specs.Seats.{Checkpoints, share_in};
+ghost use Rattle.meet_place.specs.Tending.{FoldsNone, LooksAfter, is_half_full, may_lie, to_fold};
+
+use crate::ledgers::Ledgers;
+use crate::place::Place;
+use crate::seats::Seat;
+use crate::shared::Shared;
+use meet_book::Bases;
+use meet_tickets::Refusal;
+use std::sync::Wait;
+
+impl<O: Bases, N: Ledgers> Shared<O, N>
+where
+    O::Base: Drop,
+{
+    /// A checkpoint of a seat where the book is more than half full, and nothing else. It is refused as `cut` is, and
+    /// then nothing has changed.
+    fn fold_if_half_full(&mut self, seat: &mut Seat<O::Deed, N>) -> Result<(), Refusal>
+        ensures counted { IfOk result (λ _. Checkpoints (to_fold self.old) seat.old seat.new) }
+        ensures gone { IfOk result (λ _. O.gone_of self.new.base ≡ O.gone_of self.old.base + to_fold self.old) }
+        ensures place { IsBookOf O.seat_count_of N.parts N.cap self.old }
+        ensures object { self.new.object ≡ self.old.object }
+        ensures full { IfErr result (λ _. is_half_full self.old ≡ true) }
+        ensures why { IfErr result (IsWhy (cut_refusal (O.gone_of self.old.base) self.old)) }
+        ensures same { IfErr result (λ _. seat.new ≡ seat.old) }
+        ensures unchanged { IfErr result (λ _. self.new ≡ self.old) }
+    {
+        let _ = &self.book;
+        if self.is_half_full() {
+            match self.cut(seat) {
+                Ok(_) => Ok(()),
+                Err(why) => Err(why),
+            }
+        } else {
+            Ok(())
+        }
+    }
+
+    /// A seat looks at the book: a checkpoint where it is more than half full, and how many records are folded away
+    /// then. It is refused as `cut` is, and then nothing has changed.
+    pub fn look_after(&mut self, seat: &mut Seat<O::Deed, N>) -> (Result<(), Refusal>, u64)
+        ensures fits { share_in seat.new < 2 ^ 64 }
+        ensures gone { IfOk result.0 (λ _. result.1 ≡ O.gone_of self.old.base + to_fold self.old) }
+        ensures counted { IfOk result.0 (λ _. Checkpoints (to_fold self.old) seat.old seat.new) }
+        ensures place { IsBookOf O.seat_count_of N.parts N.cap self.old }
+        ensures object { self.new.object ≡ self.old.object }
+        ensures none { IfErr result.0 (λ _. result.1 ≡ O.gone_of self.old.base) }
+        ensures full { IfErr result.0 (λ _. is_half_full self.old ≡ true) }
+        ensures why { IfErr result.0 (IsWhy (cut_refusal (O.gone_of self.old.base) self.old)) }
+        ensures same { IfErr result.0 (λ _. seat.new ≡ seat.old) }
+    {
+        let folded = self.fold_if_half_full(seat);
+        let gone = self.gone_for(seat);
+        (folded, gone)
+    }
+}
+
+impl<O: Bases, G, N: Ledgers> Place<O, G, N>
+where
+    O::Base: Drop,
+{
+    /// The same under one hold of the lock.
+    fn look_after<R: Wait>(&self, rt: &R, seat: &mut Seat<O::Deed, N>) -> (Result<(), Refusal>, u64)
+        ensures fits { share_in seat.new < 2 ^ 64 }
+        ensures looked { IfOk result.0 (λ _. (book : Booked O O.Base O.Deed)
+            × IsBookOf O.seat_count_of N.parts N.cap book × (result.1 ≡ O.gone_of book.base + to_fold book)
+            × Checkpoints (to_fold book) seat.old seat.new) }
+        ensures refused { IfErr result.0 (λ why. (book : Booked O O.Base O.Deed)
+            × IsBookOf O.seat_count_of N.parts N.cap book × (result.1 ≡ O.gone_of book.base)
+            × (is_half_full book ≡ true) × IsWhy (cut_refusal (O.gone_of book.base) book) why) }
+        ensures same { IfErr result.0 (λ _. seat.new ≡ seat.old) }
+    {
+        let mut shared = self.hold(rt);
+        shared.look_after(seat)
+    }
+
+    /// Looks at the seat's own list. Where more receipts lie there than may, and the book may be more than half full, it
+    /// takes the lock once, folds the records away where the book is, which count for the seat then, and lets go of the
+    /// seat's receipts for all that is folded away. It takes no memory but for the base. It is refused as the book's
+    /// `cut` is, and the receipts are let go then too.
+    pub fn tend<R: Wait>(&self, rt: &R, seat: &mut Seat<O::Deed, N>) -> Result<(), Refusal>
+        ensures few { length seat.old.list ≤ may_lie N.cap N.parts → IsOk result × (seat.new ≡ seat.old) }
+        ensures tended { IfOk result (λ _. (seat.new ≡ seat.old) ⊎ ((book : Booked O O.Base O.Deed)
+            × IsBookOf O.seat_count_of N.parts N.cap book × LooksAfter O.gone_of book seat.old seat.new)) }
+        ensures why { IfErr result (λ why. (book : Booked O O.Base O.Deed)
+            × IsBookOf O.seat_count_of N.parts N.cap book × FoldsNone O.gone_of book why seat.old seat.new) }
+    {
+        if !seat.is_to_look(self.cap, self.gates.len() as u64) {
+            return Ok(());
+        }
+        let (folded, gone) = self.look_after(rt, seat);
+        seat.forget(gone);
+        folded
+    }
+}

@@ -1,0 +1,154 @@
+//! A pool that lives long: its history is tended by its callers, handed out chapter by chapter, or looked at, while its
+//! workers go on.
+
+ghost use Rattle.std.specs.Prelude.{◌≡◌, ◌⊎◌, ◌+◌, ◌<◌, ◌≤◌, ◌^◌, ℕ, length, IsOkAnd, IfOk, IfErr};
+ghost use Rattle.meet_tickets.specs.Limits.{most_gone, most_records};
+ghost use Rattle.meet_tickets.specs.declared.refusals.Refusal.TheVariants.{Memory};
+ghost use Rattle.meet_place.specs.Seats.{Checkpoints, Trims, share_in};
+ghost use Rattle.meet_place.specs.Tending.{Tends, may_lie};
+ghost use Rattle.pool_core.specs.Bases.{LeadsTo};
+ghost use Rattle.pool_core.specs.Histories.{no_base};
+ghost use Rattle.pool_core.specs.Shown.{Shown};
+ghost use Rattle.pool_threads.specs.Told.{IsCutWhy};
+
+use crate::jobs::Work;
+use crate::ledgers::PoolLedgers;
+use crate::pool::Pool;
+use crate::refusals::SeatRefused;
+use crate::shared::PoolShared;
+use meet_book::Chapter;
+use meet_cells::Gate;
+use meet_place::{Seat, hold};
+use meet_tickets::{MOST_RECORDS, Record, Refusal};
+use pool_core::{PoolBase, PoolCore, PoolDeed};
+use std::sync::Wait;
+
+/// Records of a pool that followed one another, and what stands for all that came before them.
+#[derive(Drop)]
+pub struct PoolChapter {
+    /// What stands for the records before these.
+    pub base: PoolBase,
+    /// The records since, in order.
+    pub records: Vec<Record<PoolDeed<u64>>>,
+}
+
+impl<W: Work, C: Drop, N: PoolLedgers> PoolShared<W, C, N> {
+    /// A seat looks at the book: a checkpoint where it is more than half full, and how many records are folded away
+    /// then. It refuses HistoryFull or Memory; then nothing has changed.
+    fn look_after(&mut self, seat: &mut Seat<PoolDeed<u64>, N>) -> (Result<(), Refusal>, u64)
+        ensures fits { share_in seat.new < 2 ^ 64 }
+        ensures counted { IfOk result.0 (λ _. (more : ℕ) × Checkpoints more seat.old seat.new) }
+        ensures why { IfErr result.0 IsCutWhy }
+        ensures same { IfErr result.0 (λ _. seat.new ≡ seat.old) }
+    {
+        self.shared.look_after(seat)
+    }
+
+    /// A checkpoint of a seat that hands out what it folds away. It refuses HistoryFull or Memory; then nothing has
+    /// changed.
+    fn rotate(
+        &mut self,
+        seat: &mut Seat<PoolDeed<u64>, N>,
+        room: Vec<Record<PoolDeed<u64>>>,
+    ) -> Result<Chapter<PoolCore<u64>>, Refusal>
+        ensures legal { IfOk result (λ chapter. (core : Shown ℕ) × (core.settings ≡ N.settings)
+            × LeadsTo (λ tag. tag) chapter.base chapter.records.items core) }
+        ensures first { IfOk result (λ chapter. chapter.base.gone ≡ 0 → chapter.base ≡ no_base) }
+        ensures counted { IfOk result (λ chapter. Checkpoints (length chapter.records.items) seat.old seat.new) }
+        ensures few { IfOk result (λ chapter. chapter.base.gone + length chapter.records.items ≤ most_gone) }
+        ensures cap { IfOk result (λ chapter. length chapter.records.items ≤ N.cap) }
+        ensures why { IfErr result IsCutWhy }
+        ensures same { IfErr result (λ _. seat.new ≡ seat.old) }
+    {
+        self.shared.rotate(seat, room)
+    }
+
+    /// Base and records once more. The only refusal is Memory.
+    fn copy(&self) -> Result<Chapter<PoolCore<u64>>, Refusal>
+        ensures legal { IfOk result (λ chapter. (core : Shown ℕ) × (core.settings ≡ N.settings)
+            × LeadsTo (λ tag. tag) chapter.base chapter.records.items core) }
+        ensures first { IfOk result (λ chapter. chapter.base.gone ≡ 0 → chapter.base ≡ no_base) }
+        ensures cap { IfOk result (λ chapter. length chapter.records.items ≤ N.cap) }
+        ensures why { IfErr result (λ why. why ≡ Memory) }
+    {
+        self.shared.copy()
+    }
+}
+
+impl<W: Work, C: Drop, G: Gate + Drop, S: Drop, N: PoolLedgers> Pool<W, C, G, S, N> {
+    /// Sees to it that the history never fills: behind each call, by each caller. Where more receipts lie in the seat's
+    /// list than 1,048,576 parted by the seats, and that by four, and the history may be more than half full, it takes
+    /// the lock once, makes a checkpoint where it is, and lets go of the seat's receipts for all that is folded away.
+    /// Most calls touch no lock. It is refused as a checkpoint is; the receipts are let go then too.
+    pub fn tend<R: Wait>(
+        &self,
+        rt: &R,
+        mut seat: Seat<PoolDeed<u64>, N>,
+    ) -> Result<Seat<PoolDeed<u64>, N>, SeatRefused<N>>
+        ensures few { length seat.list ≤ may_lie most_records N.parts → IsOkAnd result (λ tended. tended ≡ seat) }
+        ensures tended { IfOk result (λ tended. (tended ≡ seat) ⊎ Tends seat tended) }
+        ensures trimmed { IfErr result (λ refused. (gone : ℕ) × Trims gone seat refused.seat) }
+        ensures why { IfErr result (λ refused. IsCutWhy refused.why) }
+    {
+        if !seat.is_to_look(MOST_RECORDS, self.home.made.count() as u64) {
+            return Ok(seat);
+        }
+        let mut shared = hold(rt, &self.home.shared);
+        let (folded, gone) = shared.look_after(&mut seat);
+        drop(shared);
+        seat.forget(gone);
+        match folded {
+            Ok(()) => Ok(seat),
+            Err(why) => Err(SeatRefused { why, seat }),
+        }
+    }
+
+    /// A checkpoint that hands out what it folds away: the records so far, and the base on which they stand. They count
+    /// for the seat. The records to come are written into this list, whose own are let go, so that a list is used again
+    /// once what it held is kept elsewhere. It refuses HistoryFull where more than 2^63 - 1 records would be folded
+    /// away, else Memory; then nothing has changed but the list, which is let go.
+    pub fn rotate<R: Wait>(
+        &self,
+        rt: &R,
+        mut seat: Seat<PoolDeed<u64>, N>,
+        room: Vec<Record<PoolDeed<u64>>>,
+    ) -> Result<(Seat<PoolDeed<u64>, N>, PoolChapter), SeatRefused<N>>
+        ensures legal { IfOk result (λ made. (core : Shown ℕ) × (core.settings ≡ N.settings)
+            × LeadsTo (λ tag. tag) made.1.base made.1.records.items core) }
+        ensures first { IfOk result (λ made. made.1.base.gone ≡ 0 → made.1.base ≡ no_base) }
+        ensures counted { IfOk result (λ made. Checkpoints (length made.1.records.items) seat made.0) }
+        ensures few { IfOk result (λ made. made.1.base.gone + length made.1.records.items ≤ most_gone) }
+        ensures cap { IfOk result (λ made. length made.1.records.items ≤ N.cap) }
+        ensures back { IfErr result (λ refused. refused.seat ≡ seat) }
+        ensures why { IfErr result (λ refused. IsCutWhy refused.why) }
+    {
+        let mut shared = hold(rt, &self.home.shared);
+        match shared.rotate(&mut seat, room) {
+            Ok(chapter) => {
+                let Chapter { base, records } = chapter;
+                Ok((seat, PoolChapter { base, records }))
+            }
+            Err(why) => Err(SeatRefused { why, seat }),
+        }
+    }
+
+    /// The records so far, and the base on which they stand, copied under one hold of the lock. Nothing changes, and no
+    /// seat is asked for, so it tells what happened also where a seat is lost, and `close` can't be had any more. The
+    /// only refusal is Memory.
+    pub fn history<R: Wait>(&self, rt: &R) -> Result<PoolChapter, Refusal>
+        ensures legal { IfOk result (λ chapter. (core : Shown ℕ) × (core.settings ≡ N.settings)
+            × LeadsTo (λ tag. tag) chapter.base chapter.records.items core) }
+        ensures first { IfOk result (λ chapter. chapter.base.gone ≡ 0 → chapter.base ≡ no_base) }
+        ensures cap { IfOk result (λ chapter. length chapter.records.items ≤ N.cap) }
+        ensures why { IfErr result (λ why. why ≡ Memory) }
+    {
+        let shared = hold(rt, &self.home.shared);
+        match shared.copy() {
+            Ok(chapter) => {
+                let Chapter { base, records } = chapter;
+                Ok(PoolChapter { base, records })
+            }
+            Err(why) => Err(why),
+        }
+    }
+}

@@ -1,0 +1,14 @@
+use Rattle.meet_tickets.specs.Limits.{most_records}
+use Rattle.pool_threads_tests.proofs.missing.with_a_lost_seat.Given as goal
+
+-- the ledgers of the pool that is made
+abbrev pub ghosts-play_lost-N-Ledger : goal.ghosts-play_lost-N-Ledger
+ghosts-play_lost-N-Ledger g a = record { name = a.parts.blanks.records.name; parts = a.parts.blanks.records.parts }
+
+abbrev pub ghosts-play_lost-N-Ledgers : goal.ghosts-play_lost-N-Ledgers
+ghosts-play_lost-N-Ledgers g a = record { folds = a.parts.blanks.folds.name; cap = most_records }
+
+-- what it is made with
+abbrev pub ghosts-play_lost-N-PoolLedgers : goal.ghosts-play_lost-N-PoolLedgers
+ghosts-play_lost-N-PoolLedgers g a =
+    record { settings = record { sizes = a.parts.sizes; queue = a.parts.queue; policy = a.parts.policy } }
