@@ -47,7 +47,10 @@ fn two_givers_of_a_thousand(rt: HostRuntime) {
 /// It has 75,000 records.
 #[test]
 fn twenty_five_givers_of_a_thousand(rt: HostRuntime) {
-    assert_eq!(&rt; drive(&rt, rt.alloc(), 25, 1_000), whole(25_000, 12_512_500));
+    assert_eq!(&rt;
+        drive(&rt, rt.alloc(), 25, 1_000),
+        whole(25_000, 12_512_500)
+    );
 }
 
 /// The call that waits has a record, and is owed one; the other needs two, since it might wait as well. So four records
