@@ -1,6 +1,7 @@
 pub mod Called
 pub mod Calling
 pub mod Drained
+pub mod Ends
 pub mod Faulty
 pub mod Foldings
 pub mod Grounds

@@ -1,8 +1,8 @@
 -- What a checker that takes records one by one shows of itself, and how that is tied to the records.
-use Rattle.std.specs.Prelude.{◌≡◌, ℕ, ◌+◌, ◌<◌, ◌^◌, Option, Some, None, List, [], ◌∷◌, ◌++◌, length}
+use Rattle.std.specs.Prelude.{◌≡◌, ℕ, ◌+◌, ◌<◌, ◌^◌, Bool, IsTrue, ◌↔◌, Option, Some, None, List, [], ◌∷◌, ◌++◌, length}
 use Rattle.meet_tickets.specs.declared.records.Record.{Record}
 use Rattle.meet_tickets.specs.declared.records.Deed.{Deed}
-use Rattle.meet_tickets.specs.Bases.{Based, moment_of_base, IsWellFormed, IsLegalOn}
+use Rattle.meet_tickets.specs.Bases.{Based, moment_of_base, IsWellFormed, IsLegalOn, IsBaseOf}
 use Rattle.meet_tickets.specs.BySeat.{moment_of}
 use Rattle.meet_history.specs.declared.checker.CheckFault.{CheckFault}
 use Rattle.meet_history.specs.declared.checker.Standing.{Standing}
@@ -41,6 +41,11 @@ TakesIn old r new =
 abbrev pub IsStandingOf : Progress → Standing → Type 0
 IsStandingOf p standing =
     (base : Based) (past : List (Record Deed)) → HasSeen base p past → standing ≡ standing_on base past
+
+-- whatever was pushed, whether this base stands for it
+abbrev pub TellsEnd : Progress → (next : Based) → Bool → Type 0
+TellsEnd p next ends = (base : Based) (past : List (Record Deed)) → HasSeen base p past → IsTrue ends
+    ↔ IsBaseOf (moment_of p.place.kind (moment_of_base base) past) (base.gone + length past) next
 
 -- this record can be pushed without growth
 abbrev pub HasRoomFor : Progress → Record Deed → Type 0

@@ -12,7 +12,9 @@ use place::CheckedPlace;
 use std::alloc::Global;
 use std::marker::Model;
 
+mod ends;
 mod place;
+mod same;
 
 /// Why a record can't come next: the first reason that applies.
 #[derive(Clone, Copy, PartialEq, Eq, Debug)]

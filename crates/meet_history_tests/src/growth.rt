@@ -61,10 +61,26 @@ fn a_check_of_items_that_are_kept(rt: HostRuntime) -> Result<(), Fail> {
     Ok(())
 }
 
-/// Pushes the record of a giver that waits.
-fn push_giver(checker: &mut Checker, seat: u64, own: u64) -> Result<Result<(), CheckFault>, Fail> {
-    let entry = record(seat, own, Deed::GiveWaits(7))?;
-    Ok(checker.push(entry))
+/// A checker of a place of this kind that has seen nothing, made at the second try where there was no memory at first.
+fn made(alloc: Global, kind: Kind) -> Result<Checker, Fail> {
+    match Checker::new(alloc, kind, &Base::empty(alloc)) {
+        Ok(checker) => Ok(checker),
+        Err(_) => Ok(
+            Checker::new(alloc, kind, &Base::empty(alloc))
+                .ok()
+                .ok_or("memory")?,
+        ),
+    }
+}
+
+/// Pushes a record that can stand.
+fn pushes(rt: &impl Abort, checker: &mut Checker, entry: &Record<Deed>) {
+    let mut pushed = checker.push(*entry);
+    if pushed == Err(CheckFault::Memory) {
+        // Nothing has changed: the same record may come again.
+        pushed = checker.push(*entry);
+    }
+    assert_eq!(rt; pushed, Ok(()));
 }
 
 #[test]
@@ -73,19 +89,10 @@ fn records_that_are_pushed(rt: HostRuntime) -> Result<(), Fail> {
         order: Order::Unfair,
         bound: None,
     };
-    let mut checker = match Checker::new(rt.alloc(), kind, &Base::empty(rt.alloc())) {
-        Ok(checker) => checker,
-        Err(_) => Checker::new(rt.alloc(), kind, &Base::empty(rt.alloc()))
-            .ok()
-            .ok_or("memory")?,
-    };
+    let mut checker = made(rt.alloc(), kind)?;
     for number in 0..9 {
-        let mut pushed = push_giver(&mut checker, number * 100, number + 1)?;
-        if pushed == Err(CheckFault::Memory) {
-            // Nothing has changed: the same record may come again.
-            pushed = push_giver(&mut checker, number * 100, number + 1)?;
-        }
-        assert_eq!(rt; pushed, Ok(()));
+        let entry = record(number * 100, number + 1, Deed::GiveWaits(7))?;
+        pushes(&rt, &mut checker, &entry);
     }
     let standing = Standing {
         waiting: 9,
@@ -94,6 +101,63 @@ fn records_that_are_pushed(rt: HostRuntime) -> Result<(), Fail> {
     };
     assert_eq!(rt; checker.standing(), Ok(standing));
     Ok(())
+}
+
+/// The base of what the checker has seen, told at the second try where there was no memory at first.
+fn told(alloc: Global, checker: &Checker) -> Result<Base, CheckFault> {
+    match checker.base(alloc) {
+        Ok(base) => Ok(base),
+        Err(_) => checker.base(alloc),
+    }
+}
+
+/// Whether this base is that.
+fn ends(alloc: Global, checker: &Checker, base: &Base) -> Result<bool, CheckFault> {
+    let found = checker.ends_at(alloc, base);
+    if found == Err(CheckFault::Memory) {
+        return checker.ends_at(alloc, base);
+    }
+    found
+}
+
+/// The base that a checker tells has one of each, and is its end.
+fn tells_one_of_each(rt: &impl Abort, alloc: Global, checker: &Checker) -> Result<(), Fail> {
+    let base = told(alloc, checker).ok().ok_or("memory")?;
+    assert_eq!(rt; (base.line.len(), base.pairs.len()), (1, 1));
+    assert_eq!(rt; (base.cut.len(), base.flags.len()), (1, 1));
+    assert_eq!(rt; ends(alloc, checker, &base), Ok(true));
+    Ok(())
+}
+
+/// Three givers, of which one is met and one is cut; and a flag.
+fn one_of_each() -> Result<[Record<Deed>; 6], Fail> {
+    Ok([
+        record(0, 1, Deed::GiveWaits(7))?,
+        record(1, 2, Deed::GiveWaits(8))?,
+        record(2, 3, Deed::GiveWaits(9))?,
+        record(3, 4, Deed::TakeMeets(7, ticket(1)?))?,
+        record(3, 2, Deed::Interrupt(seat(1)?))?,
+        record(3, 0, Deed::Interrupt(seat(3)?))?,
+    ])
+}
+
+/// Pushes records that can stand.
+fn pushes_all(rt: &impl Abort, checker: &mut Checker, records: &[Record<Deed>]) {
+    for entry in records {
+        pushes(rt, checker, entry);
+    }
+}
+
+#[test]
+fn a_base_that_is_told(rt: HostRuntime) -> Result<(), Fail> {
+    let kind = Kind {
+        order: Order::Fair,
+        bound: None,
+    };
+    let records = one_of_each()?;
+    let mut checker = made(rt.alloc(), kind)?;
+    pushes_all(&rt, &mut checker, &records);
+    tells_one_of_each(&rt, rt.alloc(), &checker)
 }
 
 #[test]

@@ -26,5 +26,6 @@ pub use list_fair::ListFair;
 pub use list_stack::ListStack;
 pub use meeting::{is_alone, meet};
 pub use meetings::Meetings;
+pub use opened::{Opened, open_tickets};
 pub use stack::StackLine;
 pub use table::SeatTable;

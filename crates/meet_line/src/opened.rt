@@ -10,12 +10,15 @@ use crate::table::SeatTable;
 use meet_tickets::{Hold, Marked, OpenCut, OpenPair, Refusal, SeatNo, Side};
 use std::alloc::Global;
 
-/// The open tickets that were met, those that were cut, and the flagged seats.
+/// What a table of seats holds outside the line, as a base names it.
 #[derive(Drop)]
-pub(crate) struct Opened {
-    pub(crate) pairs: Vec<OpenPair>,
-    pub(crate) cut: Vec<OpenCut>,
-    pub(crate) flags: Vec<SeatNo>,
+pub struct Opened {
+    /// The open tickets that were met.
+    pub pairs: Vec<OpenPair>,
+    /// The open tickets that were cut.
+    pub cut: Vec<OpenCut>,
+    /// The flagged seats.
+    pub flags: Vec<SeatNo>,
 }
 
 /// The open ticket of a seat that was met.
@@ -114,11 +117,10 @@ fn by_seat<T: Marked>(alloc: Global, table: &SeatTable<T>) -> Result<Opened, Ref
     Ok(Opened { pairs, cut, flags })
 }
 
-/// What a table of seats holds outside the line: tickets rising, and seats rising. The only refusal is Memory.
-pub(crate) fn open_tickets<T: Marked>(
-    alloc: Global,
-    table: &SeatTable<T>,
-) -> Result<Opened, Refusal>
+/// What a table of seats holds outside the line, as a base names it: the open tickets that were met and those that were
+/// cut, each by rising ticket, and the flagged seats, rising. An item is named by its mark. It looks at every seat. The
+/// only refusal is Memory.
+pub fn open_tickets<T: Marked>(alloc: Global, table: &SeatTable<T>) -> Result<Opened, Refusal>
     ensures pairs { IfOk result (λ opened. IsPermutation
         (gathered (pair_at T.mark_of table.now) (length table.now.holds)) opened.pairs.items) }
     ensures pairs_rise { IfOk result (λ opened. IsNonDecreasingBy (λ p. p.ticket) opened.pairs.items) }

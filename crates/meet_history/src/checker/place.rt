@@ -23,7 +23,7 @@ mod requests;
 #[derive(Drop)]
 pub(super) struct CheckedPlace {
     kind: Kind,
-    last: u64,
+    last: Ticket,
     line: MarkLine,
     seats: SeatTable<u64>,
 }
@@ -110,7 +110,7 @@ impl CheckedPlace {
         if self.hold(seat).is_open() {
             return Err(Why::SeatOpen);
         }
-        if ticket.number() <= self.last {
+        if ticket.number() <= self.last.number() {
             return Err(Why::TicketOrder);
         }
         Ok(())

@@ -1,7 +1,7 @@
-//! A place as a base leaves it.
+//! A place as a base leaves it, and the base that stands for a place.
 
 ghost use Rattle.std.specs.Prelude.{◌≡◌, ◌<◌, ◌≤◌, length, map, IfOk, IfErr, OnOk};
-ghost use Rattle.meet_tickets.specs.Bases.{paired_held, cut_held, hold_met, moment_of_base, IsWellFormed};
+ghost use Rattle.meet_tickets.specs.Bases.{paired_held, cut_held, hold_met, moment_of_base, IsWellFormed, IsBaseOf};
 ghost use Rattle.meet_tickets.specs.BySeat.{put_at};
 ghost use Rattle.meet_tickets.specs.declared.refusals.Refusal.TheVariants.{Memory};
 ghost use Rattle.meet_line.specs.Table.{hold_at, flag_at};
@@ -10,7 +10,7 @@ ghost use Rattle.meet_history.specs.Laid.{held_once, waiting_in_line, flagged_on
 
 use crate::checker::place::CheckedPlace;
 use crate::checker::place::line::MarkLine;
-use meet_line::SeatTable;
+use meet_line::{SeatTable, open_tickets};
 use meet_tickets::{Base, Entry, Hold, Kind, OpenCut, OpenPair, Refusal, SeatNo, Side, Ticket};
 use std::alloc::Global;
 
@@ -131,9 +131,26 @@ impl CheckedPlace {
         flag_all(&mut seats, base.flags.as_slice())?;
         Ok(CheckedPlace {
             kind,
-            last: base.last.number(),
+            last: base.last,
             line,
             seats,
+        })
+    }
+
+    /// The base that stands for this place, where so many records were folded away. The only refusal is Memory.
+    pub(crate) fn base(&self, alloc: Global, gone: u64) -> Result<Base, Refusal>
+        ensures base { IfOk result (IsBaseOf (moment_at self.now) gone) }
+        ensures memory { IfErr result (λ why. why ≡ Memory) }
+    {
+        let line = self.line.entries(alloc)?;
+        let opened = open_tickets(alloc, &self.seats)?;
+        Ok(Base {
+            gone,
+            last: self.last,
+            line,
+            pairs: opened.pairs,
+            cut: opened.cut,
+            flags: opened.flags,
         })
     }
 }

@@ -1,6 +1,6 @@
 //! The line of a history's marks, met at the end of its place.
 
-ghost use Rattle.std.specs.Prelude.{◌≡◌, ◌≢◌, ◌+◌, ◌<◌, ◌==◌, [], ◌∷◌, ◌++◌, find, length, All, OnOk, IsOk, IfOk};
+ghost use Rattle.std.specs.Prelude.{◌≡◌, ◌≢◌, ◌+◌, ◌<◌, ◌==◌, [], ◌∷◌, ◌++◌, find, length, map, All, OnOk, IsOk, IfOk};
 ghost use Rattle.std.specs.Prelude.{IfErr};
 ghost use Rattle.std.specs.Prelude.{◌↔◌, None, is_some, AllPairs, IsTrue, if◌then◌else◌};
 ghost use Rattle.meet_tickets.specs.Meeting.{partner, kept_count, count_on, IsAlone};
@@ -12,7 +12,7 @@ ghost use Rattle.meet_history.specs.Marks.{count_if_gives, count_if_kept};
 
 use meet_line::{FairLine, Line, StackLine, is_alone, meet};
 use meet_tickets::{End, Entry, Refusal, Side, Ticket};
-use std::alloc::Global;
+use std::alloc::{AllocError, Global};
 use std::marker::Model;
 
 /// A line of entries whose items are marks. It counts the givers and the kept ones.
@@ -84,12 +84,7 @@ impl MarkLine {
         let mut marks = MarkLine::new(alloc, end);
         for entry in entries {
             marks.reserve()?;
-            marks.push_back(Entry {
-                ticket: entry.ticket,
-                seat: entry.seat,
-                item: entry.item,
-                waits: entry.waits,
-            });
+            marks.push_back(copy(entry));
         }
         Ok(marks)
     }
@@ -182,6 +177,48 @@ impl MarkLine {
     {
         len_of(&self.line)
     }
+
+    /// The entries once more, in order of request. The only refusal is Memory.
+    pub(crate) fn entries(&self, alloc: Global) -> Result<Vec<Entry<u64>>, Refusal>
+        ensures entries { IfOk result (λ copies. copies.items ≡ self.now.entries) }
+        ensures memory { IfErr result (λ why. why ≡ Memory) }
+    {
+        let list = list_by(alloc, &self.line)?;
+        match copies(alloc, list.as_slice()) {
+            Ok(copies) => Ok(copies),
+            Err(_) => Err(Refusal::Memory),
+        }
+    }
+}
+
+/// The entries of a line in order of request, lent. The only refusal is Memory.
+fn list_by(alloc: Global, line: &ByEnd) -> Result<Vec<&Entry<u64>>, Refusal>
+    ensures entries { IfOk result (λ list. map (λ e. e.now) list.items ≡ entries_of line.now) }
+    ensures memory { IfErr result (λ why. why ≡ Memory) }
+{
+    match line {
+        ByEnd::Front(line) => line.list(alloc),
+        ByEnd::Back(line) => line.list(alloc),
+    }
+}
+
+/// The same entry once more.
+fn copy(entry: &Entry<u64>) -> Entry<u64>
+    ensures { result ≡ entry.now }
+{
+    Entry {
+        ticket: entry.ticket,
+        seat: entry.seat,
+        item: entry.item,
+        waits: entry.waits,
+    }
+}
+
+/// These entries once more. The only error is want of memory.
+fn copies(alloc: Global, list: &[&Entry<u64>]) -> Result<Vec<Entry<u64>>, AllocError>
+    ensures { IfOk result (λ copies. copies.items ≡ map (λ e. e.now) list.now) }
+{
+    list.iter().map(|entry| copy(*entry)).collect(alloc)
 }
 
 /// How many entries a line has.

@@ -74,7 +74,7 @@ impl CheckedPlace {
             item,
             waits,
         });
-        self.last = ticket.number();
+        self.last = ticket;
         if waits {
             self.seats.replace(seat, Hold::Waiting(ticket));
         }
@@ -110,7 +110,7 @@ impl CheckedPlace {
         if waits {
             self.seats.replace(seat, paired(met, own, ticket, brought));
         }
-        self.last = ticket.number();
+        self.last = ticket;
         met == with && own == presented
     }
 
@@ -124,7 +124,7 @@ impl CheckedPlace {
         if !self.is_alone(side) {
             return false;
         }
-        self.last = ticket.number();
+        self.last = ticket;
         true
     }
 
@@ -142,7 +142,7 @@ impl CheckedPlace {
             return false;
         }
         self.seats.set_flag(seat, false);
-        self.last = ticket.number();
+        self.last = ticket;
         true
     }
 

@@ -28,7 +28,7 @@ invariant_of-result c =
     let named : All (λ (e : Entry ℕ). (1 ≤ e.ticket) × (e.ticket ≤ b.last)) b.line = first-named (λ t. (1 ≤ t) × (t ≤ b.last)) (λ (e : Entry ℕ). e.ticket) b.line _ c.requires.named in
     let low : All (λ (e : Entry ℕ). e.ticket ≤ b.last) b.line = All-weaker (λ (e : Entry ℕ). (1 ≤ e.ticket) × (e.ticket ≤ b.last)) (λ (e : Entry ℕ). e.ticket ≤ b.last) (λ e h. h.1) b.line named in
     let newest : IsNewest b.line c.in_ok-line.line.newest = subst (λ xs. IsNewest xs c.in_ok-line.line.newest) (c.as_slice.ensures.value ∙ ap (λ (x : Based). x.line) c.base.view_is) c.in_ok-line.ensures.newest in
-    let last : c.number.result ≡ b.last = c.number.ensures.value ∙ ap (λ (x : Based). x.last) c.base.view_is in
+    let last = ap (λ (x : Based). x.last) c.base.view_is in
     let longer : length c.hold_line.new.table.holds ≤ length c.flag_all.new.table.holds = omega (arith, c.hold_pairs.ensures.more, c.hold_cut.ensures.more, c.flag_all.ensures.more) in
     let seated : AreSeated (length c.flag_all.new.table.holds) c.as_slice-2.result.now = seated-longer (length c.hold_line.new.table.holds) (length c.flag_all.new.table.holds) c.as_slice-2.result.now longer c.in_ok-hold_line.ensures.seated in (
       subst (AreSeated (length c.flag_all.new.table.holds)) (own ∙ sym line) seated,
@@ -39,7 +39,7 @@ invariant_of-result c =
 pub returns-clause-moment : goal.returns-clause-moment
 returns-clause-moment c =
     let b = c.args.base.now in
-    let last : c.number.result ≡ b.last = c.number.ensures.value ∙ ap (λ (x : Based). x.last) c.base.view_is in
+    let last = ap (λ (x : Based). x.last) c.base.view_is in
     let line : c.in_ok-line.line.entries ≡ b.line = c.in_ok-line.ensures.entries ∙ c.as_slice.ensures.value ∙ ap (λ (x : Based). x.line) c.base.view_is in
     let f0 = hold_at c.in-Ok.seats.holds in
     let f1 = hold_at c.hold_line.new.table.holds in
