@@ -2,23 +2,25 @@
 use Rattle.std.specs.Prelude.{ℕ, ⊤, Bool, Option, List, Result}
 use Rattle.meet_drive.specs.Driven.{IsSized}
 use Rattle.meet_run.specs.declared.faults.RunFault.{RunFault}
+use Rattle.meet_run.specs.Chains.{ChainEnds}
 use Rattle.meet_run.specs.Erasing.{EraseEnds}
 use Rattle.meet_run.specs.Reading.{lines_of}
 use Rattle.meet_run.specs.Running.{RunEnds}
 use Rattle.meet_run.specs.Script.{fault_of, text_before, output_of}
 use Rattle.meet_run.specs.Traces.{TracesAll, CheckEnds}
 use Rattle.meet.specs.declared.command_line.Task.{Task}
-use Rattle.meet.specs.declared.command_line.Task.TheVariants.{Run, Trace, Check, Erase}
+use Rattle.meet.specs.declared.command_line.Task.TheVariants.{Run, Trace, Check, Erase, Chain}
 use Rattle.meet.specs.declared.command_line.Wanted.{Wanted}
 use Rattle.meet.specs.declared.command_line.Wanted.TheVariants.{Text, Drive}
 
 -- what came of a task with this input: of a script its replies, or its trace; of a trace what is found of it, or
--- what is left of it once erased
+-- what is left of it once erased; of a chain of them what is found of it
 abbrev pub Performs : Task → (input : List ℕ) → Result Bool RunFault → (old new : Option (List ℕ)) → Type 0
 Performs Run input result old new = RunEnds (fault_of input) (text_before input) (output_of input) result old new
 Performs Trace input result old new = TracesAll input result old new
 Performs Check input result old new = CheckEnds (lines_of input) result old new
 Performs Erase input result old new = EraseEnds (lines_of input) result old new
+Performs Chain input result old new = ChainEnds (lines_of input) result old new
 
 -- the numbers of a drive are those that it can have
 abbrev pub IsWithin : Wanted → Type 0

@@ -25,7 +25,7 @@ many pairs met, and what its history leaves.
 
 Exit status:
   0  all is well
-  1  the trace isn't legal
+  1  the trace isn't legal, or the traces don't follow one another
   2  a bad command line, or a request for help or the version
   3  a line that can't be read
   4  no memory, or a drive that was refused
@@ -42,6 +42,8 @@ pub enum Task {
     Check,
     /// A trace on standard input, what is left of it once erased on standard output.
     Erase,
+    /// A chain of traces on standard input, what is found of it on standard output.
+    Chain,
 }
 
 /// What a command line asks for.
@@ -72,8 +74,8 @@ fn given(asked: &ArgMatches<'_>, name: &str, most: u64) -> u64
     asked.get_one::<u64>(name).unwrap_or(1).clamp(1, most)
 }
 
-/// Reads the words of a command line, the program's name first: none, `run`, `run --trace`, `check`, `check --erase` or
-/// `drive N M`. The error has the text to show; a request for help or for the version is one.
+/// Reads the words of a command line, the program's name first: none, `run`, `run --trace`, `check`, `check --erase`,
+/// `chain` or `drive N M`. The error has the text to show; a request for help or for the version is one.
 pub fn wanted_of(alloc: Global, words: &[String]) -> Result<Wanted, Error>
     ensures { IfOk result IsWithin }
 {
@@ -95,6 +97,9 @@ pub fn wanted_of(alloc: Global, words: &[String]) -> Result<Wanted, Error>
         .about("Checks the trace on standard input")
         .override_usage("meet check [--erase] < TRACE")
         .arg(erase)?;
+    let chain = Command::new(alloc, "chain")
+        .about("Checks the traces on standard input, each on the base that those before it leave")
+        .override_usage("cat TRACE.. | meet chain");
     let drive = Command::new(alloc, "drive")
         .about("Drives N givers and N takers through a fair queue, M items each")
         .override_usage("meet drive N M")
@@ -119,6 +124,7 @@ pub fn wanted_of(alloc: Global, words: &[String]) -> Result<Wanted, Error>
         .after_help(REST_OF_HELP)
         .subcommand(run)?
         .subcommand(check)?
+        .subcommand(chain)?
         .subcommand(drive)?;
     let matches = command.try_get_matches_from(words)?;
     match matches.subcommand() {
@@ -127,6 +133,7 @@ pub fn wanted_of(alloc: Global, words: &[String]) -> Result<Wanted, Error>
             Ok(Wanted::Text(Task::Erase))
         }
         Some((name, _)) if name == "check" => Ok(Wanted::Text(Task::Check)),
+        Some((name, _)) if name == "chain" => Ok(Wanted::Text(Task::Chain)),
         Some((name, asked)) if name == "drive" => {
             Ok(Wanted::Drive(given(asked, "N", MOST_GIVERS), given(asked, "M", MOST_EACH)))
         }

@@ -12,8 +12,8 @@ mod command_line;
 use clap::error::ErrorKind;
 use command_line::{Task, Wanted, wanted_of};
 use meet_run::{
-    Blocks, Progress, RunFault, check_trace, erase_trace, report_of, run_drive, run_script,
-    run_trace,
+    Blocks, Progress, RunFault, check_chain, check_trace, erase_trace, report_of, run_drive,
+    run_script, run_trace,
 };
 use meet_tickets::Refusal;
 use std::alloc::{AllocError, Global};
@@ -48,6 +48,7 @@ fn perform<R: Read, W: Write>(
         Task::Trace => run_trace(alloc, reader, writer),
         Task::Check => check_trace(alloc, reader, writer),
         Task::Erase => erase_trace(alloc, reader, writer),
+        Task::Chain => check_chain(alloc, reader, writer),
     }
 }
 

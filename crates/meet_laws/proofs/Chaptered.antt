@@ -1,5 +1,5 @@
 -- Chapters that follow one another are one legal history.
-use Rattle.std.proofs.Common.{ℕ, ◌+◌, List, [], ◌∷◌, length, refl}
+use Rattle.std.proofs.Common.{ℕ, ◌+◌, List, [], ◌∷◌, ◌++◌, length, append-nil, sym, subst}
 use Rattle.meet_tickets.specs.declared.places.Kind.{Kind}
 use Rattle.meet_tickets.specs.declared.records.Record.{Record}
 use Rattle.meet_tickets.specs.declared.records.Deed.{Deed}
@@ -7,9 +7,9 @@ use Rattle.meet_tickets.specs.Bases.{Based, IsWellFormed, IsLegalOn}
 use Rattle.meet_tickets.proofs.Folded.{folds}
 use Rattle.meet_laws.specs.Chapters.{FollowOn, records_in}
 
-pub are_one : (k : Kind) (base : Based) (chapters : List (Based × List (Record Deed))) → IsWellFormed k base
-    → FollowOn k base chapters → IsLegalOn k base (records_in chapters)
-are_one k base [] well follow = tt
-are_one k base (chapter ∷ chapters) well (same, legal, (next, succeeds, follow)) =
-    let folded = folds k base chapter.1 (base.gone + length chapter.1) next well legal succeeds in
-    (folded.next (records_in chapters)).0 (are_one k next chapters folded.well_formed follow)
+pub are_one : (k : Kind) (first : Based × List (Record Deed)) (later : List (Based × List (Record Deed)))
+    → IsWellFormed k first.0 → FollowOn k (first ∷ later) → IsLegalOn k first.0 (records_in (first ∷ later))
+are_one k first [] well (legal, none, done) = subst (IsLegalOn k first.0) (sym (append-nil first.1)) legal
+are_one k first (next ∷ later) well (legal, succeeds, follow) =
+    let folded = folds k first.0 first.1 (first.0.gone + length first.1) next.0 well legal succeeds in
+    (folded.next (records_in (next ∷ later))).0 (are_one k next later folded.well_formed follow)

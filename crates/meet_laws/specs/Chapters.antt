@@ -12,12 +12,18 @@ abbrev pub Succeeds : Kind → (base : Based) → List (Record Deed) → (next :
 Succeeds k base records next =
     IsBaseOf (moment_of k (moment_of_base base) records) (base.gone + length records) next
 
--- chapters follow one another from this base on: each stands on it and is legal there, and the next one's base stands
--- for both
-abbrev pub FollowOn : Kind → Based → List (Based × List (Record Deed)) → Type 0
-FollowOn k base [] = ⊤
-FollowOn k base (chapter ∷ chapters) = (chapter.0 ≡ base) × IsLegalOn k base chapter.1
-    × ((next : Based) × Succeeds k base chapter.1 next × FollowOn k next chapters)
+-- the chapter behind this one, where there is one, has a base that stands for both what this one stands on and its
+-- records
+abbrev pub IsSucceeded : Kind → (chapter : Based × List (Record Deed)) → (later : List (Based × List (Record Deed)))
+    → Type 0
+IsSucceeded k chapter [] = ⊤
+IsSucceeded k chapter (next ∷ later) = Succeeds k chapter.0 chapter.1 next.0
+
+-- chapters follow one another: each is legal on its base, and the next one's base stands for it
+abbrev pub FollowOn : Kind → List (Based × List (Record Deed)) → Type 0
+FollowOn k [] = ⊤
+FollowOn k (chapter ∷ later) =
+    IsLegalOn k chapter.0 chapter.1 × IsSucceeded k chapter later × FollowOn k later
 
 -- the records of all chapters, in order
 abbrev pub records_in : List (Based × List (Record Deed)) → List (Record Deed)

@@ -64,9 +64,9 @@ pub fn legal_begins_legal()
         → IsLegalOn k base before }
 {}
 
-/// Chapters that follow one another, each on a base that stands for those before it, are one legal history. It does
-/// nothing.
+/// Chapters that follow one another, each on a base that stands for those before it, are one legal history on the first
+/// one's base. It does nothing.
 pub fn chapters_are_one()
-    ensures { (k : Kind) (base : Based) (chapters : List (Based × List (Record Deed))) → IsWellFormed k base
-        → FollowOn k base chapters → IsLegalOn k base (records_in chapters) }
+    ensures { (k : Kind) (first : Based × List (Record Deed)) (later : List (Based × List (Record Deed)))
+        → IsWellFormed k first.0 → FollowOn k (first ∷ later) → IsLegalOn k first.0 (records_in (first ∷ later)) }
 {}

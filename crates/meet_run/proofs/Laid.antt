@@ -1,5 +1,5 @@
 -- How far the pieces of a base were read.
-use Rattle.std.proofs.Common.{if◌then◌else◌, ◌≡◌, ℕ, ◌+◌, ◌<◌, ◌≤◌, nat_le, Bool, true, false, cond, List, [], ◌∷◌, length, Option, Some, None, refl, sym, ap, ◌∙◌, arith}
+use Rattle.std.proofs.Common.{if◌then◌else◌, ◌≡◌, ℕ, ◌+◌, ◌<◌, nat_le, Bool, true, false, cond, List, [], ◌∷◌, length, Option, Some, None, refl, sym, ap, ◌∙◌}
 use Rattle.std.specs.Prelude.{IfSome}
 use Rattle.std.specs.Option.{option_map_or}
 use Rattle.std.specs.Io.KnownBytes.{Consumes, IsAtEnd}
@@ -7,7 +7,7 @@ use Rattle.std.proofs.lemmas.Bool.{lt-ltb}
 use Rattle.meet_tickets.specs.declared.places.Kind.{Kind}
 use Rattle.meet_tickets.specs.declared.records.Deed.{Deed}
 use Rattle.meet_tickets.specs.declared.records.Record.{Record}
-use Rattle.meet_tickets.specs.Bases.{Based, IsWellFormed}
+use Rattle.meet_tickets.specs.Bases.{Based}
 use Rattle.meet_history.specs.Pushing.{Progress, HasSeen}
 use Rattle.meet_run.specs.declared.faults.RunFault.{RunFault}
 use Rattle.meet_run.specs.Traces.{NamesLine}
@@ -161,10 +161,10 @@ module _ (k : Kind) (start base : Based) (line : List ℕ) (n : ℕ) where
   whole (Some xs) (Some ys) None ground laid = absurd laid
   whole (Some xs) (Some ys) (Some zs) ground laid = ground ∙ (laid ∙ told-records base n (line ∷ lines_of zs))
 
-  pub checked-left : (old mid new : Option (List ℕ)) (before after : Progress) (count total : ℕ) → Both old mid (λ xs ys. told_behind k (lines_of xs) ≡ told_from k start 3 (lines_of ys)) → HasLaid k start true line base n mid new → IfSome new (λ rest. ArePushedOn before after count (listed (record_from n) n (line ∷ lines_of rest))) → IsWellFormed k base → HasSeen base before [] → after.place.kind ≡ k → total ≡ base.gone + count → IfSome old (λ rest. IsChecked k (lines_of rest) after total)
-  checked-left old mid new before after count total ground laid pushed well fresh own sum = by old new (whole old mid new ground laid) pushed
+  pub checked-left : (old mid new : Option (List ℕ)) (before after : Progress) (count total : ℕ) → Both old mid (λ xs ys. told_behind k (lines_of xs) ≡ told_from k start 3 (lines_of ys)) → HasLaid k start true line base n mid new → IfSome new (λ rest. ArePushedOn before after count (listed (record_from n) n (line ∷ lines_of rest))) → HasSeen base before [] → after.place.kind ≡ k → total ≡ base.gone + count → IfSome old (λ rest. IsChecked k (lines_of rest) base after total)
+  checked-left old mid new before after count total ground laid pushed fresh own sum = by old new (whole old mid new ground laid) pushed
     where
-      by : (o m : Option (List ℕ)) → Both o m (λ xs ys. told_behind k (lines_of xs) ≡ record { base = base; records = (listed (record_from n) n (line ∷ lines_of ys)).items; fault = (listed (record_from n) n (line ∷ lines_of ys)).fault }) → IfSome m (λ rest. ArePushedOn before after count (listed (record_from n) n (line ∷ lines_of rest))) → IfSome o (λ rest. IsChecked k (lines_of rest) after total)
+      by : (o m : Option (List ℕ)) → Both o m (λ xs ys. told_behind k (lines_of xs) ≡ record { base = base; records = (listed (record_from n) n (line ∷ lines_of ys)).items; fault = (listed (record_from n) n (line ∷ lines_of ys)).fault }) → IfSome m (λ rest. ArePushedOn before after count (listed (record_from n) n (line ∷ lines_of rest))) → IfSome o (λ rest. IsChecked k (lines_of rest) base after total)
       by None m all done = tt
       by (Some xs) None all done = absurd all
       by (Some xs) (Some ys) all done =
@@ -172,10 +172,8 @@ module _ (k : Kind) (start base : Based) (line : List ℕ) (n : ℕ) where
           let none : (listed (record_from n) n (line ∷ lines_of ys)).fault ≡ None = done.0 in
           let long : count ≡ length records = done.1 in
           record {
-            base = base;
             records = records;
             told = all ∙ ap (λ (f : Option ℕ). let t : Told = record { base = base; records = records; fault = f } in t) none;
-            well_formed = well;
             seen = done.2 base fresh;
             counted = sum ∙ ap (λ m. base.gone + m) long;
             own = own;

@@ -1,13 +1,8 @@
 -- The lines of a text, by reading its bytes one by one.
 use Rattle.std.proofs.Common.{◌≡◌, inl, inr, ℕ, ◌+◌, ◌<◌, ◌≤◌, false, eqb, List, [], ◌∷◌, ◌++◌, length, Option, Some, None, refl, sym, ap, ◌∙◌, append_assoc, arith, rules, length-append}
-use Rattle.std.specs.Prelude.{⊤, IfSome}
+use Rattle.std.specs.Prelude.{IfSome}
 use Rattle.std.specs.Io.KnownBytes.{Consumes, IsAtEnd}
-use Rattle.meet_run.specs.Reading.{lines_of, TakesLine, BeginsTooLong, UsesTurns, EndsInTurns, FailsBehind}
-
--- no byte ends a line
-abbrev pub HasNoEnd : List ℕ → Type 0
-HasNoEnd [] = ⊤
-HasNoEnd (b ∷ bs) = (eqb b 10 ≡ false) × HasNoEnd bs
+use Rattle.meet_run.specs.Reading.{HasNoEnd, lines_of, TakesLine, BeginsTooLong, UsesTurns, EndsInTurns, FailsBehind}
 
 pub plain-push : (line : List ℕ) (b : ℕ) → HasNoEnd line → eqb b 10 ≡ false → HasNoEnd (line ++ b ∷ [])
 plain-push [] b h e = (e, tt)

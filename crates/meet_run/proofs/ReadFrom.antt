@@ -1,5 +1,5 @@
 -- How far the records behind a base were read. The first of the lines that are left was read already.
-use Rattle.std.proofs.Common.{if◌then◌else◌, ◌≡◌, ℕ, ◌+◌, ◌-◌, ◌<◌, ◌≤◌, nat_le, Bool, true, false, cond, List, [], ◌∷◌, ◌++◌, length, length-append, Option, Some, None, refl, sym, ap, subst, ◌∙◌, append_assoc, append-nil, ⊎_elim, arith}
+use Rattle.std.proofs.Common.{◌≡◌, ℕ, ◌+◌, ◌<◌, ◌≤◌, nat_le, Bool, true, false, cond, List, [], ◌∷◌, ◌++◌, length, Option, Some, None, refl, sym, ap, subst, ◌∙◌, append_assoc, append-nil, ⊎_elim}
 use Rattle.std.specs.Prelude.{IfSome}
 use Rattle.std.specs.Io.KnownBytes.{Consumes, IsAtEnd}
 use Rattle.std.proofs.lemmas.Bool.{cases_lt, lt-ltb, le-leb, lt-leb}
@@ -8,14 +8,14 @@ use Rattle.meet_tickets.specs.declared.records.Record.{Record}
 use Rattle.meet_tickets.specs.Bases.{Based}
 use Rattle.meet_tickets.specs.Limits.{most_records}
 use Rattle.meet_history.specs.Pushing.{Progress, HasSeen}
-use Rattle.meet_run.specs.Reading.{lines_of, Listed, Both, TakesLine, BeginsTooLong, listed, no_more, faulty_at, with_item}
+use Rattle.meet_run.specs.Reading.{lines_of, Listed, Both, TakesLine, BeginsTooLong, listed}
 use Rattle.meet_run.specs.TraceGrammar.{record_of}
 use Rattle.meet_run.specs.BasedTraces.{record_from, ArePushedOn}
 use Rattle.meet_run.proofs.RunLemmas.{ended-lines}
 use Rattle.meet_run.proofs.ScriptLemmas.{listed-end, listed-more, listed-fault}
 use Rattle.meet_run.proofs.TraceReading.{after_records}
 
-long-none : (first n : ℕ) (line : List ℕ) → 128 < length line → record_from first n line ≡ None
+pub long-none : (first n : ℕ) (line : List ℕ) → 128 < length line → record_from first n line ≡ None
 unfolding record_from record_of
 long-none first n line long = rw (lt-ltb 128 (length line) long) (either None (nat_le (first + most_records) n))
   where

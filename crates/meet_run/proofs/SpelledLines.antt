@@ -24,9 +24,9 @@ use Rattle.meet_run.specs.Wording.{cause_text}
 use Rattle.meet_run.specs.TraceSpelling.{side_text, paired_text, deed_text, record_text, head_text, FitsPair, FitsDeed, FitsRecord, FitsHead}
 use Rattle.meet_run.specs.BaseWording.{placed_text, item_text, standing_text, piece_text, numbers_text, based_head_text}
 use Rattle.meet_run.specs.BaseSpelling.{FitsItem, FitsStanding, FitsPiece, FitsNumbers}
-use Rattle.meet_run.proofs.LineLemmas.{HasNoEnd}
 use Rattle.meet_run.proofs.SetupLemmas.{may-of}
 use Rattle.meet_run.proofs.HeadLemmas.{kind_text}
+use Rattle.meet_run.specs.Reading.{HasNoEnd}
 use Rattle.meet_run.proofs.TextLines.{IsLine}
 
 -- ---- no end of line

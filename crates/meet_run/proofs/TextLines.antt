@@ -5,9 +5,9 @@ use Rattle.std.specs.List.{flat_map}
 use Rattle.std.proofs.lemmas.Bool.{cases_Bool, eqb-true}
 use Rattle.std.proofs.lemmas.Grind.{flat_map-append}
 use Rattle.std.proofs.lemmas.List.Elements.{All-nil, All-cons, All-head, All-tail, All-push}
-use Rattle.meet_run.specs.Reading.{with_front, lines_of}
+use Rattle.meet_run.specs.Reading.{with_front, lines_of, HasNoEnd}
 use Rattle.meet_run.specs.TraceTexts.{IsTextOf}
-use Rattle.meet_run.proofs.LineLemmas.{HasNoEnd, lines-ended}
+use Rattle.meet_run.proofs.LineLemmas.{lines-ended}
 
 -- a line with its end
 abbrev pub ended : List ℕ → List ℕ
@@ -22,7 +22,7 @@ abbrev pub IsLine : List ℕ → Type 0
 IsLine line = HasNoEnd line × (0 < length line)
 
 -- lines are read as they are
-lines-again : (lines : List (List ℕ)) → All HasNoEnd lines → lines_of (lines_text lines) ≡ lines
+pub lines-again : (lines : List (List ℕ)) → All HasNoEnd lines → lines_of (lines_text lines) ≡ lines
 unfolding lines_of
 lines-again [] plain = refl
 lines-again (line ∷ lines) plain =
@@ -56,7 +56,7 @@ front-plain b [] other plain = All-cons HasNoEnd (b ∷ []) [] (other, tt) (All-
 front-plain b (line ∷ lines) other plain =
     All-cons HasNoEnd (b ∷ line) lines (other, All-head HasNoEnd line lines plain) (All-tail HasNoEnd line lines plain)
 
-lines-plain : (text : List ℕ) → All HasNoEnd (lines_of text)
+pub lines-plain : (text : List ℕ) → All HasNoEnd (lines_of text)
 unfolding lines_of
 lines-plain [] = All-nil HasNoEnd
 lines-plain (b ∷ bs) = elim (cases_Bool (eqb b 10)) [

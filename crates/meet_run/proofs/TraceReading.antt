@@ -1,23 +1,24 @@
 -- How far the records of a trace were read.
 use Rattle.std.proofs.Common.{◌≡◌, inl, inr, ℕ, ◌+◌, ◌<◌, Bool, true, false, arith, List, [], ◌∷◌, ◌++◌, length, Option, Some, None, Ok, refl, sym, ap, ◌∙◌, subst, append_assoc, append-nil}
-use Rattle.std.specs.Prelude.{IfSome, IfErr, Result, Err}
+use Rattle.std.specs.Prelude.{IfSome, IfOk, IfErr, OnOk, Result, Err}
 use Rattle.std.specs.Io.KnownBytes.{Appends}
 use Rattle.meet_tickets.specs.declared.places.Kind.{Kind}
 use Rattle.meet_tickets.specs.declared.records.Deed.{Deed}
 use Rattle.meet_tickets.specs.declared.records.Record.{Record}
 use Rattle.meet_tickets.specs.declared.refusals.Refusal.TheVariants.{BadTrace, WriteFault}
-use Rattle.meet_tickets.specs.Bases.{no_base}
+use Rattle.meet_tickets.specs.Bases.{Based, no_base}
 use Rattle.meet_history.specs.Pushing.{Progress, HasSeen}
 use Rattle.meet_run.specs.declared.faults.RunFault.{RunFault}
 use Rattle.std.specs.Io.KnownBytes.{Consumes, IsAtEnd}
 use Rattle.std.proofs.lemmas.Bool.{lt-ltb}
 use Rattle.meet_run.specs.BaseGrammar.{based_head_of}
-use Rattle.meet_run.specs.BasedTraces.{told_behind, IsVerdictOn, IsChecked, AreFoundOn, IsFoundOn}
+use Rattle.meet_run.specs.declared.check.ReadTrace.{ReadTrace}
+use Rattle.meet_run.specs.BasedTraces.{Told, told_behind, IsBasedTrace, IsVerdictOn, IsChecked}
 use Rattle.meet_run.proofs.RunLemmas.{ended-lines}
 use Rattle.meet_run.proofs.NextLemmas.{head-too_long}
 use Rattle.meet_run.specs.Reading.{lines_of, Listed, Both, TakesLine, BeginsTooLong, listed, no_more, faulty_at, with_item}
 use Rattle.meet_run.specs.TraceGrammar.{head_of}
-use Rattle.meet_run.specs.Traces.{record_at, records_behind, trace_fault_in, IsTrace, NamesLine, IsVerdict, IsFound, IsFoundIn, AreFound, ArePushed, IsVerdictOf, CheckBreaks, CheckEnds, IsUnreadTrace, IsTraceFault}
+use Rattle.meet_run.specs.Traces.{record_at, records_behind, trace_fault_in, IsTrace, IsTraceOn, IsRead, NamesLine, IsVerdict, IsFoundIn, ArePushed, IsVerdictOf, CheckBreaks, CheckEnds, IsUnreadTrace, IsTraceFault}
 use Rattle.meet_history.specs.Standings.{standing_in}
 use Rattle.meet_run.specs.Wording.{last_line}
 use Rattle.meet_run.specs.Writing.{AppendsPrefix}
@@ -81,22 +82,55 @@ pub err-follows : {A B : Type 0} {P Q : B → Type 0} (r : Result A B) → ((f :
 err-follows (Ok a) more own = tt
 err-follows (Err f) more own = more f own
 
--- what is found of the records behind its first line is found of it
-pub found-behind : (old mid : Option (List ℕ)) (line : List ℕ) (kind : Kind) (legal : Bool) (text : List ℕ) → TakesLine old mid line → head_of line ≡ Some kind → IfSome mid (λ rest. AreFound kind (records_behind (lines_of rest)) legal text) → IfSome old (λ input. IsFoundIn (lines_of input) legal text)
-found-behind None mid line kind legal text takes head rest = tt
-found-behind (Some xs) None line kind legal text takes head rest = absurd takes
-found-behind (Some xs) (Some ys) line kind legal text takes head rest =
+-- the lines behind a first line that names no base are records to their end: it is a whole trace, and was read
+pub read-plain : (old mid : Option (List ℕ)) (line : List ℕ) (kind : Kind) (trace : ReadTrace) → TakesLine old mid line → head_of line ≡ Some kind → IfSome mid (λ rest. ArePushed trace.checker trace.count (records_behind (lines_of rest))) → trace.kind ≡ kind → trace.checker.place.kind ≡ kind → trace.base ≡ no_base → IfSome old (λ input. IsRead (lines_of input) trace)
+unfolding trace_fault_in
+read-plain None mid line kind trace takes head pushed of own none = tt
+read-plain (Some xs) None line kind trace takes head pushed of own none = absurd takes
+read-plain (Some xs) (Some ys) line kind trace takes head pushed of own none =
     let lines : Listed (Record Deed) = records_behind (lines_of ys) in
-    let whole : lines ≡ record { items = lines.items; fault = None } = ap (λ (f : Option ℕ). let l : Listed (Record Deed) = record { items = lines.items; fault = f } in l) rest.0 in
-    let trace : IsTrace (lines_of xs) kind lines.items = record { first = line; rest = lines_of ys; parts = takes; head = head; behind = whole } in
-    inl (record { kind = kind; records = lines.items; trace = trace; verdict = rest.1 })
+    let whole : lines ≡ record { items = lines.items; fault = None } = ap (λ (f : Option ℕ). let l : Listed (Record Deed) = record { items = lines.items; fault = f } in l) pushed.0 in
+    let plain : IsTrace (lines_of xs) kind lines.items = record { first = line; rest = lines_of ys; parts = takes; head = head; behind = whole } in
+    let clean : trace_fault_in (line ∷ lines_of ys) ≡ None = rw head pushed.0 in
+    record {
+      records = lines.items;
+      told = inl (subst (λ k. IsTrace (lines_of xs) k lines.items) (sym of) plain, none);
+      whole = ap (λ (ls : List (List ℕ)). trace_fault_in ls) takes ∙ clean;
+      own = own ∙ sym of;
+      seen = subst (λ b. HasSeen b trace.checker lines.items) (sym none) pushed.2;
+      counted = omega (arith, pushed.1, ap (λ (b : Based). b.gone) none);
+    }
 
--- so is what is found behind the first line of a trace that has a base
-pub found-based : (old mid : Option (List ℕ)) (line : List ℕ) (kind : Kind) (legal : Bool) (text : List ℕ) → TakesLine old mid line → based_head_of line ≡ Some kind → IfSome mid (λ rest. AreFoundOn kind (lines_of rest) legal text) → IfSome old (λ input. IsFoundIn (lines_of input) legal text)
-found-based None mid line kind legal text takes head rest = tt
-found-based (Some xs) None line kind legal text takes head rest = absurd takes
-found-based (Some xs) (Some ys) line kind legal text takes head rest =
-    inr (record { kind = kind; base = rest.base; records = rest.records; trace = record { first = line; rest = lines_of ys; parts = takes; head = head; behind = rest.told }; verdict = rest.verdict })
+-- so is one that names its base
+pub read-based : (old mid : Option (List ℕ)) (line : List ℕ) (kind : Kind) (trace : ReadTrace) → TakesLine old mid line → head_of line ≡ None → based_head_of line ≡ Some kind → IfSome mid (λ rest. IsChecked kind (lines_of rest) trace.base trace.checker trace.count) → trace.kind ≡ kind → IfSome old (λ input. IsRead (lines_of input) trace)
+unfolding trace_fault_in
+read-based None mid line kind trace takes none head checked of = tt
+read-based (Some xs) None line kind trace takes none head checked of = absurd takes
+read-based (Some xs) (Some ys) line kind trace takes none head checked of =
+    let based : IsBasedTrace (lines_of xs) kind trace.base checked.records = record { first = line; rest = lines_of ys; parts = takes; head = head; behind = checked.told } in
+    let clean : trace_fault_in (line ∷ lines_of ys) ≡ None = rw (none, head) (ap (λ (t : Told). t.fault) checked.told) in
+    record {
+      records = checked.records;
+      told = inr (subst (λ k. IsBasedTrace (lines_of xs) k trace.base checked.records) (sym of) based);
+      whole = ap (λ (ls : List (List ℕ)). trace_fault_in ls) takes ∙ clean;
+      own = checked.own ∙ sym of;
+      seen = checked.seen;
+      counted = checked.counted;
+    }
+
+-- the same of what came of reading them
+pub plain-came : (old mid : Option (List ℕ)) (line : List ℕ) (kind : Kind) (r : Result ReadTrace RunFault) → TakesLine old mid line → head_of line ≡ Some kind → IfOk r (λ trace. IfSome mid (λ rest. ArePushed trace.checker trace.count (records_behind (lines_of rest)))) → IfOk r (λ trace. trace.kind ≡ kind) → IfOk r (λ trace. trace.checker.place.kind ≡ kind) → IfOk r (λ trace. trace.base ≡ no_base) → IfOk r (λ trace. IfSome old (λ input. IsRead (lines_of input) trace))
+plain-came old mid line kind (Ok trace) takes head pushed of own none = read-plain old mid line kind trace takes head pushed of own none
+plain-came old mid line kind (Err f) takes head pushed of own none = tt
+
+pub based-came : (old mid : Option (List ℕ)) (line : List ℕ) (kind : Kind) (r : Result ReadTrace RunFault) → TakesLine old mid line → head_of line ≡ None → based_head_of line ≡ Some kind → IfOk r (λ trace. IfSome mid (λ rest. IsChecked kind (lines_of rest) trace.base trace.checker trace.count)) → IfOk r (λ trace. trace.kind ≡ kind) → IfOk r (λ trace. IfSome old (λ input. IsRead (lines_of input) trace))
+based-came old mid line kind (Ok trace) takes none head checked of = read-based old mid line kind trace takes none head checked of
+based-came old mid line kind (Err f) takes none head checked of = tt
+
+-- what follows where all is well
+pub well-follows : {A B : Type 0} {P Q : Type 0} (r : Result A B) → (P → Q) → OnOk r P → OnOk r Q
+well-follows (Ok a) more own = more own
+well-follows (Err f) more own = tt
 
 -- its fault is behind its first line
 pub fault-behind : (old mid : Option (List ℕ)) (line : List ℕ) (kind : Kind) (P : Option ℕ → Type 0) → TakesLine old mid line → head_of line ≡ Some kind → IfSome mid (λ rest. P (records_behind (lines_of rest)).fault) → IfSome old (λ input. P (trace_fault_in (lines_of input)))
@@ -123,7 +157,7 @@ fault-first None mid line takes none other = tt
 fault-first (Some xs) None line takes none other = absurd takes
 fault-first (Some xs) (Some ys) line takes none other = ap (λ (ls : List (List ℕ)). trace_fault_in ls) takes ∙ fault-of line (lines_of ys) none other
 
-based-long : (line : List ℕ) → 128 < length line → based_head_of line ≡ None
+pub based-long : (line : List ℕ) → 128 < length line → based_head_of line ≡ None
 unfolding based_head_of
 based-long line long = rw (lt-ltb 128 (length line) long) refl
 
@@ -138,16 +172,6 @@ fault-none old new consumes at_end = by old (ended-lines old new consumes at_end
     by : (o : Option (List ℕ)) → IfSome o (λ xs. lines_of xs ≡ []) → IfSome o (λ input. trace_fault_in (lines_of input) ≡ Some 1)
     by None none = tt
     by (Some xs) none = ap (λ (ls : List (List ℕ)). trace_fault_in ls) none
-
--- what the checker found of a base and the records since is found of these lines
-pub found-checked : (old : Option (List ℕ)) (kind : Kind) (checker : Progress) (count : ℕ) (legal : Bool) (text : List ℕ) → IfSome old (λ rest. IsChecked kind (lines_of rest) checker count) → IsVerdictOf checker count legal text → IfSome old (λ rest. AreFoundOn kind (lines_of rest) legal text)
-found-checked None kind checker count legal text checked verdict = tt
-found-checked (Some xs) kind checker count legal text checked verdict = record {
-  base = checked.base;
-  records = checked.records;
-  told = checked.told;
-  verdict = subst (λ k. IsVerdictOn k checked.base checked.records legal text) checked.own (verdict checked.base checked.records checked.seen checked.counted);
-}
 
 -- ---- what is found of it
 
@@ -185,9 +209,19 @@ plain-verdict k records true text found =
     (found.0, found.1 ∙ ap (λ n. last_line n (standing_in records)) same)
 plain-verdict k records false text found = found
 
--- what was found of the records that were pushed is found of these lines
-pub found-pushed : (old : Option (List ℕ)) (kind : Kind) (checker : Progress) (count : ℕ) (legal : Bool) (text : List ℕ) → checker.place.kind ≡ kind → IfSome old (λ rest. ArePushed checker count (records_behind (lines_of rest))) → IsVerdictOf checker count legal text → IfSome old (λ rest. AreFound kind (records_behind (lines_of rest)) legal text)
-found-pushed None kind checker count legal text own pushed verdict = tt
-found-pushed (Some xs) kind checker count legal text own pushed verdict =
-    let found = plain-verdict checker.place.kind (records_behind (lines_of xs)).items legal text (verdict no_base (records_behind (lines_of xs)).items pushed.2 (omega (arith, pushed.1))) in
-    (pushed.0, subst (λ k. IsVerdict k (records_behind (lines_of xs)).items legal text) own found)
+-- what the checker of a trace that was read found is found of it
+pub found-read : (old : Option (List ℕ)) (trace : ReadTrace) (legal : Bool) (text : List ℕ) → IfSome old (λ input. IsRead (lines_of input) trace) → IsVerdictOf trace.checker trace.count legal text → IfSome old (λ input. IsFoundIn (lines_of input) legal text)
+found-read None trace legal text read verdict = tt
+found-read (Some xs) trace legal text read verdict = by read.told
+  where
+    found : IsVerdictOn trace.kind trace.base read.records legal text
+    found = subst (λ k. IsVerdictOn k trace.base read.records legal text) read.own (verdict trace.base read.records read.seen read.counted)
+
+    by : IsTraceOn (lines_of xs) trace.kind trace.base read.records → IsFoundIn (lines_of xs) legal text
+    by (inl plain) = inl (record {
+      kind = trace.kind;
+      records = read.records;
+      trace = plain.0;
+      verdict = plain-verdict trace.kind read.records legal text (subst (λ b. IsVerdictOn trace.kind b read.records legal text) plain.1 found);
+    })
+    by (inr based) = inr (record { kind = trace.kind; base = trace.base; records = read.records; trace = based; verdict = found })

@@ -11,7 +11,7 @@ use Rattle.meet_history.specs.declared.pieces.Piece.{Piece}
 use Rattle.meet_history.specs.declared.pieces.Piece.TheVariants.{Stands, Met, Cut, Flagged}
 use Rattle.meet_run.specs.Words.{word_of, rest_of, behind, number_spelled}
 use Rattle.meet_run.specs.Grammar.{◌>>=◌, seat_of}
-use Rattle.meet_run.specs.TraceGrammar.{ticket_in, ticket_of, side_of, kind_in}
+use Rattle.meet_run.specs.TraceGrammar.{ticket_of, side_of, kind_in}
 
 -- whether an entry waits, by its word
 unfoldable pub waits_of : (word : List ℕ) → Option Bool

@@ -6,7 +6,7 @@ use Rattle.std.specs.Option.{option_map_or}
 use Rattle.meet_tickets.specs.declared.places.Kind.{Kind}
 use Rattle.meet_tickets.specs.declared.records.Deed.{Deed}
 use Rattle.meet_tickets.specs.declared.records.Record.{Record}
-use Rattle.meet_tickets.specs.Bases.{Based, IsWellFormed, IsLegalOn}
+use Rattle.meet_tickets.specs.Bases.{Based, IsLegalOn}
 use Rattle.meet_tickets.specs.Limits.{most_records}
 use Rattle.meet_history.specs.declared.checker.Why.{Why}
 use Rattle.meet_history.specs.Checking.{IsIllegalAt}
@@ -88,23 +88,15 @@ abbrev pub ArePushedOn : (old new : Progress) → (count : ℕ) → Listed (Reco
 ArePushedOn old new count lines =
     (lines.fault ≡ None) × (count ≡ length lines.items) × ((b : Based) → HasSeen b old [] → HasSeen b new lines.items)
 
--- these lines behind a first line are a whole trace with a base, which the checker has seen; there are so many records
--- from the first
-pub record IsChecked (kind : Kind) (lines : List (List ℕ)) (checker : Progress) (count : ℕ) : Type 0 where
-  pub base : Based
+-- these lines behind a first line are a whole trace with this base, of which the checker has seen the records; there
+-- are so many from the first
+pub record IsChecked
+    (kind : Kind) (lines : List (List ℕ)) (base : Based) (checker : Progress) (count : ℕ) : Type 0 where
   pub records : List (Record Deed)
   pub told : told_behind kind lines ≡ record { base = base; records = records; fault = None }
-  pub well_formed : IsWellFormed kind base
   pub seen : HasSeen base checker records
   pub counted : count ≡ base.gone + length records
   pub own : checker.place.kind ≡ kind
-
--- these lines behind a first line are a whole trace with a base, of which this is found
-pub record AreFoundOn (kind : Kind) (lines : List (List ℕ)) (legal : Bool) (text : List ℕ) : Type 0 where
-  pub base : Based
-  pub records : List (Record Deed)
-  pub told : told_behind kind lines ≡ record { base = base; records = records; fault = None }
-  pub verdict : IsVerdictOn kind base records legal text
 
 -- lines are a whole trace with a base, of which this is found
 pub record IsFoundOn (lines : List (List ℕ)) (legal : Bool) (text : List ℕ) : Type 0 where

@@ -3,6 +3,8 @@ pub mod BaseSpelling
 pub mod BaseWording
 pub mod BasedTraces
 pub mod Blocks
+pub mod Chains
+pub mod Chapters
 pub mod Driving
 pub mod Erasing
 pub mod Faults

@@ -1,6 +1,6 @@
 -- The lines of a text, and what reading one of them takes.
 use Rattle.std.specs.Prelude.{◌≡◌, ◌⊎◌, ℕ, ◌+◌, ◌<◌, ◌≤◌, ◌==◌, Option, Some, None, IfSome, ⊤, List, [], ◌∷◌, length}
-use Rattle.std.specs.Prelude.{if◌then◌else◌}
+use Rattle.std.specs.Prelude.{if◌then◌else◌, false}
 use Rattle.std.specs.Option.{option_map_or}
 use Rattle.std.specs.Io.KnownBytes.{Consumes, IsAtEnd}
 use Rattle.meet_run.specs.declared.reading.ByteRead.{ByteRead}
@@ -17,6 +17,11 @@ with_front b (line ∷ lines) = (b ∷ line) ∷ lines
 unfoldable pub lines_of : List ℕ → List (List ℕ)
 lines_of [] = []
 lines_of (b ∷ bs) = if b == 10 then [] ∷ lines_of bs else with_front b (lines_of bs)
+
+-- no byte ends a line
+abbrev pub HasNoEnd : List ℕ → Type 0
+HasNoEnd [] = ⊤
+HasNoEnd (b ∷ bs) = ((b == 10) ≡ false) × HasNoEnd bs
 
 -- what lines read as, up to the first that reads as nothing, and the number of that line, if there is one
 pub record Listed (A : Type 0) : Type 0 where

@@ -17,6 +17,7 @@ use Rattle.meet_history.specs.Checking.{IsIllegalAt}
 use Rattle.meet_history.specs.OneThread.{records, start, turns}
 use Rattle.meet_history.specs.Pushing.{Progress, HasSeen}
 use Rattle.meet_history.specs.Standings.{standing_in, IsFolded}
+use Rattle.meet_run.specs.declared.check.ReadTrace.{ReadTrace}
 use Rattle.meet_run.specs.declared.faults.RunFault.{RunFault}
 use Rattle.meet_run.specs.Grammar.{setup_of}
 use Rattle.meet_run.specs.Reading.{lines_of, Listed, listed}
@@ -24,7 +25,7 @@ use Rattle.meet_run.specs.Running.{RunEnds}
 use Rattle.meet_run.specs.Script.{calls_behind, fault_of}
 use Rattle.meet_run.specs.TraceGrammar.{head_of, record_of}
 use Rattle.meet_run.specs.BaseGrammar.{based_head_of}
-use Rattle.meet_run.specs.BasedTraces.{told_behind, IsVerdictOn, IsFoundOn}
+use Rattle.meet_run.specs.BasedTraces.{told_behind, IsBasedTrace, IsVerdictOn, IsFoundOn}
 use Rattle.meet_run.specs.BaseWording.{run_text}
 use Rattle.meet_run.specs.TraceWording.{illegal_line}
 use Rattle.meet_run.specs.Wording.{last_line}
@@ -52,6 +53,11 @@ pub record IsTrace (lines : List (List ℕ)) (kind : Kind) (records : List (Reco
   pub head : head_of first ≡ Some kind
   pub behind : records_behind rest ≡ record { items = records; fault = None }
 
+-- these lines are a whole trace, of such a place, with this base, which is empty where none is told, and these records
+abbrev pub IsTraceOn : (lines : List (List ℕ)) → Kind → Based → List (Record Deed) → Type 0
+IsTraceOn lines kind base records =
+    (IsTrace lines kind records × (base ≡ no_base)) ⊎ IsBasedTrace lines kind base records
+
 -- whether records are legal, and the line that says so: it counts them, and says what stands at their end; or it names
 -- the first that can't stand, and why
 abbrev pub IsVerdict : Kind → List (Record Deed) → (legal : Bool) → (text : List ℕ) → Type 0
@@ -69,9 +75,14 @@ abbrev pub IsVerdictOf : Progress → (count : ℕ) → (legal : Bool) → (text
 IsVerdictOf checker count legal text = (base : Based) (records : List (Record Deed)) → HasSeen base checker records
     → count ≡ base.gone + length records → IsVerdictOn checker.place.kind base records legal text
 
--- these lines are records to their end, of a place of this kind, of which this is found
-abbrev pub AreFound : Kind → Listed (Record Deed) → (legal : Bool) → (text : List ℕ) → Type 0
-AreFound kind lines legal text = (lines.fault ≡ None) × IsVerdict kind lines.items legal text
+-- these lines are a whole trace that was read: its checker has seen the records, and there are so many from the first
+pub record IsRead (lines : List (List ℕ)) (trace : ReadTrace) : Type 0 where
+  pub records : List (Record Deed)
+  pub told : IsTraceOn lines trace.kind trace.base records
+  pub whole : trace_fault_in lines ≡ None
+  pub own : trace.checker.place.kind ≡ trace.kind
+  pub seen : HasSeen trace.base trace.checker records
+  pub counted : trace.count ≡ trace.base.gone + length records
 
 -- the lines are a whole trace, of which this is found
 pub record IsFound (lines : List (List ℕ)) (legal : Bool) (text : List ℕ) : Type 0 where

@@ -9,7 +9,7 @@ ghost use Rattle.meet_run.specs.Reading.{UsesTurns, EndsInTurns, Both, lines_of,
 ghost use Rattle.meet_run.specs.Traces.{NamesLine, IsUnreadTrace};
 
 use crate::base_grammar::{read_numbers, read_piece};
-use crate::check::is_memory;
+use crate::check::{ReadTrace, is_memory};
 use crate::faults::{RunFault, at_line, cut_short};
 use crate::grammar::LONGEST_LINE;
 use crate::reading::{LineRead, read_line};
@@ -150,19 +150,19 @@ fn read_ground<R: Read>(
     }
 }
 
-/// Reads what stands behind the first line of a trace that has a base: the checker that has seen it all, and how many
-/// records there are from the first.
-pub(crate) fn check_based<R: Read>(
+/// Reads what stands behind the first line of a trace that has a base.
+pub(crate) fn read_based<R: Read>(
     alloc: Global,
     reader: &mut R,
     turns: &mut u64,
     line: &mut Vec<u8>,
     kind: Kind,
-) -> Result<(Checker, u64), RunFault>
+) -> Result<ReadTrace, RunFault>
     requires room { LONGEST_LINE ≤ vec_capacity line.old }
     requires turns { turns.old + 1 < 2 ^ 64 }
-    ensures checked { IfOk result (λ made. IfSome (R.remaining reader.old) (λ rest.
-        IsChecked kind (lines_of rest) made.0 made.1)) }
+    ensures checked { IfOk result (λ trace. IfSome (R.remaining reader.old) (λ rest.
+        IsChecked kind (lines_of rest) trace.base trace.checker trace.count)) }
+    ensures kind { IfOk result (λ trace. trace.kind ≡ kind) }
     ensures bad { IfErr result (λ fault. IfSome (R.remaining reader.old) (λ rest.
         NamesLine fault (told_behind kind (lines_of rest)).fault)) }
     ensures uses { UsesTurns (R.remaining reader.old) (R.remaining reader.new) turns.old turns.new }
@@ -181,11 +181,22 @@ pub(crate) fn check_based<R: Read>(
         Ok(checker) => checker,
         Err(_) => return Err(cut_short(Refusal::Memory)),
     };
+    let gone = base.gone;
     if !left {
-        return Ok((checker, base.gone));
+        return Ok(ReadTrace {
+            kind,
+            base,
+            checker,
+            count: gone,
+        });
     }
     match push_from(reader, turns, line, &mut checker, first) {
-        Ok(count) => Ok((checker, base.gone + count)),
+        Ok(count) => Ok(ReadTrace {
+            kind,
+            base,
+            checker,
+            count: gone + count,
+        }),
         Err(fault) => Err(fault),
     }
 }

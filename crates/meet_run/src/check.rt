@@ -8,12 +8,11 @@ ghost use Rattle.meet_history.specs.Pushing.{HasSeen};
 ghost use Rattle.meet_tickets.specs.Bases.{no_base};
 ghost use Rattle.meet_run.specs.Reading.{UsesTurns, EndsInTurns, lines_of};
 ghost use Rattle.meet_run.specs.Running.{CannotRead};
-ghost use Rattle.meet_run.specs.BasedTraces.{told_behind, AreFoundOn};
-ghost use Rattle.meet_run.specs.Traces.{records_behind, trace_fault_in, NamesLine, IsFoundIn, AreFound, CheckEnds};
-ghost use Rattle.meet_run.specs.Traces.{ArePushed, IsVerdictOf, IsUnreadTrace, IsTraceFault};
+ghost use Rattle.meet_run.specs.Traces.{records_behind, trace_fault_in, NamesLine, IsFoundIn, CheckEnds, ArePushed};
+ghost use Rattle.meet_run.specs.Traces.{IsRead, IsVerdictOf, IsUnreadTrace, IsTraceFault};
 
 use crate::base_grammar::read_based_head;
-use crate::based::check_based;
+use crate::based::read_based;
 use crate::faults::{RunFault, at_line, cut_short};
 use crate::grammar::LONGEST_LINE;
 use crate::next::{Next, next_record};
@@ -27,6 +26,18 @@ use meet_history::{CheckFault, Checker};
 use meet_tickets::{Base, Kind, Refusal};
 use std::alloc::Global;
 use std::io::{Read, Write};
+
+/// A whole trace that was read.
+#[derive(Drop)]
+pub(crate) struct ReadTrace {
+    pub(crate) kind: Kind,
+    /// What it stands on: the empty base where it names none.
+    pub(crate) base: Base,
+    /// The checker that has seen its records.
+    pub(crate) checker: Checker,
+    /// How many records there are from the first, those of the base included.
+    pub(crate) count: u64,
+}
 
 /// Reads the records behind a trace's first line, and pushes each on the checker. The answer is how many they are.
 fn push_records<R: Read>(
@@ -95,35 +106,76 @@ fn verdict(alloc: Global, checker: &Checker, count: u64) -> Result<(bool, Vec<u8
     }
 }
 
-/// What is found of the records behind the first line of a trace of this kind of place, and the line that says so.
-fn find_records<R: Read>(
+/// Reads the records behind the first line of a trace of this kind of place, which names no base.
+fn read_plain<R: Read>(
     alloc: Global,
     reader: &mut R,
     turns: &mut u64,
     line: &mut Vec<u8>,
     kind: Kind,
-) -> Result<(bool, Vec<u8>), RunFault>
+) -> Result<ReadTrace, RunFault>
     requires room { LONGEST_LINE ≤ vec_capacity line.old }
     requires turns { turns.old + 1 < 2 ^ 64 }
-    ensures found { IfOk result (λ found. IfSome (R.remaining reader.old) (λ rest.
-        AreFound kind (records_behind (lines_of rest)) found.0 found.1.items)) }
+    ensures pushed { IfOk result (λ trace. IfSome (R.remaining reader.old) (λ rest.
+        ArePushed trace.checker trace.count (records_behind (lines_of rest)))) }
+    ensures kind { IfOk result (λ trace. trace.kind ≡ kind) }
+    ensures own { IfOk result (λ trace. trace.checker.place.kind ≡ kind) }
+    ensures base { IfOk result (λ trace. trace.base ≡ no_base) }
     ensures bad { IfErr result (λ fault. IfSome (R.remaining reader.old) (λ rest.
         NamesLine fault (records_behind (lines_of rest)).fault)) }
     ensures uses { UsesTurns (R.remaining reader.old) (R.remaining reader.new) turns.old turns.new }
     ensures ends { OnOk result (EndsInTurns (R.remaining reader.old) turns.old) }
     ensures faults { IfErr result IsUnreadTrace }
 {
-    let mut checker = match Checker::new(alloc, kind, &Base::empty(alloc)) {
+    let base = Base::empty(alloc);
+    let mut checker = match Checker::new(alloc, kind, &base) {
         Ok(checker) => checker,
         Err(_) => return Err(cut_short(Refusal::Memory)),
     };
-    let count = match push_records(reader, turns, line, &mut checker) {
-        Ok(count) => count,
-        Err(fault) => return Err(fault),
+    match push_records(reader, turns, line, &mut checker) {
+        Ok(count) => Ok(ReadTrace {
+            kind,
+            base,
+            checker,
+            count,
+        }),
+        Err(fault) => Err(fault),
+    }
+}
+
+/// Reads a whole trace, of either format.
+pub(crate) fn read_trace<R: Read>(
+    alloc: Global,
+    reader: &mut R,
+    turns: u64,
+) -> Result<ReadTrace, RunFault>
+    ensures read { IfOk result (λ trace. IfSome (R.remaining reader.old) (λ input. IsRead (lines_of input) trace)) }
+    ensures bad { IfErr result (λ fault. IfSome (R.remaining reader.old) (λ input.
+        NamesLine fault (trace_fault_in (lines_of input)))) }
+    ensures uses { UsesTurns (R.remaining reader.old) (R.remaining reader.new) turns 0 }
+    ensures spent { turns ≡ 0 → CannotRead result }
+    ensures ends { OnOk result (EndsInTurns (R.remaining reader.old) turns) }
+    ensures faults { IfErr result IsUnreadTrace }
+{
+    if turns == 0 {
+        return Err(cut_short(Refusal::ReadFault));
+    }
+    let mut left = turns;
+    let mut line = match Vec::with_capacity(alloc, LONGEST_LINE) {
+        Ok(line) => line,
+        Err(_) => return Err(cut_short(Refusal::Memory)),
     };
-    match verdict(alloc, &checker, count) {
-        Ok(found) => Ok(found),
-        Err(why) => Err(cut_short(why)),
+    match read_line(reader, &mut left, &mut line) {
+        LineRead::Line => match read_head(line.as_slice()) {
+            Some(kind) => read_plain(alloc, reader, &mut left, &mut line, kind),
+            None => match read_based_head(line.as_slice()) {
+                Some(kind) => read_based(alloc, reader, &mut left, &mut line, kind),
+                None => Err(at_line(Refusal::BadTrace, 1)),
+            },
+        },
+        LineRead::End => Err(at_line(Refusal::BadTrace, 1)),
+        LineRead::TooLong => Err(at_line(Refusal::BadTrace, 1)),
+        LineRead::Failed => Err(cut_short(Refusal::ReadFault)),
     }
 }
 
@@ -142,51 +194,11 @@ fn find_trace<R: Read>(
     ensures ends { OnOk result (EndsInTurns (R.remaining reader.old) turns) }
     ensures faults { IfErr result IsUnreadTrace }
 {
-    if turns == 0 {
-        return Err(cut_short(Refusal::ReadFault));
-    }
-    let mut left = turns;
-    let mut line = match Vec::with_capacity(alloc, LONGEST_LINE) {
-        Ok(line) => line,
-        Err(_) => return Err(cut_short(Refusal::Memory)),
-    };
-    match read_line(reader, &mut left, &mut line) {
-        LineRead::Line => match read_head(line.as_slice()) {
-            Some(kind) => find_records(alloc, reader, &mut left, &mut line, kind),
-            None => match read_based_head(line.as_slice()) {
-                Some(kind) => find_based(alloc, reader, &mut left, &mut line, kind),
-                None => Err(at_line(Refusal::BadTrace, 1)),
-            },
-        },
-        LineRead::End => Err(at_line(Refusal::BadTrace, 1)),
-        LineRead::TooLong => Err(at_line(Refusal::BadTrace, 1)),
-        LineRead::Failed => Err(cut_short(Refusal::ReadFault)),
-    }
-}
-
-/// What is found behind the first line of a trace that has a base, and the line that says so.
-fn find_based<R: Read>(
-    alloc: Global,
-    reader: &mut R,
-    turns: &mut u64,
-    line: &mut Vec<u8>,
-    kind: Kind,
-) -> Result<(bool, Vec<u8>), RunFault>
-    requires room { LONGEST_LINE ≤ vec_capacity line.old }
-    requires turns { turns.old + 1 < 2 ^ 64 }
-    ensures found { IfOk result (λ found. IfSome (R.remaining reader.old) (λ rest.
-        AreFoundOn kind (lines_of rest) found.0 found.1.items)) }
-    ensures bad { IfErr result (λ fault. IfSome (R.remaining reader.old) (λ rest.
-        NamesLine fault (told_behind kind (lines_of rest)).fault)) }
-    ensures uses { UsesTurns (R.remaining reader.old) (R.remaining reader.new) turns.old turns.new }
-    ensures ends { OnOk result (EndsInTurns (R.remaining reader.old) turns.old) }
-    ensures faults { IfErr result IsUnreadTrace }
-{
-    let (checker, count) = match check_based(alloc, reader, turns, line, kind) {
-        Ok(made) => made,
+    let trace = match read_trace(alloc, reader, turns) {
+        Ok(trace) => trace,
         Err(fault) => return Err(fault),
     };
-    match verdict(alloc, &checker, count) {
+    match verdict(alloc, &trace.checker, trace.count) {
         Ok(found) => Ok(found),
         Err(why) => Err(cut_short(why)),
     }

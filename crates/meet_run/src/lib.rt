@@ -7,6 +7,8 @@ pub mod base_spellings;
 pub mod base_wording;
 pub mod based;
 pub mod blocks;
+pub mod chain;
+pub mod chains;
 pub mod check;
 pub mod driving;
 pub mod erase;
@@ -27,6 +29,8 @@ pub mod wording;
 pub mod words;
 
 pub use blocks::Blocks;
+pub use chain::ChapterFault;
+pub use chains::{check_chain, check_chain_within};
 pub use check::{check_trace, check_trace_within};
 pub use driving::{push_drive, run_drive};
 pub use erase::{erase_trace, erase_trace_within};

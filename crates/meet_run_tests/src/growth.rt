@@ -1,9 +1,9 @@
 //! A run that finds no memory ends with Memory, and what it wrote is a beginning of the whole text; the next run
 //! writes the whole. `bin/refuse` runs these tests with each allocation refused in turn.
 
-use crate::checkpoints;
 use crate::tasks::Task;
-use meet_run::{Refusal, RunFault, check_trace, erase_trace, run_script, run_trace};
+use crate::{chains, checkpoints};
+use meet_run::{Refusal, RunFault, check_chain, check_trace, erase_trace, run_script, run_trace};
 use std::alloc::Global;
 use std::process::Abort;
 use std::test::Fail;
@@ -35,6 +35,7 @@ fn perform(
         Task::Trace => run_trace(alloc, &mut reader, written),
         Task::Check => check_trace(alloc, &mut reader, written),
         Task::Erase => erase_trace(alloc, &mut reader, written),
+        Task::Chain => check_chain(alloc, &mut reader, written),
     }
 }
 
@@ -81,6 +82,11 @@ fn the_trace_of_a_script(rt: HostRuntime) -> Result<(), Fail> {
 #[test]
 fn a_trace(rt: HostRuntime) -> Result<(), Fail> {
     bears(&rt, rt.alloc(), Task::Check, TRACE, FOUND)
+}
+
+#[test]
+fn a_chain(rt: HostRuntime) -> Result<(), Fail> {
+    bears(&rt, rt.alloc(), Task::Chain, chains::CHAIN, chains::FOUND)
 }
 
 #[test]

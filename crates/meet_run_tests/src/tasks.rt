@@ -1,8 +1,8 @@
 //! What is done with a text, and what comes of it.
 
 use meet_run::{
-    MOST_READS, Refusal, RunFault, check_trace_within, erase_trace_within, run_script_within,
-    run_trace_within,
+    MOST_READS, Refusal, RunFault, check_chain_within, check_trace_within, erase_trace_within,
+    run_script_within, run_trace_within,
 };
 use std::alloc::Global;
 use std::io::{Read, Write};
@@ -14,6 +14,7 @@ pub enum Task {
     Trace,
     Check,
     Erase,
+    Chain,
 }
 
 /// A task, its text, all that is written, and what of this is written before the end of the text is read.
@@ -30,12 +31,16 @@ const TRACE: &[u8] = b"trace 1 fair\n0 1 give-waits 5\n1 2 take-meets 5 1\n0 1 d
 
 const FOUND: &[u8] = b"legal 3 waiting 0 uncollected 0 kept 0\n";
 
+const CHAIN: &[u8] =
+    b"trace 1 fair\n0 1 give-waits 5\ntrace 2 fair\nbase 1 1\nline 0 1 give 5 waits\n1 2 take-meets 5 1\n0 1 done\n";
+
 /// A handoff, as each task has it.
-pub const HANDOFF: [Row; 4] = [
+pub const HANDOFF: [Row; 5] = [
     (Task::Run, SCRIPT, WHOLE, REPLIES),
     (Task::Trace, SCRIPT, TRACE, b""),
     (Task::Check, TRACE, FOUND, b""),
     (Task::Erase, TRACE, TRACE, b""),
+    (Task::Chain, CHAIN, FOUND, b""),
 ];
 
 /// Does a task within so many reads.
@@ -51,6 +56,7 @@ pub fn perform_within<R: Read, W: Write>(
         Task::Trace => run_trace_within(alloc, reader, writer, turns),
         Task::Check => check_trace_within(alloc, reader, writer, turns),
         Task::Erase => erase_trace_within(alloc, reader, writer, turns),
+        Task::Chain => check_chain_within(alloc, reader, writer, turns),
     }
 }
 

@@ -4,7 +4,7 @@ use Rattle.meet_run.specs.Reading.{lines_of, listed}
 use Rattle.meet_run.specs.BasedTraces.{record_from}
 use Rattle.meet_run.proofs.LineLemmas.{uses-more}
 use Rattle.meet_run.proofs.TraceReading.{names-it}
-use Rattle.meet_run.proofs.ReadFrom.{from-none, from-some, from-more, from-fault, from-long, from-end}
+use Rattle.meet_run.proofs.ReadFrom.{from-some, from-more, from-fault, from-long, from-end}
 use Rattle.meet_run.proofs.based.push_from.Goals as goal
 
 pub returns-in-None-clause-bad : goal.returns-in-None-clause-bad

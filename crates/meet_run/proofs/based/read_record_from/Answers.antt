@@ -1,4 +1,4 @@
-use Rattle.std.proofs.Common.{◌+◌, arith, sym, ◌∙◌}
+use Rattle.std.proofs.Common.{arith, sym, ◌∙◌}
 use Rattle.meet_run.proofs.ReadFrom.{from-past, from-within}
 use Rattle.meet_run.proofs.based.read_record_from.Goals as goal
 

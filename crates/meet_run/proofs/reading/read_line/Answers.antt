@@ -1,6 +1,7 @@
 use Rattle.std.proofs.Common.{rules, ◌≡◌, ◌≤◌, ℕ, ◌+◌, ◌<◌, false, eqb, List, [], ◌∷◌, ◌++◌, length, length-append, subst, sym, arith}
 use Rattle.std.specs.Io.KnownBytes.{Consumes}
-use Rattle.meet_run.proofs.LineLemmas.{HasNoEnd, plain-push, consumes-more, takes-ended, takes-last, begins-too-long, fails-behind, fails-within}
+use Rattle.meet_run.proofs.LineLemmas.{plain-push, consumes-more, takes-ended, takes-last, begins-too-long, fails-behind, fails-within}
+use Rattle.meet_run.specs.Reading.{HasNoEnd}
 use Rattle.meet_run.proofs.reading.read_line.Goals as goal
 
 pub returns-in-Byte-eq10-clause-read : goal.returns-in-Byte-eq10-clause-read

@@ -1,7 +1,7 @@
 use Rattle.std.proofs.Common.{◌≤◌, ◌≡◌, ◌+◌, ◌-◌, length}
 use Rattle.std.specs.Vec.{vec_capacity, vec_len}
 use Rattle.std.specs.Io.KnownBytes.{Consumes}
-use Rattle.meet_run.proofs.LineLemmas.{HasNoEnd}
+use Rattle.meet_run.specs.Reading.{HasNoEnd}
 use Rattle.meet_run.proofs.reading.read_line.Given as goal
 
 abbrev pub invariant-loop-byte : goal.invariant-loop-byte

@@ -1,4 +1,4 @@
-use Rattle.std.proofs.Common.{◌≡◌, ◌+◌, ◌++◌, [], refl, ap, subst, ◌∙◌, arith}
+use Rattle.std.proofs.Common.{◌≡◌, ◌++◌, [], refl, ap, subst, ◌∙◌, arith}
 use Rattle.meet_history.specs.OneThread.{Turn, turn}
 use Rattle.meet_history.specs.Stepping.{place_of, HasWritten}
 use Rattle.meet_run.proofs.LineLemmas.{uses-more, uses-none}
