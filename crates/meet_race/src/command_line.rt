@@ -1,6 +1,9 @@
 //! The words of the command line.
 
-ghost use Rattle.std.specs.Prelude.{◌≤◌, IsTrue, IfOk};
+ghost use Rattle.std.specs.Prelude.{◌+◌, ◌*◌, ◌≤◌, IsTrue, IfOk};
+ghost use Rattle.meet_tickets.specs.Limits.{most_records, most_seats};
+
+use meet_tickets::MOST_SEATS;
 
 /// How many threads put at most, and how many take.
 const MOST_PAIRS: u64 = 64;
@@ -8,11 +11,23 @@ const MOST_PAIRS: u64 = 64;
 /// How many items each of them puts or takes at most.
 const MOST_EACH: u64 = 100_000_000;
 
-/// What is said of words that can't be read.
-pub const USAGE: &str = "usage: meet_race park|spin|bare PAIRS EACH ROUNDS";
+/// How many items are kept at most while checkpoints are made: so many that they have room for their records, and for
+/// those of all rounds before the first checkpoint.
+const MOST_KEPT: u64 = 1_000_000;
 
-/// What is said of numbers out of their limits.
+/// How many checkpoints are measured at most.
+const MOST_CHECKPOINTS: u64 = 20_000;
+
+/// What is said of words that can't be read.
+pub const USAGE: &str =
+    "usage: meet_race park|spin|bare PAIRS EACH ROUNDS, or meet_race checkpoint SEATS KEPT ROUNDS";
+
+/// What is said of numbers of a race that are out of their limits.
 pub const LIMITS: &str = "meet_race: PAIRS is 1 to 64, and EACH 1 to 100000000";
+
+/// What is said of numbers of checkpoints that are out of their limits.
+pub const CHECKPOINT_LIMITS: &str =
+    "meet_race: SEATS is 1 to 65536, KEPT at most 1000000, and ROUNDS 1 to 20000";
 
 /// The queues over which threads race.
 #[derive(Clone, Copy, PartialEq, Eq, Debug)]
@@ -26,6 +41,26 @@ pub enum Queue {
 }
 
 /// What a command line asks for.
+#[derive(Clone, Copy, PartialEq, Eq, Debug)]
+pub enum Measure {
+    /// How long threads take to hand items on.
+    Race(Race),
+    /// How long checkpoints take.
+    Checkpoints(Folding),
+}
+
+/// A queue of which one seat makes checkpoints.
+#[derive(Clone, Copy, PartialEq, Eq, Debug)]
+pub struct Folding {
+    /// How many seats it has.
+    pub seats: u64,
+    /// How many items it keeps all the time.
+    pub kept: u64,
+    /// How many checkpoints are measured.
+    pub rounds: u64,
+}
+
+/// Threads that hand items on.
 #[derive(Clone, Copy, PartialEq, Eq, Debug)]
 pub struct Race {
     pub queue: Queue,
@@ -42,8 +77,10 @@ pub struct Race {
 pub enum Wrong {
     /// It hasn't four words after the program's name, or one of them can't be read.
     Words,
-    /// A number is out of its limits.
+    /// A number of a race is out of its limits.
     Sizes,
+    /// A number of checkpoints is out of its limits.
+    CheckpointSizes,
 }
 
 impl Wrong {
@@ -52,6 +89,7 @@ impl Wrong {
         match self {
             Wrong::Words => USAGE,
             Wrong::Sizes => LIMITS,
+            Wrong::CheckpointSizes => CHECKPOINT_LIMITS,
         }
     }
 }
@@ -69,6 +107,50 @@ fn queue_of(word: &str) -> Result<Queue, Wrong> {
 /// The number that this word spells.
 fn number_of(word: &str) -> Result<u64, Wrong> {
     word.parse().map_err(|_| Wrong::Words)
+}
+
+impl Measure {
+    /// Reads the words of a command line, the program's name first.
+    pub fn of_words(words: &[String]) -> Result<Measure, Wrong> {
+        match words.get(1) {
+            Some(word) if word.as_str() == "checkpoint" => {
+                Ok(Measure::Checkpoints(Folding::of_words(words)?))
+            }
+            _ => Ok(Measure::Race(Race::of_words(words)?)),
+        }
+    }
+}
+
+impl Folding {
+    /// Reads the words of a command line, the program's name first and then `checkpoint`.
+    fn of_words(words: &[String]) -> Result<Folding, Wrong>
+        ensures seats { IfOk result (λ folding. folding.seats ≤ most_seats) }
+        ensures records { IfOk result (λ folding. folding.kept + 2 * folding.rounds ≤ most_records) }
+    {
+        let [_, _, seats, kept, rounds] = words else {
+            return Err(Wrong::Words);
+        };
+        let folding = Folding {
+            seats: number_of(seats.as_str())?,
+            kept: number_of(kept.as_str())?,
+            rounds: number_of(rounds.as_str())?,
+        };
+        if folding.is_within_limits() {
+            Ok(folding)
+        } else {
+            Err(Wrong::CheckpointSizes)
+        }
+    }
+
+    /// Whether its numbers are within their limits.
+    fn is_within_limits(&self) -> bool
+        ensures seats { IsTrue result → self.now.seats ≤ most_seats }
+        ensures records { IsTrue result → self.now.kept + 2 * self.now.rounds ≤ most_records }
+    {
+        let is_some = self.seats != 0 && self.rounds != 0;
+        let is_few = self.kept <= MOST_KEPT && self.rounds <= MOST_CHECKPOINTS;
+        is_some && is_few && self.seats <= MOST_SEATS
+    }
 }
 
 impl Race {

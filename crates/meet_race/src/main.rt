@@ -1,20 +1,33 @@
-//! The program `meet_race`: how long it takes threads to hand items on, through a queue for threads or a bare one.
+//! The program `meet_race`: how long it takes threads to hand items on, through a queue for threads or a bare one, and
+//! how long a checkpoint takes.
 //!
 //!     meet_race park|spin|bare PAIRS EACH ROUNDS
+//!     meet_race checkpoint SEATS KEPT ROUNDS
 //!
 //! So many pairs of threads, one of which puts the numbers from 1 to EACH and one takes as many, do so ROUNDS times,
 //! each time over a new queue. A line a round on standard output tells how many items were taken and their sum,
 //! whatever the threads' order; one on standard error how many nanoseconds it took.
+//!
+//! One seat of a transfer queue with SEATS seats puts KEPT items, and in each of ROUNDS rounds one more, and takes one;
+//! then it makes a checkpoint. In each of as many rounds more it puts one and takes one 16 times, and then makes a
+//! checkpoint; behind each checkpoint it trims its list. The items are the numbers from 1. A line on standard output
+//! tells how many items were taken and their sum, how many are left and their sum, and how many records were folded
+//! away. Three on standard error tell the median of the checkpoints in nanoseconds and what 99 in 100 of them didn't
+//! exceed, and the medians of the puts, and of the takes: before any checkpoint, and the first and the last behind one.
+//! Each was timed by itself, from call to return.
 #![tactic(auto)]
 
 mod bare;
+mod checkpoints;
 mod command_line;
 mod round;
 mod seated;
 mod threads;
+mod times;
 
 use bare::run_bare;
-use command_line::{Queue, Race};
+use checkpoints::{Folded, run_checkpoints};
+use command_line::{Folding, Measure, Queue, Race};
 use meet_tickets::Refusal;
 use round::Finish;
 use seated::{run_parked, run_spinning};
@@ -24,6 +37,7 @@ use std::sync::Wait;
 use std::thread::Threads;
 use std::time::Clock;
 use std::{env, io};
+use times::Medians;
 
 /// The words of the command line, the program's name first.
 fn words(rt: &HostRuntime) -> io::Result<Vec<String>> {
@@ -61,19 +75,65 @@ where
     Ok(())
 }
 
+/// Writes the medians of a call.
+fn tell_medians<R: Eprint>(rt: &R, call: &str, medians: Medians) -> io::Result<()> {
+    let Medians {
+        before,
+        first,
+        last,
+    } = medians;
+    eprintln!(rt; "{call} before {before} first {first} last {last}")
+}
+
+/// Writes what came of checkpoints.
+fn tell_checkpoints<R: Print + Eprint>(rt: &R, folded: Folded) -> io::Result<()> {
+    let Folded {
+        items,
+        sum,
+        left,
+        left_sum,
+        gone,
+        spread,
+    } = folded;
+    println!(rt; "taken {items} sum {sum} left {left} sum {left_sum} gone {gone}")?;
+    eprintln!(rt; "checkpoint median {} p99 {}", spread.hold, spread.longest)?;
+    tell_medians(rt, "put", spread.puts)?;
+    tell_medians(rt, "take", spread.takes)
+}
+
+/// Makes checkpoints, and writes what came of them.
+fn fold<R>(rt: &R, alloc: Global, folding: Folding) -> Result<(), Refusal>
+where
+    R: Wait + Clock + Print + Eprint,
+{
+    let folded = run_checkpoints(rt, alloc, folding)?;
+    tell_checkpoints(rt, folded).map_err(|_| Refusal::WriteFault)
+}
+
+/// Measures what is asked for, and writes what came of it.
+fn measure<R>(rt: &R, alloc: Global, asked: Measure) -> Result<(), Refusal>
+where
+    R: Threads + Wait + Clock + Print + Eprint + Sync,
+{
+    match asked {
+        Measure::Race(race) => run_rounds(rt, alloc, race),
+        Measure::Checkpoints(folding) => fold(rt, alloc, folding),
+    }
+}
+
 fn main(rt: HostRuntime) -> ExitCode {
     let Ok(words) = words(&rt) else {
         let _ = eprintln!(rt; "meet_race: the words of the command line can't be read");
         return ExitCode::from(2);
     };
-    let race = match Race::of_words(words.as_slice()) {
-        Ok(race) => race,
+    let asked = match Measure::of_words(words.as_slice()) {
+        Ok(asked) => asked,
         Err(wrong) => {
             let _ = eprintln!(rt; "{}", wrong.line());
             return ExitCode::from(2);
         }
     };
-    match run_rounds(&rt, rt.alloc(), race) {
+    match measure(&rt, rt.alloc(), asked) {
         Ok(()) => ExitCode::from(0),
         Err(why) => {
             let _ = eprintln!(rt; "meet_race: {}", why.name());

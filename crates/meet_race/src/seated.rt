@@ -30,9 +30,10 @@ const TURNS: u64 = 16;
 type Fair<G, N> = SyncQueue<u64, FairLine<u64>, G, N>;
 
 /// How a call passed that ended so.
-fn passed_of(end: End<u64>) -> Passed {
+pub fn passed_of(end: End<u64>) -> Passed {
     match end {
         End::Gave(_) => Passed::Gave,
+        End::Kept => Passed::Gave,
         End::Done => Passed::Gave,
         End::Got(_, item) => Passed::Got(item),
         // A put or a take ends in no other way but where somebody stops all.
@@ -81,7 +82,7 @@ impl<G: Gate, N: Ledgers> Track<Seat<Deed, N>> for Fair<G, N> {
 }
 
 /// Slots with these seats, in their order. The empty list has room for them.
-fn slots_of<N: Ledgers>(
+pub fn slots_of<N: Ledgers>(
     seats: Vec<Seat<Deed, N>>,
     empty: Vec<Mutex<Slot<Seat<Deed, N>>>>,
 ) -> Vec<Mutex<Slot<Seat<Deed, N>>>>
@@ -101,7 +102,7 @@ fn slots_of<N: Ledgers>(
 
 /// The seats of these slots, to be given back, and what their threads counted together. The empty list has room for
 /// them.
-fn seats_of<N: Ledgers>(
+pub fn seats_of<N: Ledgers>(
     slots: Vec<Mutex<Slot<Seat<Deed, N>>>>,
     empty: Vec<Back<Deed, N>>,
 ) -> (Vec<Back<Deed, N>>, Count)

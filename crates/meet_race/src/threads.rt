@@ -19,7 +19,7 @@ pub enum Call {
 /// How a call ended.
 #[derive(Clone, Copy, PartialEq, Eq, Debug)]
 pub enum Passed {
-    /// The item was taken.
+    /// The item was taken, or is kept.
     Gave,
     /// This item was got.
     Got(u64),
@@ -71,7 +71,7 @@ pub struct Slot<S> {
 
 impl Count {
     /// The count after a call that ended so; and whether the thread goes on.
-    fn after(self, passed: Passed) -> (Count, bool) {
+    pub fn after(self, passed: Passed) -> (Count, bool) {
         match passed {
             Passed::Gave => (self, true),
             Passed::Got(item) => (
@@ -139,7 +139,7 @@ fn perform<S, T: Track<S>, R: Wait + Clock>(rt: &R, track: &T, first: S, task: T
 }
 
 /// Puts a seat back into its slot, with what its thread counted.
-fn put_back<S: Drop, R: Wait>(rt: &R, slot: &Mutex<Slot<S>>, seat: S, count: Count) {
+pub fn put_back<S: Drop, R: Wait>(rt: &R, slot: &Mutex<Slot<S>>, seat: S, count: Count) {
     let mut slot = slot.lock(rt);
     slot.count = count;
     slot.seat = Some(seat);
