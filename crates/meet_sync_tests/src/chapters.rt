@@ -3,11 +3,12 @@
 ghost use Rattle.std.specs.Prelude.{◌≡◌, vec_len};
 ghost use Rattle.meet_place.specs.Ledgers.{AreOf};
 
+use crate::plays::{two_backs, two_seats};
 use meet_line::FairLine;
 use meet_shop::{Idle, gates};
 use meet_sync::{
-    Asked, Back, Blanks, Chapter, Chronicle, FollowedUp, Ledgers, NewQueue, QueueFault, Request,
-    Seat, SyncQueue,
+    Asked, Back, Blanks, Chapter, Chronicle, FollowedUp, Ledgers, NewQueue, Pending, QueueFault,
+    Request, Seat, SyncQueue,
 };
 use meet_tickets::{Base, Deed, Record, SeatNo, Ticket};
 use std::alloc::Global;
@@ -19,22 +20,21 @@ use std::test::*;
 /// A fair queue.
 type Queue<N> = SyncQueue<u64, FairLine<u64>, Idle, N>;
 
-/// What a story came to, or what went otherwise.
-type Came<A> = Result<A, &'static str>;
-
 /// A seat, and the chapter that it was handed.
 type Handed<N> = (Seat<Deed, N>, Chapter);
 
 /// The record of this deed of a seat's ticket.
-fn record(seat: u64, ticket: u64, deed: Deed) -> Came<Record<Deed>> {
-    let seat = SeatNo::new(seat).ok_or("no seat")?;
-    let ticket = Ticket::new(ticket).ok_or("no ticket")?;
-    Ok(Record { seat, ticket, deed })
+fn record(rt: &impl Abort, seat: u64, ticket: u64, deed: Deed) -> Record<Deed> {
+    Record {
+        seat: SeatNo::new(seat).expect(rt, "no seat"),
+        ticket: numbered(rt, ticket),
+        deed,
+    }
 }
 
 /// The ticket of this number.
-fn ticket(number: u64) -> Came<Ticket> {
-    Ticket::new(number).ok_or("no ticket")
+fn numbered(rt: &impl Abort, number: u64) -> Ticket {
+    Ticket::new(number).expect(rt, "no ticket")
 }
 
 /// A chapter has so many records behind it, up to this ticket, and these of its own.
@@ -52,22 +52,68 @@ fn holds(rt: &impl Abort, base: &Base, line: usize, pairs: usize) {
     assert_eq!(rt; base.flags.len(), 0);
 }
 
+/// A seat asks, and its request ends at once.
+fn settles<N: Ledgers, R: Abort + Wait>(
+    rt: &R,
+    queue: &Queue<N>,
+    seat: Seat<Deed, N>,
+    request: Request<u64>,
+) -> Seat<Deed, N> {
+    match queue.request(rt, seat, request) {
+        Ok(Asked::Settled(seat, _)) => seat,
+        _ => panic!(rt; "the request doesn't end at once"),
+    }
+}
+
+/// A seat takes, and waits.
+fn waits<N: Ledgers, R: Abort + Wait>(
+    rt: &R,
+    queue: &Queue<N>,
+    seat: Seat<Deed, N>,
+) -> Pending<Deed, N> {
+    match queue.request(rt, seat, Request::Take) {
+        Ok(Asked::Parked(pending)) => pending,
+        _ => panic!(rt; "the take doesn't wait"),
+    }
+}
+
+/// A take that waited has got 7.
+fn gets_7<N: Ledgers, R: Abort + Wait>(
+    rt: &R,
+    queue: &Queue<N>,
+    pending: Pending<Deed, N>,
+) -> Seat<Deed, N> {
+    match queue.follow_up(rt, pending) {
+        FollowedUp::Got(seat, _, 7) => seat,
+        _ => panic!(rt; "the take wasn't met"),
+    }
+}
+
+/// A seat is handed out the records so far, in this list.
+fn rotates<N: Ledgers, R: Abort + Wait>(
+    rt: &R,
+    queue: &Queue<N>,
+    seat: Seat<Deed, N>,
+    list: Vec<Record<Deed>>,
+) -> Handed<N> {
+    match queue.rotate(rt, seat, list) {
+        Ok(handed) => handed,
+        Err(_) => panic!(rt; "the chapter isn't handed out"),
+    }
+}
+
 /// An offer of 5 that finds nobody, and what is handed out then: its record, and the base of no records.
 fn first_chapter<N: Ledgers, R: Abort + Wait>(
     rt: &R,
     alloc: Global,
     queue: &Queue<N>,
     seat: Seat<Deed, N>,
-) -> Came<Handed<N>> {
-    let Ok(Asked::Settled(seat, _)) = queue.request(rt, seat, Request::Offer(5)) else {
-        return Err("the offer doesn't fail");
-    };
-    let Ok((seat, chapter)) = queue.rotate(rt, seat, Vec::new(alloc)) else {
-        return Err("the first chapter isn't handed out");
-    };
-    has(rt, &chapter, 0, 0, &[record(0, 1, Deed::GiveFails(5))?]);
+) -> Handed<N> {
+    let seat = settles(rt, queue, seat, Request::Offer(5));
+    let (seat, chapter) = rotates(rt, queue, seat, Vec::new(alloc));
+    has(rt, &chapter, 0, 0, &[record(rt, 0, 1, Deed::GiveFails(5))]);
     holds(rt, &chapter.base, 0, 0);
-    Ok((seat, chapter))
+    (seat, chapter)
 }
 
 /// What is handed out once seat 1 waits to take: the record of that, behind the first. The list of the chapter before is
@@ -76,14 +122,12 @@ fn second_chapter<N: Ledgers, R: Abort + Wait>(
     rt: &R,
     queue: &Queue<N>,
     handed: Handed<N>,
-) -> Came<Handed<N>> {
+) -> Handed<N> {
     let (seat, before) = handed;
-    let Ok((seat, chapter)) = queue.rotate(rt, seat, before.records) else {
-        return Err("the second chapter isn't handed out");
-    };
-    has(rt, &chapter, 1, 1, &[record(1, 2, Deed::TakeWaits)?]);
+    let (seat, chapter) = rotates(rt, queue, seat, before.records);
+    has(rt, &chapter, 1, 1, &[record(rt, 1, 2, Deed::TakeWaits)]);
     holds(rt, &chapter.base, 0, 0);
-    Ok((seat, chapter))
+    (seat, chapter)
 }
 
 /// A give of 7 that meets seat 1, and what is handed out then: on a base in which that still waits.
@@ -91,37 +135,29 @@ fn third_chapter<N: Ledgers, R: Abort + Wait>(
     rt: &R,
     queue: &Queue<N>,
     handed: Handed<N>,
-) -> Came<Seat<Deed, N>> {
+) -> Seat<Deed, N> {
     let (seat, before) = handed;
-    let Ok(Asked::Settled(seat, _)) = queue.request(rt, seat, Request::Give(7)) else {
-        return Err("the give doesn't meet");
-    };
-    let Ok((seat, chapter)) = queue.rotate(rt, seat, before.records) else {
-        return Err("the third chapter isn't handed out");
-    };
-    has(
-        rt,
-        &chapter,
-        2,
-        2,
-        &[record(0, 3, Deed::GiveMeets(7, ticket(2)?))?],
-    );
+    let seat = settles(rt, queue, seat, Request::Give(7));
+    let (seat, chapter) = rotates(rt, queue, seat, before.records);
+    let gave = Deed::GiveMeets(7, numbered(rt, 2));
+    has(rt, &chapter, 2, 2, &[record(rt, 0, 3, gave)]);
     holds(rt, &chapter.base, 1, 0);
-    Ok(seat)
+    seat
 }
 
-/// What a look shows: so many records behind it, up to the third ticket, these since, and so many tickets that were met.
-fn shows<N: Ledgers, R: Abort + Wait>(
-    rt: &R,
-    queue: &Queue<N>,
-    records: &[Record<Deed>],
-) -> Came<()> {
-    let Ok(chapter) = queue.history(rt) else {
-        return Err("there is nothing to be looked at");
-    };
+/// A look at a queue.
+fn looks<N: Ledgers, R: Abort + Wait>(rt: &R, queue: &Queue<N>) -> Chapter {
+    match queue.history(rt) {
+        Ok(chapter) => chapter,
+        Err(_) => panic!(rt; "there is nothing to be looked at"),
+    }
+}
+
+/// What a look shows: three records behind it, up to the third ticket, these since, and one ticket that was met.
+fn shows<N: Ledgers, R: Abort + Wait>(rt: &R, queue: &Queue<N>, records: &[Record<Deed>]) {
+    let chapter = looks(rt, queue);
     has(rt, &chapter, 3, 3, records);
     holds(rt, &chapter.base, 0, 1);
-    Ok(())
 }
 
 /// Three chapters of two seats, and a look before and behind the follow-up of seat 1.
@@ -129,27 +165,47 @@ fn in_chapters<N: Ledgers, R: Abort + Wait>(
     rt: &R,
     alloc: Global,
     queue: &Queue<N>,
-    made: Vec<Seat<Deed, N>>,
-) -> Came<Vec<Back<Deed, N>>> {
-    let mut seats = made;
-    let (Some(second), Some(first)) = (seats.pop(), seats.pop()) else {
-        return Err("there are no two seats");
-    };
-    let handed = first_chapter(rt, alloc, queue, first)?;
-    let Ok(Asked::Parked(pending)) = queue.request(rt, second, Request::Take) else {
-        return Err("the take doesn't wait");
-    };
-    let handed = second_chapter(rt, queue, handed)?;
-    let first = third_chapter(rt, queue, handed)?;
-    shows(rt, queue, &[])?;
-    let FollowedUp::Got(second, _, 7) = queue.follow_up(rt, pending) else {
-        return Err("the take wasn't met");
-    };
-    shows(rt, queue, &[record(1, 2, Deed::Got(7, ticket(3)?))?])?;
-    let mut backs = Vec::new(alloc);
-    backs.push(Back::Free(second)).map_err(|_| "memory")?;
-    backs.push(Back::Free(first)).map_err(|_| "memory")?;
-    Ok(backs)
+    seats: (Seat<Deed, N>, Seat<Deed, N>),
+) -> (Seat<Deed, N>, Seat<Deed, N>) {
+    let (first, second) = seats;
+    let handed = first_chapter(rt, alloc, queue, first);
+    let pending = waits(rt, queue, second);
+    let handed = second_chapter(rt, queue, handed);
+    let first = third_chapter(rt, queue, handed);
+    shows(rt, queue, &[]);
+    let second = gets_7(rt, queue, pending);
+    let got = Deed::Got(7, numbered(rt, 3));
+    shows(rt, queue, &[record(rt, 1, 2, got)]);
+    (first, second)
+}
+
+/// A queue with room for eight records, and its seats.
+fn made<N: Ledgers>(
+    rt: &impl Abort,
+    alloc: Global,
+    parts: NewQueue<Idle>,
+) -> (Queue<N>, Vec<Seat<Deed, N>>)
+    requires ledgers { AreOf N.name N.folds N.parts parts.blanks }
+    requires one_each { N.parts ≡ vec_len parts.gates }
+    requires cap { N.cap ≡ 8 }
+{
+    match Queue::<N>::with_cap(alloc, parts, 8) {
+        Ok(made) => made,
+        Err(_) => panic!(rt; "no queue"),
+    }
+}
+
+/// A queue is closed with all its seats.
+fn closed<N: Ledgers>(
+    rt: &impl Abort,
+    alloc: Global,
+    queue: Queue<N>,
+    backs: Vec<Back<Deed, N>>,
+) -> Chronicle<u64> {
+    match queue.close(alloc, backs) {
+        Ok(chronicle) => chronicle,
+        Err(_) => panic!(rt; "it isn't closed"),
+    }
 }
 
 /// A queue of two seats and eight records, and what it came to.
@@ -157,67 +213,77 @@ fn of_two_seats<N: Ledgers, R: Abort + Wait>(
     rt: &R,
     alloc: Global,
     parts: NewQueue<Idle>,
-) -> Came<Chronicle<u64>>
+) -> Chronicle<u64>
     requires ledgers { AreOf N.name N.folds N.parts parts.blanks }
     requires one_each { N.parts ≡ vec_len parts.gates }
     requires cap { N.cap ≡ 8 }
 {
-    let (queue, seats) = match Queue::<N>::with_cap(alloc, parts, 8) {
-        Ok(made) => made,
-        Err(_) => return Err("no queue"),
-    };
-    let backs = in_chapters(rt, alloc, &queue, seats)?;
+    let (queue, seats) = made::<N>(rt, alloc, parts);
+    let (first, second) = in_chapters(rt, alloc, &queue, two_seats(rt, seats));
+    let backs = two_backs(rt, alloc, Back::Free(first), Back::Free(second));
+    closed(rt, alloc, queue, backs)
+}
+
+/// A look shows an offer of seat 1 that failed and a poll of seat 0 that did, and nothing behind them.
+fn shows_both<N: Ledgers, R: Abort + Wait>(rt: &R, queue: &Queue<N>) {
+    let chapter = looks(rt, queue);
+    let offered = record(rt, 1, 1, Deed::GiveFails(5));
+    let polled = record(rt, 0, 2, Deed::TakeFails);
+    has(rt, &chapter, 0, 0, &[offered, polled]);
+}
+
+/// Seat 1 offers, and is lost. Seat 0 goes on, and a look shows both records: seat 0, to be given back.
+fn loses_seat_1<N: Ledgers, R: Abort + Wait>(
+    rt: &R,
+    alloc: Global,
+    queue: &Queue<N>,
+    seats: (Seat<Deed, N>, Seat<Deed, N>),
+) -> Vec<Back<Deed, N>> {
+    let (first, second) = seats;
+    settles(rt, queue, second, Request::Offer(5));
+    let first = settles(rt, queue, first, Request::Poll);
+    shows_both(rt, queue);
+    let mut backs = Vec::new(alloc);
+    backs.push(Back::Free(first)).expect(rt, "memory");
+    backs
+}
+
+/// A queue isn't closed without a seat: which are missing.
+fn missing<N: Ledgers>(
+    rt: &impl Abort,
+    alloc: Global,
+    queue: Queue<N>,
+    backs: Vec<Back<Deed, N>>,
+) -> Vec<SeatNo> {
     match queue.close(alloc, backs) {
-        Ok(chronicle) => Ok(chronicle),
-        Err(fault) => Err(fault.why().name()),
+        Ok(_) => panic!(rt; "it is closed without a seat"),
+        Err(fault) => match fault.missing(alloc) {
+            Ok(missing) => missing,
+            Err(_) => panic!(rt; "it isn't told who is missing"),
+        },
     }
 }
 
-/// Seat 1 offers, and is lost. Seat 0 goes on, a look shows both records, and the end names who is missing.
+/// A queue that loses seat 1: which seats are missing at its end.
 fn without_seat_1<N: Ledgers, R: Abort + Wait>(
     rt: &R,
     alloc: Global,
     parts: NewQueue<Idle>,
-) -> Came<Vec<SeatNo>>
+) -> Vec<SeatNo>
     requires ledgers { AreOf N.name N.folds N.parts parts.blanks }
     requires one_each { N.parts ≡ vec_len parts.gates }
     requires cap { N.cap ≡ 8 }
 {
-    let (queue, mut seats) = match Queue::<N>::with_cap(alloc, parts, 8) {
-        Ok(made) => made,
-        Err(_) => return Err("no queue"),
-    };
-    let (Some(second), Some(first)) = (seats.pop(), seats.pop()) else {
-        return Err("there are no two seats");
-    };
-    let Ok(Asked::Settled(_, _)) = queue.request(rt, second, Request::Offer(5)) else {
-        return Err("1 offer 5");
-    };
-    let Ok(Asked::Settled(first, _)) = queue.request(rt, first, Request::Poll) else {
-        return Err("0 poll");
-    };
-    let Ok(chapter) = queue.history(rt) else {
-        return Err("there is nothing to be looked at");
-    };
-    let offered = record(1, 1, Deed::GiveFails(5))?;
-    let polled = record(0, 2, Deed::TakeFails)?;
-    has(rt, &chapter, 0, 0, &[offered, polled]);
-    let mut backs = Vec::new(alloc);
-    backs.push(Back::Free(first)).map_err(|_| "memory")?;
-    match queue.close(alloc, backs) {
-        Ok(_) => Err("it is closed without a seat"),
-        Err(fault) => match fault.missing(alloc) {
-            Ok(missing) => Ok(missing),
-            Err(why) => Err(why.name()),
-        },
-    }
+    let (queue, seats) = made::<N>(rt, alloc, parts);
+    let backs = loses_seat_1(rt, alloc, &queue, two_seats(rt, seats));
+    missing(rt, alloc, queue, backs)
 }
 
 #[test]
 fn chapters_follow_one_another(rt: HostRuntime) -> Result<(), Fail> {
     let gates = gates::<Idle>(rt.alloc(), 2)?;
     let blanks = Blanks::new(gates.len() as u64);
-    let chronicle = of_two_seats::<Brand, _>(&rt, rt.alloc(), NewQueue { gates, blanks })?;
+    let chronicle = of_two_seats::<Brand, _>(&rt, rt.alloc(), NewQueue { gates, blanks });
     assert_eq!(&rt; chronicle.base.gone, 3);
     assert_eq!(&rt; chronicle.records.len(), 1);
     let receipts = chronicle.lists.first().map(|list| list.len());
@@ -231,7 +297,7 @@ fn chapters_follow_one_another(rt: HostRuntime) -> Result<(), Fail> {
 fn a_lost_seat_leaves_a_history(rt: HostRuntime) -> Result<(), Fail> {
     let gates = gates::<Idle>(rt.alloc(), 2)?;
     let blanks = Blanks::new(gates.len() as u64);
-    let missing = without_seat_1::<Brand, _>(&rt, rt.alloc(), NewQueue { gates, blanks })?;
+    let missing = without_seat_1::<Brand, _>(&rt, rt.alloc(), NewQueue { gates, blanks });
     assert_eq!(&rt; missing.len(), 1);
     assert_eq!(&rt; missing.first().map(|seat| seat.number()), Some(1));
     Ok(())

@@ -8,13 +8,18 @@ use crate::plays::{Seats, ask_all, closed, seated};
 use meet_history::Order;
 use meet_line::FairLine;
 use meet_shop::{Ask, Idle, Shop, Told, gates, keep};
-use meet_sync::{Asked, Back, Blanks, Chronicle, Ledgers, NewQueue, Request, SyncQueue};
+use meet_sync::{
+    Asked, Back, Blanks, Chronicle, Ledgers, NewQueue, Pending, Request, Seat, SyncQueue,
+};
 use meet_tickets::{Deed, Refusal};
 use std::alloc::Global;
 use std::marker::Brand;
 use std::process::Abort;
 use std::sync::Wait;
 use std::test::*;
+
+/// A fair queue.
+type Queue<N> = SyncQueue<u64, FairLine<u64>, Idle, N>;
 
 /// What a queue with room for five records came to.
 type Came = Result<Chronicle<u64>, &'static str>;
@@ -123,33 +128,63 @@ fn five_records<N: Ledgers, R: Abort + Wait>(rt: &R, alloc: Global, parts: NewQu
     }
 }
 
+/// A seat makes a checkpoint where nothing was recorded, and folds nothing away.
+fn folds_nothing<N: Ledgers, R: Abort + Wait>(
+    rt: &R,
+    queue: &Queue<N>,
+    seat: Seat<Deed, N>,
+) -> Seat<Deed, N> {
+    match queue.checkpoint(rt, seat) {
+        Ok((seat, 0)) => seat,
+        _ => panic!(rt; "the checkpoint isn't of nothing"),
+    }
+}
+
+/// A seat gives, and waits.
+fn waits<N: Ledgers, R: Abort + Wait>(
+    rt: &R,
+    queue: &Queue<N>,
+    seat: Seat<Deed, N>,
+) -> Pending<Deed, N> {
+    match queue.request(rt, seat, Request::Give(1)) {
+        Ok(Asked::Parked(pending)) => pending,
+        _ => panic!(rt; "the give doesn't wait"),
+    }
+}
+
+/// A queue is closed with this seat, which waits.
+fn closed_with<N: Ledgers>(
+    rt: &impl Abort,
+    alloc: Global,
+    queue: Queue<N>,
+    pending: Pending<Deed, N>,
+) -> Chronicle<u64> {
+    let mut backs = Vec::new(alloc);
+    backs.push(Back::Held(pending)).expect(rt, "memory");
+    match queue.close(alloc, backs) {
+        Ok(chronicle) => chronicle,
+        Err(_) => panic!(rt; "it isn't closed"),
+    }
+}
+
 /// A checkpoint where nothing was recorded leaves the base of no records.
-fn untouched<N: Ledgers, R: Abort + Wait>(rt: &R, alloc: Global, parts: NewQueue<Idle>) -> Came
+fn untouched<N: Ledgers, R: Abort + Wait>(
+    rt: &R,
+    alloc: Global,
+    parts: NewQueue<Idle>,
+) -> Chronicle<u64>
     requires ledgers { AreOf N.name N.folds N.parts parts.blanks }
     requires one_each { N.parts ≡ vec_len parts.gates }
     requires cap { N.cap ≡ 5 }
 {
-    let (queue, mut made) = match SyncQueue::<u64, FairLine<u64>, Idle, N>::with_cap(
-        alloc, parts, 5,
-    ) {
+    let (queue, mut made) = match Queue::<N>::with_cap(alloc, parts, 5) {
         Ok(made) => made,
-        Err(_) => return Err("no queue"),
+        Err(_) => panic!(rt; "no queue"),
     };
-    let Some(seat) = made.pop() else {
-        return Err("no seat");
-    };
-    let Ok((seat, 0)) = queue.checkpoint(rt, seat) else {
-        return Err("0 checkpoint");
-    };
-    let Ok(Asked::Parked(seat)) = queue.request(rt, seat, Request::Give(1)) else {
-        return Err("0 put 1");
-    };
-    let mut backs = Vec::new(alloc);
-    backs.push(Back::Held(seat)).map_err(|_| "memory")?;
-    match queue.close(alloc, backs) {
-        Ok(chronicle) => Ok(chronicle),
-        Err(fault) => Err(fault.why().name()),
-    }
+    let seat = made.pop().expect(rt, "no seat");
+    let seat = folds_nothing(rt, &queue, seat);
+    let pending = waits(rt, &queue, seat);
+    closed_with(rt, alloc, queue, pending)
 }
 
 /// Where no seat makes a checkpoint, nothing is folded away.
@@ -159,9 +194,7 @@ fn whole<N: Ledgers, R: Wait>(rt: &R, alloc: Global, parts: NewQueue<Idle>) -> C
     requires cap { N.cap ≡ 5 }
     ensures { IfOk result (λ chronicle. chronicle.base ≡ no_base) }
 {
-    let (queue, mut made) = match SyncQueue::<u64, FairLine<u64>, Idle, N>::with_cap(
-        alloc, parts, 5,
-    ) {
+    let (queue, mut made) = match Queue::<N>::with_cap(alloc, parts, 5) {
         Ok(made) => made,
         Err(_) => return Err("no queue"),
     };
@@ -185,7 +218,7 @@ fn whole<N: Ledgers, R: Wait>(rt: &R, alloc: Global, parts: NewQueue<Idle>) -> C
 fn a_checkpoint_before_any_record(rt: HostRuntime) -> Result<(), Fail> {
     let gates = gates::<Idle>(rt.alloc(), 1)?;
     let blanks = Blanks::new(gates.len() as u64);
-    let chronicle = untouched::<Brand, _>(&rt, rt.alloc(), NewQueue { gates, blanks })?;
+    let chronicle = untouched::<Brand, _>(&rt, rt.alloc(), NewQueue { gates, blanks });
     assert_eq!(&rt; chronicle.base.gone, 0);
     assert_eq!(&rt; chronicle.base.last.number(), 0);
     assert_eq!(&rt; chronicle.records.len(), 1);

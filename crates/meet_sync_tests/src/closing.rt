@@ -5,7 +5,7 @@ ghost use Rattle.meet_place.specs.Ledgers.{AreOf};
 
 use crate::plays::{Found, Seats, Story, ask_all, ended, given, play, seated, tells};
 use meet_history::{Order, Standing};
-use meet_shop::{Ask, Idle, Open, Row, Shop, Told, gates, keep};
+use meet_shop::{Ask, Idle, Open, Row, Shop, Told, gates};
 use meet_sync::{Back, Blanks, Chronicle, Ledgers, LeftStanding, NewQueue};
 use meet_tickets::Deed;
 use std::alloc::Global;
@@ -131,53 +131,54 @@ struct Late {
     chronicle: Chronicle<u64>,
 }
 
-/// A shop is closed without a seat, and then with it.
-fn closed_late<N: Ledgers>(
+/// A shop is closed with these seats and the last one.
+fn closed_with<N: Ledgers>(
+    rt: &impl Abort,
     alloc: Global,
     shop: Shop<Idle, N>,
     backs: Vec<Back<Deed, N>>,
-    last: Option<Back<Deed, N>>,
-) -> Result<Late, &'static str> {
+    last: Back<Deed, N>,
+) -> Chronicle<u64> {
+    let mut all = backs;
+    all.push(last).expect(rt, "memory");
+    ended(alloc, shop, all).expect(rt, "it isn't closed")
+}
+
+/// A shop is closed without a seat, and then with it.
+fn closed_late<N: Ledgers>(
+    rt: &impl Abort,
+    alloc: Global,
+    shop: Shop<Idle, N>,
+    backs: Vec<Back<Deed, N>>,
+    last: Back<Deed, N>,
+) -> Late {
     match shop.close(alloc, backs) {
-        Ok(_) => Err("it is closed without a seat"),
+        Ok(_) => panic!(rt; "it is closed without a seat"),
         Err(open) => match open {
-            Open::Missing(have, made, shop, backs) => {
-                let mut all = backs;
-                if let Some(last) = last {
-                    if all.push(last).is_err() {
-                        keep(shop);
-                        return Err("memory");
-                    }
-                }
-                let chronicle = ended(alloc, shop, all)?;
-                Ok(Late {
-                    have,
-                    made,
-                    chronicle,
-                })
-            }
-            Open::Other(why) => Err(why.name()),
+            Open::Missing(have, made, shop, backs) => Late {
+                have,
+                made,
+                chronicle: closed_with(rt, alloc, shop, backs, last),
+            },
+            Open::Other(_) => panic!(rt; "it isn't told how many are missing"),
         },
     }
 }
 
 /// The same, where the last seat is the one that comes late.
 fn last_is_late<N: Ledgers>(
+    rt: &impl Abort,
     alloc: Global,
     shop: Shop<Idle, N>,
     first: Seats<N>,
-) -> Result<Late, &'static str> {
+) -> Late {
     let mut seats = first;
-    let last = match seats.pop() {
-        Some(last) => last,
-        None => None,
-    };
-    match given(alloc, seats) {
-        Ok(backs) => closed_late(alloc, shop, backs, last),
-        Err(why) => {
-            keep(shop);
-            Err(why)
+    match seats.pop() {
+        Some(Some(last)) => {
+            let backs = given(alloc, seats).expect(rt, "memory");
+            closed_late(rt, alloc, shop, backs, last)
         }
+        _ => panic!(rt; "there is no last seat"),
     }
 }
 
@@ -187,25 +188,18 @@ fn falls_short<N: Ledgers, R: Abort + Wait>(
     alloc: Global,
     parts: NewQueue<Idle>,
     story: Story<'_>,
-) -> Result<Late, &'static str>
+) -> Late
     requires ledgers { AreOf N.name N.folds N.parts parts.blanks }
     requires one_each { N.parts ≡ vec_len parts.gates }
     requires cap { N.cap ≡ story.cap }
 {
     let (shop, made) = match Shop::<Idle, N>::with_cap(alloc, story.order, parts, story.cap) {
         Ok(made) => made,
-        Err(refused) => return Err(refused.why.name()),
+        Err(_) => panic!(rt; "it isn't made"),
     };
-    match seated(alloc, made) {
-        Ok(mut seats) => {
-            ask_all(rt, &shop, &mut seats, story.rows);
-            last_is_late(alloc, shop, seats)
-        }
-        Err(why) => {
-            keep(shop);
-            Err(why)
-        }
-    }
+    let mut seats = seated(alloc, made).expect(rt, "memory");
+    ask_all(rt, &shop, &mut seats, story.rows);
+    last_is_late(rt, alloc, shop, seats)
 }
 
 /// One of two seats comes late, which collected nothing.
@@ -228,7 +222,7 @@ fn seat_is_missing<R: Abort + Wait>(rt: &R, alloc: Global, order: Order) -> Resu
         have,
         made,
         chronicle,
-    } = falls_short::<Brand, _>(rt, alloc, parts, story)?;
+    } = falls_short::<Brand, _>(rt, alloc, parts, story);
     assert_eq!(rt; (have, made), (1, 2));
     assert_eq!(rt; tells(rt, alloc, chronicle, story), 2);
     Ok(())

@@ -4,14 +4,16 @@ ghost use Rattle.std.specs.Prelude.{◌≡◌, vec_len};
 ghost use Rattle.meet_place.specs.Ledgers.{AreOf};
 ghost use Rattle.meet_tickets.specs.Limits.{most_records};
 
-use meet_shop::{Idle, gates, keep};
+use crate::plays::{two_backs, two_seats};
+use meet_shop::{Idle, gates};
 use meet_sync::{
-    Asked, Back, Blanks, DrainedItems, End, Ended, Ledgers, NewQueue, Pending, QueueFault, Request,
-    Seat, SeatRefused, TransferQueue,
+    Asked, Back, Blanks, DrainedItems, End, Ledgers, NewQueue, Pending, Request, Seat, SeatRefused,
+    TransferQueue,
 };
 use meet_tickets::{Deed, Refusal};
 use std::alloc::Global;
 use std::marker::Brand;
+use std::process::Abort;
 use std::sync::Wait;
 use std::test::*;
 
@@ -42,137 +44,130 @@ struct Day {
     records: usize,
 }
 
-/// The seat of a put whose item is kept.
-fn kept<N: Ledgers>(
-    put: Result<Ended<u64, N>, SeatRefused<u64, N>>,
-) -> Result<Seat<Deed, N>, &'static str> {
-    match put {
+/// A seat puts an item, which is kept.
+fn puts<N: Ledgers, R: Abort + Wait>(
+    rt: &R,
+    store: &Store<N>,
+    giver: Seat<Deed, N>,
+    item: u64,
+) -> Seat<Deed, N> {
+    match store.put(rt, giver, item) {
         Ok(ended) => match ended.end {
-            End::Kept => Ok(ended.seat),
-            _ => Err("the item isn't kept"),
+            End::Kept => ended.seat,
+            _ => panic!(rt; "the item isn't kept"),
         },
-        Err(_) => Err("put"),
+        Err(_) => panic!(rt; "the put is refused"),
+    }
+}
+
+/// A seat drains up to three items.
+fn draws<N: Ledgers, R: Abort + Wait>(
+    rt: &R,
+    alloc: Global,
+    store: &Store<N>,
+    taker: Seat<Deed, N>,
+) -> DrainedItems<u64, N> {
+    match store.drain(rt, alloc, taker, 3) {
+        Ok(drained) => drained,
+        Err(_) => panic!(rt; "the drain is refused"),
+    }
+}
+
+/// A seat asks, and waits.
+fn waits<N: Ledgers, R: Abort + Wait>(
+    rt: &R,
+    store: &Store<N>,
+    seat: Seat<Deed, N>,
+    request: Request<u64>,
+) -> Pending<Deed, N> {
+    match store.request(rt, seat, request) {
+        Ok(Asked::Parked(pending)) => pending,
+        _ => panic!(rt; "it doesn't wait"),
     }
 }
 
 /// One seat puts two items and another drains them, up to three; then it drains nothing, and waits.
-fn trade<N: Ledgers, R: Wait>(
+fn trade<N: Ledgers, R: Abort + Wait>(
     rt: &R,
     alloc: Global,
     store: &Store<N>,
     giver: Seat<Deed, N>,
     taker: Seat<Deed, N>,
-) -> Result<(Day, Back<Deed, N>, Back<Deed, N>), &'static str> {
-    let giver = kept(store.put(rt, giver, 4))?;
-    let giver = kept(store.put(rt, giver, 5))?;
+) -> (Day, Back<Deed, N>, Back<Deed, N>) {
+    let giver = puts(rt, store, giver, 4);
+    let giver = puts(rt, store, giver, 5);
     let first = shown(rt, store);
-    let Ok(DrainedItems { seat: taker, items }) = store.drain(rt, alloc, taker, 3) else {
-        return Err("drain");
-    };
+    let DrainedItems { seat: taker, items } = draws(rt, alloc, store, taker);
     let second = shown(rt, store);
-    let Ok(
-        DrainedItems {
-            seat: taker,
-            items: none,
-        },
-    ) = store.drain(rt, alloc, taker, 3)
-    else {
-        return Err("drain of nothing");
-    };
-    let Ok(Asked::Parked(taker)) = store.request(rt, taker, Request::Take) else {
-        return Err("take");
-    };
+    let DrainedItems {
+        seat: taker,
+        items: none,
+    } = draws(rt, alloc, store, taker);
+    let taker = waits(rt, store, taker, Request::Take);
     let day = Day {
         shown: [first, second, shown(rt, store)],
         items,
         nothing: none.len(),
         records: 0,
     };
-    Ok((day, Back::Free(giver), Back::Held(taker)))
+    (day, Back::Free(giver), Back::Held(taker))
 }
 
 /// A seat waits for an item that nobody has.
-fn wait_there<N: Ledgers, R: Wait>(
+fn wait_there<N: Ledgers, R: Abort + Wait>(
     rt: &R,
     alloc: Global,
     store: &Store<N>,
     giver: Seat<Deed, N>,
     taker: Seat<Deed, N>,
-) -> Result<(Day, Back<Deed, N>, Back<Deed, N>), &'static str> {
+) -> (Day, Back<Deed, N>, Back<Deed, N>) {
     let first = shown(rt, store);
-    if store.remaining_capacity() != 2_147_483_647 {
-        return Err("capacity");
-    }
-    let Ok(Asked::Parked(taker)) = store.request(rt, taker, Request::Take) else {
-        return Err("take");
-    };
+    assert_eq!(rt; store.remaining_capacity(), 2_147_483_647);
+    let taker = waits(rt, store, taker, Request::Take);
     let day = Day {
         shown: [first, shown(rt, store), shown(rt, store)],
         items: Vec::new(alloc),
         nothing: 0,
         records: 0,
     };
-    Ok((day, Back::Free(giver), Back::Held(taker)))
+    (day, Back::Free(giver), Back::Held(taker))
 }
 
-/// Closes a queue: how many records it has, or none where it isn't closed.
-fn closed<N: Ledgers>(alloc: Global, store: Store<N>, backs: Vec<Back<Deed, N>>) -> Option<usize> {
+/// A queue is closed: how many records it has.
+fn closed<N: Ledgers>(
+    rt: &impl Abort,
+    alloc: Global,
+    store: Store<N>,
+    backs: Vec<Back<Deed, N>>,
+) -> usize {
     match store.close(alloc, backs) {
-        Ok(chronicle) => Some(chronicle.records.len()),
-        Err(fault) => {
-            match fault {
-                QueueFault::SeatMissing { queue, seats, .. } => {
-                    keep(queue);
-                    keep(seats);
-                }
-                QueueFault::Memory { queue, seats } => {
-                    keep(queue);
-                    keep(seats);
-                }
-                QueueFault::Differs { book, seats, .. } => {
-                    keep(book);
-                    keep(seats);
-                }
-            }
-            None
-        }
+        Ok(chronicle) => chronicle.records.len(),
+        Err(_) => panic!(rt; "it isn't closed"),
     }
 }
 
 /// A day at a new queue of two seats, which is closed: one on which items are put, or one on which nobody gives.
-fn a_day<N: Ledgers, R: Wait>(
+fn a_day<N: Ledgers, R: Abort + Wait>(
     rt: &R,
     alloc: Global,
     parts: NewQueue<Idle>,
     gives: bool,
-) -> Result<Day, &'static str>
+) -> Day
     requires ledgers { AreOf N.name N.folds N.parts parts.blanks }
     requires one_each { N.parts ≡ vec_len parts.gates }
     requires cap { N.cap ≡ most_records }
 {
-    let mut backs = Vec::with_capacity(alloc, 2).map_err(|_| "memory")?;
-    let (store, mut seats) = match Store::<N>::new(alloc, parts) {
+    let (store, seats) = match Store::<N>::new(alloc, parts) {
         Ok(made) => made,
-        Err(refused) => return Err(refused.why.name()),
+        Err(_) => panic!(rt; "it isn't made"),
     };
-    let made = match (seats.pop(), seats.pop()) {
-        (Some(taker), Some(giver)) => match gives {
-            true => trade(rt, alloc, &store, giver, taker),
-            false => wait_there(rt, alloc, &store, giver, taker),
-        },
-        _ => Err("seats"),
+    let (giver, taker) = two_seats(rt, seats);
+    let (mut day, giver, taker) = match gives {
+        true => trade(rt, alloc, &store, giver, taker),
+        false => wait_there(rt, alloc, &store, giver, taker),
     };
-    let (mut day, giver, taker) = match made {
-        Ok(made) => made,
-        Err(why) => {
-            keep(store);
-            return Err(why);
-        }
-    };
-    backs.push_reserved(taker);
-    backs.push_reserved(giver);
-    day.records = closed(alloc, store, backs).ok_or("close")?;
-    Ok(day)
+    day.records = closed(rt, alloc, store, two_backs(rt, alloc, giver, taker));
+    day
 }
 
 /// Two items are kept, and one drain takes both.
@@ -180,7 +175,7 @@ fn a_day<N: Ledgers, R: Wait>(
 fn two_are_drained(rt: HostRuntime) -> Result<(), Fail> {
     let gates = gates::<Idle>(rt.alloc(), 2)?;
     let blanks = Blanks::new(gates.len() as u64);
-    let day = a_day::<Brand, _>(&rt, rt.alloc(), NewQueue { gates, blanks }, true)?;
+    let day = a_day::<Brand, _>(&rt, rt.alloc(), NewQueue { gates, blanks }, true);
     assert_eq!(rt; day.shown[0], (2, Some(4), 0, false));
     assert_eq!(rt; day.shown[1], (0, None, 0, false));
     assert_eq!(rt; day.shown[2], (0, None, 1, true));
@@ -195,83 +190,64 @@ fn two_are_drained(rt: HostRuntime) -> Result<(), Fail> {
 fn a_taker_waits(rt: HostRuntime) -> Result<(), Fail> {
     let gates = gates::<Idle>(rt.alloc(), 2)?;
     let blanks = Blanks::new(gates.len() as u64);
-    let day = a_day::<Brand, _>(&rt, rt.alloc(), NewQueue { gates, blanks }, false)?;
+    let day = a_day::<Brand, _>(&rt, rt.alloc(), NewQueue { gates, blanks }, false);
     assert_eq!(rt; day.shown[0], (0, None, 0, false));
     assert_eq!(rt; day.shown[1], (0, None, 1, true));
     assert_eq!(rt; day.records, 1);
     Ok(())
 }
 
+/// A drain of one item is refused: why, and the seat.
+fn draws_in_vain<N: Ledgers, R: Abort + Wait>(
+    rt: &R,
+    alloc: Global,
+    store: &Store<N>,
+    seat: Seat<Deed, N>,
+) -> (Refusal, Seat<Deed, N>) {
+    match store.drain(rt, alloc, seat, 1) {
+        Ok(_) => panic!(rt; "it isn't refused"),
+        Err(SeatRefused { why, seat, .. }) => (why, seat),
+    }
+}
+
 /// What two drains are refused, one of a seat whose ticket is open and one for whose poll the history has no room; then
 /// the seats.
-fn drain_in_vain<N: Ledgers, R: Wait>(
+fn drain_in_vain<N: Ledgers, R: Abort + Wait>(
     rt: &R,
     alloc: Global,
     store: &Store<N>,
     giver: Seat<Deed, N>,
     taker: Seat<Deed, N>,
-) -> Result<([Refusal; 2], Back<Deed, N>, Back<Deed, N>), &'static str> {
-    let Ok(Asked::Parked(giver)) = store.request(rt, giver, Request::Give(4)) else {
-        return Err("give");
-    };
-    let (seat, ticket, mark) = giver.into_parts();
-    let Err(
-        SeatRefused {
-            why: open,
-            seat: mut giver,
-            ..
-        },
-    ) = store.drain(rt, alloc, seat, 1)
-    else {
-        return Err("a drain of a seat whose ticket is open");
-    };
-    giver.reserve(1).map_err(|_| "memory")?;
-    let Err(
-        SeatRefused {
-            why: full,
-            seat: taker,
-            ..
-        },
-    ) = store.drain(rt, alloc, taker, 1)
-    else {
-        return Err("a drain into a full history");
-    };
+) -> ([Refusal; 2], Back<Deed, N>, Back<Deed, N>) {
+    let (seat, ticket, mark) = waits(rt, store, giver, Request::Give(4)).into_parts();
+    let (open, mut giver) = draws_in_vain(rt, alloc, store, seat);
+    giver.reserve(1).expect(rt, "memory");
+    let (full, taker) = draws_in_vain(rt, alloc, store, taker);
     let giver = Pending::new(giver, ticket, mark);
-    Ok(([open, full], Back::Held(giver), Back::Free(taker)))
+    ([open, full], Back::Held(giver), Back::Free(taker))
 }
 
 /// The same, at a queue with room for three records: the give's, its ending's and one more. Then it is closed.
-fn in_vain<N: Ledgers, R: Wait>(
+fn in_vain<N: Ledgers, R: Abort + Wait>(
     rt: &R,
     alloc: Global,
     parts: NewQueue<Idle>,
-) -> Result<[Refusal; 2], &'static str>
+) -> [Refusal; 2]
     requires ledgers { AreOf N.name N.folds N.parts parts.blanks }
     requires one_each { N.parts ≡ vec_len parts.gates }
     requires cap { N.cap ≡ 3 }
 {
-    let mut backs = Vec::with_capacity(alloc, 2).map_err(|_| "memory")?;
-    let (store, mut seats) = match Store::<N>::with_cap(alloc, parts, 3) {
+    let (store, seats) = match Store::<N>::with_cap(alloc, parts, 3) {
         Ok(made) => made,
-        Err(refused) => return Err(refused.why.name()),
+        Err(_) => panic!(rt; "it isn't made"),
     };
-    let made = match (seats.pop(), seats.pop()) {
-        (Some(taker), Some(giver)) => drain_in_vain(rt, alloc, &store, giver, taker),
-        _ => Err("seats"),
-    };
-    let (whys, giver, taker) = match made {
-        Ok(made) => made,
-        Err(why) => {
-            keep(store);
-            return Err(why);
-        }
-    };
-    backs.push_reserved(taker);
-    backs.push_reserved(giver);
-    match closed(alloc, store, backs) {
-        Some(1) => Ok(whys),
-        _ => Err("close"),
-    }
+    let (giver, taker) = two_seats(rt, seats);
+    let (whys, giver, taker) = drain_in_vain(rt, alloc, &store, giver, taker);
+    assert_eq!(rt;
+        closed(rt, alloc, store, two_backs(rt, alloc, giver, taker)),
+        1
+    );
+    whys
 }
 
 /// Why a drain is refused, Memory aside.
@@ -279,7 +255,7 @@ fn in_vain<N: Ledgers, R: Wait>(
 fn drains_are_refused(rt: HostRuntime) -> Result<(), Fail> {
     let gates = gates::<Idle>(rt.alloc(), 2)?;
     let blanks = Blanks::new(gates.len() as u64);
-    let whys = in_vain::<Brand, _>(&rt, rt.alloc(), NewQueue { gates, blanks })?;
+    let whys = in_vain::<Brand, _>(&rt, rt.alloc(), NewQueue { gates, blanks });
     assert!(rt; whys == [Refusal::SeatOpen, Refusal::HistoryFull]);
     Ok(())
 }

@@ -3,9 +3,9 @@
 ghost use Rattle.std.specs.Prelude.{◌≡◌, vec_len};
 ghost use Rattle.meet_place.specs.Ledgers.{AreOf};
 
-use crate::plays::{NOTHING, Story, ended, tells};
+use crate::plays::{NOTHING, Story, ended, tells, two_backs, two_seats};
 use meet_history::Order;
-use meet_shop::{Call, Came, FlagGate, Flags, Shop, Told, called, keep};
+use meet_shop::{Call, Came, FlagGate, Flags, Shop, Told, called};
 use meet_sync::{Back, Blanks, Chronicle, Ledgers, NewQueue, Seat};
 use meet_tickets::Deed;
 use std::alloc::Global;
@@ -56,25 +56,20 @@ fn dealt<N: Ledgers + Send + Sync, R: Abort + Threads + Wait + Clock + Sync>(
     flags: &Flags,
     timed: Timed,
 ) -> Result<Chronicle<u64>, &'static str> {
-    let mut seats = made;
-    let (first, second) = match (seats.pop(), seats.pop()) {
-        (Some(second), Some(first)) => (Back::Free(first), Back::Free(second)),
-        _ => {
-            keep(shop);
-            return Err("seats");
-        }
-    };
-    let (one, two) = pair(rt, &shop, first, second, flags, timed);
+    let (first, second) = two_seats(rt, made);
+    let (one, two) = pair(
+        rt,
+        &shop,
+        Back::Free(first),
+        Back::Free(second),
+        flags,
+        timed,
+    );
     let (first, told) = one;
     let (second, other_told) = two;
     assert_eq!(rt; told, timed.told);
     assert_eq!(rt; other_told, timed.other_told);
-    let mut backs = Vec::new(alloc);
-    if backs.push(second).is_err() || backs.push(first).is_err() {
-        keep(shop);
-        return Err("memory");
-    }
-    ended(alloc, shop, backs)
+    ended(alloc, shop, two_backs(rt, alloc, first, second))
 }
 
 /// A shop of this order is made, and two seats make their calls.

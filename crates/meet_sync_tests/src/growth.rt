@@ -4,11 +4,14 @@
 ghost use Rattle.std.specs.Prelude.{◌≡◌, vec_len, IfErr};
 ghost use Rattle.meet_place.specs.Ledgers.{AreOf};
 
+mod books;
 mod chapters;
+mod checkpoints;
 
 use crate::plays::{Found, ended, has};
 use meet_cells::ParkGate;
 use meet_history::{Kind, Order, check};
+use meet_line::Line;
 use meet_shop::{Ask, Came, Shop, Told, gates};
 use meet_sync::{
     Back, Blanks, Chronicle, DrainedItems, Ledgers, LeftStanding, NewQueue, QueueFault, Seat,
@@ -141,8 +144,43 @@ fn drain<N: Ledgers, R: Wait>(
     }
 }
 
-/// A seat that has no receipt drains these items, at the second try where there was no memory at first: then the seat
-/// came back as it was.
+/// The seat of a call that was refused for want of memory, and brought no item.
+pub(crate) fn came_back<N: Ledgers>(
+    rt: &impl Abort,
+    refused: SeatRefused<u64, N>,
+) -> Seat<Deed, N> {
+    let SeatRefused { why, seat, item } = refused;
+    assert!(rt; why == Refusal::Memory);
+    assert_eq!(rt; item, None);
+    seat
+}
+
+/// A seat that has no receipt drains a shop, at the second try where there was no memory at first: then the seat came
+/// back as it was.
+fn drained<N: Ledgers, R: Abort + Wait>(
+    rt: &R,
+    alloc: Global,
+    shop: &Shop<ParkGate, N>,
+    seat: Seat<Deed, N>,
+) -> DrainedItems<u64, N> {
+    let number = seat.number().number();
+    match drain(rt, alloc, shop, seat) {
+        Ok(drained) => drained,
+        Err(refused) => {
+            let seat = came_back(rt, refused);
+            assert_eq!(rt;
+                (seat.number().number(), seat.receipts().len()),
+                (number, 0)
+            );
+            match drain(rt, alloc, shop, seat) {
+                Ok(drained) => drained,
+                Err(_) => panic!(rt; "it isn't drained"),
+            }
+        }
+    }
+}
+
+/// A seat that has no receipt drains these items.
 fn drains<N: Ledgers, R: Abort + Wait>(
     rt: &R,
     alloc: Global,
@@ -150,24 +188,7 @@ fn drains<N: Ledgers, R: Abort + Wait>(
     seat: Seat<Deed, N>,
     wanted: &[u64],
 ) -> Back<Deed, N> {
-    let number = seat.number().number();
-    let drained = match drain(rt, alloc, shop, seat) {
-        Ok(drained) => drained,
-        Err(refused) => {
-            let SeatRefused { why, seat, item } = refused;
-            assert!(rt; why == Refusal::Memory);
-            assert_eq!(rt;
-                (seat.number().number(), seat.receipts().len()),
-                (number, 0)
-            );
-            assert_eq!(rt; item, None);
-            match drain(rt, alloc, shop, seat) {
-                Ok(drained) => drained,
-                Err(_) => panic!(rt; "it isn't drained"),
-            }
-        }
-    };
-    let DrainedItems { seat, items } = drained;
+    let DrainedItems { seat, items } = drained(rt, alloc, shop, seat);
     assert_eq!(rt; items.as_slice(), wanted);
     Back::Free(seat)
 }
@@ -193,6 +214,58 @@ pub(crate) fn open<Q: Drop, B: Drop, N: Ledgers>(
     }
 }
 
+/// What closing comes to: what was left, or a queue and its seats, which came back for want of memory.
+type Closing<Q, N> = Result<Chronicle<u64>, (Q, Vec<Back<Deed, N>>)>;
+
+/// A synchronous queue is closed.
+fn closes<L: Line<u64> + Drop, N: Ledgers>(
+    rt: &impl Abort,
+    alloc: Global,
+    queue: SyncQueue<u64, L, ParkGate, N>,
+    seats: Vec<Back<Deed, N>>,
+) -> Closing<SyncQueue<u64, L, ParkGate, N>, N> {
+    match queue.close(alloc, seats) {
+        Ok(chronicle) => Ok(chronicle),
+        Err(fault) => Err(open(rt, fault)),
+    }
+}
+
+/// A transfer queue is closed.
+fn closes_transfer<N: Ledgers>(
+    rt: &impl Abort,
+    alloc: Global,
+    queue: TransferQueue<u64, ParkGate, N>,
+    seats: Vec<Back<Deed, N>>,
+) -> Closing<TransferQueue<u64, ParkGate, N>, N> {
+    match queue.close(alloc, seats) {
+        Ok(chronicle) => Ok(chronicle),
+        Err(fault) => Err(open(rt, fault)),
+    }
+}
+
+/// A shop is closed.
+fn closes_shop<N: Ledgers>(
+    rt: &impl Abort,
+    alloc: Global,
+    shop: Shop<ParkGate, N>,
+    seats: Vec<Back<Deed, N>>,
+) -> Closing<Shop<ParkGate, N>, N> {
+    match shop {
+        Shop::Fair(queue) => match closes(rt, alloc, queue, seats) {
+            Ok(chronicle) => Ok(chronicle),
+            Err((queue, seats)) => Err((Shop::Fair(queue), seats)),
+        },
+        Shop::Unfair(queue) => match closes(rt, alloc, queue, seats) {
+            Ok(chronicle) => Ok(chronicle),
+            Err((queue, seats)) => Err((Shop::Unfair(queue), seats)),
+        },
+        Shop::Transfer(queue) => match closes_transfer(rt, alloc, queue, seats) {
+            Ok(chronicle) => Ok(chronicle),
+            Err((queue, seats)) => Err((Shop::Transfer(queue), seats)),
+        },
+    }
+}
+
 /// A shop is closed, at the second try where there was no memory at first: then the queue and the seats came back.
 fn ends<N: Ledgers>(
     rt: &impl Abort,
@@ -201,31 +274,13 @@ fn ends<N: Ledgers>(
     seats: Vec<Back<Deed, N>>,
 ) -> Chronicle<u64> {
     let before = (seats.len(), receipts_of(rt, seats.as_slice()));
-    let (shop, seats) = match shop {
-        Shop::Fair(queue) => match queue.close(alloc, seats) {
-            Ok(chronicle) => return chronicle,
-            Err(fault) => {
-                let (queue, seats) = open(rt, fault);
-                (Shop::Fair(queue), seats)
-            }
-        },
-        Shop::Unfair(queue) => match queue.close(alloc, seats) {
-            Ok(chronicle) => return chronicle,
-            Err(fault) => {
-                let (queue, seats) = open(rt, fault);
-                (Shop::Unfair(queue), seats)
-            }
-        },
-        Shop::Transfer(queue) => match queue.close(alloc, seats) {
-            Ok(chronicle) => return chronicle,
-            Err(fault) => {
-                let (queue, seats) = open(rt, fault);
-                (Shop::Transfer(queue), seats)
-            }
-        },
-    };
-    assert_eq!(rt; (seats.len(), receipts_of(rt, seats.as_slice())), before);
-    ended(alloc, shop, seats).expect(rt, "it isn't closed")
+    match closes_shop(rt, alloc, shop, seats) {
+        Ok(chronicle) => chronicle,
+        Err((shop, seats)) => {
+            assert_eq!(rt; (seats.len(), receipts_of(rt, seats.as_slice())), before);
+            ended(alloc, shop, seats).expect(rt, "it isn't closed")
+        }
+    }
 }
 
 /// An empty list with room for so many, at the second try where there was no memory at first.
@@ -284,82 +339,6 @@ fn tells(rt: &impl Abort, alloc: Global, chronicle: Chronicle<u64>, day: Day<'_>
     assert_eq!(rt; chronicle.records.len() as u64, count);
     assert_eq!(rt; chronicle.lists.len(), day.turns.len() + 1);
     has(rt, chronicle.left, day.left);
-}
-
-/// A seat that has one receipt makes a checkpoint of one record, at the second try where there was no memory at first:
-/// then the seat came back as it was.
-fn folds<N: Ledgers, R: Abort + Wait>(
-    rt: &R,
-    shop: &Shop<ParkGate, N>,
-    seat: Seat<Deed, N>,
-) -> Back<Deed, N> {
-    let (seat, gone) = match shop.checkpoint(rt, seat) {
-        Ok(made) => made,
-        Err(refused) => {
-            let SeatRefused { why, seat, item } = refused;
-            assert!(rt; why == Refusal::Memory);
-            assert_eq!(rt; (seat.receipts().len(), seat.folded()), (1, 0));
-            assert_eq!(rt; item, None);
-            match shop.checkpoint(rt, seat) {
-                Ok(made) => made,
-                Err(_) => panic!(rt; "nothing is folded away"),
-            }
-        }
-    };
-    assert_eq!(rt; (gone, seat.folded()), (1, 1));
-    Back::Free(seat)
-}
-
-/// A queue of this order is made, its one seat asks and folds the record away, and it is closed: what it leaves.
-fn cuts<N: Ledgers, R: Abort + Wait>(
-    rt: &R,
-    alloc: Global,
-    parts: NewQueue<ParkGate>,
-    day: Day<'_>,
-) -> Chronicle<u64>
-    requires ledgers { AreOf N.name N.folds N.parts parts.blanks }
-    requires one_each { N.parts ≡ vec_len parts.gates }
-    requires cap { N.cap ≡ day.cap }
-{
-    let mut backs = list(rt, alloc, parts.gates.len());
-    let (shop, mut seats) = made::<N>(rt, alloc, parts, day);
-    let seat = seats.pop().expect(rt, "no seat");
-    let turn = *day.turns.first().expect(rt, "no turn");
-    let back = match takes_turn(rt, &shop, seat, turn) {
-        Back::Free(seat) => folds(rt, &shop, seat),
-        Back::Held(_) => panic!(rt; "it waits"),
-    };
-    backs.push(back).expect(rt, "no room");
-    ends(rt, alloc, shop, backs)
-}
-
-/// So is one whose seat polls in vain.
-fn forgets<R: Abort + Wait>(rt: &R, alloc: Global, order: Order) {
-    let day = Day {
-        order,
-        cap: MOST_RECORDS,
-        turns: &[(1, Ask::Poll, Told::Failed(None))],
-        drained: &[],
-        left: &[],
-    };
-    let gates = match gates::<ParkGate>(alloc, 1) {
-        Ok(gates) => gates,
-        Err(_) => gates::<ParkGate>(alloc, 1).expect(rt, "memory"),
-    };
-    let blanks = Blanks::new(gates.len() as u64);
-    let chronicle = cuts::<Brand, R>(rt, alloc, NewQueue { gates, blanks }, day);
-    assert_eq!(rt; (chronicle.base.gone, chronicle.records.len()), (1, 0));
-    match chronicle.erased(alloc) {
-        Ok(_) => panic!(rt; "it is erased"),
-        Err(why) => assert!(rt; why == Refusal::HasBase),
-    }
-}
-
-#[test]
-fn a_seat_that_makes_a_checkpoint(rt: HostRuntime) {
-    forgets(&rt, rt.alloc(), Order::Fair);
-    forgets(&rt, rt.alloc(), Order::Unfair);
-    forgets(&rt, rt.alloc(), Order::Transfer);
 }
 
 /// A queue has this day.
@@ -475,75 +454,4 @@ fn line_of_a_transfer_queue(rt: HostRuntime) {
     line(&rt, rt.alloc(), put, LeftStanding::Kept);
     let give = (1, Ask::Give(20), Told::Parks(5));
     line(&rt, rt.alloc(), give, LeftStanding::Offered);
-}
-
-/// There are 4,095 records, and one is owed to the giver that waits: so many as a new queue has room for. An offer asks
-/// for room for two, and so it is an interrupt that fills the last.
-const FILLED: [Turn; 3] = [
-    (1, Ask::Give(10), Told::Parks(1)),
-    (4_093, Ask::Offer(20), Told::Failed(Some(20))),
-    (1, Ask::Interrupt(1), Told::Flagged),
-];
-
-/// So the book of a queue of this order grows where a seat has this turn; and these items are drained and left.
-fn grows<R: Abort + Wait>(
-    rt: &R,
-    alloc: Global,
-    order: Order,
-    turn: Turn,
-    drained: &[u64],
-    left: &[Found],
-) {
-    let day = Day {
-        order,
-        cap: 10_000,
-        turns: &[FILLED[0], FILLED[1], FILLED[2], turn],
-        drained,
-        left,
-    };
-    passes(rt, alloc, day);
-}
-
-/// The book of a queue of this order grows by each request, by an interrupt, and by a drain.
-fn book<R: Abort + Wait>(rt: &R, alloc: Global, order: Order, both: &[u64]) {
-    let give = (1, Ask::Give(30), Told::Parks(4_095));
-    grows(rt, alloc, order, give, both, &[]);
-    grows(rt, alloc, order, (1, Ask::Take, Told::Got(1, 10)), &[], &[]);
-    let offer = (1, Ask::Offer(30), Told::Failed(Some(30)));
-    grows(rt, alloc, order, offer, &[10], &[]);
-    grows(rt, alloc, order, (1, Ask::Poll, Told::Got(1, 10)), &[], &[]);
-    let interrupt = (1, Ask::Interrupt(0), Told::Cut(1));
-    grows(
-        rt,
-        alloc,
-        order,
-        interrupt,
-        &[],
-        &[(1, 10, LeftStanding::Ready)],
-    );
-    let day = Day {
-        order,
-        cap: 10_000,
-        turns: &FILLED,
-        drained: &[10],
-        left: &[],
-    };
-    passes(rt, alloc, day);
-}
-
-#[test]
-fn book_of_a_fair_queue(rt: HostRuntime) {
-    book(&rt, rt.alloc(), Order::Fair, &[10, 30]);
-}
-
-#[test]
-fn book_of_an_unfair_queue(rt: HostRuntime) {
-    book(&rt, rt.alloc(), Order::Unfair, &[30, 10]);
-}
-
-#[test]
-fn book_of_a_transfer_queue(rt: HostRuntime) {
-    book(&rt, rt.alloc(), Order::Transfer, &[10, 30]);
-    let put = (1, Ask::Put(30), Told::Kept);
-    grows(&rt, rt.alloc(), Order::Transfer, put, &[10, 30], &[]);
 }

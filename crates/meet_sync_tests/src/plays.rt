@@ -65,6 +65,31 @@ pub fn given<N: Ledgers>(alloc: Global, all: Seats<N>) -> Result<Vec<Back<Deed, 
     Ok(backs)
 }
 
+/// The two seats of a queue, the first and the second.
+pub fn two_seats<N: Ledgers>(
+    rt: &impl Abort,
+    made: Vec<Seat<Deed, N>>,
+) -> (Seat<Deed, N>, Seat<Deed, N>) {
+    let mut seats = made;
+    match (seats.pop(), seats.pop()) {
+        (Some(second), Some(first)) => (first, second),
+        _ => panic!(rt; "there are no two seats"),
+    }
+}
+
+/// Two seats, to be given back, the second first.
+pub fn two_backs<N: Ledgers>(
+    rt: &impl Abort,
+    alloc: Global,
+    first: Back<Deed, N>,
+    second: Back<Deed, N>,
+) -> Vec<Back<Deed, N>> {
+    let mut backs = Vec::new(alloc);
+    backs.push(second).expect(rt, "memory");
+    backs.push(first).expect(rt, "memory");
+    backs
+}
+
 /// A seat asks: what it is told.
 pub fn asks<G: Gate + Drop, N: Ledgers, R: Wait>(
     rt: &R,

@@ -3,10 +3,10 @@
 ghost use Rattle.std.specs.Prelude.{◌≡◌, vec_len};
 ghost use Rattle.meet_place.specs.Ledgers.{AreOf};
 
-use crate::plays::{NOTHING, Story, ended, tells};
+use crate::plays::{NOTHING, Story, ended, tells, two_backs, two_seats};
 use meet_cells::ParkGate;
 use meet_history::Order;
-use meet_shop::{Ask, Call, Eager, Fresh, Idle, Shop, Told, called, gates, keep};
+use meet_shop::{Ask, Call, Eager, Fresh, Idle, Shop, Told, called, gates};
 use meet_sync::{Back, Blanks, Chronicle, Ledgers, NewQueue, Seat};
 use meet_tickets::{Cause, Deed};
 use std::alloc::Global;
@@ -236,25 +236,14 @@ fn dealt_by<G: Fresh + Sync, N: Ledgers + Send + Sync, R: Abort + Threads + Wait
     made: Vec<Seat<Deed, N>>,
     dealt: Deal<'_>,
 ) -> Result<Came, &'static str> {
-    let mut seats = made;
-    let (first, second) = match (seats.pop(), seats.pop()) {
-        (Some(second), Some(first)) => (Back::Free(first), Back::Free(second)),
-        _ => {
-            keep(shop);
-            return Err("seats");
-        }
-    };
+    let (first, second) = two_seats(rt, made);
     let Both {
         first,
         second,
         given,
         taken,
-    } = strike_deal(rt, &shop, first, second, dealt);
-    let mut backs = Vec::new(alloc);
-    if backs.push(second).is_err() || backs.push(first).is_err() {
-        keep(shop);
-        return Err("memory");
-    }
+    } = strike_deal(rt, &shop, Back::Free(first), Back::Free(second), dealt);
+    let backs = two_backs(rt, alloc, first, second);
     let chronicle = ended(alloc, shop, backs)?;
     Ok(Came {
         given,

@@ -1,4 +1,4 @@
-use Rattle.meet_sync_tests.proofs.growth.forgets.Given as goal
+use Rattle.meet_sync_tests.proofs.growth.checkpoints.forgets.Given as goal
 
 abbrev pub ghosts-cuts-N-Ledger : goal.ghosts-cuts-N-Ledger
 ghosts-cuts-N-Ledger a call = record { name = call.parts.blanks.records.name; parts = call.parts.blanks.records.parts }
