@@ -8,13 +8,7 @@
 //! each time over a new queue. A line a round on standard output tells how many items were taken and their sum,
 //! whatever the threads' order; one on standard error how many nanoseconds it took.
 //!
-//! One seat of a transfer queue with SEATS seats puts KEPT items, and in each of ROUNDS rounds one more, and takes one;
-//! then it makes a checkpoint. In each of as many rounds more it puts one and takes one 16 times, and then makes a
-//! checkpoint; behind each checkpoint it trims its list. The items are the numbers from 1. A line on standard output
-//! tells how many items were taken and their sum, how many are left and their sum, and how many records were folded
-//! away. Three on standard error tell the median of the checkpoints in nanoseconds and what 99 in 100 of them didn't
-//! exceed, and the medians of the puts, and of the takes: before any checkpoint, and the first and the last behind one.
-//! Each was timed by itself, from call to return.
+//! What a `checkpoint` does and prints is said in `checkpoints`.
 #![tactic(auto)]
 
 mod bare;
