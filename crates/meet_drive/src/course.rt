@@ -1,22 +1,30 @@
 //! Calls of a drive: each split, so that a thread that waits can be stopped.
 
+use crate::history::History;
 use crate::progress::Progress;
 use meet_cells::{Gate, ParkGate, Turn};
 use meet_sync::{
     Answer, Asked, FairLine, FollowedUp, Ledgers, Pending, Request, Seat, SyncQueue, Withdrawn,
 };
-use meet_tickets::{Deed, Refusal, SeatNo};
-use std::sync::Wait;
+use meet_tickets::{Deed, Record, Refusal, SeatNo};
+use std::alloc::Global;
 use std::sync::atomic::{AtomicBool, AtomicU64, Ordering};
+use std::sync::{Mutex, Wait};
 use std::time::Clock;
 
 /// A second, in milliseconds.
 const SECOND: u64 = 1_000;
 
-/// What the threads of a drive share: the queue, whether all are to stop, and how far they are.
+/// What the threads of a drive share: the queue, what it handed out, whether all are to stop, and how far they are.
 #[derive(Drop)]
 pub struct Course<G, N: Ledgers> {
     queue: SyncQueue<u64, FairLine<u64>, G, N>,
+    /// How many records there may be before they are handed out.
+    most: u64,
+    history: Mutex<History>,
+    /// How many records were handed out so far.
+    told: AtomicU64,
+    alloc: Global,
     stopped: AtomicBool,
     /// How many items were taken so far.
     taken: AtomicU64,
@@ -40,10 +48,14 @@ pub enum Passed {
 }
 
 impl<G, N: Ledgers> Course<G, N> {
-    /// A course over this queue.
-    pub fn new(queue: SyncQueue<u64, FairLine<u64>, G, N>) -> Self {
+    /// A course over this queue, whose records are handed out once there are more than so many.
+    pub fn new(alloc: Global, queue: SyncQueue<u64, FairLine<u64>, G, N>, most: u64) -> Self {
         Course {
             queue,
+            most,
+            history: Mutex::new(History::new(alloc)),
+            told: AtomicU64::new(0),
+            alloc,
             stopped: AtomicBool::new(false),
             taken: AtomicU64::new(0),
             busy: AtomicU64::new(1),
@@ -51,10 +63,31 @@ impl<G, N: Ledgers> Course<G, N> {
         }
     }
 
-    /// The queue.
-    pub fn into_queue(self) -> SyncQueue<u64, FairLine<u64>, G, N> {
-        let Course { queue, .. } = self;
-        queue
+    /// The queue, and the records that it handed out.
+    pub fn into_parts(self) -> (SyncQueue<u64, FairLine<u64>, G, N>, Vec<Record<Deed>>) {
+        let Course { queue, history, .. } = self;
+        (queue, history.into_inner().into_records())
+    }
+
+    /// Has the records so far handed out once there may be more than `most`, so that the history never fills. The seat,
+    /// and why that was refused, if it was.
+    pub fn tend<R: Wait>(&self, rt: &R, seat: Seat<Deed, N>) -> (Seat<Deed, N>, Option<Refusal>) {
+        let last = seat.receipts().last().map_or(0, |receipt| receipt.place());
+        if last.saturating_sub(self.told.load(Ordering::Relaxed)) <= self.most {
+            return (seat, None);
+        }
+        let mut history = self.history.lock(rt);
+        if last.saturating_sub(history.count()) <= self.most {
+            return (seat, None);
+        }
+        match self.queue.rotate(rt, seat, history.take_room(self.alloc)) {
+            Ok((seat, chapter)) => {
+                let why = history.append(chapter).err();
+                self.told.store(history.count(), Ordering::Relaxed);
+                (self.queue.trim(rt, seat), why)
+            }
+            Err(refused) => (refused.seat, Some(refused.why)),
+        }
     }
 
     /// One more thread is at work.

@@ -3,6 +3,7 @@
 #![tactic(auto)]
 
 mod course;
+mod history;
 mod outcome;
 mod progress;
 mod takings;
@@ -11,4 +12,4 @@ mod whole;
 
 pub use outcome::Drive;
 pub use progress::{Progress, Silent};
-pub use whole::{MOST_EACH, MOST_GIVERS, drive, drive_told, drive_within};
+pub use whole::{MOST_EACH, MOST_GIVERS, drive, drive_in_chapters, drive_told, drive_within};

@@ -103,7 +103,8 @@ impl Task {
     }
 }
 
-/// Does a task with a seat, until it is done, or all are to stop, or a call is refused; then all are stopped.
+/// Does a task with a seat, which tends the history behind each call, until it is done, or all are to stop, or
+/// something is refused; then all are stopped.
 fn perform<G: Gate, N: Ledgers, R: Wait + Clock>(
     rt: &R,
     course: &Course<G, N>,
@@ -119,8 +120,10 @@ fn perform<G: Gate, N: Ledgers, R: Wait + Clock>(
             course.count_taken();
         }
         let (counted, goes_on) = count.after(passed);
-        count = counted;
-        if !goes_on {
+        let (after, why) = course.tend(rt, seat);
+        seat = after;
+        count = counted.with(Count { why, ..NOTHING });
+        if !goes_on || why.is_some() {
             course.stop();
             break;
         }

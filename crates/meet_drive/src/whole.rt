@@ -3,11 +3,8 @@
 ghost use Rattle.std.specs.Prelude.{◌≡◌, ℕ, ◌<◌, ◌≤◌, ◌*◌, true, false, Some, [], List, length, IfOk, vec_len};
 ghost use Rattle.std.specs.Vec.{vec_capacity};
 ghost use Rattle.meet_place.specs.Ledgers.{AreOf};
-ghost use Rattle.meet_tickets.specs.declared.records.Deed.{Deed};
 ghost use Rattle.meet_tickets.specs.declared.refusals.Refusal.TheVariants.{NoThread};
-ghost use Rattle.meet_book.specs.Received.{Received};
-ghost use Rattle.meet_sync.specs.Chronicles.{IsChronicle};
-ghost use Rattle.meet_drive.specs.Driven.{IsDriven, IsSized, fair};
+ghost use Rattle.meet_drive.specs.Driven.{IsDriven, IsSized};
 
 use crate::course::Course;
 use crate::outcome::Drive;
@@ -16,8 +13,9 @@ use crate::takings::{count_got, sum_got};
 use crate::threads::{Count, NOTHING, Slot, run_all};
 use meet_cells::{Gate, ParkGate};
 use meet_history::{CheckFault, Kind, Order, check};
+use meet_laws::delivered;
 use meet_sync::{Back, Blanks, Chronicle, Ledgers, NewQueue, Seat, SyncQueue};
-use meet_tickets::{Deed, MOST_RECORDS, Refusal};
+use meet_tickets::{Base, Deed, Record, Refusal};
 use std::alloc::Global;
 use std::marker::Brand;
 use std::mem::ManuallyDrop;
@@ -30,6 +28,9 @@ pub const MOST_GIVERS: u64 = 64;
 
 /// How many items each of them gives or takes at most.
 pub const MOST_EACH: u64 = 1000;
+
+/// How many records a drive's queue holds for each of its seats.
+const RECORDS_OF_A_SEAT: u64 = 64;
 
 /// The queue's kind.
 const FAIR: Kind = Kind {
@@ -89,26 +90,19 @@ fn ended_early(all_started: bool, counted: Count) -> Option<Refusal>
     }
 }
 
-/// What a chronicle tells of a drive of so many givers and takers of so many items each, whose takers counted so. A
-/// drive's records aren't folded away, and by them the takers got what they counted, and all that was given: were it
-/// otherwise, Differs were told.
+/// What a history tells of a drive of so many givers and takers of so many items each, whose takers counted so. By the
+/// records the takers got what they counted, and all that was given: were it otherwise, Differs were told.
 fn told(
     alloc: Global,
-    chronicle: &Chronicle<u64>,
+    records: &[Record<Deed>],
     counted: Count,
     givers: u64,
     each: u64,
 ) -> Result<Drive, Refusal>
     requires sized { IsSized givers each }
-    requires history { (mark : ℕ → ℕ) × (lists : List (List (Received Deed))) × IsChronicle mark fair
-        chronicle.now.base chronicle.now.records.items lists chronicle.now.left.items }
     ensures driven { IfOk result (λ drive. IsDriven givers each drive) }
-    ensures all { IfOk result (λ drive. drive.records ≡ length chronicle.now.records.items) }
+    ensures all { IfOk result (λ drive. drive.records ≡ length records.now) }
 {
-    if chronicle.base.gone > 0 {
-        return Err(Refusal::Differs);
-    }
-    let records = chronicle.records.as_slice();
     let items = count_got(records);
     let sum = sum_got(records).ok_or(Refusal::Differs)?;
     if items != counted.items || sum != counted.sum {
@@ -117,11 +111,12 @@ fn told(
     if items != givers * each || sum.checked_mul(2) != Some(items * (each + 1)) {
         return Err(Refusal::Differs);
     }
-    match check(alloc, FAIR, &chronicle.base, records) {
+    let first = Base::empty(alloc);
+    match check(alloc, FAIR, &first, records) {
         Ok(standing) => Ok(Drive {
             items,
             sum,
-            pairs: chronicle.laws().delivered,
+            pairs: delivered(&first, records),
             records: records.len() as u64,
             standing,
         }),
@@ -131,16 +126,26 @@ fn told(
     }
 }
 
-/// A drive with a queue of these parts and this cap: half of its seats give, the others take.
+/// What the threads of a drive leave: the records that were handed out while they ran, the queue's own at its end, and
+/// what was counted.
+#[derive(Drop)]
+struct Ended {
+    handed: Vec<Record<Deed>>,
+    chronicle: Chronicle<u64>,
+    counted: Count,
+}
+
+/// The threads of a drive, from the first to the last, and the end of their queue: one of these parts, whose records
+/// are this many at most, and are handed out once there are more than `most`. Half of its seats give, the others take.
 fn driving<G, N, R, P>(
     rt: &R,
     alloc: Global,
     parts: NewQueue<G>,
-    givers: u64,
     each: u64,
     cap: u64,
+    most: u64,
     progress: &P,
-) -> Result<Drive, Refusal>
+) -> Result<Ended, Refusal>
 where
     P: Progress,
     G: Gate + Drop + Send + Sync,
@@ -149,9 +154,7 @@ where
     requires ledgers { AreOf N.name N.folds N.parts parts.blanks }
     requires one_each { N.parts ≡ vec_len parts.gates }
     requires cap { N.cap ≡ cap }
-    requires sized { IsSized givers each }
-    ensures driven { IfOk result (λ drive. IsDriven givers each drive) }
-    ensures cap { IfOk result (λ drive. drive.records ≤ cap) }
+    ensures cap { IfOk result (λ ended. length ended.chronicle.records.items ≤ cap) }
 {
     let count = parts.gates.len();
     let Ok(slots) = Vec::with_capacity(alloc, count) else {
@@ -164,12 +167,12 @@ where
         Ok(made) => made,
         Err(refused) => return Err(refused.into_why()), // the gates and the ledgers are let go
     };
-    let course = Course::new(queue);
+    let course = Course::new(alloc, queue, most);
     let slots = slots_of::<N>(seats, slots);
     let all_started = run_all(rt, &course, slots.as_slice(), each, progress);
     let (backs, counted) = seats_of(slots, backs);
-    let closed = course.into_queue().close(alloc, backs);
-    let chronicle = match closed {
+    let (queue, handed) = course.into_parts();
+    let chronicle = match queue.close(alloc, backs) {
         Ok(chronicle) => chronicle,
         Err(fault) => {
             let why = fault.why();
@@ -179,21 +182,26 @@ where
     };
     match ended_early(all_started, counted) {
         Some(why) => Err(why),
-        None => told(alloc, &chronicle, counted, givers, each),
+        None => Ok(Ended {
+            handed,
+            chronicle,
+            counted,
+        }),
     }
 }
 
 /// So many givers, at most `MOST_GIVERS`, put the items from 1 up to `each`, at most `MOST_EACH`, into a synchronous
 /// queue in fair mode, as many takers take as many, each in a thread of its own; then the queue is closed, and its
-/// history is checked. It refuses NoThread where a thread can't be started, what the queue refuses, or Memory; then
-/// every thread has been stopped, and the queue closed all the same.
+/// history is checked. The queue holds 64 records a seat, and its history is handed out chapter by chapter meanwhile.
+/// It refuses NoThread where a thread can't be started, what the queue refuses, or Memory; then every thread has been
+/// stopped, and the queue closed all the same.
 pub fn drive<R>(rt: &R, alloc: Global, givers: u64, each: u64) -> Result<Drive, Refusal>
 where
     R: Threads + Wait + Clock + Sync,
     requires { IsSized givers each }
     ensures { IfOk result (λ drive. IsDriven givers each drive) }
 {
-    drive_within(rt, alloc, givers, each, MOST_RECORDS)
+    drive_told(rt, alloc, givers, each, &Silent {})
 }
 
 /// The same, and each second that it lasts progress is told.
@@ -210,11 +218,29 @@ where
     requires { IsSized givers each }
     ensures { IfOk result (λ drive. IsDriven givers each drive) }
 {
-    drive_with(rt, alloc, givers, each, MOST_RECORDS, progress)
+    let cap = 2 * givers * RECORDS_OF_A_SEAT;
+    in_chapters(rt, alloc, givers, each, cap, progress)
 }
 
-/// The same with at most so many records: BadSizes where these are none or more than 1,048,576, and HistoryFull where
-/// the drive needs more.
+/// The same with a queue that holds so many records at most, a sixteenth of which is enough for its seats: BadSizes
+/// where these are none or more than 1,048,576. Where they are fewer it may end early with HistoryFull.
+pub fn drive_in_chapters<R>(
+    rt: &R,
+    alloc: Global,
+    givers: u64,
+    each: u64,
+    cap: u64,
+) -> Result<Drive, Refusal>
+where
+    R: Threads + Wait + Clock + Sync,
+    requires { IsSized givers each }
+    ensures { IfOk result (λ drive. IsDriven givers each drive) }
+{
+    in_chapters(rt, alloc, givers, each, cap, &Silent {})
+}
+
+/// The same in one chapter of at most so many records: BadSizes where these are none or more than 1,048,576, and
+/// HistoryFull where the drive needs more.
 pub fn drive_within<R>(
     rt: &R,
     alloc: Global,
@@ -228,11 +254,17 @@ where
     ensures driven { IfOk result (λ drive. IsDriven givers each drive) }
     ensures cap { IfOk result (λ drive. drive.records ≤ cap) }
 {
-    drive_with(rt, alloc, givers, each, cap, &Silent {})
+    let ended = started(rt, alloc, givers, each, cap, cap, &Silent {})?;
+    if ended.handed.len() > 0 {
+        return Err(Refusal::Differs);
+    }
+    let records = ended.chronicle.records.as_slice();
+    told(alloc, records, ended.counted, givers, each)
 }
 
-/// A drive with at most so many records, of which progress is told.
-fn drive_with<R, P>(
+/// A drive with so many records at a time, which are handed out once there are more than half as many; put together at
+/// its end, they are one history.
+fn in_chapters<R, P>(
     rt: &R,
     alloc: Global,
     givers: u64,
@@ -244,8 +276,41 @@ where
     R: Threads + Wait + Clock + Sync,
     P: Progress,
     requires { IsSized givers each }
-    ensures driven { IfOk result (λ drive. IsDriven givers each drive) }
-    ensures cap { IfOk result (λ drive. drive.records ≤ cap) }
+    ensures { IfOk result (λ drive. IsDriven givers each drive) }
+{
+    let Ended {
+        handed,
+        chronicle,
+        counted,
+    } = started(rt, alloc, givers, each, cap, cap / 2, progress)?;
+    let mut records = handed;
+    if chronicle.base.gone != records.len() as u64 {
+        return Err(Refusal::Differs);
+    }
+    if records
+        .extend_from_slice(chronicle.records.as_slice())
+        .is_err()
+    {
+        return Err(Refusal::Memory);
+    }
+    told(alloc, records.as_slice(), counted, givers, each)
+}
+
+/// The threads of a drive, with gates and ledgers for them.
+fn started<R, P>(
+    rt: &R,
+    alloc: Global,
+    givers: u64,
+    each: u64,
+    cap: u64,
+    most: u64,
+    progress: &P,
+) -> Result<Ended, Refusal>
+where
+    R: Threads + Wait + Clock + Sync,
+    P: Progress,
+    requires { IsSized givers each }
+    ensures { IfOk result (λ ended. length ended.chronicle.records.items ≤ cap) }
 {
     let mut gates = Vec::new(alloc);
     for _ in 0..givers {
@@ -254,5 +319,5 @@ where
     }
     let blanks = Blanks::new(gates.len() as u64);
     let parts = NewQueue { gates, blanks };
-    driving::<ParkGate, Brand, R, P>(rt, alloc, parts, givers, each, cap, progress)
+    driving::<ParkGate, Brand, R, P>(rt, alloc, parts, each, cap, most, progress)
 }

@@ -3,7 +3,7 @@
 
 ghost use Rattle.meet_drive.specs.Driven.{IsSized};
 
-use meet_drive::{Drive, drive, drive_within};
+use meet_drive::{Drive, drive, drive_in_chapters, drive_within};
 use meet_history::Standing;
 use meet_tickets::Refusal;
 use std::process::Abort;
@@ -53,6 +53,32 @@ fn twenty_five_givers_of_a_thousand(rt: HostRuntime) {
     );
 }
 
+/// Of 6,000 records the queue holds 64 at a time, sixteen a seat: the rest was handed out, and the whole is one
+/// history.
+#[test]
+fn two_givers_of_a_thousand_in_chapters(rt: HostRuntime) {
+    assert_eq!(&rt;
+        drive_in_chapters(&rt, rt.alloc(), 2, 1_000, 64),
+        whole(2_000, 1_001_000)
+    );
+}
+
+/// As many threads as there may be, whose tickets stand in the bases of the chapters: of 19,200 records there are 2,048
+/// at a time.
+#[test]
+fn sixty_four_givers_of_a_hundred_in_chapters(rt: HostRuntime) {
+    assert_eq!(&rt;
+        drive_in_chapters(&rt, rt.alloc(), 64, 100, 2_048),
+        whole(6_400, 323_200)
+    );
+}
+
+/// A drive that needs one chapter alone is the same in chapters.
+#[test]
+fn one_item_in_chapters(rt: HostRuntime) {
+    assert_eq!(&rt; drive_in_chapters(&rt, rt.alloc(), 1, 1, 32), whole(1, 1));
+}
+
 /// The call that waits has a record, and is owed one; the other needs two, since it might wait as well. So four records
 /// are enough for one item, and three aren't, though three are written.
 #[test]
@@ -75,6 +101,10 @@ fn a_full_history_ends_every_thread(rt: HostRuntime) {
         drive_within(&rt, rt.alloc(), 32, 1_000, 4_000),
         Err(Refusal::HistoryFull)
     );
+    assert_eq!(&rt;
+        drive_within(&rt, rt.alloc(), 2, 1_000, 64),
+        Err(Refusal::HistoryFull)
+    );
 }
 
 #[test]
@@ -85,6 +115,14 @@ fn a_queue_has_one_record_at_least(rt: HostRuntime) {
     );
     assert_eq!(&rt;
         drive_within(&rt, rt.alloc(), 2, 2, 1_048_577),
+        Err(Refusal::BadSizes)
+    );
+    assert_eq!(&rt;
+        drive_in_chapters(&rt, rt.alloc(), 2, 2, 0),
+        Err(Refusal::BadSizes)
+    );
+    assert_eq!(&rt;
+        drive_in_chapters(&rt, rt.alloc(), 2, 2, 1_048_577),
         Err(Refusal::BadSizes)
     );
 }

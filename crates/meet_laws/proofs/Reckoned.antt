@@ -238,17 +238,23 @@ pub record Reckoned (b : Based) (records : List (Record Deed)) (left : List Leav
   pub awaits : awaiting + count_by (λ r. is_got r.deed) records ≡ takers_met_on b records
   pub few : given_in is_returned (opening b ++ records) ≤ length records
 
+-- after a legal history the items that were handed over are as many as the requests that met somebody
+pub delivered_is : (k : Kind) (b : Based) (records : List (Record Deed)) → IsWellFormed k b → IsLegalOn k b records → given_in is_delivered (opening b ++ records) ≡ met_by b records
+delivered_is k b records w legal =
+    let met = counts_on meets_somebody (λ e. false) (λ p. true) (λ x. false) (λ e. given_line meets_somebody refl (λ m. refl) (λ m. refl) e.item e.waits) (λ p. meets_pair p.side p.mark p.ticket) (λ x. quiet_cut meets_somebody refl (λ m. refl) (λ i. refl) x.item x.seat) b records in
+    let is = delivered_are (opening b ++ records) on in
+    let line = count-none b.line in
+    let pairs = count_all b.pairs in
+    let cut = count-none b.cut in
+    omega (arith, met, is, line, pairs, cut)
+  where
+    on : Speaks (opening b ++ records)
+    on = legal_speaks k b w records legal
+
 pub reckoned : (k : Kind) (b : Based) (records : List (Record Deed)) (left : List Leaving) → IsWellFormed k b → IsLegalOn k b records → AreLeft (opening b ++ records) left → Reckoned b records left
 reckoned k b records left w legal are = record {
   awaiting = weigh awaits (opening b ++ records);
-  delivered = (
-      let met = counts_on meets_somebody (λ e. false) (λ p. true) (λ x. false) (λ e. given_line meets_somebody refl (λ m. refl) (λ m. refl) e.item e.waits) (λ p. meets_pair p.side p.mark p.ticket) (λ x. quiet_cut meets_somebody refl (λ m. refl) (λ i. refl) x.item x.seat) b records in
-      let is = delivered_are (opening b ++ records) on in
-      let line = count-none b.line in
-      let pairs = count_all b.pairs in
-      let cut = count-none b.cut in
-      omega (arith, met, is, line, pairs, cut)
-      );
+  delivered = delivered_is k b records w legal;
   gave = (
       let all = counts_on gives (λ e. is_some e.item) (λ p. true) (λ x. is_some x.item) (λ e. gives_line e.item e.waits) (λ p. gives_pair p.side p.mark p.ticket) (λ x. gives_cut x.item x.seat) b records in
       let is = counts_once (opening b ++ records) on in

@@ -13,4 +13,4 @@ pub use laws::{
     chapters_are_one, erased_is_legal, fates_move, gives_count_once, legal_begins_legal,
     partners_are_mutual, promise_is_kept, tickets_are_met_in_order, tickets_have_one_fate,
 };
-pub use tally::{Tally, reckon};
+pub use tally::{Tally, delivered, reckon};

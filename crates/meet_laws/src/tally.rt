@@ -169,9 +169,12 @@ fn gave_on(base: &Base, records: &[Record<Deed>]) -> u128
     line + pairs + cut + count_gives(records) as u128
 }
 
-/// How many met somebody, by pairs and records.
-fn met_on(base: &Base, records: &[Record<Deed>]) -> u64
-    ensures { result ≡ met_on base.now records.now }
+/// How many items were handed over to a taker, by a base and the records since: so many requests met somebody. It takes
+/// no memory, and reads each record once.
+pub fn delivered(base: &Base, records: &[Record<Deed>]) -> u64
+    ensures met { result ≡ met_on base.now records.now }
+    ensures tally { (k : Kind) → IsWellFormed k base.now → IsLegalOn k base.now records.now
+        → result ≡ (tally_in (opening base.now ++ records.now)).delivered }
 {
     count_pairs(base.pairs.as_slice()) + count_meets(records)
 }
@@ -190,7 +193,7 @@ pub fn reckon<T>(base: &Base, records: &[Record<Deed>], left: &[Left<T>]) -> Tal
     ensures tally { (k : Kind) → (mark : T → ℕ) → IsWellFormed k base.now → IsLegalOn k base.now records.now
         → AreLeftOn mark base.now records.now left.now → result ≡ tally_in (opening base.now ++ records.now) }
 {
-    let delivered = met_on(base, records);
+    let delivered = delivered(base, records);
     let awaiting = takers_met_on(base, records).saturating_sub(count_gots(records));
     let kept = count_kept(left);
     let offered = count_others(left).saturating_sub(awaiting);

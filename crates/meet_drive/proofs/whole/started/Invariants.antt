@@ -1,4 +1,4 @@
-use Rattle.meet_drive.proofs.whole.drive_with.Given as goal
+use Rattle.meet_drive.proofs.whole.started.Given as goal
 
 -- the ledger of the queue that is made
 abbrev pub ghosts-driving-N-Ledger : goal.ghosts-driving-N-Ledger
