@@ -14,8 +14,10 @@ use std::alloc::Global;
 use std::sync::{Mutex, MutexGuard, Wait};
 use std::thread;
 
-/// How often a thread tries the lock before it sleeps: our choice, of which nothing is promised.
-const LOCK_TURNS: u64 = 4;
+/// How often a thread tries the lock before it sleeps, and lets another thread run after each try: who holds the lock
+/// needs some 100 nanoseconds, and to sleep and be woken takes 2,000 to 5,000. Our choice, of which nothing is
+/// promised.
+const LOCK_TURNS: u64 = 16;
 
 /// Takes a lock, once no other thread has it, and holds it until the guard is let go.
 pub fn hold<'a, T, R: Wait>(rt: &R, lock: &'a Mutex<T>) -> MutexGuard<'a, T> {
