@@ -1,4 +1,5 @@
 pub mod Tended
+pub mod Trimmed
 pub mod Fitting
 pub mod Founded
 pub mod Keeping

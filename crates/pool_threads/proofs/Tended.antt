@@ -1,9 +1,8 @@
 -- A seat that looked at a book, and then let go of receipts, tended its pool.
-use Rattle.std.proofs.Common.{◌≡◌, ◌⊎◌, ℕ, inr, Ok, Err}
+use Rattle.std.proofs.Common.{ℕ, Ok, Err}
 use Rattle.std.specs.Prelude.{Result, IfOk}
 use Rattle.meet_tickets.specs.declared.refusals.Refusal.{Refusal}
-use Rattle.meet_place.specs.Seats.{SeatView, Checkpoints, Trims}
-use Rattle.meet_place.specs.Tending.{Tends}
+use Rattle.meet_place.specs.Seats.{SeatView, Checkpoints}
 
 module _ {D A : Type 0} (old new : SeatView D) where
   -- some records were folded away

@@ -1,3 +1,4 @@
+pub mod Duties
 pub mod Faults
 pub mod Seated
 pub mod Mirrored

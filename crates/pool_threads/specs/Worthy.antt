@@ -1,5 +1,5 @@
 -- The list of a worker.
-use Rattle.std.specs.Prelude.{◌≡◌, ℕ, ◌+◌, Some, List, slice_get, length}
+use Rattle.std.specs.Prelude.{◌≡◌, ℕ, ◌+◌, ◌&&◌, ◌||◌, not, Bool, true, false, Some, List, [], ◌∷◌, slice_get, length}
 use Rattle.meet_book.specs.Received.{Received}
 use Rattle.pool_core.specs.declared.deeds.PoolDeed.{PoolDeed}
 use Rattle.pool_core.specs.declared.deeds.PoolDeed.TheVariants.{Runs, Finished}
@@ -23,3 +23,14 @@ EndsRunning list tag = (last : ℕ) × (length list ≡ last + 1) × RunsAt list
 -- the list ends with a job that runs, and this answer is what its tag is worth
 abbrev pub EndsRunningWorth : (worth : ℕ → ℕ) → List (Received (PoolDeed ℕ)) → (answer : ℕ) → Type 0
 EndsRunningWorth worth list answer = (tag : ℕ) × EndsRunning list tag × (answer ≡ worth tag)
+
+-- whether a deed is an answer
+abbrev pub is_finished : PoolDeed ℕ → Bool
+is_finished (Finished answer) = true
+is_finished deed = false
+
+-- each answer that stays stands right behind a receipt that stays; `before` says whether one stays in front of the list
+abbrev pub stay_together : (stays : Received (PoolDeed ℕ) → Bool) → (before : Bool) → List (Received (PoolDeed ℕ)) → Bool
+stay_together stays before [] = true
+stay_together stays before (r ∷ rs) =
+    (not (is_finished r.entry.deed && stays r) || before) && stay_together stays (stays r) rs

@@ -22,6 +22,7 @@ use meet_place::{Seat, hold};
 use meet_tickets::{MOST_RECORDS, Record, Refusal};
 use pool_core::{PoolBase, PoolCore, PoolDeed};
 use std::sync::Wait;
+use std::sync::atomic::Ordering;
 
 /// Records of a pool that followed one another, and what stands for all that came before them.
 #[derive(Drop)]
@@ -96,6 +97,7 @@ impl<W: Work, C: Drop, G: Gate + Drop, S: Drop, N: PoolLedgers> Pool<W, C, G, S,
         let mut shared = hold(rt, &self.home.shared);
         let (folded, gone) = shared.look_after(&mut seat);
         drop(shared);
+        self.home.folded.store(gone, Ordering::Relaxed);
         seat.forget(gone);
         match folded {
             Ok(()) => Ok(seat),
@@ -126,6 +128,8 @@ impl<W: Work, C: Drop, G: Gate + Drop, S: Drop, N: PoolLedgers> Pool<W, C, G, S,
         match shared.rotate(&mut seat, room) {
             Ok(chapter) => {
                 let Chapter { base, records } = chapter;
+                let gone = base.gone.saturating_add(records.len() as u64);
+                self.home.folded.store(gone, Ordering::Relaxed);
                 Ok((seat, PoolChapter { base, records }))
             }
             Err(why) => Err(SeatRefused { why, seat }),

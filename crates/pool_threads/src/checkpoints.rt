@@ -11,11 +11,13 @@ use crate::ledgers::PoolLedgers;
 use crate::pool::Pool;
 use crate::refusals::SeatRefused;
 use crate::shared::PoolShared;
+use crate::worth::WorkerSeat;
 use meet_cells::Gate;
 use meet_place::{Seat, hold};
 use meet_tickets::Refusal;
 use pool_core::PoolDeed;
 use std::sync::Wait;
+use std::sync::atomic::Ordering;
 
 impl<W: Work, C: Drop, N: PoolLedgers> PoolShared<W, C, N> {
     /// Folds the records away, counts them for the seat, and answers how many were folded away since the first. It
@@ -36,6 +38,14 @@ impl<W: Work, C: Drop, N: PoolLedgers> PoolShared<W, C, N> {
     {
         self.shared.gone_for(seat)
     }
+
+    /// The same, looked at for a worker's seat.
+    pub(crate) fn gone_for_worker(&mut self, seat: &mut WorkerSeat<W, N>) -> u64
+        ensures fits { share_in seat.new < 2 ^ 64 }
+        ensures seat { seat.new ≡ seat.old }
+    {
+        seat.gone_in(&mut self.shared)
+    }
 }
 
 impl<W: Work, C: Drop, G: Gate + Drop, S: Drop, N: PoolLedgers> Pool<W, C, G, S, N> {
@@ -54,7 +64,10 @@ impl<W: Work, C: Drop, G: Gate + Drop, S: Drop, N: PoolLedgers> Pool<W, C, G, S,
     {
         let mut shared = hold(rt, &self.home.shared);
         match shared.cut(&mut seat) {
-            Ok(gone) => Ok((seat, gone)),
+            Ok(gone) => {
+                self.home.folded.store(gone, Ordering::Relaxed);
+                Ok((seat, gone))
+            }
             Err(why) => Err(SeatRefused { why, seat }),
         }
     }

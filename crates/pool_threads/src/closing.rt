@@ -315,6 +315,7 @@ impl<W: Work, C: Drop, G: Gate + Drop, S: Drop, N: PoolLedgers> Pool<W, C, G, S,
             made: count,
             callers,
             keep_alive,
+            folded,
         } = alone(rt, home);
         let inside = lock.into_inner();
         let lying = inside.seats_here();
@@ -331,6 +332,7 @@ impl<W: Work, C: Drop, G: Gate + Drop, S: Drop, N: PoolLedgers> Pool<W, C, G, S,
                 made: count,
                 callers,
                 keep_alive,
+                folded,
             };
             let pool = Pool {
                 home: shared_out(rt, own, home),

@@ -1,7 +1,8 @@
 //! What the callers and the workers of a pool share, and what a worker does there.
 
-ghost use Rattle.std.specs.Prelude.{◌≡◌, ◌+◌, ◌<◌, ◌≤◌, Some, None, IfSome};
+ghost use Rattle.std.specs.Prelude.{◌≡◌, ◌<◌, ◌≤◌, IfSome};
 ghost use Rattle.meet_tickets.specs.Limits.{most_seats};
+ghost use Rattle.pool_threads.specs.Duties.{DutyFits, IsReadied};
 ghost use Rattle.pool_threads.specs.NextFits.{NextFits};
 ghost use Rattle.pool_threads.specs.Worthy.{EndsRunning, EndsRunningWorth};
 ghost use Rattle.pool_threads.specs.declared.steps.WorkerCall.TheVariants.{Finish};
@@ -15,6 +16,7 @@ use crossbeam_utils::CachePadded;
 use meet_cells::{Gate, Turn};
 use meet_place::{Ledgers, hold};
 use std::marker::{Model, PhantomData};
+use std::sync::atomic::{AtomicU64, Ordering};
 use std::sync::{Condvar, Mutex, Wait};
 use std::time::Clock;
 
@@ -28,6 +30,8 @@ pub struct Home<W: Work, C, G, N: PoolLedgers> {
     pub(crate) made: Made<N>,
     pub(crate) callers: u64,
     pub(crate) keep_alive: u64,
+    /// How many records callers folded away or had handed out so far: a hint, by which workers let go of receipts.
+    pub(crate) folded: AtomicU64,
 }
 
 /// How many seats were made.
@@ -70,9 +74,19 @@ impl<N: Ledgers> Made<N> {
     }
 }
 
+/// What a worker does next.
+#[derive(Drop)]
+pub enum Duty<C, S> {
+    /// It is ready for a job.
+    BeReady(S),
+    /// It runs this job.
+    Run(S, Job<C>),
+    /// It waits for a job.
+    Await(S),
+}
+
 impl<W: Work, C: Drop, G, N: PoolLedgers> Home<W, C, G, N> {
-    /// Makes a step of a worker under one hold of the lock. Who waits for the pool's end looks again where a worker has
-    /// gone.
+    /// Makes a step of a worker under one hold of the lock.
     fn step<R: Wait>(
         &self,
         rt: &R,
@@ -86,52 +100,133 @@ impl<W: Work, C: Drop, G, N: PoolLedgers> Home<W, C, G, N> {
         let mut shared = hold(rt, &self.shared);
         let next = shared.work(seat, call);
         drop(shared);
-        self.moved.notify_all();
         next
+    }
+
+    /// Records what a worker's job answered, and that it is ready for the next, under one hold of the lock: what comes
+    /// of the second step, or of the first where that is refused.
+    fn step_twice<R: Wait>(
+        &self,
+        rt: &R,
+        seat: WorkerSeat<W, N>,
+        answer: u64,
+    ) -> Option<Duty<C, WorkerSeat<W, N>>>
+        requires room { 5 ≤ seat.room }
+        requires worth { EndsRunningWorth W.worth seat.list answer }
+        ensures { IfSome result DutyFits }
+    {
+        let mut shared = hold(rt, &self.shared);
+        let next = match shared.work(seat, WorkerCall::Finish(answer)) {
+            Next::Ended(seat) => shared.work(seat, WorkerCall::Ready),
+            _ => return None,
+        };
+        drop(shared);
+        self.duty_of(next)
+    }
+
+    /// Whether a worker is to let go of receipts.
+    fn is_to_forget(&self, seat: &WorkerSeat<W, N>) -> bool {
+        seat.is_to_forget(self.folded.load(Ordering::Relaxed))
+    }
+
+    /// Lets go of a worker's receipts for records that were folded away, where there are many.
+    fn forget<R: Wait>(&self, rt: &R, seat: &mut WorkerSeat<W, N>)
+        ensures { seat.old.room ≤ seat.new.room }
+    {
+        if self.is_to_forget(seat) {
+            let mut shared = hold(rt, &self.shared);
+            let gone = shared.gone_for_worker(seat);
+            drop(shared);
+            seat.forget(gone);
+        }
+    }
+
+    /// What a worker does that was ready. Where it has gone, who waits for the pool's end looks again.
+    fn duty_of(&self, next: Next<C, WorkerSeat<W, N>>) -> Option<Duty<C, WorkerSeat<W, N>>>
+        requires { IsReadied next }
+        ensures { IfSome result DutyFits }
+    {
+        match next {
+            Next::Run(seat, job) => Some(Duty::Run(seat, job)),
+            Next::Waits(seat) => Some(Duty::Await(seat)),
+            _ => {
+                self.moved.notify_all();
+                None
+            }
+        }
     }
 }
 
 impl<W: Work, C: Call<W> + Drop, G: Gate, N: PoolLedgers> Home<W, C, G, N> {
-    /// Runs a job outside the lock, and records its answer. A job that isn't of its tag, which none is, is let go, and
-    /// its worker is then missing in the end.
+    /// A worker is ready for a job, or leaves where its list has no room for what that takes.
+    fn be_ready<R: Wait>(
+        &self,
+        rt: &R,
+        mut seat: WorkerSeat<W, N>,
+    ) -> Option<Duty<C, WorkerSeat<W, N>>>
+        requires room { 0 < seat.room }
+        ensures { IfSome result DutyFits }
+    {
+        self.forget(rt, &mut seat);
+        if seat.reserve(4).is_err() {
+            let _ended = self.step(rt, seat, WorkerCall::Leave);
+            self.moved.notify_all();
+            return None;
+        }
+        let next = self.step(rt, seat, WorkerCall::Ready);
+        self.duty_of(next)
+    }
+
+    /// Runs a job outside the lock, and records its answer; and where there is room for what comes then, and no
+    /// receipts are to be let go, that its worker is ready for the next. A job that isn't of its tag, which none is, is
+    /// let go, and its worker is then missing in the end.
     fn perform<R: Wait>(
         &self,
         rt: &R,
-        seat: WorkerSeat<W, N>,
+        mut seat: WorkerSeat<W, N>,
         job: Job<C>,
-    ) -> Option<WorkerSeat<W, N>>
+    ) -> Option<Duty<C, WorkerSeat<W, N>>>
         requires room { 2 ≤ seat.room }
         requires runs { EndsRunning seat.list job.tag }
-        ensures { IfSome result (λ after. 0 < after.room) }
+        ensures { IfSome result DutyFits }
     {
         let answer = job.run::<W>()?;
+        if !self.is_to_forget(&seat) && seat.reserve(5).is_ok() {
+            return self.step_twice(rt, seat, answer);
+        }
         match self.step(rt, seat, WorkerCall::Finish(answer)) {
-            Next::Ended(seat) => Some(seat),
+            Next::Ended(seat) => Some(Duty::BeReady(seat)),
             _ => None,
         }
     }
 
-    /// Waits at the worker's gate until it is handed a job, which it then runs, or ends.
+    /// Waits at the worker's gate until it is handed a job, or ends.
     fn await_job<R: Wait + Clock>(
         &self,
         rt: &R,
         first: WorkerSeat<W, N>,
-    ) -> Option<WorkerSeat<W, N>>
+    ) -> Option<Duty<C, WorkerSeat<W, N>>>
         requires room { 3 ≤ first.room }
-        ensures { IfSome result (λ after. 0 < after.room) }
+        ensures { IfSome result DutyFits }
     {
         let mut seat = first;
         for _ in rt.forever() {
             let turn = self.wait(rt, &seat);
             match self.step(rt, seat, WorkerCall::Follow) {
-                Next::Run(seat, job) => return self.perform(rt, seat, job),
+                Next::Run(seat, job) => return Some(Duty::Run(seat, job)),
                 Next::Stays(again) => seat = again,
-                _ => return None,
+                _ => {
+                    self.moved.notify_all();
+                    return None;
+                }
             }
             if turn == Turn::Elapsed {
                 match self.step(rt, seat, WorkerCall::IdleEnd) {
                     Next::Stays(again) => seat = again,
-                    _ => return None,
+                    _ => {
+                        self.moved.notify_all();
+                        return None;
+                    }
                 }
             }
         }
@@ -148,30 +243,19 @@ impl<W: Work, C: Call<W> + Drop, G: Gate, N: PoolLedgers> Home<W, C, G, N> {
         }
     }
 
-    /// One turn of a worker: ready, and a job, or a wait and a job. None once it has ended.
-    fn turn<R: Wait + Clock>(&self, rt: &R, mut seat: WorkerSeat<W, N>) -> Option<WorkerSeat<W, N>>
-        requires room { 0 < seat.room }
-        ensures { IfSome result (λ after. 0 < after.room) }
-    {
-        if seat.reserve_four().is_err() {
-            let _ended = self.step(rt, seat, WorkerCall::Leave);
-            return None;
-        }
-        match self.step(rt, seat, WorkerCall::Ready) {
-            Next::Run(seat, job) => self.perform(rt, seat, job),
-            Next::Waits(seat) => self.await_job(rt, seat),
-            _ => None,
-        }
-    }
-
     /// What a worker does, from its start to its end.
     pub(crate) fn serve<R: Wait + Clock>(&self, rt: &R, first: WorkerSeat<W, N>)
         requires room { 0 < first.room }
     {
-        let mut seat = first;
+        let mut duty = Duty::BeReady(first);
         for _ in rt.forever() {
-            match self.turn(rt, seat) {
-                Some(after) => seat = after,
+            let next = match duty {
+                Duty::BeReady(seat) => self.be_ready(rt, seat),
+                Duty::Run(seat, job) => self.perform(rt, seat, job),
+                Duty::Await(seat) => self.await_job(rt, seat),
+            };
+            match next {
+                Some(next) => duty = next,
                 None => return,
             }
         }

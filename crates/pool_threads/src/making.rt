@@ -23,6 +23,7 @@ use meet_tickets::{MOST_RECORDS, Refusal};
 use pool_core::{Policy, PoolDeed, PoolQueue, Sizes, book_of_pool};
 use std::alloc::Global;
 use std::collections::VecDeque;
+use std::sync::atomic::AtomicU64;
 use std::sync::{Arc, Condvar, Mutex};
 
 /// What a pool is made of.
@@ -141,6 +142,7 @@ impl<W: Work, C: Drop, G: Drop, S: Drop, N: PoolLedgers> Pool<W, C, G, S, N> {
             made: Made::new(callers + maximum),
             callers: sizes.callers,
             keep_alive: sizes.keep_alive,
+            folded: AtomicU64::new(0),
         };
         match Arc::new(alloc, home) {
             Ok(home) => Ok((

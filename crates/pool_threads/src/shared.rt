@@ -173,7 +173,7 @@ fn reserved<W: Work, N: Ledgers>(slot: &mut Option<WorkerSeat<W, N>>) -> bool
     ensures room { IsTrue result → IfSome slot.new (λ seat. 4 ≤ seat.room) }
 {
     match slot {
-        Some(seat) => seat.reserve_four().is_ok(),
+        Some(seat) => seat.reserve(4).is_ok(),
         None => true,
     }
 }

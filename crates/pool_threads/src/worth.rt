@@ -1,15 +1,17 @@
 //! The seat of a worker.
 
-ghost use Rattle.std.specs.Prelude.{◌≡◌, ◌+◌, ◌<◌, ◌≤◌, [], length, option_to_list, IfOk, IfErr, OnOk};
+ghost use Rattle.std.specs.Prelude.{ℕ, ◌≡◌, ◌+◌, ◌^◌, ◌<◌, ◌≤◌, ◌⊎◌, false, [], length, option_to_list, IfOk, IfErr, OnOk};
 ghost use Rattle.meet_tickets.specs.declared.refusals.Refusal.TheVariants.{Memory};
-ghost use Rattle.meet_place.specs.Seats.{Adds};
+ghost use Rattle.meet_book.specs.Listed.{is_since};
+ghost use Rattle.meet_place.specs.Seats.{Adds, Trims, share_in};
 ghost use Rattle.pool_core.specs.Placed.{pool_record};
 ghost use Rattle.pool_core.specs.Pools.{worker_of};
 ghost use Rattle.pool_core.specs.Moves.{Moves, jobs_of};
 ghost use Rattle.pool_core.specs.declared.calls.PoolCall.TheVariants.{Finish};
-ghost use Rattle.pool_threads.specs.Worthy.{IsWorthy, EndsRunningWorth};
+ghost use Rattle.pool_threads.specs.Worthy.{IsWorthy, EndsRunningWorth, stay_together};
 
 use crate::jobs::Work;
+use meet_book::Receipt;
 use meet_place::{Ledgers, Seat, Shared};
 use meet_tickets::{Refusal, SeatNo};
 use pool_core::{PoolAnswer, PoolCall, PoolCore, PoolDeed};
@@ -19,6 +21,8 @@ use std::marker::{Model, PhantomData};
 #[derive(Drop)]
 pub struct WorkerSeat<W: Work, N: Ledgers> {
     seat: Seat<PoolDeed<u64>, N>,
+    /// How many records were folded away when it let go of receipts last.
+    seen: u64,
     of: PhantomData<W>,
 }
 
@@ -35,6 +39,45 @@ impl<W: Work, N: Ledgers> Model for WorkerSeat<W, N> {
     ghost invariant = { λ s. IsWorthy W.worth s.seat.list };
 }
 
+/// How many receipts lie in a worker's list before it lets go of some: our choice. So each is looked at a few times
+/// only.
+const MANY: usize = 1_024;
+
+/// So many of the first records, or as many as stand before the start of the first answer that isn't among them.
+fn whole_upto(list: &[Receipt<PoolDeed<u64>>], gone: u64) -> u64
+    ensures { result ≤ gone }
+{
+    let mut before = None;
+    for receipt in list {
+        let place = receipt.place();
+        if gone < place {
+            return match (before, receipt.entry().deed) {
+                (Some(start), PoolDeed::Finished(_)) => gone.min(start).saturating_sub(1),
+                _ => gone,
+            };
+        }
+        before = Some(place);
+    }
+    gone
+}
+
+/// Whether each answer that isn't among the first `gone` records has its start in none of these either.
+fn stay_together(list: &[Receipt<PoolDeed<u64>>], gone: u64) -> bool
+    ensures { result ≡ stay_together (is_since gone) false list.now }
+{
+    let mut before = false;
+    for receipt in list {
+        let stays = gone < receipt.place();
+        if stays && !before {
+            if let PoolDeed::Finished(_) = receipt.entry().deed {
+                return false;
+            }
+        }
+        before = stays;
+    }
+    true
+}
+
 impl<W: Work, N: Ledgers> WorkerSeat<W, N> {
     /// A seat without a receipt.
     pub fn new(seat: Seat<PoolDeed<u64>, N>) -> Self
@@ -43,6 +86,7 @@ impl<W: Work, N: Ledgers> WorkerSeat<W, N> {
     {
         WorkerSeat {
             seat,
+            seen: 0,
             of: PhantomData,
         }
     }
@@ -52,7 +96,7 @@ impl<W: Work, N: Ledgers> WorkerSeat<W, N> {
         ensures same { result ≡ self }
         ensures worthy { IsWorthy W.worth result.list }
     {
-        let WorkerSeat { seat, of: _ } = self;
+        let WorkerSeat { seat, .. } = self;
         seat
     }
 
@@ -63,16 +107,44 @@ impl<W: Work, N: Ledgers> WorkerSeat<W, N> {
         self.seat.number()
     }
 
-    /// Makes room for four receipts. The only refusal is Memory; then nothing has changed.
-    pub fn reserve_four(&mut self) -> Result<(), Refusal>
-        ensures room { OnOk result (4 ≤ self.new.room) }
+    /// Makes room for so many receipts. The only refusal is Memory; then nothing has changed.
+    pub fn reserve(&mut self, receipts: usize) -> Result<(), Refusal>
+        ensures room { OnOk result (receipts ≤ self.new.room) }
         ensures number { self.new.number ≡ self.old.number }
         ensures past { self.new.past ≡ self.old.past }
         ensures list { self.new.list ≡ self.old.list }
         ensures memory { IfErr result (λ why. why ≡ Memory) }
         ensures unchanged { IfErr result (λ _. self.new ≡ self.old) }
     {
-        self.seat.reserve(4)
+        self.seat.reserve(receipts)
+    }
+
+    /// Whether its list is long, and more records were folded away, so many, since it let go of receipts last.
+    pub fn is_to_forget(&self, gone: u64) -> bool {
+        self.seen < gone && self.seat.receipts().len() >= MANY
+    }
+
+    /// Lets go of the receipts for the first `gone` records, but not of a start whose answer stays. It takes no memory.
+    pub fn forget(&mut self, gone: u64)
+        requires { share_in self.old < 2 ^ 64 }
+        ensures list { (self.new ≡ self.old) ⊎ ((upto : ℕ) × (upto ≤ gone) × Trims upto self.old self.new) }
+        ensures room { self.old.room ≤ self.new.room }
+    {
+        let upto = whole_upto(self.seat.receipts(), gone);
+        self.seen = gone;
+        // In a list whose receipts rise, as all do, each start stays whose answer does.
+        if stay_together(self.seat.receipts(), upto) {
+            self.seat.forget(upto);
+        }
+    }
+
+    /// How many records were folded away, looked at for this seat, whose share is no more than all records.
+    pub fn gone_in(&mut self, shared: &mut Shared<PoolCore<u64>, N>) -> u64
+        ensures fits { share_in self.new < 2 ^ 64 }
+        ensures same { self.new ≡ self.old }
+        ensures shared { shared.new ≡ shared.old }
+    {
+        shared.gone_for(&mut self.seat)
     }
 
     /// Makes a step. A Finish says what the job that the list ends with is worth.
