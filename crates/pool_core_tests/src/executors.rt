@@ -1,8 +1,8 @@
 //! The pools that Java's `Executors` makes, with the queue that each has there.
 
-use crate::rows::{Ask, Told, plays_directly};
+use crate::plays::{Ask, Told, plays_directly};
 use pool_core::{Policy, PoolQueue, Sizes};
-use std::test::Fail;
+use std::test::*;
 
 /// Two jobs start two workers, further ones are kept, and no worker ends for want of a job.
 const FIXED: [(Ask, Told); 10] = [
@@ -34,15 +34,15 @@ const SINGLE: [(Ask, Told); 11] = [
 ];
 
 #[test]
-fn a_fixed_pool(rt: HostRuntime) -> Result<(), Fail> {
+fn a_fixed_pool(rt: HostRuntime) {
     let queue = PoolQueue::Unbounded;
     let sizes = Sizes::fixed(1, 2);
-    plays_directly(&rt, rt.alloc(), sizes, queue, Policy::Abort, &FIXED)
+    plays_directly(&rt, rt.alloc(), sizes, queue, Policy::Abort, &FIXED);
 }
 
 #[test]
-fn a_single_worker(rt: HostRuntime) -> Result<(), Fail> {
+fn a_single_worker(rt: HostRuntime) {
     let queue = PoolQueue::Unbounded;
     let sizes = Sizes::single(1);
-    plays_directly(&rt, rt.alloc(), sizes, queue, Policy::Abort, &SINGLE)
+    plays_directly(&rt, rt.alloc(), sizes, queue, Policy::Abort, &SINGLE);
 }

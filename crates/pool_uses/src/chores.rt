@@ -5,9 +5,10 @@ ghost use Rattle.std.specs.Prelude.{◌<◌};
 use crate::ItsTag;
 use pool_threads::Call;
 use std::alloc::Global;
+use std::process::Abort;
 use std::sync::Arc;
 use std::sync::atomic::{AtomicBool, AtomicU64, Ordering};
-use std::test::Fail;
+use std::test::*;
 use std::thread;
 use std::time::{Clock, Duration};
 
@@ -22,14 +23,14 @@ pub(crate) struct Flags {
 
 impl Flags {
     /// None is set.
-    pub(crate) fn new(alloc: Global) -> Result<Arc<Self>, Fail> {
+    pub(crate) fn new(rt: &impl Abort, alloc: Global) -> Arc<Self> {
         let flags = Flags {
             first: AtomicBool::new(false),
             second: AtomicBool::new(false),
             seen: AtomicU64::new(0),
             go: AtomicBool::new(false),
         };
-        Arc::new(alloc, flags).map_err(|_| "no memory".into())
+        Arc::new(alloc, flags).expect(rt, "no memory")
     }
 
     /// Lets the jobs come to their ends.
@@ -41,6 +42,11 @@ impl Flags {
     pub(crate) fn seen(&self) -> u64 {
         self.seen.load(Ordering::SeqCst)
     }
+}
+
+/// Another hold of these flags.
+pub(crate) fn another(rt: &impl Abort, flags: &Arc<Flags>) -> Arc<Flags> {
+    Arc::try_clone(flags).expect(rt, "too many holds")
 }
 
 /// Looks for a flag, at most 10,000 times, 1 ms apart: whether it was set.

@@ -6,9 +6,9 @@ ghost use Rattle.pool_uses.specs.Parts.{IsOneEach};
 ghost use Rattle.meet_tickets.specs.Limits.{most_records};
 
 use crate::ItsTag;
-use crate::chores::{Before, Chore, Flags};
+use crate::chores::{Before, Chore, Flags, another};
 use crate::pools::{
-    AtOnce, OurSeat, Ours, answers, closed, handed, last, made, one_worker, stopped,
+    AtOnce, OurSeat, Ours, answers, closed, handed, made, one_worker, only, stopped,
 };
 use meet_cells::{Gate, ParkGate};
 use meet_tickets::Order;
@@ -17,8 +17,9 @@ use pool_threads::{Job, NewPool, Outcome, PoolFault, PoolLedgers, ThreadStarter}
 use std::alloc::Global;
 use std::collections::VecDeque;
 use std::marker::Brand;
+use std::process::Abort;
 use std::sync::{Arc, Wait};
-use std::test::Fail;
+use std::test::*;
 use std::thread;
 use std::thread::Threads;
 use std::time::{Clock, Duration};
@@ -28,24 +29,24 @@ fn unclosed<N, C, R, G, S>(
     rt: &R,
     alloc: Global,
     pool: Ours<C, G, S, N>,
-) -> Result<(Ours<C, G, S, N>, usize, usize), Fail>
+) -> (Ours<C, G, S, N>, (usize, usize))
 where
     N: PoolLedgers,
     C: Drop,
-    R: Wait,
+    R: Abort + Wait,
     G: Gate + Drop,
     S: Drop,
 {
     match pool.close(rt, alloc, Vec::new(alloc)) {
-        Ok(_) => Err("closed".into()),
+        Ok(_) => panic!(rt; "closed"),
         Err(fault) => match fault {
             PoolFault::SeatMissing {
                 have,
                 made,
                 pool,
                 seats: _,
-            } => Ok((pool, have, made)),
-            _ => Err("another fault".into()),
+            } => (pool, (have, made)),
+            _ => panic!(rt; "another fault"),
         },
     }
 }
@@ -55,68 +56,65 @@ fn play_missing<N, R>(
     rt: &R,
     alloc: Global,
     parts: NewPool<ParkGate, ThreadStarter>,
-) -> Result<(usize, usize), Fail>
+) -> (usize, usize)
 where
     N: PoolLedgers,
-    R: Wait + Copy,
+    R: Abort + Wait + Copy,
     requires ledgers { AreOf N.name N.folds N.parts parts.blanks }
     requires one_each { N.parts ≡ parts.sizes.callers + parts.sizes.maximum }
     requires cap { N.cap ≡ most_records }
     requires gates { vec_len parts.gates ≡ parts.sizes.maximum }
     requires settings { N.settings ≡ record { sizes = parts.sizes; queue = parts.queue; policy = parts.policy } }
 {
-    let (pool, mut seats) = made::<N, Chore<R>, ParkGate, ThreadStarter>(alloc, parts)?;
-    let seat = last(&mut seats)?;
-    let (pool, have, made) = unclosed(rt, alloc, pool)?;
-    closed(rt, alloc, pool, seat)?;
-    Ok((have, made))
+    let (pool, seats) = made::<N, Chore<R>, ParkGate, ThreadStarter>(rt, alloc, parts);
+    let seat = only(rt, seats);
+    let (pool, seats) = unclosed(rt, alloc, pool);
+    closed(rt, alloc, pool, seat);
+    seats
 }
 
 /// The same, with whatever ledgers.
-fn without_its_seat<R: Wait + Copy>(
+fn without_its_seat<R: Abort + Wait + Copy>(
     rt: &R,
     alloc: Global,
     parts: NewPool<ParkGate, ThreadStarter>,
-) -> Result<(usize, usize), Fail>
+) -> (usize, usize)
     requires one_each { IsOneEach parts.sizes parts.blanks (vec_len parts.gates) }
 {
     play_missing::<Brand, R>(rt, alloc, parts)
 }
 
 #[test]
-fn a_seat_is_missing(rt: HostRuntime) -> Result<(), Fail> {
+fn a_seat_is_missing(rt: HostRuntime) {
     let alloc = rt.alloc();
     let (queue, starter) = (PoolQueue::Unbounded, ThreadStarter::new());
-    let parts = one_worker(alloc, 1, queue, Policy::Abort, ParkGate::new(), starter)?;
-    assert_eq!(rt; without_its_seat(&rt, alloc, parts)?, (1, 2));
-    Ok(())
+    let parts = one_worker(
+        &rt,
+        alloc,
+        1,
+        queue,
+        Policy::Abort,
+        ParkGate::new(),
+        starter,
+    );
+    assert_eq!(rt; without_its_seat(&rt, alloc, parts), (1, 2));
 }
 
-/// Starts a worker with a job, and then looks at the pool often, once that is done: how often it had one worker, and
-/// not another number.
-fn play_idle<N, R>(
-    rt: &R,
-    alloc: Global,
-    parts: NewPool<AtOnce, ThreadStarter>,
-) -> Result<u64, Fail>
-where
-    N: PoolLedgers + Send + Sync + 'static,
-    R: Threads + Wait + Clock + Copy + Send + 'static,
-    requires ledgers { AreOf N.name N.folds N.parts parts.blanks }
-    requires one_each { N.parts ≡ parts.sizes.callers + parts.sizes.maximum }
-    requires cap { N.cap ≡ most_records }
-    requires gates { vec_len parts.gates ≡ parts.sizes.maximum }
-    requires settings { N.settings ≡ record { sizes = parts.sizes; queue = parts.queue; policy = parts.policy } }
-{
-    let (pool, mut seats) = made::<N, Chore<R>, AtOnce, ThreadStarter>(alloc, parts)?;
-    let seat = last(&mut seats)?;
-    let (seat, _started) = handed(rt, &pool, seat, Chore::new(1))?;
+/// A pool of one worker that never parks.
+type Restless<R, N> = Ours<Chore<R>, AtOnce, ThreadStarter, N>;
+
+/// Waits until a job is done, ten seconds at most.
+fn await_done<N: PoolLedgers, R: Wait + Clock + Drop>(rt: &R, pool: &Restless<R, N>) {
     for _ in 0..10_000 {
         if pool.counters(rt).done == 1 {
             break;
         }
         thread::sleep(rt, Duration::from_millis(1));
     }
+}
+
+/// Looks at a pool a thousand times: how often it had one worker, and not another number.
+fn looks_on<N: PoolLedgers, R: Wait + Clock + Drop>(rt: &R, pool: &Restless<R, N>) -> u64 {
     let mut there = 0u64;
     for _ in 0..1_000 {
         let counters = pool.counters(rt);
@@ -125,28 +123,56 @@ where
         }
         thread::sleep(rt, Duration::from_millis(1));
     }
-    let (seat, _none) = stopped(rt, &pool, seat)?;
+    there
+}
+
+/// Starts a worker with a job, and looks at the pool often, once that is done.
+fn idles<N, R>(rt: &R, pool: &Restless<R, N>, seat: OurSeat<N>) -> (OurSeat<N>, u64)
+where
+    N: PoolLedgers + Send + Sync + 'static,
+    R: Abort + Threads + Wait + Clock + Copy + Send + 'static,
+{
+    let (seat, _started) = handed(rt, pool, seat, Chore::new(1));
+    await_done(rt, pool);
+    let there = looks_on(rt, pool);
+    let (seat, _none) = stopped(rt, pool, seat);
     pool.await_end(rt);
-    closed(rt, alloc, pool, seat)?;
-    Ok(there)
+    (seat, there)
+}
+
+/// Starts a worker with a job, and then looks at the pool often, once that is done: how often it had one worker, and
+/// not another number.
+fn play_idle<N, R>(rt: &R, alloc: Global, parts: NewPool<AtOnce, ThreadStarter>) -> u64
+where
+    N: PoolLedgers + Send + Sync + 'static,
+    R: Abort + Threads + Wait + Clock + Copy + Send + 'static,
+    requires ledgers { AreOf N.name N.folds N.parts parts.blanks }
+    requires one_each { N.parts ≡ parts.sizes.callers + parts.sizes.maximum }
+    requires cap { N.cap ≡ most_records }
+    requires gates { vec_len parts.gates ≡ parts.sizes.maximum }
+    requires settings { N.settings ≡ record { sizes = parts.sizes; queue = parts.queue; policy = parts.policy } }
+{
+    let (pool, seats) = made::<N, Chore<R>, AtOnce, ThreadStarter>(rt, alloc, parts);
+    let (seat, there) = idles(rt, &pool, only(rt, seats));
+    closed(rt, alloc, pool, seat);
+    there
 }
 
 /// The same, with whatever ledgers.
-fn left_idle<R>(rt: &R, alloc: Global, parts: NewPool<AtOnce, ThreadStarter>) -> Result<u64, Fail>
+fn left_idle<R>(rt: &R, alloc: Global, parts: NewPool<AtOnce, ThreadStarter>) -> u64
 where
-    R: Threads + Wait + Clock + Copy + Send + 'static,
+    R: Abort + Threads + Wait + Clock + Copy + Send + 'static,
     requires one_each { IsOneEach parts.sizes parts.blanks (vec_len parts.gates) }
 {
     play_idle::<Brand, R>(rt, alloc, parts)
 }
 
 #[test]
-fn an_idle_worker_stays(rt: HostRuntime) -> Result<(), Fail> {
+fn an_idle_worker_stays(rt: HostRuntime) {
     let alloc = rt.alloc();
     let (queue, starter) = (PoolQueue::Hand(Order::Fair), ThreadStarter::new());
-    let parts = one_worker(alloc, 0, queue, Policy::Abort, AtOnce {}, starter)?;
-    assert_eq!(rt; left_idle(&rt, alloc, parts)?, 1_000);
-    Ok(())
+    let parts = one_worker(&rt, alloc, 0, queue, Policy::Abort, AtOnce {}, starter);
+    assert_eq!(rt; left_idle(&rt, alloc, parts), 1_000);
 }
 
 /// What came of three jobs, of which the third takes the second's place, and of a shutdown that hands back what is
@@ -164,6 +190,7 @@ struct Came {
     left: usize,
 }
 
+/// The tag of the job that was dropped.
 fn dropped<C>(outcome: &Outcome<C>) -> Option<u64> {
     match outcome {
         Outcome::DroppedOldest(_, job) => Some(job.tag()),
@@ -171,11 +198,63 @@ fn dropped<C>(outcome: &Outcome<C>) -> Option<u64> {
     }
 }
 
-fn first_tag<C>(jobs: &VecDeque<Job<C>>) -> Option<u64> {
+/// How many jobs these are, and the tag of the first.
+fn told<C>(jobs: &VecDeque<Job<C>>) -> (usize, Option<u64>) {
     match jobs.front() {
-        Some(job) => Some(job.tag()),
-        None => None,
+        Some(job) => (jobs.len(), Some(job.tag())),
+        None => (jobs.len(), None),
     }
+}
+
+/// A pool of chores, whose workers park.
+type Chores<R, N> = Ours<Chore<R>, ParkGate, ThreadStarter, N>;
+
+/// Hands three jobs in, the first of which waits for a flag: the tag of the one that the third drops.
+fn three_jobs<N, R>(
+    rt: &R,
+    pool: &Chores<R, N>,
+    seat: OurSeat<N>,
+    flags: Arc<Flags>,
+) -> (OurSeat<N>, Option<u64>)
+where
+    N: PoolLedgers + Send + Sync + 'static,
+    R: Abort + Threads + Wait + Clock + Copy + Send + 'static,
+{
+    let one = Chore {
+        tag: 1,
+        before: Before::Go(*rt, flags),
+    };
+    let (seat, _started) = handed(rt, pool, seat, one);
+    let (seat, _kept) = handed(rt, pool, seat, Chore::new(2));
+    let (seat, third) = handed(rt, pool, seat, Chore::new(3));
+    (seat, dropped(&third))
+}
+
+/// Shuts a pool down at once, and lets its first job end. No answer is told yet.
+fn stops<N, R>(
+    rt: &R,
+    pool: &Chores<R, N>,
+    seat: OurSeat<N>,
+    dropped: Option<u64>,
+    flags: &Flags,
+) -> (OurSeat<N>, Came)
+where
+    N: PoolLedgers,
+    R: Abort + Wait + Copy,
+{
+    let kept = pool.counters(rt).kept;
+    let (seat, back) = stopped(rt, pool, seat);
+    let then = pool.counters(rt).kept;
+    flags.set();
+    pool.await_end(rt);
+    let came = Came {
+        dropped,
+        kept: (kept, then),
+        back: told(&back),
+        answers: (0, 0, 0),
+        left: 0,
+    };
+    (seat, came)
 }
 
 /// Hands three jobs in, shuts the pool down at once while its worker runs the first, and lets that end.
@@ -183,73 +262,55 @@ fn play_stopped<N, R>(
     rt: &R,
     alloc: Global,
     parts: NewPool<ParkGate, ThreadStarter>,
-) -> Result<Came, Fail>
+    flags: &Arc<Flags>,
+) -> Came
 where
     N: PoolLedgers + Send + Sync + 'static,
-    R: Threads + Wait + Clock + Copy + Send + 'static,
+    R: Abort + Threads + Wait + Clock + Copy + Send + 'static,
     requires ledgers { AreOf N.name N.folds N.parts parts.blanks }
     requires one_each { N.parts ≡ parts.sizes.callers + parts.sizes.maximum }
     requires cap { N.cap ≡ most_records }
     requires gates { vec_len parts.gates ≡ parts.sizes.maximum }
     requires settings { N.settings ≡ record { sizes = parts.sizes; queue = parts.queue; policy = parts.policy } }
 {
-    let flags = Flags::new(alloc)?;
-    let one = Chore {
-        tag: 1,
-        before: Before::Go(*rt, Arc::try_clone(&flags)?),
-    };
-    let (pool, mut seats) = made::<N, Chore<R>, ParkGate, ThreadStarter>(alloc, parts)?;
-    let seat = last(&mut seats)?;
-    let (seat, _started) = handed(rt, &pool, seat, one)?;
-    let (seat, _kept) = handed(rt, &pool, seat, Chore::new(2))?;
-    let (seat, third) = handed(rt, &pool, seat, Chore::new(3))?;
-    let kept = pool.counters(rt).kept;
-    let (seat, back) = stopped(rt, &pool, seat)?;
-    let then = pool.counters(rt).kept;
-    flags.set();
-    pool.await_end(rt);
-    let chronicle = closed(rt, alloc, pool, seat)?;
-    Ok(Came {
-        dropped: dropped(&third),
-        kept: (kept, then),
-        back: (back.len(), first_tag(&back)),
-        answers: (
-            answers(&chronicle, 1),
-            answers(&chronicle, 2),
-            answers(&chronicle, 3),
-        ),
-        left: chronicle.left.len(),
-    })
+    let (pool, seats) = made::<N, Chore<R>, ParkGate, ThreadStarter>(rt, alloc, parts);
+    let (seat, dropped) = three_jobs(rt, &pool, only(rt, seats), another(rt, flags));
+    let (seat, mut came) = stops(rt, &pool, seat, dropped, flags);
+    let chronicle = closed(rt, alloc, pool, seat);
+    came.answers = (
+        answers(&chronicle, 1),
+        answers(&chronicle, 2),
+        answers(&chronicle, 3),
+    );
+    came.left = chronicle.left.len();
+    came
 }
 
 /// The same, with whatever ledgers.
-fn stopped_at_once<R>(
-    rt: &R,
-    alloc: Global,
-    parts: NewPool<ParkGate, ThreadStarter>,
-) -> Result<Came, Fail>
+fn stopped_at_once<R>(rt: &R, alloc: Global, parts: NewPool<ParkGate, ThreadStarter>) -> Came
 where
-    R: Threads + Wait + Clock + Copy + Send + 'static,
+    R: Abort + Threads + Wait + Clock + Copy + Send + 'static,
     requires one_each { IsOneEach parts.sizes parts.blanks (vec_len parts.gates) }
 {
-    play_stopped::<Brand, R>(rt, alloc, parts)
+    let flags = Flags::new(rt, alloc);
+    play_stopped::<Brand, R>(rt, alloc, parts, &flags)
 }
 
 #[test]
-fn kept_jobs_come_back(rt: HostRuntime) -> Result<(), Fail> {
+fn kept_jobs_come_back(rt: HostRuntime) {
     let alloc = rt.alloc();
     let (queue, starter) = (PoolQueue::Bounded(1), ThreadStarter::new());
     let parts = one_worker(
+        &rt,
         alloc,
         1,
         queue,
         Policy::DiscardOldest,
         ParkGate::new(),
         starter,
-    )?;
-    let came = stopped_at_once(&rt, alloc, parts)?;
+    );
+    let came = stopped_at_once(&rt, alloc, parts);
     assert_eq!(rt; (came.dropped, came.kept), (Some(2), (1, 0)));
     assert_eq!(rt; came.back, (1, Some(3)));
     assert_eq!(rt; (came.answers, came.left), ((1, 0, 0), 0));
-    Ok(())
 }

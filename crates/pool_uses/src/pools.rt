@@ -1,7 +1,8 @@
-//! Pools as the tests make, use and end them. None of these functions says what it does: so a test that calls them
-//! knows no more than what they answer, and is proved fast.
+//! Pools as the tests make, use and end them. Who owns a pool calls functions that borrow it. None of these says what
+//! it does, and what goes wrong ends the test: so a test that calls them knows no more than what they answer, and is
+//! proved fast.
 
-ghost use Rattle.std.specs.Prelude.{◌≡◌, ◌+◌, false, IfOk, vec_len};
+ghost use Rattle.std.specs.Prelude.{◌≡◌, ◌+◌, false, vec_len};
 ghost use Rattle.meet_place.specs.Ledgers.{AreOf};
 ghost use Rattle.pool_uses.specs.Parts.{IsOneEach};
 ghost use Rattle.meet_tickets.specs.Limits.{most_records};
@@ -10,11 +11,14 @@ use crate::ItsTag;
 use meet_cells::{Gate, Turn};
 use meet_place::{Back, Blanks, Ledgers, Seat};
 use pool_core::{Policy, PoolDeed, PoolQueue, Sizes};
-use pool_threads::{Call, Job, NewPool, Outcome, Pool, PoolChronicle, PoolLedgers, Starter};
+use pool_threads::{
+    Call, Job, NewPool, Outcome, Pool, PoolChronicle, PoolLedgers, PoolRefused, Starter,
+};
 use std::alloc::Global;
 use std::collections::VecDeque;
+use std::process::Abort;
 use std::sync::Wait;
-use std::test::Fail;
+use std::test::*;
 use std::thread;
 use std::thread::Threads;
 use std::time::Clock;
@@ -59,32 +63,34 @@ pub(crate) fn sizes(core: u64, maximum: u64) -> Sizes
 
 /// The parts of a pool with one worker at most, at this gate, and one caller.
 pub(crate) fn one_worker<G: Drop, S: Drop>(
+    rt: &impl Abort,
     alloc: Global,
     core: u64,
     queue: PoolQueue,
     policy: Policy,
     gate: G,
     starter: S,
-) -> Result<NewPool<G, S>, Fail>
-    ensures { IfOk result (λ parts. IsOneEach parts.sizes parts.blanks (vec_len parts.gates)) }
+) -> NewPool<G, S>
+    ensures { IsOneEach result.sizes result.blanks (vec_len result.gates) }
 {
     let mut gates = Vec::new(alloc);
-    gates.push(gate).map_err(|_| "no memory")?;
-    Ok(NewPool {
+    gates.push(gate).expect(rt, "no memory");
+    NewPool {
         sizes: sizes(core, 1),
         queue,
         policy,
         gates,
         starter,
         blanks: Blanks::new(2),
-    })
+    }
 }
 
 /// A pool, and the seats of its callers.
 pub(crate) fn made<N, C, G, S>(
+    rt: &impl Abort,
     alloc: Global,
     parts: NewPool<G, S>,
-) -> Result<(Ours<C, G, S, N>, Vec<OurSeat<N>>), Fail>
+) -> (Ours<C, G, S, N>, Vec<OurSeat<N>>)
 where
     N: PoolLedgers,
     C: Drop,
@@ -97,17 +103,35 @@ where
     requires settings { N.settings ≡ record { sizes = parts.sizes; queue = parts.queue; policy = parts.policy } }
 {
     match Pool::new(alloc, parts) {
-        Ok(made) => Ok(made),
-        Err(_) => Err("no pool".into()),
+        Ok(made) => made,
+        Err(_) => panic!(rt; "no pool"),
     }
 }
 
-/// The last of these seats.
-pub(crate) fn last<N: Ledgers>(seats: &mut Vec<OurSeat<N>>) -> Result<OurSeat<N>, Fail> {
+/// The seat of a pool of one caller.
+pub(crate) fn only<N: Ledgers>(rt: &impl Abort, made: Vec<OurSeat<N>>) -> OurSeat<N> {
+    let mut seats = made;
     match seats.pop() {
-        Some(seat) => Ok(seat),
-        None => Err("no seat".into()),
+        Some(seat) => seat,
+        None => panic!(rt; "no seat"),
     }
+}
+
+/// A job is handed in: the seat and what became of it, or what came back.
+pub(crate) fn tries<N, C, R, G, S>(
+    rt: &R,
+    pool: &Ours<C, G, S, N>,
+    seat: OurSeat<N>,
+    job: C,
+) -> Result<(OurSeat<N>, Outcome<C>), PoolRefused<C, N>>
+where
+    N: PoolLedgers + Send + Sync + 'static,
+    C: Call<ItsTag> + Drop + Send + 'static,
+    R: Threads + Wait + Clock + Copy + Send + 'static,
+    G: Gate + Drop + Send + Sync + 'static,
+    S: Starter,
+{
+    pool.execute(rt, seat, Job::new::<ItsTag>(job))
 }
 
 /// Hands a job in.
@@ -116,39 +140,35 @@ pub(crate) fn handed<N, C, R, G, S>(
     pool: &Ours<C, G, S, N>,
     seat: OurSeat<N>,
     job: C,
-) -> Result<(OurSeat<N>, Outcome<C>), Fail>
+) -> (OurSeat<N>, Outcome<C>)
 where
     N: PoolLedgers + Send + Sync + 'static,
     C: Call<ItsTag> + Drop + Send + 'static,
-    R: Threads + Wait + Clock + Copy + Send + 'static,
+    R: Abort + Threads + Wait + Clock + Copy + Send + 'static,
     G: Gate + Drop + Send + Sync + 'static,
     S: Starter,
 {
-    match pool.execute(rt, seat, Job::new::<ItsTag>(job)) {
-        Ok(done) => Ok(done),
-        Err(_) => Err("a job was refused".into()),
+    match tries(rt, pool, seat, job) {
+        Ok(done) => done,
+        Err(_) => panic!(rt; "a job was refused"),
     }
 }
 
 /// Shuts a pool down, and waits for its end.
-pub(crate) fn shut<N, C, R, G, S>(
-    rt: &R,
-    pool: &Ours<C, G, S, N>,
-    seat: OurSeat<N>,
-) -> Result<OurSeat<N>, Fail>
+pub(crate) fn shut<N, C, R, G, S>(rt: &R, pool: &Ours<C, G, S, N>, seat: OurSeat<N>) -> OurSeat<N>
 where
     N: PoolLedgers,
     C: Drop,
-    R: Wait,
+    R: Abort + Wait,
     G: Gate + Drop,
     S: Drop,
 {
     match pool.shutdown(rt, seat) {
         Ok(seat) => {
             pool.await_end(rt);
-            Ok(seat)
+            seat
         }
-        Err(_) => Err("no shutdown".into()),
+        Err(_) => panic!(rt; "no shutdown"),
     }
 }
 
@@ -157,42 +177,49 @@ pub(crate) fn stopped<N, C, R, G, S>(
     rt: &R,
     pool: &Ours<C, G, S, N>,
     seat: OurSeat<N>,
-) -> Result<(OurSeat<N>, VecDeque<Job<C>>), Fail>
+) -> (OurSeat<N>, VecDeque<Job<C>>)
 where
     N: PoolLedgers,
     C: Drop,
-    R: Wait,
+    R: Abort + Wait,
     G: Gate + Drop,
     S: Drop,
 {
     match pool.shutdown_now(rt, seat) {
-        Ok(stopped) => Ok(stopped),
-        Err(_) => Err("no shutdown".into()),
+        Ok(stopped) => stopped,
+        Err(_) => panic!(rt; "no shutdown"),
     }
 }
 
-/// Closes a pool.
+/// Closes a pool with these seats.
 pub(crate) fn closed_by<N, C, R, G, S>(
     rt: &R,
     alloc: Global,
     pool: Ours<C, G, S, N>,
-    seats: Vec<OurSeat<N>>,
-) -> Result<PoolChronicle<C>, Fail>
+    backs: Vec<Back<PoolDeed<u64>, N>>,
+) -> PoolChronicle<C>
 where
     N: PoolLedgers,
     C: Drop,
-    R: Wait,
+    R: Abort + Wait,
     G: Gate + Drop,
     S: Drop,
 {
-    let mut backs = Vec::new(alloc);
-    for seat in seats {
-        backs.push(Back::Free(seat)).map_err(|_| "no memory")?;
-    }
     match pool.close(rt, alloc, backs) {
-        Ok(chronicle) => Ok(chronicle),
-        Err(_) => Err("not closed".into()),
+        Ok(chronicle) => chronicle,
+        Err(_) => panic!(rt; "not closed"),
     }
+}
+
+/// A seat, to be given back.
+fn given_back<N: Ledgers>(
+    rt: &impl Abort,
+    alloc: Global,
+    seat: OurSeat<N>,
+) -> Vec<Back<PoolDeed<u64>, N>> {
+    let mut backs = Vec::new(alloc);
+    backs.push(Back::Free(seat)).expect(rt, "no memory");
+    backs
 }
 
 /// Closes a pool of one caller.
@@ -201,17 +228,15 @@ pub(crate) fn closed<N, C, R, G, S>(
     alloc: Global,
     pool: Ours<C, G, S, N>,
     seat: OurSeat<N>,
-) -> Result<PoolChronicle<C>, Fail>
+) -> PoolChronicle<C>
 where
     N: PoolLedgers,
     C: Drop,
-    R: Wait,
+    R: Abort + Wait,
     G: Gate + Drop,
     S: Drop,
 {
-    let mut seats = Vec::new(alloc);
-    seats.push(seat).map_err(|_| "no memory")?;
-    closed_by(rt, alloc, pool, seats)
+    closed_by(rt, alloc, pool, given_back(rt, alloc, seat))
 }
 
 /// How many jobs have given this answer, as their workers' records say.
