@@ -8,19 +8,18 @@ use meet_book::{Book, Receipt};
 use meet_tickets::{Record, Refusal, SeatNo};
 use std::alloc::Global;
 use std::process::Abort;
-use std::test::Fail;
 
 /// A seat by its number.
-pub fn seat(number: u64) -> Result<SeatNo, Fail> {
-    Ok(SeatNo::new(number).ok_or("no such seat number")?)
+pub fn seat(rt: &impl Abort, number: u64) -> SeatNo {
+    SeatNo::new(number).expect(rt, "no such seat number")
 }
 
 /// A book of an empty cell with so many tickets, that makes room for so many puts at most.
-pub fn book_of(alloc: Global, tickets: u64, most: u64, cap: u64) -> Result<Book<Cell>, Fail>
+pub fn book_of(rt: &impl Abort, alloc: Global, tickets: u64, most: u64, cap: u64) -> Book<Cell>
     requires cap_from { 0 < cap }
     requires cap_to { cap ≤ most_records }
 {
-    Ok(Book::new(alloc, Cell::new(tickets, most)?, cap))
+    Book::new(alloc, Cell::new(rt, tickets, most), cap)
 }
 
 /// A record's seat, ticket and deed.
@@ -38,35 +37,25 @@ fn has(rt: &impl Abort, book: &Book<Cell>, rows: &[(u64, u64, Deed)]) {
 }
 
 /// The place of a call's receipt, 0 where nothing is written; or why it is refused.
-fn place(
-    rt: &impl Abort,
-    book: &mut Book<Cell>,
-    number: u64,
-    call: Call,
-) -> Result<Result<u64, Refusal>, Fail> {
-    match book.step(seat(number)?, call) {
-        Ok((_, None)) => Ok(Ok(0)),
+fn place(rt: &impl Abort, book: &mut Book<Cell>, number: u64, call: Call) -> Result<u64, Refusal> {
+    match book.step(seat(rt, number), call) {
+        Ok((_, None)) => Ok(0),
         Ok((_, Some(receipt))) => {
             assert!(rt; Some(receipt.entry()) == book.records().last().copied());
-            Ok(Ok(receipt.place()))
+            Ok(receipt.place())
         }
         Err(refused) => {
             assert!(rt; refused.back == call);
-            Ok(Err(refused.why))
+            Err(refused.why)
         }
     }
 }
 
 /// Seats make these calls, and each is written at this place, or refused for this reason.
-fn plays(
-    rt: &impl Abort,
-    book: &mut Book<Cell>,
-    rows: &[(u64, Call, Result<u64, Refusal>)],
-) -> Result<(), Fail> {
+fn plays(rt: &impl Abort, book: &mut Book<Cell>, rows: &[(u64, Call, Result<u64, Refusal>)]) {
     for (number, call, wanted) in rows {
-        assert_eq!(rt; place(rt, book, *number, *call)?, *wanted);
+        assert_eq!(rt; place(rt, book, *number, *call), *wanted);
     }
-    Ok(())
 }
 
 /// A seat's drain took items at these places, under these tickets.
@@ -94,29 +83,34 @@ fn seen(book: &Book<Cell>) -> (u64, u64, u64, usize) {
 /// A drain of so many by a seat, and what it takes, by place and ticket, or why it is refused.
 type Drain = (u64, u64, Result<&'static [(u64, u64)], Refusal>);
 
-/// Seats drain the cell, one after another. A drain that is refused changes nothing.
-fn drains(
-    rt: &impl Abort,
-    alloc: Global,
-    book: &mut Book<Cell>,
-    rows: &[Drain],
-) -> Result<(), Fail> {
-    for (number, most, wanted) in rows {
-        let before = seen(book);
-        match book.drain(alloc, seat(*number)?, *most) {
-            Ok(got) => are_taken(rt, got.as_slice(), *number, wanted.unwrap_or(&[])),
-            Err(why) => {
-                assert_eq!(rt; Some(why), wanted.err());
-                assert_eq!(rt; seen(book), before);
-            }
+/// A seat drains the cell. Where that is refused, it changes nothing.
+fn drain(rt: &impl Abort, alloc: Global, book: &mut Book<Cell>, row: &Drain) {
+    let (number, most, wanted) = *row;
+    let before = seen(book);
+    match book.drain(alloc, seat(rt, number), most) {
+        Ok(got) => are_taken(rt, got.as_slice(), number, wanted.unwrap_or(&[])),
+        Err(why) => {
+            assert_eq!(rt; Some(why), wanted.err());
+            assert_eq!(rt; seen(book), before);
         }
     }
-    Ok(())
+}
+
+/// Seats drain the cell, one after another.
+fn drains(rt: &impl Abort, alloc: Global, book: &mut Book<Cell>, rows: &[Drain]) {
+    for row in rows {
+        drain(rt, alloc, book, row);
+    }
+}
+
+/// The book is cut: how many records are gone.
+pub fn cut(book: &mut Book<Cell>) -> Result<u64, Refusal> {
+    book.cut()
 }
 
 #[test]
-fn each_step_is_written(rt: HostRuntime) -> Result<(), Fail> {
-    let mut book = book_of(rt.alloc(), 9, 5, 20)?;
+fn each_step_is_written(rt: HostRuntime) {
+    let mut book = book_of(&rt, rt.alloc(), 9, 5, 20);
     let rows = [
         (0, Call::Put(2), Ok(1)),
         (1, Call::Take, Ok(2)),
@@ -127,7 +121,7 @@ fn each_step_is_written(rt: HostRuntime) -> Result<(), Fail> {
         (1, Call::Put(2), Ok(6)),
         (0, Call::End, Ok(7)),
     ];
-    plays(&rt, &mut book, &rows)?;
+    plays(&rt, &mut book, &rows);
     let rows = [
         (0, 1, Deed::Put(2)),
         (1, 2, Deed::Took),
@@ -142,21 +136,20 @@ fn each_step_is_written(rt: HostRuntime) -> Result<(), Fail> {
     assert_eq!(rt; cell.tokens, 1);
     assert_eq!(rt; base.gone, 0);
     assert_eq!(rt; records.len(), 7);
-    Ok(())
 }
 
 #[test]
-fn a_book_is_cut_where_a_seat_waits(rt: HostRuntime) -> Result<(), Fail> {
-    let mut book = book_of(rt.alloc(), 9, 5, 4)?;
-    assert_eq!(rt; book.cut(), Ok(0));
+fn a_book_is_cut_where_a_seat_waits(rt: HostRuntime) {
+    let mut book = book_of(&rt, rt.alloc(), 9, 5, 4);
+    assert_eq!(rt; cut(&mut book), Ok(0));
     let rows = [
         (0, Call::Take, Ok(1)),
         (1, Call::Put(1), Ok(2)),
         (1, Call::Put(1), Ok(3)),
         (1, Call::Put(2), Err(Refusal::HistoryFull)),
     ];
-    plays(&rt, &mut book, &rows)?;
-    assert_eq!(rt; book.cut(), Ok(3));
+    plays(&rt, &mut book, &rows);
+    assert_eq!(rt; cut(&mut book), Ok(3));
     has(&rt, &book, &[]);
     assert_eq!(rt; book.base().gone, 3);
     assert!(rt; book.base().wait.is_some());
@@ -168,7 +161,7 @@ fn a_book_is_cut_where_a_seat_waits(rt: HostRuntime) -> Result<(), Fail> {
         (1, Call::Put(2), Err(Refusal::HistoryFull)),
         (0, Call::End, Ok(7)),
     ];
-    plays(&rt, &mut book, &rows)?;
+    plays(&rt, &mut book, &rows);
     has(
         &rt,
         &book,
@@ -179,42 +172,40 @@ fn a_book_is_cut_where_a_seat_waits(rt: HostRuntime) -> Result<(), Fail> {
             (0, 1, Deed::Ended),
         ],
     );
-    assert_eq!(rt; book.cut(), Ok(7));
+    assert_eq!(rt; cut(&mut book), Ok(7));
     let (_, base, records) = book.into_parts();
     assert_eq!(rt; base.gone, 7);
     assert!(rt; base.wait.is_none());
     assert!(rt; records.is_empty());
-    Ok(())
 }
 
 #[test]
-fn the_first_reason_counts(rt: HostRuntime) -> Result<(), Fail> {
+fn the_first_reason_counts(rt: HostRuntime) {
     // The seat, then the tickets, then the history.
-    let mut book = book_of(rt.alloc(), 1, 5, 2)?;
+    let mut book = book_of(&rt, rt.alloc(), 1, 5, 2);
     let rows = [
         (0, Call::Take, Ok(1)),
         (2, Call::Put(1), Err(Refusal::NoSuchSeat)),
         (0, Call::Put(1), Err(Refusal::SeatOpen)),
         (1, Call::Put(1), Err(Refusal::TicketsSpent)),
     ];
-    plays(&rt, &mut book, &rows)?;
+    plays(&rt, &mut book, &rows);
     has(&rt, &book, &[(0, 1, Deed::Waits)]);
 
     // Memory comes last, and who needs none gets on without.
-    let mut book = book_of(rt.alloc(), 9, 0, 1)?;
+    let mut book = book_of(&rt, rt.alloc(), 9, 0, 1);
     let rows = [
         (0, Call::Take, Err(Refusal::HistoryFull)),
         (0, Call::Put(1), Err(Refusal::Memory)),
         (0, Call::End, Ok(0)),
     ];
-    plays(&rt, &mut book, &rows)?;
+    plays(&rt, &mut book, &rows);
     has(&rt, &book, &[]);
-    Ok(())
 }
 
 #[test]
-fn an_ending_always_has_its_place(rt: HostRuntime) -> Result<(), Fail> {
-    let mut book = book_of(rt.alloc(), 9, 5, 4)?;
+fn an_ending_always_has_its_place(rt: HostRuntime) {
+    let mut book = book_of(&rt, rt.alloc(), 9, 5, 4);
     let rows = [
         (0, Call::Take, Ok(1)),
         (1, Call::Put(1), Ok(2)),
@@ -223,33 +214,32 @@ fn an_ending_always_has_its_place(rt: HostRuntime) -> Result<(), Fail> {
         (0, Call::End, Ok(4)),
         (0, Call::Put(1), Err(Refusal::HistoryFull)),
     ];
-    plays(&rt, &mut book, &rows)
+    plays(&rt, &mut book, &rows);
 }
 
 #[test]
-fn a_drain_takes_up_to_what_is_there(rt: HostRuntime) -> Result<(), Fail> {
-    let mut book = book_of(rt.alloc(), 9, 5, 20)?;
-    plays(&rt, &mut book, &[(0, Call::Put(5), Ok(1))])?;
+fn a_drain_takes_up_to_what_is_there(rt: HostRuntime) {
+    let mut book = book_of(&rt, rt.alloc(), 9, 5, 20);
+    plays(&rt, &mut book, &[(0, Call::Put(5), Ok(1))]);
     let rows: [Drain; 4] = [
         (1, 0, Ok(&[])),
         (1, 2, Ok(&[(2, 2), (3, 3)])),
         (0, 9, Ok(&[(4, 4), (5, 5), (6, 6)])),
         (0, 9, Ok(&[])),
     ];
-    drains(&rt, rt.alloc(), &mut book, &rows)?;
+    drains(&rt, rt.alloc(), &mut book, &rows);
     assert_eq!(rt; seen(&book), (0, 3, 0, 6));
-    Ok(())
 }
 
 #[test]
-fn the_first_reason_against_a_drain_counts(rt: HostRuntime) -> Result<(), Fail> {
+fn the_first_reason_against_a_drain_counts(rt: HostRuntime) {
     // The seat, then the tickets, then the history: one place stays for the ending that is owed.
-    let mut book = book_of(rt.alloc(), 5, 5, 6)?;
+    let mut book = book_of(&rt, rt.alloc(), 5, 5, 6);
     plays(
         &rt,
         &mut book,
         &[(0, Call::Take, Ok(1)), (1, Call::Put(4), Ok(2))],
-    )?;
+    );
     let rows: [Drain; 6] = [
         (2, 9, Err(Refusal::NoSuchSeat)),
         (0, 9, Err(Refusal::SeatOpen)),
@@ -258,11 +248,11 @@ fn the_first_reason_against_a_drain_counts(rt: HostRuntime) -> Result<(), Fail> 
         (1, 2, Ok(&[(3, 3), (4, 4)])),
         (1, 1, Err(Refusal::HistoryFull)),
     ];
-    drains(&rt, rt.alloc(), &mut book, &rows)?;
+    drains(&rt, rt.alloc(), &mut book, &rows);
 
     // It needs none of the place's room.
-    let mut book = book_of(rt.alloc(), 9, 1, 20)?;
-    plays(&rt, &mut book, &[(0, Call::Put(5), Ok(1))])?;
+    let mut book = book_of(&rt, rt.alloc(), 9, 1, 20);
+    plays(&rt, &mut book, &[(0, Call::Put(5), Ok(1))]);
     let rows: [Drain; 1] = [(1, 2, Ok(&[(2, 2), (3, 3)]))];
-    drains(&rt, rt.alloc(), &mut book, &rows)
+    drains(&rt, rt.alloc(), &mut book, &rows);
 }

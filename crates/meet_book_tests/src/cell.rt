@@ -1,7 +1,7 @@
 //! A cell of tokens for two seats: a place with nothing of queues in it.
 
 ghost use Rattle.std.specs.Prelude.{◌≡◌, ◌+◌, ◌<◌, ◌≤◌, ◌⊎◌, false, Some, None, refl, length, nat_lt, nat_eq};
-ghost use Rattle.std.specs.Prelude.{option_map, option_to_list, IsSome, IfOk, if◌then◌else◌};
+ghost use Rattle.std.specs.Prelude.{option_map, option_to_list, IsSome, if◌then◌else◌};
 ghost use Rattle.std.specs.Option.{option_map_or};
 ghost use Rattle.std.proofs.Common.{rules, arith};
 ghost use Rattle.meet_book_tests.specs.declared.cell.Call.TheVariants.{Put, Take, End};
@@ -10,7 +10,7 @@ ghost use Rattle.meet_tickets.specs.declared.refusals.Refusal.TheVariants.{NoSuc
 use meet_book::{Bases, Drains, Object};
 use meet_tickets::{Record, Refusal, SeatNo, Ticket};
 use std::alloc::Global;
-use std::test::Fail;
+use std::process::Abort;
 
 /// What a seat asks.
 #[derive(Clone, Copy, PartialEq)]
@@ -67,17 +67,17 @@ pub struct Cell {
 
 impl Cell {
     /// An empty cell with so many tickets, that makes room for so many puts at most.
-    pub fn new(tickets: u64, most: u64) -> Result<Cell, Fail>
-        ensures { IfOk result (λ cell. cell.wait ≡ None) }
+    pub fn new(rt: &impl Abort, tickets: u64, most: u64) -> Cell
+        ensures { result.wait ≡ None }
     {
-        Ok(Cell {
+        Cell {
             tokens: 0,
             wait: None,
-            next: Ticket::new(1).ok_or("no such ticket number")?,
+            next: Ticket::new(1).expect(rt, "no such ticket number"),
             left: tickets,
             room: 0,
             most,
-        })
+        }
     }
 
     /// Whether this seat waits.

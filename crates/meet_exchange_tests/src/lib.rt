@@ -6,6 +6,8 @@ mod closing;
 #[cfg(test)]
 mod growth;
 #[cfg(test)]
+mod java_exchanger;
+#[cfg(test)]
 mod shared;
 #[cfg(test)]
 mod slots;

@@ -7,7 +7,6 @@ use crate::shared::{
 };
 use meet_exchange::{Arena, Offered, Part, SlotDeed};
 use meet_tickets::Refusal;
-use std::test::*;
 
 /// An entry of a list.
 fn part(slot: usize, round: u64, deed: SlotDeed) -> Part {
@@ -15,7 +14,7 @@ fn part(slot: usize, round: u64, deed: SlotDeed) -> Part {
 }
 
 #[test]
-fn three_seats_in_one_slot(rt: HostRuntime) -> Result<(), Fail> {
+fn three_seats_in_one_slot(rt: HostRuntime) {
     let (arena, zero, one, two) = opened(&rt, rt.alloc(), 1);
     let zero = posts(&rt, &arena, zero, 0, 5, 2);
     let zero = is_early(&rt, &arena, zero);
@@ -34,20 +33,18 @@ fn three_seats_in_one_slot(rt: HostRuntime) -> Result<(), Fail> {
     assert!(rt; zero.parts() == did.as_slice());
     assert!(rt; one.parts() == [part(0, 0, SlotDeed::Swapped { gave: 6, got: 5 })].as_slice());
     assert!(rt; two.parts().is_empty());
-    Ok(())
 }
 
 #[test]
-fn each_slot_by_itself(rt: HostRuntime) -> Result<(), Fail> {
+fn each_slot_by_itself(rt: HostRuntime) {
     let (arena, zero, one, two) = opened(&rt, rt.alloc(), 2);
     let _zero = posts(&rt, &arena, zero, 1, 5, 2);
     let _one = posts(&rt, &arena, one, 0, 6, 10);
     let _two = swaps(&rt, &arena, two, 1, (7, 5), 4);
-    Ok(())
 }
 
 #[test]
-fn the_seats_of_a_wide_arena(rt: HostRuntime) -> Result<(), Fail> {
+fn the_seats_of_a_wide_arena(rt: HostRuntime) {
     let (arena, last, zero, one) = last_and_first(&rt, rt.alloc(), 1, 40_001);
     let numbers = (
         last.number().number(),
@@ -58,11 +55,10 @@ fn the_seats_of_a_wide_arena(rt: HostRuntime) -> Result<(), Fail> {
     let _last = posts(&rt, &arena, last, 0, 5, 320_002);
     let _zero = swaps(&rt, &arena, zero, 0, (6, 5), 320_004);
     let _one = is_contended(&rt, &arena, one, 0, 7, 320_004);
-    Ok(())
 }
 
 #[test]
-fn a_worn_slot(rt: HostRuntime) -> Result<(), Fail> {
+fn a_worn_slot(rt: HostRuntime) {
     let Ok((arena, mut seats)) = Arena::<u64>::starting(rt.alloc(), 1, 2, (1 << 44) - 1) else {
         panic!(rt; "no arena")
     };
@@ -73,11 +69,10 @@ fn a_worn_slot(rt: HostRuntime) -> Result<(), Fail> {
         Offered::Worn(seat, item) => assert_eq!(rt; (item, seat.parts().len()), (5, 0)),
         _ => panic!(rt; "not worn"),
     }
-    Ok(())
 }
 
 #[test]
-fn the_round_before_a_worn_slot(rt: HostRuntime) -> Result<(), Fail> {
+fn the_round_before_a_worn_slot(rt: HostRuntime) {
     let Ok((arena, mut seats)) = Arena::<u64>::starting(rt.alloc(), 1, 1, (1 << 44) - 2) else {
         panic!(rt; "no arena")
     };
@@ -88,11 +83,10 @@ fn the_round_before_a_worn_slot(rt: HostRuntime) -> Result<(), Fail> {
     let seat = posts(&rt, &arena, seat, 0, 5, word + 2);
     let seat = withdraws(&rt, &arena, seat, 5, word + 524_288);
     assert!(rt; matches!(arena.offer(seat, 0, 6), Offered::Worn(_, 6)));
-    Ok(())
 }
 
 #[test]
-fn sizes_out_of_their_limits(rt: HostRuntime) -> Result<(), Fail> {
+fn sizes_out_of_their_limits(rt: HostRuntime) {
     for (slots, seats) in [(0, 1), (65, 1), (1, 0), (1, 65_537)] {
         match Arena::<u64>::new(rt.alloc(), slots, seats) {
             Ok(_) => panic!(rt; "made"),
@@ -102,5 +96,4 @@ fn sizes_out_of_their_limits(rt: HostRuntime) -> Result<(), Fail> {
     for (slots, seats) in [(1, 65_536), (64, 1)] {
         assert!(rt; Arena::<u64>::new(rt.alloc(), slots, seats).is_ok());
     }
-    Ok(())
 }

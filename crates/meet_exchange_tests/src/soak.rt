@@ -5,8 +5,8 @@ ghost use Rattle.std.specs.Prelude.{◌≡◌, ◌<◌};
 use crate::shared::four;
 use meet_exchange::{Arena, Exchanged, Seat};
 use std::alloc::Global;
+use std::process::Abort;
 use std::sync::Wait;
-use std::test::*;
 use std::thread;
 use std::thread::Threads;
 
@@ -17,17 +17,17 @@ const EACH: u64 = 25_000;
 const LIMIT: u64 = 2_000;
 
 /// What a thread has in the end: the item that it came to last of each of its own. One that timed out it keeps.
-fn brings<R: Wait>(
+fn brings<R: Abort + Wait>(
     rt: &R,
     alloc: Global,
     arena: &Arena<u64>,
     seat: Seat<u64>,
     first: u64,
-) -> Option<Vec<u64>>
+) -> Vec<u64>
     requires { (seat.arena ≡ arena.now.id) × (3 < arena.now.slots) }
 {
     let mut seat = seat;
-    let mut items = Vec::with_capacity(alloc, EACH as usize).ok()?;
+    let mut items = Vec::with_capacity(alloc, EACH as usize).expect(rt, "memory");
     for number in 0..EACH {
         let item = first.wrapping_add(number);
         let slot = (number % 4) as usize;
@@ -38,19 +38,19 @@ fn brings<R: Wait>(
             Exchanged::Memory(again, own) => (again, own),
         };
         seat = again;
-        items.push(got).ok()?;
+        items.push(got).expect(rt, "memory");
     }
-    Some(items)
+    items
 }
 
 /// Two threads bring their items, from these numbers on.
-fn two_bring<R: Threads + Wait + Sync>(
+fn two_bring<R: Abort + Threads + Wait + Sync>(
     rt: &R,
     alloc: Global,
     arena: &Arena<u64>,
     one: (Seat<u64>, u64),
     other: (Seat<u64>, u64),
-) -> (Option<Vec<u64>>, Option<Vec<u64>>)
+) -> (Vec<u64>, Vec<u64>)
     requires { (one.0.arena ≡ arena.now.id) × (other.0.arena ≡ arena.now.id) × (3 < arena.now.slots) }
 {
     thread::join(
@@ -61,9 +61,9 @@ fn two_bring<R: Threads + Wait + Sync>(
 }
 
 /// Marks these items off; or none, where one is unknown or comes twice.
-fn mark_off(seen: &mut [bool], items: Option<Vec<u64>>) -> Option<()> {
-    for item in items? {
-        let place = seen.get_mut(item as usize)?;
+fn mark_off(seen: &mut [bool], items: &[u64]) -> Option<()> {
+    for item in items {
+        let place = seen.get_mut(*item as usize)?;
         if *place {
             return None;
         }
@@ -72,8 +72,18 @@ fn mark_off(seen: &mut [bool], items: Option<Vec<u64>>) -> Option<()> {
     Some(())
 }
 
+/// Each item is in one of these lists, once.
+fn are_all(rt: &impl Abort, alloc: Global, lists: [Vec<u64>; 4]) {
+    let mut seen = Vec::new(alloc);
+    seen.resize(100_000, false).expect(rt, "memory");
+    for items in lists {
+        assert!(rt; mark_off(seen.as_mut_slice(), items.as_slice()).is_some());
+    }
+    assert!(rt; seen.iter().all(|it| *it));
+}
+
 #[test]
-fn each_item_comes_out_once(rt: HostRuntime) -> Result<(), Fail> {
+fn each_item_comes_out_once(rt: HostRuntime) {
     let alloc = rt.alloc();
     let (arena, zero, one, two, three) = four(&rt, alloc, 4);
     let ((a, b), (c, d)) = thread::join(
@@ -81,11 +91,5 @@ fn each_item_comes_out_once(rt: HostRuntime) -> Result<(), Fail> {
         || two_bring(&rt, alloc, &arena, (zero, 0), (one, EACH)),
         || two_bring(&rt, alloc, &arena, (two, 50_000), (three, 75_000)),
     );
-    let mut seen = Vec::new(alloc);
-    seen.resize(100_000, false)?;
-    for items in [a, b, c, d] {
-        assert!(rt; mark_off(seen.as_mut_slice(), items).is_some());
-    }
-    assert!(rt; seen.iter().all(|it| *it));
-    Ok(())
+    are_all(&rt, alloc, [a, b, c, d]);
 }

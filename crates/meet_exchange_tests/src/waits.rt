@@ -6,11 +6,10 @@ use crate::shared::{keeps_busy, last_seat, opened, posts};
 use meet_exchange::{Arena, Exchanged, Part, Seat, SlotDeed};
 use std::process::Abort;
 use std::sync::Wait;
-use std::test::*;
 use std::thread;
 
 /// The other seat's item, without a limit.
-fn met<R: Wait>(rt: &R, arena: &Arena<u64>, seat: Seat<u64>, item: u64) -> Option<u64>
+pub fn met<R: Wait>(rt: &R, arena: &Arena<u64>, seat: Seat<u64>, item: u64) -> Option<u64>
     requires { (seat.arena ≡ arena.now.id) × (0 < arena.now.slots) }
 {
     match arena.exchange(rt, seat, 0, item, None) {
@@ -20,7 +19,7 @@ fn met<R: Wait>(rt: &R, arena: &Arena<u64>, seat: Seat<u64>, item: u64) -> Optio
 }
 
 #[test]
-fn two_threads_get_each_others_items(rt: HostRuntime) -> Result<(), Fail> {
+fn two_threads_get_each_others_items(rt: HostRuntime) {
     let (arena, zero, one, _two) = opened(&rt, rt.alloc(), 1);
     let (five, six) = thread::join(
         &rt,
@@ -28,11 +27,10 @@ fn two_threads_get_each_others_items(rt: HostRuntime) -> Result<(), Fail> {
         || met(&rt, &arena, one, 6),
     );
     assert_eq!(rt; (five, six), (Some(6), Some(5)));
-    Ok(())
 }
 
 /// An exchange of 5 that times out, with its item.
-fn times_out<R: Wait + Abort>(
+pub fn times_out<R: Wait + Abort>(
     rt: &R,
     arena: &Arena<u64>,
     seat: Seat<u64>,
@@ -52,7 +50,7 @@ fn times_out<R: Wait + Abort>(
 }
 
 /// It was posted and taken back in these slots, in turn.
-fn tried(rt: &impl Abort, list: &[Part], slots: &[usize]) {
+pub fn tried(rt: &impl Abort, list: &[Part], slots: &[usize]) {
     assert_eq!(rt; list.len(), 2 * slots.len());
     for (pair, slot) in list.chunks(2).zip(slots) {
         assert!(rt; pair[0].slot == *slot && pair[0].deed == SlotDeed::Posted(5));
@@ -61,7 +59,7 @@ fn tried(rt: &impl Abort, list: &[Part], slots: &[usize]) {
 }
 
 #[test]
-fn an_exchange_times_out_where_it_should(rt: HostRuntime) -> Result<(), Fail> {
+fn an_exchange_times_out_where_it_should(rt: HostRuntime) {
     let rows: [(u64, usize, &[usize]); 6] = [
         (0, 3, &[3]),
         (1, 3, &[3]),
@@ -75,11 +73,10 @@ fn an_exchange_times_out_where_it_should(rt: HostRuntime) -> Result<(), Fail> {
         let seat = times_out(&rt, &arena, seat, slot, limit);
         tried(&rt, seat.parts(), slots);
     }
-    Ok(())
 }
 
 #[test]
-fn an_exchange_goes_on_from_a_busy_slot(rt: HostRuntime) -> Result<(), Fail> {
+fn an_exchange_goes_on_from_a_busy_slot(rt: HostRuntime) {
     let (arena, zero, one, two) = opened(&rt, rt.alloc(), 2);
     let _zero = posts(&rt, &arena, zero, 1, 8, 2);
     let Exchanged::Swapped(_one, got) = arena.exchange(&rt, one, 1, 9, Some(0)) else {
@@ -93,11 +90,10 @@ fn an_exchange_goes_on_from_a_busy_slot(rt: HostRuntime) -> Result<(), Fail> {
     tried(&rt, two.parts(), &[]);
     let two = times_out(&rt, &arena, two, 1, 2);
     tried(&rt, two.parts(), &[0]);
-    Ok(())
 }
 
 #[test]
-fn an_exchange_goes_on_over_four_slots(rt: HostRuntime) -> Result<(), Fail> {
+fn an_exchange_goes_on_over_four_slots(rt: HostRuntime) {
     let Ok((arena, mut seats)) = Arena::<u64>::new(rt.alloc(), 4, 5) else {
         panic!(&rt; "no arena")
     };
@@ -114,11 +110,10 @@ fn an_exchange_goes_on_over_four_slots(rt: HostRuntime) -> Result<(), Fail> {
     tried(&rt, seat.parts(), &[]);
     let seat = times_out(&rt, &arena, seat, 1, 4);
     tried(&rt, seat.parts(), &[0]);
-    Ok(())
 }
 
 #[test]
-fn an_exchange_in_a_worn_slot(rt: HostRuntime) -> Result<(), Fail> {
+fn an_exchange_in_a_worn_slot(rt: HostRuntime) {
     let Ok((arena, mut seats)) = Arena::<u64>::starting(rt.alloc(), 1, 1, (1 << 44) - 1) else {
         panic!(&rt; "no arena")
     };
@@ -127,5 +122,4 @@ fn an_exchange_in_a_worn_slot(rt: HostRuntime) -> Result<(), Fail> {
         Exchanged::Worn(seat, item) => assert_eq!(&rt; (item, seat.parts().len()), (5, 0)),
         _ => panic!(&rt; "not worn"),
     }
-    Ok(())
 }

@@ -1,11 +1,10 @@
 //! The base that stands for what a checker has seen, and whether another one is that.
 
-use crate::calls::{record, seat, ticket};
-use meet_history::{CheckFault, Checker, Ground, Kind, Order, Why};
-use meet_tickets::{Base, Deed, Entry, OpenCut, OpenPair, Record, Side};
+use crate::calls::{checker_of, kind_of, pushed, record, seat, ticket};
+use meet_history::{CheckFault, Checker, Ground, Order, Why};
+use meet_tickets::{Base, Deed, Entry, OpenCut, OpenPair, Record, SeatNo, Side};
 use std::alloc::Global;
 use std::process::Abort;
-use std::test::Fail;
 
 /// What a record says of its seat and its ticket; a partner by its ticket, and a target by its seat.
 #[derive(Clone, Copy)]
@@ -257,79 +256,87 @@ fn with<'a>(base: Written<'a>, other: Other<'a>) -> Written<'a> {
 }
 
 /// The deed of a record.
-fn deed_of(did: Did) -> Result<Deed, Fail> {
-    Ok(match did {
+fn deed_of(rt: &impl Abort, did: Did) -> Deed {
+    match did {
         Did::GiveWaits(mark) => Deed::GiveWaits(mark),
         Did::GiveKept(mark) => Deed::GiveKept(mark),
-        Did::GiveMeets(mark, with) => Deed::GiveMeets(mark, ticket(with)?),
+        Did::GiveMeets(mark, with) => Deed::GiveMeets(mark, ticket(rt, with)),
         Did::TakeWaits => Deed::TakeWaits,
-        Did::TakeMeets(mark, with) => Deed::TakeMeets(mark, ticket(with)?),
+        Did::TakeMeets(mark, with) => Deed::TakeMeets(mark, ticket(rt, with)),
         Did::TakeFails => Deed::TakeFails,
         Did::Done => Deed::Done,
-        Did::Interrupt(target) => Deed::Interrupt(seat(target)?),
-    })
+        Did::Interrupt(target) => Deed::Interrupt(seat(rt, target)),
+    }
 }
 
 /// The record of a row.
-fn record_of(row: Row) -> Result<Record<Deed>, Fail> {
+fn record_of(rt: &impl Abort, row: Row) -> Record<Deed> {
     let (seat, ticket, did) = row;
-    record(seat, ticket, deed_of(did)?)
+    record(rt, seat, ticket, deed_of(rt, did))
 }
 
 /// The lists of a base, as they are written.
-fn line_of(alloc: Global, rows: &[Lined]) -> Result<Vec<Entry<u64>>, Fail> {
+fn line_of(rt: &impl Abort, alloc: Global, rows: &[Lined]) -> Vec<Entry<u64>> {
     let mut line = Vec::new(alloc);
     for (number, own, item, waits) in rows {
         line.push(Entry {
-            ticket: ticket(*own)?,
-            seat: seat(*number)?,
+            ticket: ticket(rt, *own),
+            seat: seat(rt, *number),
             item: *item,
             waits: *waits,
-        })?;
+        })
+        .expect(rt, "memory");
     }
-    Ok(line)
+    line
 }
 
-fn pairs_of(alloc: Global, rows: &[Paired]) -> Result<Vec<OpenPair>, Fail> {
+fn pairs_of(rt: &impl Abort, alloc: Global, rows: &[Paired]) -> Vec<OpenPair> {
     let mut pairs = Vec::new(alloc);
     for (number, own, side, with, mark) in rows {
-        pairs.push(OpenPair {
-            ticket: ticket(*own)?,
-            seat: seat(*number)?,
-            side: *side,
-            partner: ticket(*with)?,
-            mark: *mark,
-        })?;
+        pairs
+            .push(OpenPair {
+                ticket: ticket(rt, *own),
+                seat: seat(rt, *number),
+                side: *side,
+                partner: ticket(rt, *with),
+                mark: *mark,
+            })
+            .expect(rt, "memory");
     }
-    Ok(pairs)
+    pairs
 }
 
-fn cut_of(alloc: Global, rows: &[Cut]) -> Result<Vec<OpenCut>, Fail> {
+fn cut_of(rt: &impl Abort, alloc: Global, rows: &[Cut]) -> Vec<OpenCut> {
     let mut cut = Vec::new(alloc);
     for (number, own, item) in rows {
         cut.push(OpenCut {
-            ticket: ticket(*own)?,
-            seat: seat(*number)?,
+            ticket: ticket(rt, *own),
+            seat: seat(rt, *number),
             item: *item,
-        })?;
+        })
+        .expect(rt, "memory");
     }
-    Ok(cut)
+    cut
+}
+
+fn flags_of(rt: &impl Abort, alloc: Global, rows: &[u64]) -> Vec<SeatNo> {
+    let mut flags = Vec::new(alloc);
+    for number in rows {
+        flags.push(seat(rt, *number)).expect(rt, "memory");
+    }
+    flags
 }
 
 /// The base that is written.
-fn base_of(alloc: Global, written: Written<'_>) -> Result<Base, Fail> {
-    let mut flags = Vec::new(alloc);
-    for number in written.flags {
-        flags.push(seat(*number)?)?;
-    }
-    Ok(Base {
+fn base_of(rt: &impl Abort, alloc: Global, written: Written<'_>) -> Base {
+    Base {
         gone: written.gone,
-        last: ticket(written.last)?,
-        line: line_of(alloc, written.line)?,
-        pairs: pairs_of(alloc, written.pairs)?,
-        cut: cut_of(alloc, written.cut)?,
-        flags,
-    })
+        last: ticket(rt, written.last),
+        line: line_of(rt, alloc, written.line),
+        pairs: pairs_of(rt, alloc, written.pairs),
+        cut: cut_of(rt, alloc, written.cut),
+        flags: flags_of(rt, alloc, written.flags),
+    }
 }
 
 /// The line is this.
@@ -344,78 +351,58 @@ fn has_line(rt: &impl Abort, line: &[Entry<u64>], rows: &[Lined]) {
 }
 
 /// A base is as it is written.
-fn is_as_written(
-    rt: &impl Abort,
-    alloc: Global,
-    base: &Base,
-    written: Written<'_>,
-) -> Result<(), Fail> {
-    let wanted = base_of(alloc, written)?;
+fn is_as_written(rt: &impl Abort, alloc: Global, base: &Base, written: Written<'_>) {
+    let wanted = base_of(rt, alloc, written);
     assert_eq!(rt; base.gone, wanted.gone);
     assert_eq!(rt; base.last, wanted.last);
     has_line(rt, base.line.as_slice(), written.line);
     assert!(rt; base.pairs == wanted.pairs);
     assert!(rt; base.cut == wanted.cut);
     assert!(rt; base.flags == wanted.flags);
-    Ok(())
 }
 
 /// The checker tells this base.
-fn tells(
-    rt: &impl Abort,
-    alloc: Global,
-    checker: &Checker,
-    written: Written<'_>,
-) -> Result<(), Fail> {
+fn tells(rt: &impl Abort, alloc: Global, checker: &Checker, written: Written<'_>) {
     match checker.base(alloc) {
         Ok(base) => is_as_written(rt, alloc, &base, written),
-        Err(_) => Err("no base was told".into()),
+        Err(_) => panic!(rt; "no base was told"),
     }
 }
 
 /// Whether the checker is where this base stands.
 fn is_there(
+    rt: &impl Abort,
     alloc: Global,
     checker: &Checker,
     written: Written<'_>,
-) -> Result<Result<bool, CheckFault>, Fail> {
-    let base = base_of(alloc, written)?;
-    Ok(checker.ends_at(alloc, &base))
+) -> Result<bool, CheckFault> {
+    let base = base_of(rt, alloc, written);
+    checker.ends_at(alloc, &base)
 }
 
 /// Each of the records can stand.
-fn pushes(rt: &impl Abort, checker: &mut Checker, rows: &[Row]) -> Result<(), Fail> {
+fn pushes(rt: &impl Abort, checker: &mut Checker, rows: &[Row]) {
     for row in rows {
-        assert_eq!(rt; checker.push(record_of(*row)?), Ok(()));
+        assert_eq!(rt; pushed(checker, record_of(rt, *row)), Ok(()));
     }
-    Ok(())
-}
-
-/// A place without a bound.
-fn kind_of(order: Order) -> Kind {
-    Kind { order, bound: None }
 }
 
 /// A checker that has seen a story.
-fn told(rt: &impl Abort, alloc: Global, story: Story<'_>) -> Result<Checker, Fail> {
-    let none = Base::empty(alloc);
-    let mut checker = Checker::new(alloc, kind_of(story.order), &none)
-        .ok()
-        .ok_or("memory")?;
-    pushes(rt, &mut checker, story.rows)?;
-    Ok(checker)
+fn told(rt: &impl Abort, alloc: Global, story: Story<'_>) -> Checker {
+    let mut checker = checker_of(rt, alloc, story.order);
+    pushes(rt, &mut checker, story.rows);
+    checker
 }
 
 /// What stands for the story is its base.
-fn leaves(rt: &impl Abort, alloc: Global, story: Story<'_>) -> Result<(), Fail> {
-    let checker = told(rt, alloc, story)?;
-    tells(rt, alloc, &checker, story.base)?;
-    assert_eq!(rt; is_there(alloc, &checker, story.base)?, Ok(true));
-    Ok(())
+fn leaves(rt: &impl Abort, alloc: Global, story: Story<'_>) {
+    let checker = told(rt, alloc, story);
+    tells(rt, alloc, &checker, story.base);
+    assert_eq!(rt; is_there(rt, alloc, &checker, story.base), Ok(true));
 }
 
 #[test]
-fn stories_leave_their_bases(rt: HostRuntime) -> Result<(), Fail> {
+fn stories_leave_their_bases(rt: HostRuntime) {
     let stories = [
         NOTHING,
         A_FAILED_TAKE,
@@ -429,31 +416,29 @@ fn stories_leave_their_bases(rt: HostRuntime) -> Result<(), Fail> {
         ALL,
     ];
     for story in stories {
-        leaves(&rt, rt.alloc(), story)?;
+        leaves(&rt, rt.alloc(), story);
     }
-    Ok(())
 }
 
 #[test]
-fn no_other_base_is_the_end(rt: HostRuntime) -> Result<(), Fail> {
-    let checker = told(&rt, rt.alloc(), ALL)?;
+fn no_other_base_is_the_end(rt: HostRuntime) {
+    let checker = told(&rt, rt.alloc(), ALL);
     for other in OTHERS {
         assert_eq!(rt;
-            is_there(rt.alloc(), &checker, with(ALL.base, other))?,
+            is_there(&rt, rt.alloc(), &checker, with(ALL.base, other)),
             Ok(false)
         );
     }
-    assert_eq!(rt; is_there(rt.alloc(), &checker, ALL.base)?, Ok(true));
-    Ok(())
+    assert_eq!(rt; is_there(&rt, rt.alloc(), &checker, ALL.base), Ok(true));
 }
 
 #[test]
-fn records_that_were_folded_away_count(rt: HostRuntime) -> Result<(), Fail> {
+fn records_that_were_folded_away_count(rt: HostRuntime) {
     let kind = kind_of(Order::Fair);
-    let begin = Ground::new(rt.alloc(), kind, 5, ticket(9)?).into_base();
-    let mut checker = Checker::new(rt.alloc(), kind, &begin).ok().ok_or("memory")?;
+    let begin = Ground::new(rt.alloc(), kind, 5, ticket(&rt, 9)).into_base();
+    let mut checker = Checker::new(rt.alloc(), kind, &begin).expect(&rt, "memory");
     assert_eq!(rt; checker.ends_at(rt.alloc(), &begin), Ok(true));
-    pushes(&rt, &mut checker, &[(0, 12, Did::TakeWaits)])?;
+    pushes(&rt, &mut checker, &[(0, 12, Did::TakeWaits)]);
     assert_eq!(rt; checker.ends_at(rt.alloc(), &begin), Ok(false));
     let end = Written {
         gone: 6,
@@ -461,29 +446,26 @@ fn records_that_were_folded_away_count(rt: HostRuntime) -> Result<(), Fail> {
         line: &[(0, 12, None, true)],
         ..NONE
     };
-    tells(&rt, rt.alloc(), &checker, end)?;
-    assert_eq!(rt; is_there(rt.alloc(), &checker, end)?, Ok(true));
-    Ok(())
+    tells(&rt, rt.alloc(), &checker, end);
+    assert_eq!(rt; is_there(&rt, rt.alloc(), &checker, end), Ok(true));
 }
 
 #[test]
-fn a_fault_has_no_base(rt: HostRuntime) -> Result<(), Fail> {
-    let mut checker = told(&rt, rt.alloc(), TWO_GIVERS)?;
+fn a_fault_has_no_base(rt: HostRuntime) {
+    let mut checker = told(&rt, rt.alloc(), TWO_GIVERS);
     let fault = CheckFault::Illegal {
         place: 3,
         why: Why::NotOpen,
     };
     // Seat 2 has no open ticket.
-    assert_eq!(rt; checker.push(record_of((2, 1, Did::Done))?), Err(fault));
+    let done = record_of(&rt, (2, 1, Did::Done));
+    assert_eq!(rt; pushed(&mut checker, done), Err(fault));
     assert_eq!(rt;
-        is_there(rt.alloc(), &checker, TWO_GIVERS.base)?,
+        is_there(&rt, rt.alloc(), &checker, TWO_GIVERS.base),
         Err(fault)
     );
     match checker.base(rt.alloc()) {
-        Ok(_) => Err("a base was told".into()),
-        Err(found) => {
-            assert_eq!(rt; found, fault);
-            Ok(())
-        }
+        Ok(_) => panic!(rt; "a base was told"),
+        Err(found) => assert_eq!(rt; found, fault),
     }
 }

@@ -1,17 +1,15 @@
 //! Short stories of one thread, all calls at once: what is replied, and what the records leave.
 
-ghost use Rattle.std.specs.Prelude.{All, IsTrue, IfOk};
+ghost use Rattle.std.specs.Prelude.{All, IsTrue};
 ghost use Rattle.meet_history.specs.Served.{serves};
 
-use crate::calls::seat;
+use crate::calls::{found, kind_of, seat};
 use meet_history::{
-    Answer, Call, Kind, Order, Outcome, Reply, Run, Setup, Standing, Verb, check, is_served,
-    run_all,
+    Answer, Call, Order, Outcome, Reply, Run, Setup, Standing, Verb, is_served, run_all,
 };
-use meet_tickets::{Base, Cause, SeatNo};
+use meet_tickets::{Cause, SeatNo};
 use std::alloc::Global;
 use std::process::Abort;
-use std::test::Fail;
 
 /// What a seat asks. An interrupt names its target by number.
 #[derive(Clone, Copy)]
@@ -112,23 +110,37 @@ fn told_of(outcome: Outcome) -> Told {
     }
 }
 
+/// The call of a seat.
+fn call_of(rt: &impl Abort, number: u64, ask: Ask) -> Call {
+    let seat_there = seat(rt, number);
+    match ask {
+        Ask::Plain(verb) => Call {
+            seat: seat_there,
+            verb,
+        },
+        Ask::Interrupt(target) => Call {
+            seat: seat_there,
+            verb: Verb::Interrupt(seat(rt, target)),
+        },
+    }
+}
+
 /// The calls of a story at a place of this order, which has their verbs.
-fn calls_of(alloc: Global, order: Order, asked: &[Asked]) -> Result<Vec<Call>, Fail>
-    ensures { IfOk result (λ calls. All (λ call. IsTrue (serves order call.verb)) calls.items) }
+fn calls_of(rt: &impl Abort, alloc: Global, order: Order, asked: &[Asked]) -> Vec<Call>
+    ensures { All (λ call. IsTrue (serves order call.verb)) result.items }
 {
     let mut calls = Vec::new(alloc);
     for (number, ask) in asked {
-        let verb = match *ask {
-            Ask::Plain(verb) => verb,
-            Ask::Interrupt(target) => Verb::Interrupt(seat(target)?),
-        };
-        let seat = seat(*number)?;
-        if !is_served(order, verb) {
-            return Err("no such verb".into());
+        let call = call_of(rt, *number, *ask);
+        if !is_served(order, call.verb) {
+            panic!(rt; "no such verb");
         }
-        calls.push(Call { seat, verb })?;
+        match calls.push(call) {
+            Ok(()) => {}
+            Err(_) => panic!(rt; "memory"),
+        }
     }
-    Ok(calls)
+    calls
 }
 
 /// These replies are those of the story.
@@ -139,40 +151,38 @@ fn are(rt: &impl Abort, replies: &[Reply], told: &[(u64, Told)]) {
     }
 }
 
+/// What is asked of a place of this order comes to this.
+fn run_of(rt: &impl Abort, alloc: Global, order: Order, asked: &[Asked]) -> Run {
+    let setup = Setup::new(kind_of(order), 64, 1, 1_048_576).expect(rt, "out of its limits");
+    let calls = calls_of(rt, alloc, order, asked);
+    run_all(alloc, setup, calls.as_slice()).expect(rt, "memory")
+}
+
 /// The story takes place.
-fn happens(rt: &impl Abort, alloc: Global, story: Story<'_>) -> Result<(), Fail> {
-    let kind = Kind {
-        order: story.order,
-        bound: None,
-    };
-    let setup = Setup::new(kind, 64, 1, 1_048_576).ok_or("out of its limits")?;
-    let calls = calls_of(alloc, story.order, story.asked)?;
+fn happens(rt: &impl Abort, alloc: Global, story: Story<'_>) {
     let Run {
         replies,
         base: _,
         records,
-    } = run_all(alloc, setup, calls.as_slice())
-        .ok()
-        .ok_or("memory")?;
+    } = run_of(rt, alloc, story.order, story.asked);
     are(rt, replies.as_slice(), story.told);
-    let found = check(alloc, kind, &Base::empty(alloc), records.as_slice());
+    let found = found(alloc, story.order, records.as_slice());
     assert_eq!(rt; found, Ok(story.standing));
-    Ok(())
 }
 
 #[test]
-fn nothing_happens(rt: HostRuntime) -> Result<(), Fail> {
+fn nothing_happens(rt: HostRuntime) {
     let story = Story {
         order: Order::Fair,
         asked: &[],
         told: &[],
         standing: NOTHING,
     };
-    happens(&rt, rt.alloc(), story)
+    happens(&rt, rt.alloc(), story);
 }
 
 #[test]
-fn who_meets_whom(rt: HostRuntime) -> Result<(), Fail> {
+fn who_meets_whom(rt: HostRuntime) {
     let handoff = Story {
         order: Order::Fair,
         asked: &[(0, put(5)), (1, TAKE), (0, FOLLOW)],
@@ -183,7 +193,7 @@ fn who_meets_whom(rt: HostRuntime) -> Result<(), Fail> {
         ],
         standing: NOTHING,
     };
-    happens(&rt, rt.alloc(), handoff)?;
+    happens(&rt, rt.alloc(), handoff);
     let oldest = Story {
         order: Order::Fair,
         asked: &[(0, put(1)), (1, put(2)), (2, TAKE)],
@@ -198,7 +208,7 @@ fn who_meets_whom(rt: HostRuntime) -> Result<(), Fail> {
             kept: 0,
         },
     };
-    happens(&rt, rt.alloc(), oldest)?;
+    happens(&rt, rt.alloc(), oldest);
     let newest = Story {
         order: Order::Unfair,
         told: &[
@@ -208,7 +218,7 @@ fn who_meets_whom(rt: HostRuntime) -> Result<(), Fail> {
         ],
         ..oldest
     };
-    happens(&rt, rt.alloc(), newest)?;
+    happens(&rt, rt.alloc(), newest);
     let takers = Story {
         order: Order::Fair,
         asked: &[(0, TAKE), (1, TAKE), (2, put(9)), (1, FOLLOW), (0, FOLLOW)],
@@ -224,7 +234,7 @@ fn who_meets_whom(rt: HostRuntime) -> Result<(), Fail> {
             ..NOTHING
         },
     };
-    happens(&rt, rt.alloc(), takers)?;
+    happens(&rt, rt.alloc(), takers);
     let offers = Story {
         order: Order::Fair,
         asked: &[(0, offer(7)), (1, TAKE), (0, offer(7))],
@@ -238,11 +248,11 @@ fn who_meets_whom(rt: HostRuntime) -> Result<(), Fail> {
             ..NOTHING
         },
     };
-    happens(&rt, rt.alloc(), offers)
+    happens(&rt, rt.alloc(), offers);
 }
 
 #[test]
-fn who_takes_back(rt: HostRuntime) -> Result<(), Fail> {
+fn who_takes_back(rt: HostRuntime) {
     let cancelled = Story {
         order: Order::Fair,
         asked: &[(0, put(5)), (0, CANCEL), (1, POLL)],
@@ -253,7 +263,7 @@ fn who_takes_back(rt: HostRuntime) -> Result<(), Fail> {
         ],
         standing: NOTHING,
     };
-    happens(&rt, rt.alloc(), cancelled)?;
+    happens(&rt, rt.alloc(), cancelled);
     let late = Story {
         order: Order::Fair,
         asked: &[(0, put(5)), (1, TAKE), (0, CANCEL), (0, FOLLOW)],
@@ -265,7 +275,7 @@ fn who_takes_back(rt: HostRuntime) -> Result<(), Fail> {
         ],
         standing: NOTHING,
     };
-    happens(&rt, rt.alloc(), late)?;
+    happens(&rt, rt.alloc(), late);
     let expired = Story {
         order: Order::Fair,
         asked: &[
@@ -289,11 +299,11 @@ fn who_takes_back(rt: HostRuntime) -> Result<(), Fail> {
             ..NOTHING
         },
     };
-    happens(&rt, rt.alloc(), expired)
+    happens(&rt, rt.alloc(), expired);
 }
 
 #[test]
-fn who_is_interrupted(rt: HostRuntime) -> Result<(), Fail> {
+fn who_is_interrupted(rt: HostRuntime) {
     let cut = Story {
         order: Order::Fair,
         asked: &[
@@ -310,7 +320,7 @@ fn who_is_interrupted(rt: HostRuntime) -> Result<(), Fail> {
         ],
         standing: NOTHING,
     };
-    happens(&rt, rt.alloc(), cut)?;
+    happens(&rt, rt.alloc(), cut);
     let flagged = Story {
         order: Order::Fair,
         asked: &[
@@ -329,11 +339,11 @@ fn who_is_interrupted(rt: HostRuntime) -> Result<(), Fail> {
         ],
         standing: NOTHING,
     };
-    happens(&rt, rt.alloc(), flagged)
+    happens(&rt, rt.alloc(), flagged);
 }
 
 #[test]
-fn what_is_kept(rt: HostRuntime) -> Result<(), Fail> {
+fn what_is_kept(rt: HostRuntime) {
     let line = Story {
         order: Order::Transfer,
         asked: &[
@@ -354,7 +364,7 @@ fn what_is_kept(rt: HostRuntime) -> Result<(), Fail> {
         ],
         standing: NOTHING,
     };
-    happens(&rt, rt.alloc(), line)?;
+    happens(&rt, rt.alloc(), line);
     let probes = Story {
         order: Order::Transfer,
         asked: &[
@@ -376,7 +386,7 @@ fn what_is_kept(rt: HostRuntime) -> Result<(), Fail> {
             ..NOTHING
         },
     };
-    happens(&rt, rt.alloc(), probes)?;
+    happens(&rt, rt.alloc(), probes);
     let drained = Story {
         order: Order::Transfer,
         asked: &[(0, put(4)), (0, put(5)), (1, Ask::Plain(Verb::Drain(3)))],
@@ -389,5 +399,5 @@ fn what_is_kept(rt: HostRuntime) -> Result<(), Fail> {
         ],
         standing: NOTHING,
     };
-    happens(&rt, rt.alloc(), drained)
+    happens(&rt, rt.alloc(), drained);
 }

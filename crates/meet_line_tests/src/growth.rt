@@ -1,7 +1,7 @@
 //! Lines and tables bear one refusal of memory: nothing is lost by it, and the call that is made again succeeds.
 //! `bin/refuse` runs these tests with each allocation refused in turn.
 
-ghost use Rattle.std.specs.Prelude.{◌≡◌, ◌≤◌, OnOk};
+ghost use Rattle.std.specs.Prelude.{◌≡◌, ◌≤◌};
 ghost use Rattle.meet_tickets.specs.Limits.{most_seats};
 
 use crate::parcels::{Parcel, first_serial, join, meets_in_order, seat, ticket};
@@ -9,96 +9,87 @@ use meet_line::{FairLine, Line, ListFair, ListStack, SeatTable, StackLine};
 use meet_tickets::Refusal;
 use std::alloc::Global;
 use std::process::Abort;
-use std::test::Fail;
 
 /// Room for so many entries more, at the second try where there was no memory at first.
-fn reserves<L: Line<Parcel>>(rt: &impl Abort, line: &mut L, count: u64) -> Result<(), Fail>
-    ensures room { OnOk result (count ≤ L.spare line.new) }
+fn reserves<L: Line<Parcel>>(rt: &impl Abort, line: &mut L, count: u64)
+    ensures room { count ≤ L.spare line.new }
     ensures same { L.entries line.new ≡ L.entries line.old }
 {
     let before = (line.len(), line.room(), first_serial(line));
     if let Err(why) = line.reserve(count) {
         assert!(rt; why == Refusal::Memory);
         assert_eq!(rt; (line.len(), line.room(), first_serial(line)), before);
-        line.reserve(count).ok().ok_or("memory")?;
+        line.reserve(count).expect(rt, "memory");
     }
-    Ok(())
+}
+
+/// Three are in the line, the tickets 1 to 3, of which the first has the item 10.
+fn has_three<L: Line<Parcel>>(rt: &impl Abort, line: &L) {
+    assert_eq!(rt; line.len(), 3);
+    assert_eq!(rt; first_serial(line), Some(10));
+    assert!(rt; line.entry(ticket(rt, 2)).is_some());
+    assert!(rt; line.entry(ticket(rt, 4)).is_none());
 }
 
 /// A line that grows three times, each time while others stand in it but the first, and meets in this order.
-fn grows<L: Line<Parcel> + Drop>(
-    rt: &impl Abort,
-    alloc: Global,
-    serials: &[u64],
-) -> Result<(), Fail> {
+fn grows<L: Line<Parcel> + Drop>(rt: &impl Abort, alloc: Global, serials: &[u64]) {
     let mut line = L::empty(alloc);
-    reserves(rt, &mut line, 1)?;
-    join(&mut line, 1, 10)?;
-    reserves(rt, &mut line, 2)?;
-    join(&mut line, 2, 20)?;
-    reserves(rt, &mut line, 30)?;
-    join(&mut line, 3, 30)?;
-    assert_eq!(rt; line.len(), 3);
-    assert_eq!(rt; first_serial(&line), Some(10));
-    assert!(rt; line.entry(ticket(2)?).is_some());
-    assert!(rt; line.entry(ticket(4)?).is_none());
+    reserves(rt, &mut line, 1);
+    join(rt, &mut line, 1, 10);
+    reserves(rt, &mut line, 2);
+    join(rt, &mut line, 2, 20);
+    reserves(rt, &mut line, 30);
+    join(rt, &mut line, 3, 30);
+    has_three(rt, &line);
     meets_in_order(rt, &mut line, serials);
-    Ok(())
 }
 
 #[test]
-fn a_fair_line_grows(rt: HostRuntime) -> Result<(), Fail> {
-    grows::<FairLine<Parcel>>(&rt, rt.alloc(), &[10, 20, 30])
+fn a_fair_line_grows(rt: HostRuntime) {
+    grows::<FairLine<Parcel>>(&rt, rt.alloc(), &[10, 20, 30]);
 }
 
 #[test]
-fn a_stack_grows(rt: HostRuntime) -> Result<(), Fail> {
-    grows::<StackLine<Parcel>>(&rt, rt.alloc(), &[30, 20, 10])
+fn a_stack_grows(rt: HostRuntime) {
+    grows::<StackLine<Parcel>>(&rt, rt.alloc(), &[30, 20, 10]);
 }
 
 #[test]
-fn a_fair_list_grows(rt: HostRuntime) -> Result<(), Fail> {
-    grows::<ListFair<Parcel>>(&rt, rt.alloc(), &[10, 20, 30])
+fn a_fair_list_grows(rt: HostRuntime) {
+    grows::<ListFair<Parcel>>(&rt, rt.alloc(), &[10, 20, 30]);
 }
 
 #[test]
-fn a_list_of_a_stack_grows(rt: HostRuntime) -> Result<(), Fail> {
-    grows::<ListStack<Parcel>>(&rt, rt.alloc(), &[30, 20, 10])
+fn a_list_of_a_stack_grows(rt: HostRuntime) {
+    grows::<ListStack<Parcel>>(&rt, rt.alloc(), &[30, 20, 10]);
 }
 
 /// A table of so many seats, at the second try where there was no memory at first.
-fn table(alloc: Global, count: u64) -> Result<SeatTable<Parcel>, Fail>
+fn table(rt: &impl Abort, alloc: Global, count: u64) -> SeatTable<Parcel>
     requires { count ≤ most_seats }
 {
     match SeatTable::new(alloc, count) {
-        Ok(table) => Ok(table),
-        Err(_) => Ok(SeatTable::new(alloc, count).ok().ok_or("memory")?),
+        Ok(table) => table,
+        Err(_) => SeatTable::new(alloc, count).expect(rt, "memory"),
     }
 }
 
 #[test]
-fn a_table_of_seats(rt: HostRuntime) -> Result<(), Fail> {
-    let table = table(rt.alloc(), 65_536)?;
+fn a_table_of_seats(rt: HostRuntime) {
+    let table = table(&rt, rt.alloc(), 65_536);
     assert_eq!(rt; table.count(), 65_536);
     assert_eq!(rt; table.owed(), 0);
-    Ok(())
 }
 
 /// Seats up to this one, at the second try where there was no memory at first, are so many.
-fn reaches(
-    rt: &impl Abort,
-    table: &mut SeatTable<Parcel>,
-    number: u64,
-    seats: u64,
-) -> Result<(), Fail> {
-    let count = seat(number)?.number() + 1;
+fn reaches(rt: &impl Abort, table: &mut SeatTable<Parcel>, number: u64, seats: u64) {
+    let count = seat(rt, number).number() + 1;
     let before = table.count();
     if table.grow(count).is_err() {
         assert_eq!(rt; table.count(), before);
-        table.grow(count).ok().ok_or("memory")?;
+        table.grow(count).expect(rt, "memory");
     }
     assert_eq!(rt; table.count(), seats);
-    Ok(())
 }
 
 /// The last seats that a table grows to, and how many seats it then has.
@@ -114,10 +105,9 @@ const GROWN: [(u64, u64); 8] = [
 ];
 
 #[test]
-fn a_table_of_seats_grows(rt: HostRuntime) -> Result<(), Fail> {
-    let mut table = table(rt.alloc(), 0)?;
+fn a_table_of_seats_grows(rt: HostRuntime) {
+    let mut table = table(&rt, rt.alloc(), 0);
     for (number, seats) in &GROWN {
-        reaches(&rt, &mut table, *number, *seats)?;
+        reaches(&rt, &mut table, *number, *seats);
     }
-    Ok(())
 }

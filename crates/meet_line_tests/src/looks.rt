@@ -1,102 +1,91 @@
 //! Lines that find tickets in buckets: how many nodes a removal looks at; and that all four lines do alike.
 
-ghost use Rattle.std.specs.Prelude.{◌≡◌, ◌<◌, ◌≤◌, ◌^◌, OnOk};
+ghost use Rattle.std.specs.Prelude.{◌≡◌, ◌<◌, ◌≤◌, ◌^◌};
 
 use crate::parcels::{Parcel, join, meets_in_order, serial, ticket};
 use meet_line::{FairLine, Line, ListFair, ListStack, StackLine};
 use std::alloc::Global;
 use std::process::Abort;
-use std::test::Fail;
 
 /// The tickets from 1 to this one, as many as there was room made for.
-fn crowd<L: Line<Parcel> + Drop>(alloc: Global, last: u64) -> Result<L, Fail>
+fn crowd<L: Line<Parcel> + Drop>(rt: &impl Abort, alloc: Global, last: u64) -> L
     requires few { last < 2 ^ 32 }
 {
     let mut line = L::empty(alloc);
-    line.reserve(last).ok().ok_or("memory")?;
+    line.reserve(last).expect(rt, "memory");
     for number in 1..last + 1 {
-        join(&mut line, number, number)?;
+        join(rt, &mut line, number, number);
     }
-    Ok(line)
+    line
 }
 
 #[test]
-fn a_fair_line_looks_at_one(rt: HostRuntime) -> Result<(), Fail> {
-    let mut line: FairLine<Parcel> = crowd(rt.alloc(), 1_024)?;
+fn a_fair_line_looks_at_one(rt: HostRuntime) {
+    let mut line: FairLine<Parcel> = crowd(&rt, rt.alloc(), 1_024);
     assert_eq!(rt; line.looks(), 0);
-    assert_eq!(rt; serial(line.remove(ticket(512)?)), Some(512));
+    assert_eq!(rt; serial(line.remove(ticket(&rt, 512))), Some(512));
     assert_eq!(rt; line.looks(), 1);
     assert_eq!(rt; line.len(), 1023);
-    Ok(())
 }
 
 #[test]
-fn a_stack_looks_at_one(rt: HostRuntime) -> Result<(), Fail> {
-    let mut line: StackLine<Parcel> = crowd(rt.alloc(), 1_024)?;
+fn a_stack_looks_at_one(rt: HostRuntime) {
+    let mut line: StackLine<Parcel> = crowd(&rt, rt.alloc(), 1_024);
     assert_eq!(rt; line.looks(), 0);
-    assert_eq!(rt; serial(line.remove(ticket(512)?)), Some(512));
+    assert_eq!(rt; serial(line.remove(ticket(&rt, 512))), Some(512));
     assert_eq!(rt; line.looks(), 1);
     assert_eq!(rt; line.len(), 1023);
-    Ok(())
 }
 
 /// How many a large line has.
 const MANY: u64 = 66_000;
 
 /// A large line lists all who are there, in the order in which they came.
-fn lists_many<L: Line<Parcel> + Drop>(rt: &impl Abort, alloc: Global) -> Result<(), Fail> {
-    let line: L = crowd(alloc, MANY)?;
-    let list = line.list(alloc).ok().ok_or("memory")?;
+fn lists_many<L: Line<Parcel> + Drop>(rt: &impl Abort, alloc: Global) {
+    let line: L = crowd(rt, alloc, MANY);
+    let list = line.list(alloc).expect(rt, "memory");
     assert_eq!(rt; list.len() as u64, MANY);
     for (at, entry) in list.iter().enumerate() {
         assert_eq!(rt; entry.ticket.number(), (at as u64).saturating_add(1));
     }
-    Ok(())
 }
 
 #[test]
-fn a_large_line_is_listed(rt: HostRuntime) -> Result<(), Fail> {
-    lists_many::<FairLine<Parcel>>(&rt, rt.alloc())?;
-    lists_many::<StackLine<Parcel>>(&rt, rt.alloc())
+fn a_large_line_is_listed(rt: HostRuntime) {
+    lists_many::<FairLine<Parcel>>(&rt, rt.alloc());
+    lists_many::<StackLine<Parcel>>(&rt, rt.alloc());
 }
 
 /// Which ticket leaves, none for a meeting, and the serial of the item that it has.
 type Step = (Option<u64>, Option<u64>);
 
 /// These steps of a line of five tickets, of which three share a bucket, and five more in their places.
-fn plays<L: Line<Parcel> + Drop>(
-    rt: &impl Abort,
-    alloc: Global,
-    steps: &[Step],
-    rest: &[u64],
-) -> Result<(), Fail> {
+fn plays<L: Line<Parcel> + Drop>(rt: &impl Abort, alloc: Global, steps: &[Step], rest: &[u64]) {
     let mut line = L::empty(alloc);
-    line.reserve(5).ok().ok_or("memory")?;
-    join(&mut line, 1, 10)?;
-    join(&mut line, 9, 90)?;
-    join(&mut line, 12, 120)?;
-    join(&mut line, 17, 170)?;
-    join(&mut line, 20, 200)?;
-    takes(rt, &mut line, steps)?;
+    line.reserve(5).expect(rt, "memory");
+    join(rt, &mut line, 1, 10);
+    join(rt, &mut line, 9, 90);
+    join(rt, &mut line, 12, 120);
+    join(rt, &mut line, 17, 170);
+    join(rt, &mut line, 20, 200);
+    takes(rt, &mut line, steps);
     assert_eq!(rt; line.len(), 0);
     assert!(rt; line.room() >= 5);
-    join(&mut line, 25, 250)?;
-    join(&mut line, 33, 330)?;
-    join(&mut line, 34, 340)?;
+    join(rt, &mut line, 25, 250);
+    join(rt, &mut line, 33, 330);
+    join(rt, &mut line, 34, 340);
     meets_in_order(rt, &mut line, rest);
-    Ok(())
 }
 
 /// Each step takes the item that it should.
-fn takes<L: Line<Parcel>>(rt: &impl Abort, line: &mut L, steps: &[Step]) -> Result<(), Fail> {
+fn takes<L: Line<Parcel>>(rt: &impl Abort, line: &mut L, steps: &[Step]) {
     for (leaves, wanted) in steps {
         let taken = match leaves {
-            Some(number) => line.remove(ticket(*number)?),
+            Some(number) => line.remove(ticket(rt, *number)),
             None => line.meet(),
         };
         assert_eq!(rt; serial(taken), *wanted);
     }
-    Ok(())
 }
 
 /// What leaves a line whose first is met.
@@ -124,13 +113,13 @@ const LAST: [Step; 8] = [
 ];
 
 #[test]
-fn fair_lines_do_alike(rt: HostRuntime) -> Result<(), Fail> {
-    plays::<FairLine<Parcel>>(&rt, rt.alloc(), &FIRST, &[250, 330, 340])?;
-    plays::<ListFair<Parcel>>(&rt, rt.alloc(), &FIRST, &[250, 330, 340])
+fn fair_lines_do_alike(rt: HostRuntime) {
+    plays::<FairLine<Parcel>>(&rt, rt.alloc(), &FIRST, &[250, 330, 340]);
+    plays::<ListFair<Parcel>>(&rt, rt.alloc(), &FIRST, &[250, 330, 340]);
 }
 
 #[test]
-fn stacks_do_alike(rt: HostRuntime) -> Result<(), Fail> {
-    plays::<StackLine<Parcel>>(&rt, rt.alloc(), &LAST, &[340, 330, 250])?;
-    plays::<ListStack<Parcel>>(&rt, rt.alloc(), &LAST, &[340, 330, 250])
+fn stacks_do_alike(rt: HostRuntime) {
+    plays::<StackLine<Parcel>>(&rt, rt.alloc(), &LAST, &[340, 330, 250]);
+    plays::<ListStack<Parcel>>(&rt, rt.alloc(), &LAST, &[340, 330, 250]);
 }

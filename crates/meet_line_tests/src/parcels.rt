@@ -1,11 +1,10 @@
 //! Items that a test knows again, and lines of them.
 
-ghost use Rattle.std.specs.Prelude.{◌≡◌, ◌+◌, ◌<◌, All, IfOk, OnOk};
+ghost use Rattle.std.specs.Prelude.{◌≡◌, ◌+◌, ◌<◌, All};
 
 use meet_line::Line;
 use meet_tickets::{Entry, SeatNo, Ticket};
 use std::process::Abort;
-use std::test::Fail;
 
 /// An item with a serial number, by which a test knows it again.
 #[derive(Drop)]
@@ -14,17 +13,17 @@ pub struct Parcel {
 }
 
 /// The seat of this number.
-pub fn seat(number: u64) -> Result<SeatNo, Fail>
-    ensures { IfOk result (λ seat. seat ≡ number) }
+pub fn seat(rt: &impl Abort, number: u64) -> SeatNo
+    ensures { result ≡ number }
 {
-    Ok(SeatNo::new(number).ok_or("no such seat number")?)
+    SeatNo::new(number).expect(rt, "no such seat number")
 }
 
 /// The ticket of this number.
-pub fn ticket(number: u64) -> Result<Ticket, Fail>
-    ensures { IfOk result (λ ticket. ticket ≡ number) }
+pub fn ticket(rt: &impl Abort, number: u64) -> Ticket
+    ensures { result ≡ number }
 {
-    Ok(Ticket::new(number).ok_or("no such ticket number")?)
+    Ticket::new(number).expect(rt, "no such ticket number")
 }
 
 /// The serial number of an entry's item.
@@ -38,19 +37,18 @@ pub fn first_serial<L: Line<Parcel>>(line: &L) -> Option<u64> {
 }
 
 /// An entry whose ticket is the newest comes to the line.
-pub fn join<L: Line<Parcel>>(line: &mut L, number: u64, serial: u64) -> Result<(), Fail>
+pub fn join<L: Line<Parcel>>(rt: &impl Abort, line: &mut L, number: u64, serial: u64)
     requires room { 0 < L.spare line.old }
     requires newest { All (λ e. e.ticket < number) (L.entries line.old) }
-    ensures room { OnOk result (L.spare line.new + 1 ≡ L.spare line.old) }
-    ensures newest { OnOk result (All (λ e. e.ticket < number + 1) (L.entries line.new)) }
+    ensures room { L.spare line.new + 1 ≡ L.spare line.old }
+    ensures newest { All (λ e. e.ticket < number + 1) (L.entries line.new) }
 {
     line.push_back(Entry {
-        ticket: ticket(number)?,
-        seat: seat(0)?,
+        ticket: ticket(rt, number),
+        seat: seat(rt, 0),
         item: Some(Parcel { serial }),
         waits: true,
     });
-    Ok(())
 }
 
 /// The entries are met in this order, each gives its room back, and then nobody is there.

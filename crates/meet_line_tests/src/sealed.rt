@@ -3,7 +3,8 @@
 use crate::parcels::{seat, ticket};
 use meet_line::{FairLine, Line, StackLine};
 use meet_tickets::{Entry, SeatNo, Ticket};
-use std::test::Fail;
+use std::alloc::Global;
+use std::process::Abort;
 
 /// An item that has to be opened.
 struct Sealed {
@@ -32,32 +33,25 @@ fn opened(entry: Option<Entry<Sealed>>) -> Option<u64> {
     Some(serial)
 }
 
-#[test]
-fn a_fair_line_of_sealed_items(rt: HostRuntime) -> Result<(), Fail> {
-    let (ticket, seat) = (ticket(7)?, seat(0)?);
-    let mut line = FairLine::empty(rt.alloc());
-    if line.reserve(1).is_err() {
-        line.destroy_empty();
-        return Err("memory".into());
-    }
+/// The serial number of the one item of a line, which is met; then the line is let go empty.
+fn goes_through<L: Line<Sealed>>(rt: &impl Abort, alloc: Global) -> Option<u64> {
+    let (ticket, seat) = (ticket(rt, 7), seat(rt, 0));
+    let mut line = L::empty(alloc);
+    line.reserve(1).expect(rt, "memory");
     line.push_back(entry_of(ticket, seat, 70));
     let met = opened(line.meet());
     line.destroy_empty();
-    assert_eq!(rt; met, Some(70));
-    Ok(())
+    met
 }
 
 #[test]
-fn a_stack_of_sealed_items(rt: HostRuntime) -> Result<(), Fail> {
-    let (ticket, seat) = (ticket(7)?, seat(0)?);
-    let mut line = StackLine::empty(rt.alloc());
-    if line.reserve(1).is_err() {
-        line.destroy_empty();
-        return Err("memory".into());
-    }
-    line.push_back(entry_of(ticket, seat, 70));
-    let met = opened(line.meet());
-    line.destroy_empty();
+fn a_fair_line_of_sealed_items(rt: HostRuntime) {
+    let met = goes_through::<FairLine<Sealed>>(&rt, rt.alloc());
     assert_eq!(rt; met, Some(70));
-    Ok(())
+}
+
+#[test]
+fn a_stack_of_sealed_items(rt: HostRuntime) {
+    let met = goes_through::<StackLine<Sealed>>(&rt, rt.alloc());
+    assert_eq!(rt; met, Some(70));
 }

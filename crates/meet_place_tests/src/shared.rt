@@ -11,8 +11,8 @@ use meet_tickets::{Refusal, Refused, Ticket};
 use std::alloc::Global;
 use std::marker::Brand;
 use std::mem::ManuallyDrop;
+use std::process::Abort;
 use std::sync::Wait;
-use std::test::*;
 use std::thread;
 use std::thread::Threads;
 use std::time::Clock;
@@ -112,12 +112,15 @@ enum Ending {
     Closed(usize, usize, Option<u64>),
     /// So many seats of so many were given back.
     Missing(usize, usize),
-    /// Something else.
-    Other,
 }
 
 /// Closes a place.
-fn closed<N: Ledgers>(alloc: Global, shop: Shop<N>, backs: Vec<Back<Amount, N>>) -> Ending {
+fn closed<N: Ledgers>(
+    rt: &impl Abort,
+    alloc: Global,
+    shop: Shop<N>,
+    backs: Vec<Back<Amount, N>>,
+) -> Ending {
     match shop.close(alloc, backs) {
         Ok(whole) => {
             let Closed {
@@ -138,35 +141,33 @@ fn closed<N: Ledgers>(alloc: Global, shop: Shop<N>, backs: Vec<Back<Amount, N>>)
                 keep(place);
                 Ending::Missing(have, made)
             }
-            CloseFault::Memory { place, seats: _ } => {
-                keep(place);
-                Ending::Other
-            }
-            CloseFault::Differs { .. } => Ending::Other,
+            CloseFault::Memory { .. } => panic!(rt; "memory"),
+            CloseFault::Differs { .. } => panic!(rt; "a list differs"),
         },
     }
 }
 
 /// So many gates.
-fn parking(alloc: Global, count: usize) -> Result<Vec<ParkGate>, &'static str> {
+fn parking(rt: &impl Abort, alloc: Global, count: usize) -> Vec<ParkGate> {
     let mut gates = Vec::new(alloc);
     for _ in 0..count {
-        gates.push(ParkGate::new()).map_err(|_| "memory")?;
+        gates.push(ParkGate::new()).expect(rt, "memory");
     }
-    Ok(gates)
+    gates
 }
 
 /// Why a place with these gates isn't made, and how many of them come back.
 fn refusal<N: Ledgers>(
+    rt: &impl Abort,
     alloc: Global,
     gates: Vec<ParkGate>,
     blanks: Blanks,
-) -> Result<Option<(Refusal, usize)>, Fail>
+) -> Option<(Refusal, usize)>
     requires ledgers { AreOf N.name N.folds N.parts blanks }
     requires one_each { N.parts ≡ vec_len gates }
     requires cap { N.cap ≡ 100 }
 {
-    let till = Till::new(gates.len() as u64).ok_or("till")?;
+    let till = Till::new(gates.len() as u64).expect(rt, "till");
     let book = Book::new(alloc, till, 100);
     match Shop::<N>::new(
         alloc,
@@ -178,33 +179,32 @@ fn refusal<N: Ledgers>(
     ) {
         Ok((shop, _)) => {
             keep(shop);
-            Ok(None)
+            None
         }
         Err(refused) => {
             let Refused { why, back } = refused;
-            Ok(Some((why, back.gates.len())))
+            Some((why, back.gates.len()))
         }
     }
 }
 
 /// Why a place with so many gates isn't made, and how many of them come back.
-fn refusal_of(alloc: Global, count: usize) -> Result<Option<(Refusal, usize)>, Fail> {
-    let gates = parking(alloc, count)?;
+fn refusal_of(rt: &impl Abort, alloc: Global, count: usize) -> Option<(Refusal, usize)> {
+    let gates = parking(rt, alloc, count);
     let blanks = Blanks::new(gates.len() as u64);
-    refusal::<Brand>(alloc, gates, blanks)
+    refusal::<Brand>(rt, alloc, gates, blanks)
 }
 
 #[test]
-fn places_have_seats(rt: HostRuntime) -> Result<(), Fail> {
+fn places_have_seats(rt: HostRuntime) {
     let alloc = rt.alloc();
-    assert_eq!(rt; refusal_of(alloc, 0)?, Some((Refusal::BadSizes, 0)));
-    assert_eq!(rt; refusal_of(alloc, 1)?, None);
-    assert_eq!(rt; refusal_of(alloc, 65_536)?, None);
+    assert_eq!(rt; refusal_of(&rt, alloc, 0), Some((Refusal::BadSizes, 0)));
+    assert_eq!(rt; refusal_of(&rt, alloc, 1), None);
+    assert_eq!(rt; refusal_of(&rt, alloc, 65_536), None);
     assert_eq!(rt;
-        refusal_of(alloc, 65_537)?,
+        refusal_of(&rt, alloc, 65_537),
         Some((Refusal::BadSizes, 65_537))
     );
-    Ok(())
 }
 
 /// Two seats that met: how often one added, and whether the other saw the goal.
@@ -241,79 +241,95 @@ fn meet<N: Ledgers + Send + Sync, R: Threads + Wait + Clock + Sync>(
     }
 }
 
-/// Two seats meet, and then this many are given back.
-fn meeting<N: Ledgers + Send + Sync, R: Threads + Wait + Clock + Sync>(
-    rt: &R,
+/// A place of two seats, and these.
+fn of_two<N: Ledgers>(
+    rt: &impl Abort,
     alloc: Global,
     blanks: Blanks,
-    times: u64,
-    given: usize,
-) -> Result<(u64, bool, Ending), &'static str>
+) -> (Shop<N>, Seat<Amount, N>, Seat<Amount, N>)
     requires ledgers { AreOf N.name N.folds N.parts blanks }
     requires two { N.parts ≡ 2 }
     requires cap { N.cap ≡ 1000000 }
 {
-    let ticket = Ticket::new(1).ok_or("no such ticket number")?;
-    let till = Till::new(2).ok_or("till")?;
-    let mut gates = Vec::new(alloc);
-    gates.push(ParkGate::new()).map_err(|_| "memory")?;
-    gates.push(ParkGate::new()).map_err(|_| "memory")?;
-    let mut backs = Vec::new(alloc);
-    if backs.reserve(2).is_err() {
-        return Err("memory");
-    }
-    let book = Book::new(alloc, till, 1_000_000);
-    let (shop, mut seats) = Shop::<N>::new(
-        alloc,
-        NewPlace {
-            book,
-            gates,
-            blanks,
-        },
-    )
-    .map_err(|_| "new")?;
-    let (waiter, adder) = match (seats.pop(), seats.pop()) {
-        (Some(waiter), Some(adder)) => (waiter, adder),
-        _ => {
-            keep(shop);
-            return Err("seats");
-        }
+    let till = Till::new(2).expect(rt, "till");
+    let mut gates = Vec::with_capacity(alloc, 2).expect(rt, "memory");
+    gates.push_reserved(ParkGate::new());
+    gates.push_reserved(ParkGate::new());
+    let parts = NewPlace {
+        book: Book::new(alloc, till, 1_000_000),
+        gates,
+        blanks,
     };
-    let Met {
-        adder,
-        waiter,
-        made,
-        came,
-    } = meet(rt, &shop, adder, waiter, ticket, times);
+    match Shop::<N>::new(alloc, parts) {
+        Ok((shop, mut seats)) => {
+            let waiter = seats.pop().expect(rt, "no seat");
+            let adder = seats.pop().expect(rt, "no seat");
+            (shop, adder, waiter)
+        }
+        Err(_) => panic!(rt; "it isn't made"),
+    }
+}
+
+/// Of two seats the waiter is given back, or both, or none.
+fn given_back<N: Ledgers>(
+    rt: &impl Abort,
+    alloc: Global,
+    adder: Seat<Amount, N>,
+    waiter: Seat<Amount, N>,
+    given: usize,
+) -> Vec<Back<Amount, N>> {
+    let mut backs = Vec::with_capacity(alloc, 2).expect(rt, "memory");
     if given > 0 {
         backs.push_reserved(Back::Free(waiter));
     }
     if given > 1 {
         backs.push_reserved(Back::Free(adder));
     }
-    Ok((made, came, closed(alloc, shop, backs)))
+    backs
+}
+
+/// Two seats meet, and then this many are given back.
+fn meeting<N: Ledgers + Send + Sync, R: Abort + Threads + Wait + Clock + Sync>(
+    rt: &R,
+    alloc: Global,
+    blanks: Blanks,
+    times: u64,
+    given: usize,
+) -> (u64, bool, Ending)
+    requires ledgers { AreOf N.name N.folds N.parts blanks }
+    requires two { N.parts ≡ 2 }
+    requires cap { N.cap ≡ 1000000 }
+{
+    let ticket = Ticket::new(1).expect(rt, "no such ticket number");
+    let (shop, adder, waiter) = of_two::<N>(rt, alloc, blanks);
+    let Met {
+        adder,
+        waiter,
+        made,
+        came,
+    } = meet(rt, &shop, adder, waiter, ticket, times);
+    let backs = given_back(rt, alloc, adder, waiter, given);
+    (made, came, closed(rt, alloc, shop, backs))
 }
 
 /// The same, over a ledger of its own.
-fn play<R: Threads + Wait + Clock + Sync>(
+fn play<R: Abort + Threads + Wait + Clock + Sync>(
     rt: &R,
     alloc: Global,
     times: u64,
     given: usize,
-) -> Result<(u64, bool, Ending), &'static str> {
+) -> (u64, bool, Ending) {
     meeting::<Brand, _>(rt, alloc, Blanks::new(2), times, given)
 }
 
 #[test]
-fn one_adds_and_one_waits(rt: HostRuntime) -> Result<(), Fail> {
-    let got = play(&rt, rt.alloc(), 2_000, 2)?;
+fn one_adds_and_one_waits(rt: HostRuntime) {
+    let got = play(&rt, rt.alloc(), 2_000, 2);
     assert_eq!(rt; got, (2_000, true, Ending::Closed(2_001, 2, Some(20_001))));
-    Ok(())
 }
 
 #[test]
-fn a_seat_is_missing(rt: HostRuntime) -> Result<(), Fail> {
-    let got = play(&rt, rt.alloc(), 100, 1)?;
+fn a_seat_is_missing(rt: HostRuntime) {
+    let got = play(&rt, rt.alloc(), 100, 1);
     assert_eq!(rt; got, (100, true, Ending::Missing(1, 2)));
-    Ok(())
 }

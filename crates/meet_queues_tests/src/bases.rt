@@ -3,14 +3,14 @@
 
 use crate::parcels::{Ask, Parcel, Row, Told};
 use crate::places::plays;
-use meet_book::Book;
+use meet_book::{Bases, Book};
 use meet_core::Dual;
 use meet_line::{FairLine, Line, StackLine};
 use meet_queues::{queue_book, transfer_book};
-use meet_tickets::{Base, Entry, OpenCut, OpenPair, Side};
+use meet_tickets::{Base, Entry, OpenCut, OpenPair, Refusal, Side};
 use meet_transfer::Transfer;
+use std::alloc::Global;
 use std::process::Abort;
-use std::test::Fail;
 
 /// Two seats were met, one was cut and one is flagged, and two wait.
 const BEFORE: [Row; 9] = [
@@ -88,18 +88,13 @@ fn is_bare(rt: &impl Abort, base: &Base) {
     has_cut(rt, base.cut.as_slice(), &[]);
 }
 
-/// A synchronous queue's book is cut, and goes on with these rows at its end.
-fn goes_on<L: Line<Parcel>>(
-    rt: &impl Abort,
-    book: &mut Book<Dual<Parcel, L>>,
-    rows: &[Row],
-) -> Result<(), Fail> {
-    assert!(rt; book.cut() == Ok(0));
-    has_numbers(rt, book.base(), 0, 0, None);
-    plays(rt, book, &BEFORE)?;
-    assert!(rt; book.cut() == Ok(9));
-    assert!(rt; book.records().is_empty());
-    let base = book.base();
+/// A book is cut: how many records are gone.
+fn cut<O: Bases<Base = Base>>(book: &mut Book<O>) -> Result<u64, Refusal> {
+    book.cut()
+}
+
+/// What stands behind the rows `BEFORE`.
+fn is_before(rt: &impl Abort, base: &Base) {
     has_numbers(rt, base, 9, 11, Some(6));
     has_line(rt, base.line.as_slice(), &[(10, 7, true), (11, 1, true)]);
     has_pairs(
@@ -108,75 +103,91 @@ fn goes_on<L: Line<Parcel>>(
         &[(5, 0, Side::Taker, 6), (7, 2, Side::Giver, 8)],
     );
     has_cut(rt, base.cut.as_slice(), &[(9, 4)]);
-    plays(rt, book, &BEHIND)?;
-    plays(rt, book, rows)?;
-    assert!(rt; book.cut() == Ok(17));
+}
+
+/// A synchronous queue's book is cut, and goes on with these rows at its end.
+fn goes_on<L: Line<Parcel>>(rt: &impl Abort, book: &mut Book<Dual<Parcel, L>>, rows: &[Row]) {
+    assert!(rt; cut(book) == Ok(0));
+    has_numbers(rt, book.base(), 0, 0, None);
+    plays(rt, book, &BEFORE);
+    assert!(rt; cut(book) == Ok(9));
+    assert!(rt; book.records().is_empty());
+    is_before(rt, book.base());
+    plays(rt, book, &BEHIND);
+    plays(rt, book, rows);
+    assert!(rt; cut(book) == Ok(17));
     has_numbers(rt, book.base(), 17, 14, None);
     is_bare(rt, book.base());
-    Ok(())
+}
+
+/// So does the book of a new queue.
+fn goes_on_anew<L: Line<Parcel> + Drop>(rt: &impl Abort, alloc: Global, rows: &[Row]) {
+    let mut book: Book<Dual<Parcel, L>> = queue_book(alloc, 8, 5, 20).expect(rt, "memory");
+    goes_on(rt, &mut book, rows);
 }
 
 #[test]
-fn a_fair_book_is_cut(rt: HostRuntime) -> Result<(), Fail> {
-    let mut book: Book<Dual<Parcel, FairLine<Parcel>>> = queue_book(rt.alloc(), 8, 5, 20)
-        .ok()
-        .ok_or("memory")?;
+fn a_fair_book_is_cut(rt: HostRuntime) {
     let rows = [
         (3, Ask::Take, Told::Got(13, 10, 40)),
         (7, Ask::Follow(10), Told::Done),
         (3, Ask::Take, Told::Got(14, 11, 50)),
         (1, Ask::Follow(11), Told::Done),
     ];
-    goes_on(&rt, &mut book, &rows)
+    goes_on_anew::<FairLine<Parcel>>(&rt, rt.alloc(), &rows);
 }
 
 #[test]
-fn an_unfair_book_is_cut(rt: HostRuntime) -> Result<(), Fail> {
-    let mut book: Book<Dual<Parcel, StackLine<Parcel>>> = queue_book(rt.alloc(), 8, 5, 20)
-        .ok()
-        .ok_or("memory")?;
+fn an_unfair_book_is_cut(rt: HostRuntime) {
     let rows = [
         (3, Ask::Take, Told::Got(13, 11, 50)),
         (1, Ask::Follow(11), Told::Done),
         (3, Ask::Take, Told::Got(14, 10, 40)),
         (7, Ask::Follow(10), Told::Done),
     ];
-    goes_on(&rt, &mut book, &rows)
+    goes_on_anew::<StackLine<Parcel>>(&rt, rt.alloc(), &rows);
 }
 
-#[test]
-fn a_bounded_book_is_cut(rt: HostRuntime) -> Result<(), Fail> {
-    let mut book: Book<Transfer<Parcel>> = transfer_book(rt.alloc(), 5, 5, Some(2), 20)
-        .ok()
-        .ok_or("memory")?;
-    let rows = [
-        (0, Ask::Put(10), Told::Kept(5)),
-        (1, Ask::Give(20), Told::Waits(6)),
-        (0, Ask::Put(30), Told::Kept(7)),
-        (2, Ask::Give(40), Told::Waits(8)),
-        (4, Ask::Interrupt(1), Told::Cut(6)),
-        (4, Ask::Interrupt(3), Told::Flagged),
-    ];
-    plays(&rt, &mut book, &rows)?;
-    assert!(rt; book.cut() == Ok(6));
-    let base = book.base();
-    has_numbers(&rt, base, 6, 8, Some(3));
+/// Two items are kept, one seat was cut and one is flagged, and one waits.
+const BEFORE_BOUNDED: [Row; 6] = [
+    (0, Ask::Put(10), Told::Kept(5)),
+    (1, Ask::Give(20), Told::Waits(6)),
+    (0, Ask::Put(30), Told::Kept(7)),
+    (2, Ask::Give(40), Told::Waits(8)),
+    (4, Ask::Interrupt(1), Told::Cut(6)),
+    (4, Ask::Interrupt(3), Told::Flagged),
+];
+
+/// The bound still counts what was kept, and each is told so.
+const BEHIND_BOUNDED: [Row; 5] = [
+    (0, Ask::Put(50), Told::Fails(9, Some(50))),
+    (4, Ask::Take, Told::Got(10, 5, 10)),
+    (0, Ask::Put(60), Told::Kept(11)),
+    (1, Ask::Follow(6), Told::WasCut(Some(20))),
+    (3, Ask::Give(70), Told::Stopped(12, Some(70))),
+];
+
+/// What stands behind the rows `BEFORE_BOUNDED`.
+fn is_before_bounded(rt: &impl Abort, base: &Base) {
+    has_numbers(rt, base, 6, 8, Some(3));
     has_line(
-        &rt,
+        rt,
         base.line.as_slice(),
         &[(5, 0, false), (7, 0, false), (8, 2, true)],
     );
-    has_pairs(&rt, base.pairs.as_slice(), &[]);
-    has_cut(&rt, base.cut.as_slice(), &[(6, 1)]);
-    let rows = [
-        (0, Ask::Put(50), Told::Fails(9, Some(50))),
-        (4, Ask::Take, Told::Got(10, 5, 10)),
-        (0, Ask::Put(60), Told::Kept(11)),
-        (1, Ask::Follow(6), Told::WasCut(Some(20))),
-        (3, Ask::Give(70), Told::Stopped(12, Some(70))),
-    ];
-    plays(&rt, &mut book, &rows)?;
-    assert!(rt; book.cut() == Ok(11));
+    has_pairs(rt, base.pairs.as_slice(), &[]);
+    has_cut(rt, base.cut.as_slice(), &[(6, 1)]);
+}
+
+#[test]
+fn a_bounded_book_is_cut(rt: HostRuntime) {
+    let mut book: Book<Transfer<Parcel>> = transfer_book(rt.alloc(), 5, 5, Some(2), 20).expect(
+        &rt, "memory",
+    );
+    plays(&rt, &mut book, &BEFORE_BOUNDED);
+    assert!(rt; cut(&mut book) == Ok(6));
+    is_before_bounded(&rt, book.base());
+    plays(&rt, &mut book, &BEHIND_BOUNDED);
+    assert!(rt; cut(&mut book) == Ok(11));
     has_numbers(&rt, book.base(), 11, 12, None);
-    Ok(())
 }

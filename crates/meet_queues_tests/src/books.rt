@@ -3,35 +3,34 @@
 use crate::answers::{dual, queue};
 use crate::parcels::{Ask, Parcel, Told, numbered, seat, ticket};
 use crate::places::{Place, Shown};
-use meet_book::{Book, Receipt};
+use meet_book::{Book, Object, Receipt};
 use meet_core::Dual;
 use meet_line::Line;
-use meet_queues::{DualCall, QueueCall};
-use meet_tickets::{Deed, Record, SeatNo};
+use meet_queues::{DualCall, QueueAnswer, QueueCall};
+use meet_tickets::{Base, Deed, Record, Refused, SeatNo};
 use meet_transfer::{Transfer, Unbounded};
 use std::process::Abort;
-use std::test::Fail;
 
 /// The call of a synchronous queue that a seat makes.
-fn dual_call(ask: Ask) -> Result<DualCall<Parcel>, Fail> {
-    Ok(match ask {
+fn dual_call(rt: &impl Abort, ask: Ask) -> DualCall<Parcel> {
+    match ask {
         Ask::Give(serial) => DualCall::Give(numbered(serial)),
         Ask::Put(serial) => DualCall::Give(numbered(serial)),
         Ask::Offer(serial) => DualCall::Offer(numbered(serial)),
         Ask::Take => DualCall::Take,
         Ask::Poll => DualCall::Poll,
-        Ask::Follow(own) => DualCall::FollowUp(ticket(own)?),
-        Ask::Cancel(own) => DualCall::Cancel(ticket(own)?),
-        Ask::Expire(own) => DualCall::Expire(ticket(own)?),
-        Ask::Interrupt(target) => DualCall::Interrupt(seat(target)?),
-    })
+        Ask::Follow(own) => DualCall::FollowUp(ticket(rt, own)),
+        Ask::Cancel(own) => DualCall::Cancel(ticket(rt, own)),
+        Ask::Expire(own) => DualCall::Expire(ticket(rt, own)),
+        Ask::Interrupt(target) => DualCall::Interrupt(seat(rt, target)),
+    }
 }
 
 /// The call of a transfer queue that a seat makes.
-fn queue_call(ask: Ask) -> Result<QueueCall<Parcel>, Fail> {
+fn queue_call(rt: &impl Abort, ask: Ask) -> QueueCall<Parcel> {
     match ask {
-        Ask::Put(serial) => Ok(QueueCall::Put(numbered(serial))),
-        _ => Ok(QueueCall::Dual(dual_call(ask)?)),
+        Ask::Put(serial) => QueueCall::Put(numbered(serial)),
+        _ => QueueCall::Dual(dual_call(rt, ask)),
     }
 }
 
@@ -70,15 +69,36 @@ fn is_written(
     }
 }
 
+/// A seat makes a call at a book, which writes as it should.
+fn steps<O: Object<Deed = Deed, Base = Base>>(
+    rt: &impl Abort,
+    book: &mut Book<O>,
+    at: SeatNo,
+    call: O::Call,
+) -> Result<O::Answer, Refused<O::Call>> {
+    let before = book.records().len();
+    match book.step(at, call) {
+        Ok((answer, receipt)) => {
+            is_written(rt, before, book.base().gone, book.records(), receipt);
+            Ok(answer)
+        }
+        Err(refused) => Err(refused),
+    }
+}
+
+/// What a seat is told of a transfer queue's answer.
+fn told(made: Result<QueueAnswer<Parcel>, Refused<QueueCall<Parcel>>>) -> Told {
+    match made {
+        Ok(answer) => queue(answer),
+        Err(refused) => Told::Refused(refused.why, in_queue_call(refused.back)),
+    }
+}
+
 impl<L: Line<Parcel>> Place for Book<Dual<Parcel, L>> {
-    fn answer<A: Abort>(&mut self, rt: &A, at: SeatNo, ask: Ask) -> Result<Told, Fail> {
-        let before = self.records().len();
-        match self.step(at, dual_call(ask)?) {
-            Ok((answer, receipt)) => {
-                is_written(rt, before, self.base().gone, self.records(), receipt);
-                Ok(dual(answer))
-            }
-            Err(refused) => Ok(Told::Refused(refused.why, in_dual_call(refused.back))),
+    fn answer<A: Abort>(&mut self, rt: &A, at: SeatNo, ask: Ask) -> Told {
+        match steps(rt, self, at, dual_call(rt, ask)) {
+            Ok(answer) => dual(answer),
+            Err(refused) => Told::Refused(refused.why, in_dual_call(refused.back)),
         }
     }
 }
@@ -98,28 +118,14 @@ impl<L: Line<Parcel>> Shown for Book<Dual<Parcel, L>> {
 }
 
 impl Place for Book<Transfer<Parcel>> {
-    fn answer<A: Abort>(&mut self, rt: &A, at: SeatNo, ask: Ask) -> Result<Told, Fail> {
-        let before = self.records().len();
-        match self.step(at, queue_call(ask)?) {
-            Ok((answer, receipt)) => {
-                is_written(rt, before, self.base().gone, self.records(), receipt);
-                Ok(queue(answer))
-            }
-            Err(refused) => Ok(Told::Refused(refused.why, in_queue_call(refused.back))),
-        }
+    fn answer<A: Abort>(&mut self, rt: &A, at: SeatNo, ask: Ask) -> Told {
+        told(steps(rt, self, at, queue_call(rt, ask)))
     }
 }
 
 impl Place for Book<Unbounded<Parcel>> {
-    fn answer<A: Abort>(&mut self, rt: &A, at: SeatNo, ask: Ask) -> Result<Told, Fail> {
-        let before = self.records().len();
-        match self.step(at, queue_call(ask)?) {
-            Ok((answer, receipt)) => {
-                is_written(rt, before, self.base().gone, self.records(), receipt);
-                Ok(queue(answer))
-            }
-            Err(refused) => Ok(Told::Refused(refused.why, in_queue_call(refused.back))),
-        }
+    fn answer<A: Abort>(&mut self, rt: &A, at: SeatNo, ask: Ask) -> Told {
+        told(steps(rt, self, at, queue_call(rt, ask)))
     }
 }
 

@@ -12,61 +12,60 @@ use meet_tickets::{Deed, Refusal};
 use meet_transfer::{Transfer, Unbounded};
 use std::alloc::Global;
 use std::process::Abort;
-use std::test::Fail;
 
 /// A synchronous queue, at the second try where there was no memory at first.
-fn queue<L: Line<Parcel>>(alloc: Global) -> Result<Dual<Parcel, L>, Fail> {
+fn queue<L: Line<Parcel>>(rt: &impl Abort, alloc: Global) -> Dual<Parcel, L> {
     match Dual::new(alloc, 6, 1) {
-        Ok(queue) => Ok(queue),
-        Err(_) => Ok(Dual::new(alloc, 6, 1).ok().ok_or("memory")?),
+        Ok(queue) => queue,
+        Err(_) => Dual::new(alloc, 6, 1).expect(rt, "memory"),
     }
 }
 
 /// The same of a transfer queue.
-fn transfer(alloc: Global) -> Result<Transfer<Parcel>, Fail> {
+fn transfer(rt: &impl Abort, alloc: Global) -> Transfer<Parcel> {
     match Transfer::new(alloc, 6, 1) {
-        Ok(queue) => Ok(queue),
-        Err(_) => Ok(Transfer::new(alloc, 6, 1).ok().ok_or("memory")?),
+        Ok(queue) => queue,
+        Err(_) => Transfer::new(alloc, 6, 1).expect(rt, "memory"),
     }
 }
 
 /// The same of a transfer queue with a bound.
-fn bounded(alloc: Global) -> Result<Transfer<Parcel>, Fail> {
+fn bounded(rt: &impl Abort, alloc: Global) -> Transfer<Parcel> {
     match Transfer::with_bound(alloc, 6, 1, 5) {
-        Ok(queue) => Ok(queue),
-        Err(_) => Ok(Transfer::with_bound(alloc, 6, 1, 5).ok().ok_or("memory")?),
+        Ok(queue) => queue,
+        Err(_) => Transfer::with_bound(alloc, 6, 1, 5).expect(rt, "memory"),
     }
 }
 
 /// The same of a synchronous queue's book.
-fn book_of_queue(alloc: Global) -> Result<Book<Fair>, Fail> {
+fn book_of_queue(rt: &impl Abort, alloc: Global) -> Book<Fair> {
     match queue_book(alloc, 6, 1, 40) {
-        Ok(book) => Ok(book),
-        Err(_) => Ok(queue_book(alloc, 6, 1, 40).ok().ok_or("memory")?),
+        Ok(book) => book,
+        Err(_) => queue_book(alloc, 6, 1, 40).expect(rt, "memory"),
     }
 }
 
 /// The same of a transfer queue's book.
-fn book_of_transfer(alloc: Global) -> Result<Book<Transfer<Parcel>>, Fail> {
+fn book_of_transfer(rt: &impl Abort, alloc: Global) -> Book<Transfer<Parcel>> {
     match transfer_book(alloc, 6, 1, None, 40) {
-        Ok(book) => Ok(book),
-        Err(_) => Ok(transfer_book(alloc, 6, 1, None, 40).ok().ok_or("memory")?),
+        Ok(book) => book,
+        Err(_) => transfer_book(alloc, 6, 1, None, 40).expect(rt, "memory"),
     }
 }
 
 /// The same of a synchronous queue's book that is ready.
-fn ready_book_of_queue(alloc: Global) -> Result<Book<Fair>, Fail> {
+fn ready_book_of_queue(rt: &impl Abort, alloc: Global) -> Book<Fair> {
     match ready_queue_book(alloc, 6, 40) {
-        Ok(book) => Ok(book),
-        Err(_) => Ok(ready_queue_book(alloc, 6, 40).ok().ok_or("memory")?),
+        Ok(book) => book,
+        Err(_) => ready_queue_book(alloc, 6, 40).expect(rt, "memory"),
     }
 }
 
 /// The same of a transfer queue's book that is ready.
-fn ready_book_of_transfer(alloc: Global) -> Result<Book<Unbounded<Parcel>>, Fail> {
+fn ready_book_of_transfer(rt: &impl Abort, alloc: Global) -> Book<Unbounded<Parcel>> {
     match ready_transfer_book(alloc, 6, 40) {
-        Ok(book) => Ok(book),
-        Err(_) => Ok(ready_transfer_book(alloc, 6, 40).ok().ok_or("memory")?),
+        Ok(book) => book,
+        Err(_) => ready_transfer_book(alloc, 6, 40).expect(rt, "memory"),
     }
 }
 
@@ -81,18 +80,17 @@ fn given(ask: Ask) -> Option<u64> {
 }
 
 /// Seats ask, one after another, once more where there was no memory, and are told this.
-fn bears<P: Shown>(rt: &impl Abort, place: &mut P, rows: &[Row]) -> Result<(), Fail> {
+fn bears<P: Shown>(rt: &impl Abort, place: &mut P, rows: &[Row]) {
     for (number, ask, wanted) in rows {
-        let at = seat(*number)?;
+        let at = seat(rt, *number);
         let before = place.shown();
-        let mut told = place.answer(rt, at, *ask)?;
+        let mut told = place.answer(rt, at, *ask);
         if told == Told::Refused(Refusal::Memory, given(*ask)) {
             assert_eq!(rt; place.shown(), before);
-            told = place.answer(rt, at, *ask)?;
+            told = place.answer(rt, at, *ask);
         }
         assert_eq!(rt; told, *wanted);
     }
-    Ok(())
 }
 
 const GIVEN: [Row; 5] = [
@@ -122,22 +120,22 @@ const KEPT: [Row; 6] = [
 ];
 
 #[test]
-fn givers_that_wait(rt: HostRuntime) -> Result<(), Fail> {
-    let mut queue: Fair = queue(rt.alloc())?;
-    bears(&rt, &mut queue, &GIVEN)?;
-    bears(&rt, &mut queue, &[(3, Ask::Take, Told::Got(6, 1, 10))])
+fn givers_that_wait(rt: HostRuntime) {
+    let mut queue: Fair = queue(&rt, rt.alloc());
+    bears(&rt, &mut queue, &GIVEN);
+    bears(&rt, &mut queue, &[(3, Ask::Take, Told::Got(6, 1, 10))]);
 }
 
 #[test]
-fn takers_that_wait(rt: HostRuntime) -> Result<(), Fail> {
-    let mut queue: Unfair = queue(rt.alloc())?;
-    bears(&rt, &mut queue, &TAKEN)
+fn takers_that_wait(rt: HostRuntime) {
+    let mut queue: Unfair = queue(&rt, rt.alloc());
+    bears(&rt, &mut queue, &TAKEN);
 }
 
 #[test]
-fn items_that_are_kept(rt: HostRuntime) -> Result<(), Fail> {
-    let mut queue = bounded(rt.alloc())?;
-    bears(&rt, &mut queue, &KEPT)
+fn items_that_are_kept(rt: HostRuntime) {
+    let mut queue = bounded(&rt, rt.alloc());
+    bears(&rt, &mut queue, &KEPT);
 }
 
 /// Room for six is made, at the second try where there was no memory at first.
@@ -151,10 +149,10 @@ fn makes_room(rt: &impl Abort, queue: &mut Transfer<Parcel>) {
 }
 
 #[test]
-fn room_that_is_made_first(rt: HostRuntime) -> Result<(), Fail> {
-    let mut queue = transfer(rt.alloc())?;
+fn room_that_is_made_first(rt: HostRuntime) {
+    let mut queue = transfer(&rt, rt.alloc());
     makes_room(&rt, &mut queue);
-    plays(&rt, &mut queue, &KEPT)
+    plays(&rt, &mut queue, &KEPT);
 }
 
 /// What seat 3 drains from a synchronous queue's book, at the second try where there was no memory at first.
@@ -162,44 +160,44 @@ fn drained(
     rt: &impl Abort,
     alloc: Global,
     book: &mut Book<Fair>,
-) -> Result<Vec<(DualAnswer<Parcel>, Receipt<Deed>)>, Fail> {
-    let at = seat(3)?;
+) -> Vec<(DualAnswer<Parcel>, Receipt<Deed>)> {
+    let at = seat(rt, 3);
     let before = book.shown();
     match book.drain(alloc, at, 9) {
-        Ok(got) => Ok(got),
+        Ok(got) => got,
         Err(why) => {
             assert!(rt; why == Refusal::Memory);
             assert_eq!(rt; book.shown(), before);
-            Ok(book.drain(alloc, at, 9).ok().ok_or("memory")?)
+            book.drain(alloc, at, 9).expect(rt, "memory")
         }
     }
 }
 
 #[test]
-fn a_book_of_givers_that_wait(rt: HostRuntime) -> Result<(), Fail> {
+fn a_book_of_givers_that_wait(rt: HostRuntime) {
     let alloc = rt.alloc();
-    let mut book = book_of_queue(alloc)?;
-    bears(&rt, &mut book, &GIVEN)?;
+    let mut book = book_of_queue(&rt, alloc);
+    bears(&rt, &mut book, &GIVEN);
     let rows = [(6, 1, 10), (7, 2, 20), (8, 3, 30), (9, 4, 40), (10, 5, 50)];
-    are_taken(&rt, drained(&rt, alloc, &mut book)?, &rows)
+    are_taken(&rt, drained(&rt, alloc, &mut book), &rows);
 }
 
 #[test]
-fn a_book_of_items_that_are_kept(rt: HostRuntime) -> Result<(), Fail> {
-    let mut book = book_of_transfer(rt.alloc())?;
-    bears(&rt, &mut book, &KEPT)
+fn a_book_of_items_that_are_kept(rt: HostRuntime) {
+    let mut book = book_of_transfer(&rt, rt.alloc());
+    bears(&rt, &mut book, &KEPT);
 }
 
 /// Once it is made, nothing is refused.
 #[test]
-fn a_ready_book_of_givers_that_wait(rt: HostRuntime) -> Result<(), Fail> {
-    let mut book = ready_book_of_queue(rt.alloc())?;
-    plays(&rt, &mut book, &GIVEN)
+fn a_ready_book_of_givers_that_wait(rt: HostRuntime) {
+    let mut book = ready_book_of_queue(&rt, rt.alloc());
+    plays(&rt, &mut book, &GIVEN);
 }
 
 /// Nor here.
 #[test]
-fn a_ready_book_of_items_that_are_kept(rt: HostRuntime) -> Result<(), Fail> {
-    let mut book = ready_book_of_transfer(rt.alloc())?;
-    plays(&rt, &mut book, &KEPT)
+fn a_ready_book_of_items_that_are_kept(rt: HostRuntime) {
+    let mut book = ready_book_of_transfer(&rt, rt.alloc());
+    plays(&rt, &mut book, &KEPT);
 }

@@ -10,7 +10,6 @@ use meet_tickets::Refusal;
 use meet_transfer::Transfer;
 use std::alloc::Global;
 use std::process::Abort;
-use std::test::Fail;
 
 /// One waits at most, so that these are the same in each queue.
 const ALIKE: [Row; 40] = [
@@ -133,78 +132,61 @@ const REFUSED: [Row; 5] = [
     (6, Ask::Poll, Told::Refused(Refusal::NoSuchSeat, None)),
 ];
 
-/// A place hands on what is alike, and then this.
-fn hands_on<P: Place>(rt: &impl Abort, place: &mut P, rows: &[Row]) -> Result<(), Fail> {
-    plays(rt, place, &ALIKE)?;
-    plays(rt, place, rows)
+/// A place refuses, and hands on what is alike, and then this.
+fn hands_on<P: Place>(rt: &impl Abort, place: &mut P, rows: &[Row]) {
+    plays(rt, place, &REFUSED);
+    plays(rt, place, &ALIKE);
+    plays(rt, place, rows);
 }
 
 /// A synchronous queue, called directly.
-fn meets<L: Line<Parcel> + Drop>(rt: &impl Abort, alloc: Global, rows: &[Row]) -> Result<(), Fail> {
-    let mut queue: Dual<Parcel, L> = Dual::new(alloc, 6, 1).ok().ok_or("memory")?;
-    plays(rt, &mut queue, &REFUSED)?;
-    hands_on(rt, &mut queue, rows)
+fn meets<L: Line<Parcel> + Drop>(rt: &impl Abort, alloc: Global, rows: &[Row]) {
+    let mut queue: Dual<Parcel, L> = Dual::new(alloc, 6, 1).expect(rt, "memory");
+    hands_on(rt, &mut queue, rows);
 }
 
 /// A synchronous queue under a book.
-fn meets_in_a_book<L: Line<Parcel> + Drop>(
-    rt: &impl Abort,
-    alloc: Global,
-    rows: &[Row],
-) -> Result<(), Fail> {
-    let mut book: Book<Dual<Parcel, L>> = queue_book(alloc, 6, 1, 99).ok().ok_or("memory")?;
-    plays(rt, &mut book, &REFUSED)?;
-    hands_on(rt, &mut book, rows)
+fn meets_in_a_book<L: Line<Parcel> + Drop>(rt: &impl Abort, alloc: Global, rows: &[Row]) {
+    let mut book: Book<Dual<Parcel, L>> = queue_book(alloc, 6, 1, 99).expect(rt, "memory");
+    hands_on(rt, &mut book, rows);
 }
 
 #[test]
-fn a_fair_queue(rt: HostRuntime) -> Result<(), Fail> {
-    meets::<FairLine<Parcel>>(&rt, rt.alloc(), &FIRST)?;
-    meets_in_a_book::<FairLine<Parcel>>(&rt, rt.alloc(), &FIRST)
+fn a_fair_queue(rt: HostRuntime) {
+    meets::<FairLine<Parcel>>(&rt, rt.alloc(), &FIRST);
+    meets_in_a_book::<FairLine<Parcel>>(&rt, rt.alloc(), &FIRST);
 }
 
 #[test]
-fn an_unfair_queue(rt: HostRuntime) -> Result<(), Fail> {
-    meets::<StackLine<Parcel>>(&rt, rt.alloc(), &LAST)?;
-    meets_in_a_book::<StackLine<Parcel>>(&rt, rt.alloc(), &LAST)
+fn an_unfair_queue(rt: HostRuntime) {
+    meets::<StackLine<Parcel>>(&rt, rt.alloc(), &LAST);
+    meets_in_a_book::<StackLine<Parcel>>(&rt, rt.alloc(), &LAST);
 }
 
 #[test]
-fn queues_over_a_list_that_is_walked(rt: HostRuntime) -> Result<(), Fail> {
-    meets_in_a_book::<ListFair<Parcel>>(&rt, rt.alloc(), &FIRST)?;
-    meets_in_a_book::<ListStack<Parcel>>(&rt, rt.alloc(), &LAST)
-}
-
-/// A transfer queue that keeps three parcels at most.
-fn transfer(alloc: Global) -> Result<Transfer<Parcel>, Fail> {
-    Ok(Transfer::with_bound(alloc, 6, 1, 3).ok().ok_or("memory")?)
-}
-
-/// The book of one.
-fn book_of_transfer(alloc: Global) -> Result<Book<Transfer<Parcel>>, Fail> {
-    Ok(
-        transfer_book(alloc, 6, 1, Some(3), 99)
-            .ok()
-            .ok_or("memory")?,
-    )
+fn queues_over_a_list_that_is_walked(rt: HostRuntime) {
+    meets_in_a_book::<ListFair<Parcel>>(&rt, rt.alloc(), &FIRST);
+    meets_in_a_book::<ListStack<Parcel>>(&rt, rt.alloc(), &LAST);
 }
 
 /// It hands on what others do, and what is kept.
-fn keeps<P: Place>(rt: &impl Abort, place: &mut P) -> Result<(), Fail> {
-    hands_on(rt, place, &FIRST)?;
-    plays(rt, place, &KEPT)
+fn keeps<P: Place>(rt: &impl Abort, place: &mut P) {
+    hands_on(rt, place, &FIRST);
+    plays(rt, place, &KEPT);
 }
 
 #[test]
-fn a_transfer_queue(rt: HostRuntime) -> Result<(), Fail> {
-    let mut queue = transfer(rt.alloc())?;
-    plays(&rt, &mut queue, &REFUSED)?;
-    keeps(&rt, &mut queue)
+fn a_transfer_queue(rt: HostRuntime) {
+    let mut queue: Transfer<Parcel> = Transfer::with_bound(rt.alloc(), 6, 1, 3).expect(
+        &rt, "memory",
+    );
+    keeps(&rt, &mut queue);
 }
 
 #[test]
-fn a_book_of_a_transfer_queue(rt: HostRuntime) -> Result<(), Fail> {
-    let mut book = book_of_transfer(rt.alloc())?;
-    plays(&rt, &mut book, &REFUSED)?;
-    keeps(&rt, &mut book)
+fn a_book_of_a_transfer_queue(rt: HostRuntime) {
+    let mut book: Book<Transfer<Parcel>> = transfer_book(rt.alloc(), 6, 1, Some(3), 99).expect(
+        &rt, "memory",
+    );
+    keeps(&rt, &mut book);
 }

@@ -8,7 +8,6 @@ use meet_line::{FairLine, Line, StackLine};
 use meet_transfer::Transfer;
 use std::alloc::Global;
 use std::process::Abort;
-use std::test::Fail;
 
 /// A giver's ticket, its parcel's serial number, and how that stood in the queue.
 type Found = (u64, u64, LeftStanding);
@@ -23,26 +22,19 @@ fn has(rt: &impl Abort, list: Vec<Left<Parcel>>, wanted: &[Found]) {
 }
 
 /// Seats ask a synchronous queue, one after another, and then these parcels are left.
-fn leaves<L: Line<Parcel> + Drop>(
-    rt: &impl Abort,
-    alloc: Global,
-    rows: &[Row],
-    wanted: &[Found],
-) -> Result<(), Fail> {
-    let mut queue: Dual<Parcel, L> = Dual::new(alloc, 6, 1).ok().ok_or("memory")?;
-    plays(rt, &mut queue, rows)?;
-    let room = Vec::with_capacity(alloc, queue.left() as usize)?;
+fn leaves<L: Line<Parcel> + Drop>(rt: &impl Abort, alloc: Global, rows: &[Row], wanted: &[Found]) {
+    let mut queue: Dual<Parcel, L> = Dual::new(alloc, 6, 1).expect(rt, "memory");
+    plays(rt, &mut queue, rows);
+    let room = Vec::with_capacity(alloc, queue.left() as usize).expect(rt, "memory");
     has(rt, queue.into_left(room), wanted);
-    Ok(())
 }
 
 /// The same of a transfer queue.
-fn leaves_kept(rt: &impl Abort, alloc: Global, rows: &[Row], wanted: &[Found]) -> Result<(), Fail> {
-    let mut queue: Transfer<Parcel> = Transfer::new(alloc, 6, 1).ok().ok_or("memory")?;
-    plays(rt, &mut queue, rows)?;
-    let room = Vec::with_capacity(alloc, queue.left() as usize)?;
+fn leaves_kept(rt: &impl Abort, alloc: Global, rows: &[Row], wanted: &[Found]) {
+    let mut queue: Transfer<Parcel> = Transfer::new(alloc, 6, 1).expect(rt, "memory");
+    plays(rt, &mut queue, rows);
+    let room = Vec::with_capacity(alloc, queue.left() as usize).expect(rt, "memory");
     has(rt, queue.into_left(room), wanted);
-    Ok(())
 }
 
 /// A taker that waited was met and hasn't collected, another has; a giver was cut; and three givers wait.
@@ -66,7 +58,7 @@ const TAKERS: [Row; 2] = [
 ];
 
 #[test]
-fn a_fair_queue(rt: HostRuntime) -> Result<(), Fail> {
+fn a_fair_queue(rt: HostRuntime) {
     let wanted = [
         (6, 40, LeftStanding::Offered),
         (7, 50, LeftStanding::Offered),
@@ -74,12 +66,12 @@ fn a_fair_queue(rt: HostRuntime) -> Result<(), Fail> {
         (5, 30, LeftStanding::Ready),
         (2, 10, LeftStanding::Ready),
     ];
-    leaves::<FairLine<Parcel>>(&rt, rt.alloc(), &OFFERED, &wanted)?;
-    leaves::<FairLine<Parcel>>(&rt, rt.alloc(), &TAKERS, &[])
+    leaves::<FairLine<Parcel>>(&rt, rt.alloc(), &OFFERED, &wanted);
+    leaves::<FairLine<Parcel>>(&rt, rt.alloc(), &TAKERS, &[]);
 }
 
 #[test]
-fn an_unfair_queue(rt: HostRuntime) -> Result<(), Fail> {
+fn an_unfair_queue(rt: HostRuntime) {
     let wanted = [
         (8, 60, LeftStanding::Offered),
         (7, 50, LeftStanding::Offered),
@@ -87,8 +79,8 @@ fn an_unfair_queue(rt: HostRuntime) -> Result<(), Fail> {
         (5, 30, LeftStanding::Ready),
         (2, 10, LeftStanding::Ready),
     ];
-    leaves::<StackLine<Parcel>>(&rt, rt.alloc(), &OFFERED, &wanted)?;
-    leaves::<StackLine<Parcel>>(&rt, rt.alloc(), &TAKERS, &[])
+    leaves::<StackLine<Parcel>>(&rt, rt.alloc(), &OFFERED, &wanted);
+    leaves::<StackLine<Parcel>>(&rt, rt.alloc(), &TAKERS, &[]);
 }
 
 /// The same with one that is kept, among those that wait.
@@ -106,7 +98,7 @@ const KEPT: [Row; 10] = [
 ];
 
 #[test]
-fn a_transfer_queue(rt: HostRuntime) -> Result<(), Fail> {
+fn a_transfer_queue(rt: HostRuntime) {
     let wanted = [
         (6, 40, LeftStanding::Offered),
         (7, 50, LeftStanding::Kept),
@@ -114,6 +106,6 @@ fn a_transfer_queue(rt: HostRuntime) -> Result<(), Fail> {
         (5, 30, LeftStanding::Ready),
         (2, 10, LeftStanding::Ready),
     ];
-    leaves_kept(&rt, rt.alloc(), &KEPT, &wanted)?;
-    leaves_kept(&rt, rt.alloc(), &TAKERS, &[])
+    leaves_kept(&rt, rt.alloc(), &KEPT, &wanted);
+    leaves_kept(&rt, rt.alloc(), &TAKERS, &[]);
 }

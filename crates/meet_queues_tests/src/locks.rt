@@ -10,7 +10,6 @@ use meet_tickets::Marked;
 use std::alloc::Global;
 use std::process::Abort;
 use std::sync::{Mutex, Wait};
-use std::test::Fail;
 
 /// A lock over the book of a queue.
 type Locked<T, L> = Mutex<Book<Dual<T, L>>>;
@@ -36,37 +35,33 @@ fn let_go_through_a_bound<T: Marked + Drop, L: Line<T> + Drop>(lock: Locked<T, L
 }
 
 /// The book of a new queue with two seats.
-fn book_of<L: Line<Parcel>>(alloc: Global) -> Result<Book<Dual<Parcel, L>>, Fail> {
-    Ok(queue_book(alloc, 2, 1, 10).ok().ok_or("memory")?)
+fn book_of<L: Line<Parcel>>(rt: &impl Abort, alloc: Global) -> Book<Dual<Parcel, L>> {
+    queue_book(alloc, 2, 1, 10).expect(rt, "memory")
 }
 
 /// A lock over the book of a new queue, in which a taker waits.
-fn lock_of<L: Line<Parcel> + Drop>(
-    rt: &(impl Abort + Wait),
-    alloc: Global,
-) -> Result<Locked<Parcel, L>, Fail> {
-    let lock = Mutex::new(book_of(alloc)?);
+fn lock_of<L: Line<Parcel> + Drop>(rt: &(impl Abort + Wait), alloc: Global) -> Locked<Parcel, L> {
+    let lock = Mutex::new(book_of(rt, alloc));
     {
         let mut book = lock.lock(rt);
-        plays(rt, &mut *book, &[(0, Ask::Take, Told::Waits(1))])?;
+        plays(rt, &mut *book, &[(0, Ask::Take, Told::Waits(1))]);
     }
-    Ok(lock)
+    lock
 }
 
 /// A lock over a queue in which a taker waits is let go in each way.
-fn is_let_go<L: Line<Parcel> + Drop>(rt: &(impl Abort + Wait), alloc: Global) -> Result<(), Fail> {
-    let_go_as_it_is::<Parcel, L>(lock_of(rt, alloc)?);
-    let_go_as_it_is_made::<Parcel, L>(book_of(alloc)?);
-    let_go_through_a_bound::<Parcel, L>(lock_of(rt, alloc)?);
-    Ok(())
+fn is_let_go<L: Line<Parcel> + Drop>(rt: &(impl Abort + Wait), alloc: Global) {
+    let_go_as_it_is::<Parcel, L>(lock_of(rt, alloc));
+    let_go_as_it_is_made::<Parcel, L>(book_of(rt, alloc));
+    let_go_through_a_bound::<Parcel, L>(lock_of(rt, alloc));
 }
 
 #[test]
-fn a_lock_over_a_fair_queue_is_let_go(rt: HostRuntime) -> Result<(), Fail> {
-    is_let_go::<FairLine<Parcel>>(&rt, rt.alloc())
+fn a_lock_over_a_fair_queue_is_let_go(rt: HostRuntime) {
+    is_let_go::<FairLine<Parcel>>(&rt, rt.alloc());
 }
 
 #[test]
-fn a_lock_over_a_stack_is_let_go(rt: HostRuntime) -> Result<(), Fail> {
-    is_let_go::<StackLine<Parcel>>(&rt, rt.alloc())
+fn a_lock_over_a_stack_is_let_go(rt: HostRuntime) {
+    is_let_go::<StackLine<Parcel>>(&rt, rt.alloc());
 }

@@ -3,7 +3,7 @@
 ghost use Rattle.std.specs.Prelude.{◌≡◌};
 
 use meet_tickets::{Marked, Refusal, SeatNo, Ticket};
-use std::test::Fail;
+use std::process::Abort;
 
 /// An item with a serial number of its own beside its mark.
 #[derive(Drop)]
@@ -62,10 +62,12 @@ pub fn numbered(serial: u64) -> Parcel {
     Parcel { mark: 7, serial }
 }
 
-pub fn seat(number: u64) -> Result<SeatNo, Fail> {
-    Ok(SeatNo::new(number).ok_or("no such seat number")?)
+/// The seat of this number.
+pub fn seat(rt: &impl Abort, number: u64) -> SeatNo {
+    SeatNo::new(number).expect(rt, "no such seat number")
 }
 
-pub fn ticket(number: u64) -> Result<Ticket, Fail> {
-    Ok(Ticket::new(number).ok_or("no such ticket number")?)
+/// The ticket of this number.
+pub fn ticket(rt: &impl Abort, number: u64) -> Ticket {
+    Ticket::new(number).expect(rt, "no such ticket number")
 }

@@ -9,7 +9,6 @@ use meet_line::{FairLine, Line, StackLine};
 use meet_tickets::SeatNo;
 use meet_transfer::Transfer;
 use std::process::Abort;
-use std::test::Fail;
 
 /// A synchronous queue in fair mode, and one in the default mode.
 pub type Fair = Dual<Parcel, FairLine<Parcel>>;
@@ -19,7 +18,7 @@ pub type Unfair = Dual<Parcel, StackLine<Parcel>>;
 /// Where seats ask, and are told something.
 pub trait Place {
     /// What this seat is told.
-    fn answer<A: Abort>(&mut self, rt: &A, at: SeatNo, ask: Ask) -> Result<Told, Fail>;
+    fn answer<A: Abort>(&mut self, rt: &A, at: SeatNo, ask: Ask) -> Told;
 }
 
 /// A place that can be looked at.
@@ -29,17 +28,16 @@ pub trait Shown: Place {
 }
 
 /// Seats ask, one after another, and are told this.
-pub fn plays<P: Place>(rt: &impl Abort, place: &mut P, rows: &[Row]) -> Result<(), Fail> {
+pub fn plays<P: Place>(rt: &impl Abort, place: &mut P, rows: &[Row]) {
     for (number, ask, wanted) in rows {
-        let told = place.answer(rt, seat(*number)?, *ask)?;
+        let told = place.answer(rt, seat(rt, *number), *ask);
         assert_eq!(rt; told, *wanted, "seat {number}");
     }
-    Ok(())
 }
 
 impl<L: Line<Parcel>> Place for Dual<Parcel, L> {
-    fn answer<A: Abort>(&mut self, _rt: &A, at: SeatNo, ask: Ask) -> Result<Told, Fail> {
-        Ok(match ask {
+    fn answer<A: Abort>(&mut self, rt: &A, at: SeatNo, ask: Ask) -> Told {
+        match ask {
             Ask::Give(serial) => self.give(at, numbered(serial)).map_or_else(returned, gave),
             Ask::Put(serial) => self.give(at, numbered(serial)).map_or_else(returned, gave),
             Ask::Offer(serial) => self
@@ -48,18 +46,18 @@ impl<L: Line<Parcel>> Place for Dual<Parcel, L> {
             Ask::Take => self.take(at).map_or_else(refused, took),
             Ask::Poll => self.poll(at).map_or_else(refused, polled),
             Ask::Follow(own) => self
-                .follow_up(at, ticket(own)?)
+                .follow_up(at, ticket(rt, own))
                 .map_or_else(refused, followed),
             Ask::Cancel(own) => self
-                .cancel(at, ticket(own)?)
+                .cancel(at, ticket(rt, own))
                 .map_or_else(refused, taken_back),
             Ask::Expire(own) => self
-                .expire(at, ticket(own)?)
+                .expire(at, ticket(rt, own))
                 .map_or_else(refused, taken_back),
             Ask::Interrupt(target) => self
-                .interrupt(seat(target)?)
+                .interrupt(seat(rt, target))
                 .map_or_else(refused, interrupted),
-        })
+        }
     }
 }
 
@@ -77,8 +75,8 @@ impl<L: Line<Parcel>> Shown for Dual<Parcel, L> {
 }
 
 impl Place for Transfer<Parcel> {
-    fn answer<A: Abort>(&mut self, _rt: &A, at: SeatNo, ask: Ask) -> Result<Told, Fail> {
-        Ok(match ask {
+    fn answer<A: Abort>(&mut self, rt: &A, at: SeatNo, ask: Ask) -> Told {
+        match ask {
             Ask::Give(serial) => self
                 .transfer(at, numbered(serial))
                 .map_or_else(returned, gave),
@@ -89,18 +87,18 @@ impl Place for Transfer<Parcel> {
             Ask::Take => self.take(at).map_or_else(refused, took),
             Ask::Poll => self.poll(at).map_or_else(refused, polled),
             Ask::Follow(own) => self
-                .follow_up(at, ticket(own)?)
+                .follow_up(at, ticket(rt, own))
                 .map_or_else(refused, followed),
             Ask::Cancel(own) => self
-                .cancel(at, ticket(own)?)
+                .cancel(at, ticket(rt, own))
                 .map_or_else(refused, taken_back),
             Ask::Expire(own) => self
-                .expire(at, ticket(own)?)
+                .expire(at, ticket(rt, own))
                 .map_or_else(refused, taken_back),
             Ask::Interrupt(target) => self
-                .interrupt(seat(target)?)
+                .interrupt(seat(rt, target))
                 .map_or_else(refused, interrupted),
-        })
+        }
     }
 }
 

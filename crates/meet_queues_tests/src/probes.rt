@@ -6,7 +6,6 @@ use meet_core::Dual;
 use meet_tickets::Ticket;
 use meet_transfer::Transfer;
 use std::process::Abort;
-use std::test::Fail;
 
 /// The number of a ticket.
 fn number(ticket: Option<Ticket>) -> Option<u64> {
@@ -39,28 +38,27 @@ fn shows_none(rt: &impl Abort, queue: &Fair) {
 }
 
 /// The queue's seats 0 and 2 have these open tickets.
-fn opens(rt: &impl Abort, queue: &Fair, wanted: [Option<u64>; 2]) -> Result<(), Fail> {
+fn opens(rt: &impl Abort, queue: &Fair, wanted: [Option<u64>; 2]) {
     let tickets = [
-        number(queue.open_ticket(seat(0)?)),
-        number(queue.open_ticket(seat(2)?)),
+        number(queue.open_ticket(seat(rt, 0))),
+        number(queue.open_ticket(seat(rt, 2))),
     ];
     assert_eq!(rt; tickets, wanted);
-    Ok(())
 }
 
 #[test]
-fn of_a_synchronous_queue(rt: HostRuntime) -> Result<(), Fail> {
-    let mut queue: Fair = Dual::new(rt.alloc(), 65_536, FIRST).ok().ok_or("memory")?;
+fn of_a_synchronous_queue(rt: HostRuntime) {
+    let mut queue: Fair = Dual::new(rt.alloc(), 65_536, FIRST).expect(&rt, "memory");
     // Two givers come, and one is met.
     let rows = [
         (0, Ask::Give(10), Told::Waits(9223372036854775800)),
         (1, Ask::Give(20), Told::Waits(9223372036854775801)),
         (2, Ask::Poll, Told::Got(9223372036854775802, FIRST, 10)),
     ];
-    plays(&rt, &mut queue, &rows)?;
+    plays(&rt, &mut queue, &rows);
     counts(&rt, &queue, [65_536, 2, 1, 1, 1, 5]);
     shows_none(&rt, &queue);
-    opens(&rt, &queue, [Some(FIRST), None])
+    opens(&rt, &queue, [Some(FIRST), None]);
 }
 
 /// A transfer queue shows so many of seats and of open tickets; of these so many wait, and so many were met or cut;
@@ -96,43 +94,37 @@ fn looks(
 }
 
 /// The transfer queue's seats 0 and 1 have these open tickets.
-fn opens_kept(
-    rt: &impl Abort,
-    queue: &Transfer<Parcel>,
-    wanted: [Option<u64>; 2],
-) -> Result<(), Fail> {
+fn opens_kept(rt: &impl Abort, queue: &Transfer<Parcel>, wanted: [Option<u64>; 2]) {
     let tickets = [
-        number(queue.open_ticket(seat(0)?)),
-        number(queue.open_ticket(seat(1)?)),
+        number(queue.open_ticket(seat(rt, 0))),
+        number(queue.open_ticket(seat(rt, 1))),
     ];
     assert_eq!(rt; tickets, wanted);
-    Ok(())
 }
 
 #[test]
-fn of_a_transfer_queue(rt: HostRuntime) -> Result<(), Fail> {
-    let mut queue: Transfer<Parcel> = Transfer::new(rt.alloc(), 65_536, FIRST)
-        .ok()
-        .ok_or("memory")?;
+fn of_a_transfer_queue(rt: HostRuntime) {
+    let mut queue: Transfer<Parcel> = Transfer::new(rt.alloc(), 65_536, FIRST).expect(
+        &rt, "memory",
+    );
     let rows = [
         (0, Ask::Put(10), Told::Kept(9223372036854775800)),
         (1, Ask::Give(20), Told::Waits(9223372036854775801)),
         (2, Ask::Put(30), Told::Kept(9223372036854775802)),
     ];
-    plays(&rt, &mut queue, &rows)?;
+    plays(&rt, &mut queue, &rows);
     counts_kept(&rt, &queue, [65_536, 1, 1, 0, 2, 3, 0, 5]);
     looks(&rt, &queue, Some(7), false, None);
-    opens_kept(&rt, &queue, [None, Some(9223372036854775801)])
+    opens_kept(&rt, &queue, [None, Some(9223372036854775801)]);
 }
 
 #[test]
-fn of_a_transfer_queue_with_a_bound(rt: HostRuntime) -> Result<(), Fail> {
-    let mut queue: Transfer<Parcel> = Transfer::with_bound(rt.alloc(), 2, 1, 4)
-        .ok()
-        .ok_or("memory")?;
+fn of_a_transfer_queue_with_a_bound(rt: HostRuntime) {
+    let mut queue: Transfer<Parcel> = Transfer::with_bound(rt.alloc(), 2, 1, 4).expect(
+        &rt, "memory",
+    );
     looks(&rt, &queue, None, false, Some(4));
-    plays(&rt, &mut queue, &[(1, Ask::Take, Told::Waits(1))])?;
+    plays(&rt, &mut queue, &[(1, Ask::Take, Told::Waits(1))]);
     counts_kept(&rt, &queue, [2, 1, 1, 0, 0, 0, 1, 9223372036854775806]);
     looks(&rt, &queue, None, true, Some(4));
-    Ok(())
 }

@@ -5,14 +5,14 @@ ghost use Rattle.std.specs.Option.{option_and_then};
 ghost use Rattle.meet_tickets.specs.Meeting.{partner};
 ghost use Rattle.meet_tickets.specs.declared.places.Side.TheVariants.{Taker};
 
-use crate::parcels::Parcel;
+use crate::parcels::{Parcel, parcel_of};
 use crate::telling::{
     tell_back, tell_followed, tell_gave, tell_interrupted, tell_taken, tell_took,
 };
 use anyhow::Result;
 use meet_core::Dual;
 use meet_line::{FairLine, Line, Polled};
-use meet_tickets::{Refusal, Refused, SeatNo};
+use meet_tickets::{Refusal, Refused, SeatNo, Ticket};
 
 /// `SynchronousQueue.poll` of this seat: the parcel of the giver that is met, or none where nobody is met. It refuses
 /// what `Dual::poll` does.
@@ -29,44 +29,78 @@ pub fn take_now<L: Line<Parcel>>(
     }
 }
 
+/// A synchronous queue of parcels in fair mode.
+type Counter = Dual<Parcel, FairLine<Parcel>>;
+
 /// One seat gives a parcel, another takes it, and the first is told so. Then it gives another, and takes that one back.
 pub fn hand_over(rt: &HostRuntime, seat_0: SeatNo, seat_1: SeatNo) -> Result<()> {
     let alloc = rt.alloc();
-    let item = Parcel {
-        mark: 5,
-        grams: 250,
-    };
     let mut queue: Dual<Parcel, FairLine<Parcel>> = Dual::new(alloc, 3, 1)?; // seats 0 to 2, first ticket 1
+    two_parcels(rt, &mut queue, seat_0, seat_1)
+}
+
+/// The calls of both seats, one after another.
+fn two_parcels(
+    rt: &HostRuntime,
+    queue: &mut Counter,
+    seat_0: SeatNo,
+    seat_1: SeatNo,
+) -> Result<()> {
+    let ticket = give(rt, queue, seat_0, 5)?;
+    take(rt, queue, seat_1)?;
+    follow_up(rt, queue, seat_0, ticket)?;
+    let ticket = give(rt, queue, seat_0, 6)?;
+    cancel(rt, queue, seat_0, ticket)?;
+    interrupt(rt, queue, seat_0)
+}
+
+/// A seat gives the parcel of this number: its ticket.
+fn give(rt: &HostRuntime, queue: &mut Counter, seat_0: SeatNo, mark: u64) -> Result<Ticket> {
+    let item = parcel_of(mark);
     // A refusal would bring the parcel back; `into_why` lets it go.
     let gave = queue.give(seat_0, item).map_err(Refused::into_why)?; // Gave::Waits(ticket), Gave::Meets(..), ..
-    let ticket = tell_gave(rt, gave)?;
+    tell_gave(rt, gave)
+}
+
+/// A seat takes.
+fn take(rt: &HostRuntime, queue: &mut Counter, seat_1: SeatNo) -> Result<()> {
     let took = queue.take(seat_1)?; // Took::Meets(ticket, with, item), Took::Waits(ticket), ..
-    tell_took(rt, took)?;
+    tell_took(rt, took)
+}
+
+/// A seat asks what became of its ticket.
+fn follow_up(rt: &HostRuntime, queue: &mut Counter, seat_0: SeatNo, ticket: Ticket) -> Result<()> {
     let followed = queue.follow_up(seat_0, ticket)?; // Followed::Done, Followed::Got(with, item), ..
-    tell_followed(rt, followed)?;
-    let item = Parcel {
-        mark: 6,
-        grams: 250,
-    };
-    let gave = queue.give(seat_0, item).map_err(Refused::into_why)?;
-    let ticket = tell_gave(rt, gave)?;
+    tell_followed(rt, followed)
+}
+
+/// A seat takes its ticket back.
+fn cancel(rt: &HostRuntime, queue: &mut Counter, seat_0: SeatNo, ticket: Ticket) -> Result<()> {
     let back = queue.cancel(seat_0, ticket)?; // TakenBack::Back(Some(item)), TakenBack::Late, ..
-    tell_back(rt, back)?;
+    tell_back(rt, back)
+}
+
+/// A seat is interrupted.
+fn interrupt(rt: &HostRuntime, queue: &mut Counter, seat_0: SeatNo) -> Result<()> {
     let struck = queue.interrupt(seat_0)?; // Interrupted::Cut(ticket), Interrupted::Flagged
     tell_interrupted(rt, struck)
 }
 
+/// A seat polls: what it brought is told.
+fn poll(rt: &HostRuntime, queue: &mut Counter, seat: SeatNo) -> Result<()> {
+    let taken = take_now(queue, seat)?;
+    tell_taken(rt, taken)
+}
+
 /// A seat polls twice: where nobody gives, and where another seat does.
 pub fn poll_twice(rt: &HostRuntime, seat_0: SeatNo, seat_1: SeatNo) -> Result<()> {
-    let mut queue: Dual<Parcel, FairLine<Parcel>> = Dual::new(rt.alloc(), 3, 1)?;
-    let taken = take_now(&mut queue, seat_1)?;
-    tell_taken(rt, taken)?;
-    let item = Parcel {
-        mark: 7,
-        grams: 250,
-    };
-    let gave = queue.give(seat_0, item).map_err(Refused::into_why)?;
-    tell_gave(rt, gave)?;
-    let taken = take_now(&mut queue, seat_1)?;
-    tell_taken(rt, taken)
+    let mut queue: Counter = Dual::new(rt.alloc(), 3, 1)?;
+    two_polls(rt, &mut queue, seat_0, seat_1)
+}
+
+/// The calls of both seats, one after another.
+fn two_polls(rt: &HostRuntime, queue: &mut Counter, seat_0: SeatNo, seat_1: SeatNo) -> Result<()> {
+    poll(rt, queue, seat_1)?;
+    give(rt, queue, seat_0, 7)?;
+    poll(rt, queue, seat_1)
 }

@@ -16,3 +16,8 @@ impl Marked for Parcel {
         self.mark
     }
 }
+
+/// A parcel of this number, of 250 g.
+pub fn parcel_of(mark: u64) -> Parcel {
+    Parcel { mark, grams: 250 }
+}

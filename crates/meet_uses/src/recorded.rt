@@ -6,7 +6,7 @@ ghost use Rattle.meet_tickets.specs.Meeting.{partner};
 ghost use Rattle.meet_tickets.specs.declared.places.Side.TheVariants.{Taker};
 ghost use Rattle.meet_uses.specs.Named.{Names};
 
-use crate::parcels::Parcel;
+use crate::parcels::{Parcel, parcel_of};
 use anyhow::Result;
 use meet_book::{Book, Receipt};
 use meet_calls::{DualAnswer, DualCall};
@@ -45,20 +45,23 @@ type Recorded = Book<Dual<Parcel, FairLine<Parcel>>>;
 /// One seat gives a parcel, and another polls it; a third gives one, which is drained. Each step has its record.
 pub fn keep_book(rt: &HostRuntime, seat_0: SeatNo, seat_1: SeatNo, seat_2: SeatNo) -> Result<()> {
     let alloc = rt.alloc();
-    let first = Parcel {
-        mark: 11,
-        grams: 250,
-    };
-    let second = Parcel {
-        mark: 12,
-        grams: 250,
-    };
     let mut book: Book<Dual<Parcel, FairLine<Parcel>>> = queue_book(alloc, 3, 1, 1_000)?; // at most 1,000 records
-    give(rt, &mut book, seat_0, first)?;
-    poll(rt, &mut book, seat_1)?;
-    give(rt, &mut book, seat_2, second)?;
-    drain(rt, &mut book, seat_1)?;
-    fold(rt, &mut book)
+    all_calls(rt, &mut book, seat_0, seat_1, seat_2)
+}
+
+/// The calls of the seats, one after another.
+fn all_calls(
+    rt: &HostRuntime,
+    book: &mut Recorded,
+    seat_0: SeatNo,
+    seat_1: SeatNo,
+    seat_2: SeatNo,
+) -> Result<()> {
+    give(rt, book, seat_0, parcel_of(11))?;
+    poll(rt, book, seat_1)?;
+    give(rt, book, seat_2, parcel_of(12))?;
+    drain(rt, book, seat_1)?;
+    fold(rt, book)
 }
 
 /// A seat gives a parcel, and its record is told.

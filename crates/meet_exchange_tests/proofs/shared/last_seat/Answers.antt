@@ -1,4 +1,4 @@
-use Rattle.std.proofs.Common.{◌≡◌, subst}
+use Rattle.std.proofs.Common.{subst}
 use Rattle.meet_exchange.specs.Seats.{AreNew}
 use Rattle.meet_exchange.proofs.Deals.{new_last}
 use Rattle.meet_exchange_tests.proofs.shared.last_seat.Goals as goal

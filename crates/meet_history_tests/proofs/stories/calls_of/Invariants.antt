@@ -4,4 +4,4 @@ use Rattle.meet_history_tests.proofs.stories.calls_of.Given as goal
 
 -- the place has the verbs of the calls so far
 abbrev pub invariant-loop-number : goal.invariant-loop-number
-invariant-loop-number l = All (λ call. IsTrue (serves l.fn.order call.verb)) l.calls.items
+invariant-loop-number g l = All (λ call. IsTrue (serves l.fn.order call.verb)) l.calls.items
