@@ -1,0 +1,86 @@
+#!/usr/bin/env bash
+# What `bin/bench pool` runs: measures how long it takes a pool to run jobs, by runs of the program `pool_rounds`, which is built first
+# where it isn't there or its sources are newer, and of `bench/PoolRace.java` where there is a `java`. With `quick`, a tenth of the jobs,
+# and rough. Where not all jobs of a round ran the status is 1.
+#
+# A row is so many callers that hand 100,000 jobs in, all together, to a pool as those of `Executors.newFixedThreadPool`, with as many
+# workers as there are processors, or of `newCachedThreadPool`, here of at most 1,024 callers and workers. A job is empty, or works for 10 microseconds.
+# A time is that of the clock from before the first call until the pool has ended, by the job, in nanoseconds: the median of nine rounds,
+# each over a new pool. The last columns are the ratio to Java's, and how many jobs in a hundred their callers ran here, since there were
+# as many workers as there may be.
+#
+# `bin/bench pool life` hands 1,000,000 and 10,000,000 empty jobs to a pool that is tended and keeps at most 1,024 jobs, of which its
+# caller runs those that find no room, and prints the most memory that each took: they may differ by 2 MiB.
+set -euo pipefail
+. "$(dirname "$0")/built.bash"
+jobs=100000
+rounds=9
+workers=$(nproc)
+[ "${1:-}" = quick ] && jobs=$((jobs / 10))
+
+build pool_rounds 2
+program=$(program_of pool_rounds)
+work=$(mktemp -d)
+trap 'rm -rf "$work"' EXIT
+
+# The most memory that so many jobs of one caller take, in KiB.
+memory_of() {
+    /usr/bin/env time -f %M "$program" race bounded "$workers" 1 "$1" 0 1 2>"$work/times" >"$work/told"
+    [ "$(cat "$work/told")" = "jobs $1 of $1" ] || return 1
+    tail -n 1 "$work/times"
+}
+
+if [ "${1:-}" = life ]; then
+    few=$(memory_of 1000000)
+    many=$(memory_of 10000000)
+    echo "$few KiB after 1,000,000 jobs, $many KiB after 10,000,000"
+    [ "$many" -le $((few + 2048)) ] || { echo "it grows"; exit 1; }
+    exit 0
+fi
+
+# Runs this program with a pool of this name, so many callers and jobs that last so long, and prints the nanoseconds a job, the median
+# of the rounds.
+cost_of() {
+    local pool=$1 callers=$2 lasts=$3 each round
+    shift 3
+    each=$((jobs / callers))
+    for ((round = 0; round < rounds; round++)); do
+        echo "jobs $((callers * each)) of $((callers * each))"
+    done >"$work/expected"
+    if ! "$@" "$pool" "$workers" "$callers" "$each" "$lasts" "$rounds" \
+        >"$work/told" 2>"$work/times" || ! cmp -s "$work/expected" "$work/told"; then
+        echo "bin/bench pool: $* $pool with $callers callers says something else" >&2
+        diff "$work/expected" "$work/told" >&2 || true
+        cat "$work/times" >&2
+        return 1
+    fi
+    awk '{ here += $4 } END { print here + 0 }' "$work/times" >"$work/here"
+    sed -n 's/^nanoseconds \([0-9]*\).*/\1/p' "$work/times" | sort -n | sed -n "$((rounds / 2 + 1))p" |
+        awk -v jobs=$((callers * each)) '{ printf "%.0f", $1 / jobs }'
+}
+
+cost_in_java() {
+    command -v java >/dev/null || { printf -- '-'; return; }
+    cost_of "$1" "$2" "$3" java "$top/bench/PoolRace.java"
+}
+
+# One cost by another, where both were measured.
+ratio() {
+    awk -v one="$1" -v other="$2" 'BEGIN { if (one == "-" || other == "-") print "-"; else printf "%.2f", one / other }'
+}
+
+cat <<END
+nanoseconds a job, $jobs jobs in all, the median of $rounds rounds: $workers processors, $(date -u +%F), $(java -version 2>&1 | head -n 1 || true)
+aims by Java's: 10 microseconds of work at most 1.10; empty jobs at most 2.00 of a fixed pool, 1.00 of a cached one
+END
+printf '%8s %8s %6s %8s %8s %8s %12s\n' work pool callers here Java ratio 'by callers'
+for lasts in 0 10000; do
+    for pool in fixed cached; do
+        for callers in 1 2 4 16; do
+            here=$(cost_of "$pool" "$callers" "$lasts" "$program" race)
+            own=$(awk -v all=$((rounds * (jobs / callers) * callers)) '{ printf "%.1f", 100 * $1 / all }' "$work/here")
+            java=$(cost_in_java "$pool" "$callers" "$lasts")
+            printf '%8s %8s %6d %8s %8s %8s %12s\n' "$lasts" "$pool" "$callers" "$here" "$java" "$(ratio "$here" "$java")" "$own"
+        done
+    done
+done
