@@ -1,4 +1,4 @@
-//! How long calls took, in nanolasts.
+//! How long calls took, in nanoseconds.
 
 use std::alloc::Global;
 
@@ -47,7 +47,7 @@ pub struct Spread {
 /// The time of this number, from 0; 0 where there is none.
 fn nth(times: &[u128], number: usize) -> u128 {
     match times.get(number) {
-        Some(nanolasts) => *nanolasts,
+        Some(nanoseconds) => *nanoseconds,
         None => 0,
     }
 }
