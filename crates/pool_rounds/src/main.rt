@@ -3,16 +3,7 @@
 //!     pool_rounds soak ROUNDS FIRST
 //!     pool_rounds race fixed|bounded|cached WORKERS CALLERS EACH NANOSECONDS ROUNDS
 //!
-//! In a round of a soak callers hand jobs in, and then every job is looked for: it ran once, came back once, or is
-//! left. So many rounds are held, whose numbers begin at FIRST, by which a round that fails is found again. Standard
-//! error tells how often each answer of `execute` came, a worker waited too long, and records were folded away or
-//! handed out: in another run of the same rounds threads come in another order.
-//!
-//! In a race each of the callers hands in EACH jobs that work so many nanoseconds, as fast as it can, to a pool as
-//! those of `Executors.newFixedThreadPool`, with so many workers, or `newCachedThreadPool`; a bounded pool is a fixed
-//! one that keeps 1,024 jobs at most. A line a round on standard output tells how many jobs ran, and one on standard
-//! error how many nanoseconds it took, from before the first call until no worker was left, and how many jobs their
-//! callers ran, since there were as many workers as there may be.
+//! What a round of a soak does and tells is said in `rounds`, and what a race does in `races`.
 #![tactic(auto)]
 
 mod accounts;

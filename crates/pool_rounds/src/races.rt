@@ -1,4 +1,8 @@
-//! Jobs that callers hand to a pool as fast as they can, and how long that takes.
+//! Jobs that callers hand to a pool as fast as they can, and how long that takes. Each caller hands in so many, which
+//! work so many nanoseconds, to a pool as those of `Executors.newFixedThreadPool` or `newCachedThreadPool`; a bounded
+//! pool is a fixed one that keeps 1,024 jobs at most. A line a round on standard output tells how many jobs ran, and
+//! one on standard error how many nanoseconds it took, from before the first call until no worker was left, and how
+//! many jobs their callers ran, since there were as many workers as there may be.
 
 ghost use Rattle.std.specs.Prelude.{◌<◌, ◌≤◌, IfSome};
 

@@ -1,4 +1,8 @@
-//! What a round is of, by its number: the pool, its jobs, and when it is shut down.
+//! What a round of a soak is of, by its number: the pool, its jobs, and when it is shut down. Callers hand jobs in, and
+//! then every job is looked for: it ran once, came back once, or is left. So many rounds are held, whose numbers begin
+//! at the first, by which one that fails is found again. Standard error tells how often each answer of `execute` came,
+//! a worker waited too long, and records were folded away or handed out: in another run of the same rounds threads come
+//! in another order.
 
 ghost use Rattle.std.specs.Prelude.{◌<◌};
 

@@ -85,6 +85,20 @@ pub enum Duty<C, S> {
     Await(S),
 }
 
+/// What a worker does that was ready; none where it has gone.
+fn duty_of<W: Work, C: Drop, N: PoolLedgers>(
+    next: Next<C, WorkerSeat<W, N>>,
+) -> Option<Duty<C, WorkerSeat<W, N>>>
+    requires { IsReadied next }
+    ensures { IfSome result DutyFits }
+{
+    match next {
+        Next::Run(seat, job) => Some(Duty::Run(seat, job)),
+        Next::Waits(seat) => Some(Duty::Await(seat)),
+        _ => None,
+    }
+}
+
 impl<W: Work, C: Drop, G, N: PoolLedgers> Home<W, C, G, N> {
     /// Makes a step of a worker under one hold of the lock.
     fn step<R: Wait>(
@@ -121,7 +135,7 @@ impl<W: Work, C: Drop, G, N: PoolLedgers> Home<W, C, G, N> {
             _ => return None,
         };
         drop(shared);
-        self.duty_of(next)
+        duty_of(next)
     }
 
     /// Whether a worker is to let go of receipts.
@@ -140,21 +154,6 @@ impl<W: Work, C: Drop, G, N: PoolLedgers> Home<W, C, G, N> {
             seat.forget(gone);
         }
     }
-
-    /// What a worker does that was ready. Where it has gone, who waits for the pool's end looks again.
-    fn duty_of(&self, next: Next<C, WorkerSeat<W, N>>) -> Option<Duty<C, WorkerSeat<W, N>>>
-        requires { IsReadied next }
-        ensures { IfSome result DutyFits }
-    {
-        match next {
-            Next::Run(seat, job) => Some(Duty::Run(seat, job)),
-            Next::Waits(seat) => Some(Duty::Await(seat)),
-            _ => {
-                self.moved.notify_all();
-                None
-            }
-        }
-    }
 }
 
 impl<W: Work, C: Call<W> + Drop, G: Gate, N: PoolLedgers> Home<W, C, G, N> {
@@ -170,11 +169,10 @@ impl<W: Work, C: Call<W> + Drop, G: Gate, N: PoolLedgers> Home<W, C, G, N> {
         self.forget(rt, &mut seat);
         if seat.reserve(4).is_err() {
             let _ended = self.step(rt, seat, WorkerCall::Leave);
-            self.moved.notify_all();
             return None;
         }
         let next = self.step(rt, seat, WorkerCall::Ready);
-        self.duty_of(next)
+        duty_of(next)
     }
 
     /// Runs a job outside the lock, and records its answer; and where there is room for what comes then, and no
@@ -215,18 +213,12 @@ impl<W: Work, C: Call<W> + Drop, G: Gate, N: PoolLedgers> Home<W, C, G, N> {
             match self.step(rt, seat, WorkerCall::Follow) {
                 Next::Run(seat, job) => return Some(Duty::Run(seat, job)),
                 Next::Stays(again) => seat = again,
-                _ => {
-                    self.moved.notify_all();
-                    return None;
-                }
+                _ => return None,
             }
             if turn == Turn::Elapsed {
                 match self.step(rt, seat, WorkerCall::IdleEnd) {
                     Next::Stays(again) => seat = again,
-                    _ => {
-                        self.moved.notify_all();
-                        return None;
-                    }
+                    _ => return None,
                 }
             }
         }
@@ -243,7 +235,7 @@ impl<W: Work, C: Call<W> + Drop, G: Gate, N: PoolLedgers> Home<W, C, G, N> {
         }
     }
 
-    /// What a worker does, from its start to its end.
+    /// What a worker does, from its start to its end. Then who waits for the pool's end looks again.
     pub(crate) fn serve<R: Wait + Clock>(&self, rt: &R, first: WorkerSeat<W, N>)
         requires room { 0 < first.room }
     {
@@ -256,7 +248,10 @@ impl<W: Work, C: Call<W> + Drop, G: Gate, N: PoolLedgers> Home<W, C, G, N> {
             };
             match next {
                 Some(next) => duty = next,
-                None => return,
+                None => {
+                    self.moved.notify_all();
+                    return;
+                }
             }
         }
     }
