@@ -27,6 +27,7 @@ pub fn book_of_pool<J: Marked>(
     ensures fresh { IfOk result (λ book. book.object.pool ≡ nobody (replicate sizes.maximum Absent)) }
     ensures settings { IfOk result (λ book. book.object.settings
         ≡ record { sizes = sizes; queue = queue; policy = policy }) }
+    ensures next { IfOk result (λ book. book.object.next ≡ 1) }
     ensures base { IfOk result (λ book. book.base ≡ no_base) }
     ensures records { IfOk result (λ book. book.records ≡ []) }
     ensures cap { IfOk result (λ book. book.cap ≡ cap) }

@@ -1,11 +1,11 @@
 //! The workers of a pool: what each does, and what they count together. No call takes longer where there are more of
 //! them, but for those that go over all.
 
-ghost use Rattle.std.specs.Prelude.{◌≡◌, ◌<◌, ◌≤◌, length, get_or, replicate, slice_index_or, slice_set, count_by};
-ghost use Rattle.std.specs.Prelude.{sum_by, position, not, if◌then◌else◌, IfOk};
+ghost use Rattle.std.specs.Prelude.{◌≡◌, ◌<◌, ◌≤◌, length, get_or, map, replicate, slice_index_or, slice_set};
+ghost use Rattle.std.specs.Prelude.{count_by, sum_by, position, not, if◌then◌else◌, IfOk};
 ghost use Rattle.pool_core.specs.Limits.{most_together};
 ghost use Rattle.pool_core.specs.Calls.{is_running, is_cut};
-ghost use Rattle.pool_core.specs.Pools.{HasNoJob, is_there, stage_owes};
+ghost use Rattle.pool_core.specs.Pools.{HasNoJob, cut_stage, is_there, stage_owes};
 ghost use Rattle.pool_core.specs.declared.stages.Stage.TheVariants.{Absent};
 
 use crate::numbers::Numbers;
@@ -17,7 +17,7 @@ use std::mem;
 /// What each worker does, by number; and how many are there, how many run a job, and how many records they may still
 /// need; which numbers no worker has, and whose takes were cut. A contract sees the stages.
 #[derive(Drop)]
-pub(crate) struct Crew<J> {
+pub struct Crew<J> {
     stages: Vec<Stage<J>>,
     there: u64,
     running: u64,
@@ -40,7 +40,7 @@ impl<J> Model for Crew<J> {
 
 impl<J> Crew<J> {
     /// So many numbers that no worker has.
-    pub(crate) fn new(alloc: Global, count: u64) -> Result<Self, AllocError>
+    pub fn new(alloc: Global, count: u64) -> Result<Self, AllocError>
         requires { count ≤ most_together }
         ensures { IfOk result (λ crew. crew ≡ replicate count Absent) }
     {
@@ -58,21 +58,21 @@ impl<J> Crew<J> {
     }
 
     /// What each does.
-    pub(crate) fn stages(&self) -> &[Stage<J>]
+    pub fn stages(&self) -> &[Stage<J>]
         ensures { result.now ≡ self.now }
     {
         self.stages.as_slice()
     }
 
     /// How many numbers there are.
-    pub(crate) fn len(&self) -> u64
+    pub fn len(&self) -> u64
         ensures { result ≡ length self.now }
     {
         self.stages.len() as u64
     }
 
     /// What the worker of this number does.
-    pub(crate) fn at(&self, worker: u64) -> &Stage<J>
+    pub fn at(&self, worker: u64) -> &Stage<J>
         requires { worker < length self.now }
         ensures { result.now ≡ get_or self.now worker result.now }
     {
@@ -80,7 +80,7 @@ impl<J> Crew<J> {
     }
 
     /// What each did, taken apart.
-    pub(crate) fn into_stages(self) -> Vec<Stage<J>>
+    pub fn into_stages(self) -> Vec<Stage<J>>
         ensures { result.items ≡ self }
     {
         let Crew {
@@ -95,35 +95,35 @@ impl<J> Crew<J> {
     }
 
     /// The least number that no worker has.
-    pub(crate) fn free(&self) -> Option<u64>
+    pub fn free(&self) -> Option<u64>
         ensures { result ≡ position (λ stage. not (is_there stage)) self.now }
     {
         self.free.least()
     }
 
     /// The first worker whose take was cut.
-    pub(crate) fn first_cut(&self) -> Option<u64>
+    pub fn first_cut(&self) -> Option<u64>
         ensures { result ≡ position is_cut self.now }
     {
         self.cut.least()
     }
 
     /// How many are there.
-    pub(crate) fn there(&self) -> u64
+    pub fn there(&self) -> u64
         ensures { result ≡ count_by is_there self.now }
     {
         self.there
     }
 
     /// How many run a job.
-    pub(crate) fn running(&self) -> u64
+    pub fn running(&self) -> u64
         ensures { result ≡ count_by is_running self.now }
     {
         self.running
     }
 
     /// How many records they may still need.
-    pub(crate) fn owes(&self) -> u64
+    pub fn owes(&self) -> u64
         ensures { result ≡ sum_by stage_owes self.now }
     {
         self.owes
@@ -140,7 +140,7 @@ fn one_if(is: bool) -> u64
 
 impl<J> Crew<J> {
     /// The worker of this number comes to another stage: the one that it leaves.
-    fn put(&mut self, worker: u64, stage: Stage<J>) -> Stage<J>
+    pub fn put(&mut self, worker: u64, stage: Stage<J>) -> Stage<J>
         requires { worker < length self.old }
         ensures was { result ≡ slice_index_or self.old worker Absent }
         ensures stages { self.new ≡ slice_set self.old worker stage }
@@ -161,7 +161,7 @@ impl<J> Crew<J> {
 }
 
 /// The worker of this number comes to another stage. What it leaves has no job in it.
-pub(crate) fn set_stage<J>(workers: &mut Crew<J>, worker: u64, stage: Stage<J>)
+pub fn set_stage<J>(workers: &mut Crew<J>, worker: u64, stage: Stage<J>)
     requires there { worker < length workers.old }
     requires no_job { HasNoJob (slice_index_or workers.old worker Absent) }
     ensures { workers.new ≡ slice_set workers.old worker stage }
@@ -177,7 +177,7 @@ pub(crate) fn set_stage<J>(workers: &mut Crew<J>, worker: u64, stage: Stage<J>)
 }
 
 /// Takes what the worker of this number does out; it is absent then.
-pub(crate) fn take_stage<J>(workers: &mut Crew<J>, worker: u64) -> Stage<J>
+pub fn take_stage<J>(workers: &mut Crew<J>, worker: u64) -> Stage<J>
     requires { worker < length workers.old }
     ensures was { result ≡ slice_index_or workers.old worker Absent }
     ensures workers { workers.new ≡ slice_set workers.old worker Absent }
@@ -195,4 +195,36 @@ fn nobody_works<J>(alloc: Global, count: u64) -> Result<Vec<Stage<J>>, AllocErro
         workers.push_reserved(Stage::Absent);
     }
     Ok(workers)
+}
+
+/// Each worker that waits is cut.
+pub fn cut_all<J>(workers: &mut Crew<J>)
+    ensures { workers.new ≡ map cut_stage workers.old }
+{
+    for worker in 0..workers.len() {
+        cut_one(workers, worker);
+    }
+}
+
+/// The worker of this number is cut, if it waits.
+fn cut_one<J>(workers: &mut Crew<J>, worker: u64)
+    requires { worker < length workers.old }
+    ensures { workers.new ≡ slice_set workers.old worker (cut_stage (slice_index_or workers.old worker Absent)) }
+{
+    let stage = take_stage(workers, worker);
+    set_stage(workers, worker, cut(stage));
+}
+
+/// What a shutdown makes of what a worker does.
+fn cut<J>(stage: Stage<J>) -> Stage<J>
+    ensures { result ≡ cut_stage stage }
+{
+    match stage {
+        Stage::Absent => Stage::Absent,
+        Stage::Starting(first) => Stage::Starting(first),
+        Stage::Waiting(take) => Stage::Cut(take),
+        Stage::Cut(take) => Stage::Cut(take),
+        Stage::HandedOver(take, task) => Stage::HandedOver(take, task),
+        Stage::Running(ticket) => Stage::Running(ticket),
+    }
 }

@@ -5,7 +5,7 @@ ghost use Rattle.std.specs.Prelude.{◌∷◌, ◌++◌, find, map, filter, leng
 ghost use Rattle.std.specs.Prelude.{MatchOption, ⊤, None, IsOk, IfOk, IfErr, option_to_list, option_map, if◌then◌else◌};
 ghost use Rattle.std.specs.Vec.{vec_capacity};
 ghost use Rattle.meet_tickets.specs.Meeting.{is_on, partner, kept_count};
-ghost use Rattle.meet_tickets.specs.declared.places.Side.TheVariants.{Giver};
+ghost use Rattle.meet_tickets.specs.declared.places.Side.TheVariants.{Giver, Taker};
 ghost use Rattle.meet_tickets.specs.declared.places.End.TheVariants.{Front as AtFront, Back as AtBack};
 ghost use Rattle.meet_tickets.specs.BySeat.{unmet, without_first};
 ghost use Rattle.meet_tickets.specs.declared.refusals.Refusal.TheVariants.{Memory};
@@ -21,14 +21,14 @@ use std::marker::Model;
 
 /// A line that is met at either end. It counts the kept jobs.
 #[derive(Drop)]
-pub(crate) struct JobLine<J> {
+pub struct JobLine<J> {
     line: ByEnd<J>,
     kept: u64,
 }
 
 /// The end at which an entry is met.
 #[derive(Drop)]
-pub(crate) enum ByEnd<J> {
+pub enum ByEnd<J> {
     Front(FairLine<J>),
     Back(StackLine<J>),
 }
@@ -51,7 +51,7 @@ impl<J> Model for JobLine<J> {
 
 impl<J> JobLine<J> {
     /// A line with nobody in it and no room, that meets at this end.
-    pub(crate) fn new(alloc: Global, end: End) -> Self
+    pub fn new(alloc: Global, end: End) -> Self
         ensures end { result.end ≡ end }
         ensures entries { result.entries ≡ [] }
         ensures room { result.room ≡ 0 }
@@ -64,7 +64,7 @@ impl<J> JobLine<J> {
     }
 
     /// Lets an empty line go, also where its jobs can't be dropped.
-    pub(crate) fn destroy_empty(self)
+    pub fn destroy_empty(self)
         requires { self.entries ≡ [] }
     {
         let JobLine { line, kept: _ } = self;
@@ -75,7 +75,7 @@ impl<J> JobLine<J> {
     }
 
     /// Makes room for so many entries more. The only refusal is Memory.
-    pub(crate) fn reserve(&mut self, count: u64) -> Result<(), Refusal>
+    pub fn reserve(&mut self, count: u64) -> Result<(), Refusal>
         ensures same { self.new ≡ record self.old { room = self.new.room } }
         ensures room { OnOk result (count ≤ self.new.room) }
         ensures more { self.old.room ≤ self.new.room }
@@ -90,7 +90,7 @@ impl<J> JobLine<J> {
     }
 
     /// A take comes to the line's end.
-    pub(crate) fn push_take(&mut self, entry: Entry<J>)
+    pub fn push_take(&mut self, entry: Entry<J>)
         requires room { 0 < self.old.room }
         requires fresh { All (λ e. e.ticket ≢ entry.ticket) self.old.entries }
         requires waits { IsTrue entry.waits }
@@ -102,7 +102,7 @@ impl<J> JobLine<J> {
     }
 
     /// A kept job comes to the line's end.
-    pub(crate) fn push_kept(&mut self, entry: Entry<J>)
+    pub fn push_kept(&mut self, entry: Entry<J>)
         requires room { 0 < self.old.room }
         requires fresh { All (λ e. e.ticket ≢ entry.ticket) self.old.entries }
         requires kept { IsFalse entry.waits }
@@ -116,7 +116,7 @@ impl<J> JobLine<J> {
     }
 
     /// The partner of a request of this side leaves the line, if it has one.
-    pub(crate) fn partner(&mut self, side: Side) -> Option<Entry<J>>
+    pub fn partner(&mut self, side: Side) -> Option<Entry<J>>
         ensures end { self.new.end ≡ self.old.end }
         ensures partner { result ≡ partner self.old.end self.old.entries side }
         ensures entries { self.new.entries ≡ (if is_some result then unmet self.old.end self.old.entries
@@ -129,7 +129,7 @@ impl<J> JobLine<J> {
     }
 
     /// The entry of this ticket leaves the line, if it is there.
-    pub(crate) fn remove(&mut self, ticket: Ticket) -> Option<Entry<J>>
+    pub fn remove(&mut self, ticket: Ticket) -> Option<Entry<J>>
         ensures end { self.new.end ≡ self.old.end }
         ensures entry { result ≡ find (λ e. e.ticket == ticket) self.old.entries }
         ensures entries { self.new.entries ≡ without_first (λ e. e.ticket == ticket) self.old.entries }
@@ -141,7 +141,7 @@ impl<J> JobLine<J> {
     }
 
     /// The take of this ticket leaves the line, if it is there.
-    pub(crate) fn remove_take(&mut self, ticket: Ticket)
+    pub fn remove_take(&mut self, ticket: Ticket)
         requires { MatchOption (find (λ e. e.ticket == ticket) self.old.entries) ⊤ (λ e. e.item ≡ None) }
         ensures end { self.new.end ≡ self.old.end }
         ensures entries { self.new.entries ≡ without_first (λ e. e.ticket == ticket) self.old.entries }
@@ -163,7 +163,7 @@ impl<J> JobLine<J> {
     }
 
     /// The takes leave the line, and the kept jobs stay.
-    pub(crate) fn drop_takes(&mut self)
+    pub fn drop_takes(&mut self)
         requires { AllPairs (λ e f. is_some e.item ≡ is_some f.item) self.old.entries }
         ensures end { self.new.end ≡ self.old.end }
         ensures entries { self.new.entries ≡ filter (is_on Giver) self.old.entries }
@@ -184,7 +184,7 @@ impl<J> JobLine<J> {
     }
 
     /// The kept jobs leave a line of givers, in the order in which they came, and go behind the others of the list.
-    pub(crate) fn hand_back(&mut self, list: &mut Vec<Task<J>>)
+    pub fn hand_back(&mut self, list: &mut Vec<Task<J>>)
         requires givers { All (λ e. is_some e.item ≡ true) self.old.entries }
         requires front { self.old.end ≡ AtBack → self.old.entries ≡ [] }
         requires fits { vec_len list.old + length self.old.entries ≤ vec_capacity list.old }
@@ -202,7 +202,7 @@ impl<J> JobLine<J> {
     }
 
     /// Whether a request of this side has a partner.
-    pub(crate) fn has_partner(&self, side: Side) -> bool
+    pub fn has_partner(&self, side: Side) -> bool
         ensures { result ≡ is_some (partner self.now.end self.now.entries side) }
     {
         match &self.line {
@@ -211,11 +211,36 @@ impl<J> JobLine<J> {
         }
     }
 
+    /// The kept job that came first, in a line that is met at its front; it stays there. A line that is met at its back
+    /// keeps none.
+    pub fn first_kept(&self) -> Option<&Entry<J>>
+        ensures front { self.now.end ≡ AtFront → option_map (λ e. e.now) result
+            ≡ partner AtFront self.now.entries Taker }
+        ensures back { self.now.end ≡ AtBack → result ≡ None }
+    {
+        match &self.line {
+            ByEnd::Front(line) => kept_first(line),
+            ByEnd::Back(_) => None,
+        }
+    }
+
     /// How many jobs are kept.
-    pub(crate) fn kept(&self) -> u64
+    pub fn kept(&self) -> u64
         ensures { result ≡ kept_count self.now.entries }
     {
         self.kept
+    }
+}
+
+/// The kept job that came first.
+fn kept_first<J>(line: &FairLine<J>) -> Option<&Entry<J>>
+    ensures { option_map (λ e. e.now) result ≡ partner AtFront line.now.entries Taker }
+{
+    let first = line.first()?;
+    if first.is_on(Side::Taker) {
+        None
+    } else {
+        Some(first)
     }
 }
 
@@ -317,7 +342,7 @@ fn kept_one<J>(entry: &Option<Entry<J>>) -> u64
 
 impl<J: Marked> JobLine<J> {
     /// The entries in order of arrival, jobs by their tags. The only refusal is Memory.
-    pub(crate) fn tagged(&self, alloc: Global) -> Result<Vec<Entry<u64>>, Refusal>
+    pub fn tagged(&self, alloc: Global) -> Result<Vec<Entry<u64>>, Refusal>
         ensures entries { IfOk result (λ copies. copies.items ≡ map (marked_entry J.mark_of) self.now.entries) }
         ensures memory { IfErr result (λ why. why ≡ Memory) }
     {

@@ -1,14 +1,11 @@
 //! A pool is shut.
 
-ghost use Rattle.std.specs.Prelude.{◌≡◌, ◌≢◌, ◌+◌, ◌<◌, ◌≤◌, None, Some, IfOk, IfErr, length, map, slice_set};
-ghost use Rattle.std.specs.Prelude.{slice_index_or};
+ghost use Rattle.std.specs.Prelude.{◌≡◌, ◌≢◌, ◌+◌, ◌≤◌, None, Some, IfOk, IfErr};
 ghost use Rattle.meet_tickets.specs.declared.refusals.Refusal.TheVariants.{Memory, HistoryFull};
-ghost use Rattle.pool_core.specs.Pools.{cut_stage};
-ghost use Rattle.pool_core.specs.declared.stages.Stage.TheVariants.{Absent};
 
-use crate::crew::{Crew, set_stage, take_stage};
+use crate::crew::cut_all;
 use crate::pool::PoolCore;
-use crate::stages::{Stage, Task};
+use crate::stages::Task;
 use meet_tickets::{Refusal, SeatNo};
 use std::mem;
 
@@ -80,37 +77,5 @@ impl<J> PoolCore<J> {
         self.line.hand_back(&mut list);
         self.back += count;
         list
-    }
-}
-
-/// Each worker that waits is cut.
-fn cut_all<J>(workers: &mut Crew<J>)
-    ensures { workers.new ≡ map cut_stage workers.old }
-{
-    for worker in 0..workers.len() {
-        cut_one(workers, worker);
-    }
-}
-
-/// The worker of this number is cut, if it waits.
-fn cut_one<J>(workers: &mut Crew<J>, worker: u64)
-    requires { worker < length workers.old }
-    ensures { workers.new ≡ slice_set workers.old worker (cut_stage (slice_index_or workers.old worker Absent)) }
-{
-    let stage = take_stage(workers, worker);
-    set_stage(workers, worker, cut(stage));
-}
-
-/// What a shutdown makes of what a worker does.
-fn cut<J>(stage: Stage<J>) -> Stage<J>
-    ensures { result ≡ cut_stage stage }
-{
-    match stage {
-        Stage::Absent => Stage::Absent,
-        Stage::Starting(first) => Stage::Starting(first),
-        Stage::Waiting(take) => Stage::Cut(take),
-        Stage::Cut(take) => Stage::Cut(take),
-        Stage::HandedOver(take, task) => Stage::HandedOver(take, task),
-        Stage::Running(ticket) => Stage::Running(ticket),
     }
 }

@@ -1,0 +1,4 @@
+pub mod Called
+pub mod Faulty
+pub mod Pushed
+pub mod Taken

@@ -1,0 +1,8 @@
+use Rattle.std.proofs.Common.{refl}
+use Rattle.pool_history.proofs.checker.PoolChecker.new.Goals as goal
+
+pub returns-in-Ok-clause-seen : goal.returns-in-Ok-clause-seen
+returns-in-Ok-clause-seen c = (
+  rw c.in-Ok.ensures.settings c.in-Ok.ensures.well_formed,
+  record { legal = tt; moment = rw c.in-Ok.ensures.settings c.in-Ok.ensures.fresh; count = refl },
+)

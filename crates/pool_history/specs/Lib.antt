@@ -1,0 +1,4 @@
+pub mod Checking
+pub mod Inside
+pub mod OneThread
+pub mod Pushing
