@@ -140,56 +140,69 @@ fn summed<N: Ledgers>(
     Ok((backs, sum))
 }
 
-/// Whether these are the same items, in any order.
-fn are_same(one: Vec<u64>, other: Vec<u64>) -> Result<bool, &'static str> {
-    let mut one = one;
-    let mut other = other;
+/// Whether these are the same items, which are sorted by that.
+fn are_same(one: &mut Vec<u64>, other: &mut Vec<u64>) -> Result<bool, &'static str> {
     one.sort().map_err(|_| "memory")?;
     other.sort().map_err(|_| "memory")?;
     Ok(one.as_slice() == other.as_slice())
 }
 
-/// The records are legal behind the base, each stands in a list, every item that was given is there once: it came to
-/// somebody, or is left; and no two calls are in wrong order.
-fn finds_all(
-    alloc: Global,
-    order: Order,
-    chronicle: Chronicle<u64>,
-    account: Account,
-) -> Result<(), Fault>
-    requires { IsWellFormed (record { order = order; bound = None }) chronicle.base }
-{
-    let Account {
-        given,
-        came,
-        calls,
-        fault,
-    } = account;
-    if let Some(fault) = fault {
-        return Err(Fault::Plain(fault));
+/// How many receipts behind the base stand in the seats' lists.
+fn listed(chronicle: &Chronicle<u64>) -> usize {
+    let gone = chronicle.base.gone;
+    let mut listed = 0usize;
+    for list in chronicle.lists.iter() {
+        for receipt in list.iter() {
+            if receipt.place() > gone {
+                listed = listed.saturating_add(1);
+            }
+        }
     }
+    listed
+}
+
+/// The records are legal behind the base, and each stands in a list.
+fn stand(alloc: Global, order: Order, chronicle: &Chronicle<u64>) -> Result<(), Fault>
+    requires { IsWellFormed (record { order = order; bound = None }) chronicle.now.base }
+{
     let records = chronicle.records.as_slice();
     let kind = Kind { order, bound: None };
     if check(alloc, kind, &chronicle.base, records).is_err() {
         return Err(Fault::Plain("the records aren't legal"));
     }
-    let gone = chronicle.base.gone;
-    let mut listed = 0usize;
-    for list in chronicle.lists.iter() {
-        let since = list.iter().filter(|receipt| receipt.place() > gone);
-        listed = listed.saturating_add(since.count());
-    }
-    if listed != records.len() {
+    if listed(chronicle) != records.len() {
         return Err(Fault::Plain("a record stands in no list"));
     }
-    let mut found = came;
-    for left in chronicle.left {
-        found.push(left.item).map_err(|_| "memory")?;
+    Ok(())
+}
+
+/// Every item that was given is there once: it came to somebody, or is left.
+fn are_found(chronicle: &Chronicle<u64>, account: &mut Account) -> Result<(), Fault> {
+    for left in chronicle.left.iter() {
+        account.came.push(left.item).map_err(|_| "memory")?;
     }
-    if !are_same(given, found)? {
-        return Err(Fault::Plain("an item is lost or doubled"));
+    if are_same(&mut account.given, &mut account.came)? {
+        Ok(())
+    } else {
+        Err(Fault::Plain("an item is lost or doubled"))
     }
-    match find_disorder(alloc, calls.as_slice())? {
+}
+
+/// Nothing went wrong before, the records stand, every item is found, and no two calls are in wrong order.
+fn finds_all(
+    alloc: Global,
+    order: Order,
+    chronicle: &Chronicle<u64>,
+    account: &mut Account,
+) -> Result<(), Fault>
+    requires { IsWellFormed (record { order = order; bound = None }) chronicle.now.base }
+{
+    if let Some(fault) = account.fault {
+        return Err(Fault::Plain(fault));
+    }
+    stand(alloc, order, chronicle)?;
+    are_found(chronicle, account)?;
+    match find_disorder(alloc, account.calls.as_slice())? {
         None => Ok(()),
         Some(pair) => Err(Fault::Order(pair)),
     }
@@ -205,7 +218,10 @@ fn judged<Q: Drop, B: Drop, N: Ledgers>(
     requires { IfOk closed (λ c. IsWellFormed (record { order = order; bound = None }) c.base) }
 {
     match closed {
-        Ok(chronicle) => finds_all(alloc, order, chronicle, account),
+        Ok(chronicle) => {
+            let mut account = account;
+            finds_all(alloc, order, &chronicle, &mut account)
+        }
         Err(fault) => {
             let why = fault.why();
             keep(fault);
