@@ -5,7 +5,7 @@ ghost use Rattle.meet.specs.Tasks.{IsWithin};
 
 use clap::{Arg, ArgAction, ArgMatches, Command, Error, value_parser};
 use meet_run::{MOST_EACH, MOST_GIVERS};
-use std::alloc::Global;
+use std::alloc::{AllocError, Global};
 
 /// The version; which toolchain proved a build is told by what built it.
 const VERSION: &str = "0.1.0";
@@ -74,70 +74,104 @@ fn given(asked: &ArgMatches<'_>, name: &str, most: u64) -> u64
     asked.get_one::<u64>(name).unwrap_or(1).clamp(1, most)
 }
 
-/// Reads the words of a command line, the program's name first: none, `run`, `run --trace`, `check`, `check --erase`,
-/// `chain` or `drive N M`. The error has the text to show; a request for help or for the version is one.
-pub fn wanted_of(alloc: Global, words: &[String]) -> Result<Wanted, Error>
-    ensures { IfOk result IsWithin }
-{
+/// The command `run`.
+fn run_command<'a>(alloc: Global) -> Result<Command<'a>, AllocError> {
     let trace = Arg::new(alloc, "trace")
         .long("trace")
         .help("Writes the script's records as a trace, instead of its replies")
         .action(ArgAction::SetTrue);
-    let run = Command::new(alloc, "run")
+    Command::new(alloc, "run")
         .about("Runs the script on standard input (the default)")
         .override_usage("meet run [--trace] < SCRIPT")
-        .arg(trace)?;
+        .arg(trace)
+}
+
+/// The command `check`.
+fn check_command<'a>(alloc: Global) -> Result<Command<'a>, AllocError> {
     let erase = Arg::new(alloc, "erase")
         .long("erase")
         .help(
             "Writes the trace without the tickets that were cut, withdrawn or refused at their entry",
         )
         .action(ArgAction::SetTrue);
-    let check = Command::new(alloc, "check")
+    Command::new(alloc, "check")
         .about("Checks the trace on standard input")
         .override_usage("meet check [--erase] < TRACE")
-        .arg(erase)?;
-    let chain = Command::new(alloc, "chain")
+        .arg(erase)
+}
+
+/// The command `chain`.
+fn chain_command<'a>(alloc: Global) -> Command<'a> {
+    Command::new(alloc, "chain")
         .about("Checks the traces on standard input, each on the base that those before it leave")
-        .override_usage("cat TRACE.. | meet chain");
-    let drive = Command::new(alloc, "drive")
+        .override_usage("cat TRACE.. | meet chain")
+}
+
+/// The command `drive`.
+fn drive_command<'a>(alloc: Global) -> Result<Command<'a>, AllocError> {
+    let givers = number(
+        alloc,
+        "N",
+        MOST_GIVERS,
+        "How many threads give, and how many take: 1 to 64",
+    );
+    let each = number(
+        alloc,
+        "M",
+        MOST_EACH,
+        "How many items each gives and takes: 1 to 1000",
+    );
+    Command::new(alloc, "drive")
         .about("Drives N givers and N takers through a fair queue, M items each")
         .override_usage("meet drive N M")
-        .arg(number(
-            alloc,
-            "N",
-            MOST_GIVERS,
-            "How many threads give, and how many take: 1 to 64",
-        ))?
-        .arg(number(
-            alloc,
-            "M",
-            MOST_EACH,
-            "How many items each gives and takes: 1 to 1000",
-        ))?;
-    let command = Command::new(alloc, "meet")
+        .arg(givers)?
+        .arg(each)
+}
+
+/// The program's command, without the others.
+fn bare_command<'a>(alloc: Global) -> Command<'a> {
+    Command::new(alloc, "meet")
         .version(VERSION)
         .about(
             "Runs calls on a meeting place of java.util.concurrent, and checks what was recorded",
         )
         .override_usage("meet [COMMAND] < TEXT")
         .after_help(REST_OF_HELP)
-        .subcommand(run)?
-        .subcommand(check)?
-        .subcommand(chain)?
-        .subcommand(drive)?;
-    let matches = command.try_get_matches_from(words)?;
+}
+
+/// The program's command.
+fn command<'a>(alloc: Global) -> Result<Command<'a>, AllocError> {
+    bare_command(alloc)
+        .subcommand(run_command(alloc)?)?
+        .subcommand(check_command(alloc)?)?
+        .subcommand(chain_command(alloc))?
+        .subcommand(drive_command(alloc)?)
+}
+
+/// What these words ask for.
+fn wanted_by(matches: &ArgMatches<'_>) -> Wanted
+    ensures { IsWithin result }
+{
     match matches.subcommand() {
-        None => Ok(Wanted::Text(Task::Run)),
+        None => Wanted::Text(Task::Run),
         Some((name, asked)) if name == "check" && asked.get_flag("erase") => {
-            Ok(Wanted::Text(Task::Erase))
+            Wanted::Text(Task::Erase)
         }
-        Some((name, _)) if name == "check" => Ok(Wanted::Text(Task::Check)),
-        Some((name, _)) if name == "chain" => Ok(Wanted::Text(Task::Chain)),
+        Some((name, _)) if name == "check" => Wanted::Text(Task::Check),
+        Some((name, _)) if name == "chain" => Wanted::Text(Task::Chain),
         Some((name, asked)) if name == "drive" => {
-            Ok(Wanted::Drive(given(asked, "N", MOST_GIVERS), given(asked, "M", MOST_EACH)))
+            Wanted::Drive(given(asked, "N", MOST_GIVERS), given(asked, "M", MOST_EACH))
         }
-        Some((_, asked)) if asked.get_flag("trace") => Ok(Wanted::Text(Task::Trace)),
-        Some(_) => Ok(Wanted::Text(Task::Run)),
+        Some((_, asked)) if asked.get_flag("trace") => Wanted::Text(Task::Trace),
+        Some(_) => Wanted::Text(Task::Run),
     }
+}
+
+/// Reads the words of a command line, the program's name first: none, `run`, `run --trace`, `check`, `check --erase`,
+/// `chain` or `drive N M`. The error has the text to show; a request for help or for the version is one.
+pub fn wanted_of(alloc: Global, words: &[String]) -> Result<Wanted, Error>
+    ensures { IfOk result IsWithin }
+{
+    let matches = command(alloc)?.try_get_matches_from(words)?;
+    Ok(wanted_by(&matches))
 }
