@@ -8,19 +8,25 @@ use Rattle.meet_run.specs.Reading.{lines_of}
 use Rattle.meet_run.specs.Running.{RunEnds}
 use Rattle.meet_run.specs.Script.{fault_of, text_before, output_of}
 use Rattle.meet_run.specs.Traces.{TracesAll, CheckEnds}
+use Rattle.pool_run.specs.Checks.{PoolCheckEnds}
+use Rattle.pool_run.specs.Scripts.{ScriptEnds, TraceEnds}
 use Rattle.meet.specs.declared.command_line.Task.{Task}
-use Rattle.meet.specs.declared.command_line.Task.TheVariants.{Run, Trace, Check, Erase, Chain}
+use Rattle.meet.specs.declared.command_line.Task.TheVariants.{Run, Trace, Check, Erase, Chain, PoolRun}
+use Rattle.meet.specs.declared.command_line.Task.TheVariants.{PoolTrace, PoolCheck}
 use Rattle.meet.specs.declared.command_line.Wanted.{Wanted}
 use Rattle.meet.specs.declared.command_line.Wanted.TheVariants.{Text, Drive}
 
 -- what came of a task with this input: of a script its replies, or its trace; of a trace what is found of it, or
--- what is left of it once erased; of a chain of them what is found of it
+-- what is left of it once erased; of a chain of them what is found of it. So it is with those of pools
 abbrev pub Performs : Task → (input : List ℕ) → Result Bool RunFault → (old new : Option (List ℕ)) → Type 0
 Performs Run input result old new = RunEnds (fault_of input) (text_before input) (output_of input) result old new
 Performs Trace input result old new = TracesAll input result old new
 Performs Check input result old new = CheckEnds (lines_of input) result old new
 Performs Erase input result old new = EraseEnds (lines_of input) result old new
 Performs Chain input result old new = ChainEnds (lines_of input) result old new
+Performs PoolRun input result old new = ScriptEnds (lines_of input) result old new
+Performs PoolTrace input result old new = TraceEnds (lines_of input) result old new
+Performs PoolCheck input result old new = PoolCheckEnds (lines_of input) result old new
 
 -- the numbers of a drive are those that it can have
 abbrev pub IsWithin : Wanted → Type 0

@@ -23,12 +23,17 @@ A drive is threads that pass items through a fair queue, closed and checked: how
 many pairs met, and what its history leaves.
   meet drive 4 100
 
+A pool's script names what the pool is made with, and then calls of callers and workers:
+  printf 'pool core 1 maximum 1 callers 1 keep 60000 unbounded policy abort\\n0 execute 7\\n1 ready\\n' | meet pool run
+
+Verbs of a pool: execute N, ready, follow, finish N, idle, leave, failed, shutdown, now, counters, checkpoint
+
 Exit status:
   0  all is well
   1  the trace isn't legal, or the traces don't follow one another
   2  a bad command line, or a request for help or the version
   3  a line that can't be read
-  4  no memory, or a drive that was refused
+  4  no memory, or a drive or a pool that was refused
   5  a failed read or write";
 
 /// What is done with a text on standard input.
@@ -44,6 +49,12 @@ pub enum Task {
     Erase,
     /// A chain of traces on standard input, what is found of it on standard output.
     Chain,
+    /// A pool's script on standard input, its replies on standard output.
+    PoolRun,
+    /// A pool's script on standard input, the trace of its records on standard output.
+    PoolTrace,
+    /// A pool's trace on standard input, what is found of it on standard output.
+    PoolCheck,
 }
 
 /// What a command line asks for.
@@ -74,16 +85,20 @@ fn given(asked: &ArgMatches<'_>, name: &str, most: u64) -> u64
     asked.get_one::<u64>(name).unwrap_or(1).clamp(1, most)
 }
 
-/// The command `run`.
-fn run_command<'a>(alloc: Global) -> Result<Command<'a>, AllocError> {
-    let trace = Arg::new(alloc, "trace")
+/// The flag for a trace.
+fn trace_flag<'a>(alloc: Global) -> Arg<'a> {
+    Arg::new(alloc, "trace")
         .long("trace")
         .help("Writes the script's records as a trace, instead of its replies")
-        .action(ArgAction::SetTrue);
+        .action(ArgAction::SetTrue)
+}
+
+/// The command `run`.
+fn run_command<'a>(alloc: Global) -> Result<Command<'a>, AllocError> {
     Command::new(alloc, "run")
         .about("Runs the script on standard input (the default)")
         .override_usage("meet run [--trace] < SCRIPT")
-        .arg(trace)
+        .arg(trace_flag(alloc))
 }
 
 /// The command `check`.
@@ -128,6 +143,31 @@ fn drive_command<'a>(alloc: Global) -> Result<Command<'a>, AllocError> {
         .arg(each)
 }
 
+/// The command `pool run`.
+fn pool_run_command<'a>(alloc: Global) -> Result<Command<'a>, AllocError> {
+    Command::new(alloc, "run")
+        .about("Runs the pool's script on standard input")
+        .override_usage("meet pool run [--trace] < SCRIPT")
+        .arg(trace_flag(alloc))
+}
+
+/// The command `pool check`.
+fn pool_check_command<'a>(alloc: Global) -> Command<'a> {
+    Command::new(alloc, "check")
+        .about("Checks the pool's trace on standard input")
+        .override_usage("meet pool check < TRACE")
+}
+
+/// The command `pool`.
+fn pool_command<'a>(alloc: Global) -> Result<Command<'a>, AllocError> {
+    Command::new(alloc, "pool")
+        .about("The same for a pool of workers, in words of its own")
+        .override_usage("meet pool <COMMAND> < TEXT")
+        .subcommand_required(true)
+        .subcommand(pool_run_command(alloc)?)?
+        .subcommand(pool_check_command(alloc))
+}
+
 /// The program's command, without the others.
 fn bare_command<'a>(alloc: Global) -> Command<'a> {
     Command::new(alloc, "meet")
@@ -145,7 +185,20 @@ fn command<'a>(alloc: Global) -> Result<Command<'a>, AllocError> {
         .subcommand(run_command(alloc)?)?
         .subcommand(check_command(alloc)?)?
         .subcommand(chain_command(alloc))?
-        .subcommand(drive_command(alloc)?)
+        .subcommand(drive_command(alloc)?)?
+        .subcommand(pool_command(alloc)?)
+}
+
+/// What the words behind `pool` ask for.
+fn pool_wanted_by(asked: &ArgMatches<'_>) -> Wanted
+    ensures { IsWithin result }
+{
+    match asked.subcommand() {
+        Some((name, _)) if name == "check" => Wanted::Text(Task::PoolCheck),
+        Some((_, asked)) if asked.get_flag("trace") => Wanted::Text(Task::PoolTrace),
+        Some(_) => Wanted::Text(Task::PoolRun),
+        None => Wanted::Text(Task::PoolRun),
+    }
 }
 
 /// What these words ask for.
@@ -159,6 +212,7 @@ fn wanted_by(matches: &ArgMatches<'_>) -> Wanted
         }
         Some((name, _)) if name == "check" => Wanted::Text(Task::Check),
         Some((name, _)) if name == "chain" => Wanted::Text(Task::Chain),
+        Some((name, asked)) if name == "pool" => pool_wanted_by(asked),
         Some((name, asked)) if name == "drive" => {
             Wanted::Drive(given(asked, "N", MOST_GIVERS), given(asked, "M", MOST_EACH))
         }
@@ -168,7 +222,8 @@ fn wanted_by(matches: &ArgMatches<'_>) -> Wanted
 }
 
 /// Reads the words of a command line, the program's name first: none, `run`, `run --trace`, `check`, `check --erase`,
-/// `chain` or `drive N M`. The error has the text to show; a request for help or for the version is one.
+/// `chain`, `drive N M`, or behind `pool` `run`, `run --trace` or `check`. The error has the text to show; a request for
+/// help or for the version is one.
 pub fn wanted_of(alloc: Global, words: &[String]) -> Result<Wanted, Error>
     ensures { IfOk result IsWithin }
 {

@@ -16,6 +16,7 @@ use meet_run::{
     run_script, run_trace,
 };
 use meet_tickets::Refusal;
+use pool_run::{check_pool_trace, run_pool, trace_pool};
 use std::alloc::{AllocError, Global};
 use std::io::{IsTerminal, Read, Write};
 use std::process::ExitCode;
@@ -49,6 +50,9 @@ fn perform<R: Read, W: Write>(
         Task::Check => check_trace(alloc, reader, writer),
         Task::Erase => erase_trace(alloc, reader, writer),
         Task::Chain => check_chain(alloc, reader, writer),
+        Task::PoolRun => run_pool(alloc, reader, writer),
+        Task::PoolTrace => trace_pool(alloc, reader, writer),
+        Task::PoolCheck => check_pool_trace(alloc, reader, writer),
     }
 }
 

@@ -38,7 +38,7 @@ pub(crate) fn read_order(word: &[u8]) -> Option<Order>
 }
 
 /// What stands behind a prefix, where a text begins with it.
-pub(crate) fn behind_prefix<'a>(prefix: &[u8], text: &'a [u8]) -> Option<&'a [u8]>
+pub fn behind_prefix<'a>(prefix: &[u8], text: &'a [u8]) -> Option<&'a [u8]>
     ensures { option_map (λ rest. rest.now) result ≡ behind prefix.now text.now }
 {
     text.strip_prefix(prefix)

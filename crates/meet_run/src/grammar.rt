@@ -103,7 +103,7 @@ fn read_verb_behind(rest: &[u8]) -> Option<Verb>
 
 /// The seat of a word.
 #[tactic(auto, unfolding(crate::specs::Grammar::seat_of, crate::specs::Grammar::seat_in))]
-pub(crate) fn read_seat(word: &[u8]) -> Option<SeatNo>
+pub fn read_seat(word: &[u8]) -> Option<SeatNo>
     ensures { result ≡ seat_of word.now }
 {
     let number = read_number(word)?;

@@ -14,7 +14,7 @@ use meet_tickets::{Cause, Deed, Kind, MOST_KEPT, Order, Record, SeatNo, Side, Ti
 
 /// The ticket of a word.
 #[tactic(auto, unfolding(crate::specs::TraceGrammar::ticket_of, crate::specs::TraceGrammar::ticket_in))]
-pub(crate) fn read_ticket(word: &[u8]) -> Option<Ticket>
+pub fn read_ticket(word: &[u8]) -> Option<Ticket>
     ensures { result ≡ ticket_of word.now }
 {
     let number = read_number(word)?;

@@ -12,7 +12,7 @@ use meet_tickets::{Deed, Kind, Order, Record, Side, Ticket};
 use std::alloc::AllocError;
 
 /// A place's word.
-fn order_word(order: Order) -> &'static [u8]
+pub fn order_word(order: Order) -> &'static [u8]
     ensures { result.now ≡ place_text order }
 {
     match order {

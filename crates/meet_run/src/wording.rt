@@ -10,7 +10,7 @@ use meet_tickets::{Cause, SeatNo, Ticket};
 use std::alloc::AllocError;
 
 /// Appends a number's digits.
-fn push_number(out: &mut Vec<u8>, number: u64) -> Result<(), AllocError>
+pub fn push_number(out: &mut Vec<u8>, number: u64) -> Result<(), AllocError>
     ensures { OnOk result (out.new.items ≡ out.old.items ++ decimal number) }
 {
     let mut buffer = Buffer::new();
@@ -39,7 +39,7 @@ pub fn push_numbered(out: &mut Vec<u8>, word: &[u8], value: u64) -> Result<(), A
 }
 
 /// Appends a word, a number, another word and a second number.
-pub(crate) fn push_pair(
+pub fn push_pair(
     out: &mut Vec<u8>,
     word: &[u8],
     number: u64,
@@ -107,7 +107,7 @@ fn push_mark(out: &mut Vec<u8>, mark: Option<u64>) -> Result<(), AllocError>
 }
 
 /// Appends the start of a reply without a record: its seat, and a word.
-fn push_seat(out: &mut Vec<u8>, seat: SeatNo, word: &[u8]) -> Result<(), AllocError>
+pub fn push_seat(out: &mut Vec<u8>, seat: SeatNo, word: &[u8]) -> Result<(), AllocError>
     ensures { OnOk result (out.new.items
         ≡ out.old.items ++ (codes "- " ++ decimal seat ++ word.now)) }
 {

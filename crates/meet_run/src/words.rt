@@ -49,7 +49,7 @@ fn read_digits(word: &[u8]) -> Option<u64>
 }
 
 /// The number below 2^64 of which this word is the one spelling, if there is one.
-pub(crate) fn read_number(word: &[u8]) -> Option<u64>
+pub fn read_number(word: &[u8]) -> Option<u64>
     ensures { result ≡ number_spelled word.now }
 {
     if is_misspelled(word) {

@@ -1,0 +1,5 @@
+use Rattle.pool_run.proofs.RecordLemmas.{record-limits}
+use Rattle.pool_run.proofs.records.read_record.Goals as goal
+
+pub returns-clause-fits : goal.returns-clause-fits
+returns-clause-fits c = record-limits c.args.line.now c.read_long_record.result c.read_long_record.ensures

@@ -1,0 +1,234 @@
+//! What is found of a pool's trace.
+
+ghost use Rattle.std.specs.Prelude.{◌≡◌, ◌+◌, ◌^◌, ◌<◌, ◌≤◌, ◌↔◌, ◌++◌, [], None, Err, IsTrue, IfSome, IfOk, IfErr, OnOk};
+ghost use Rattle.std.specs.Vec.{vec_capacity};
+ghost use Rattle.meet_tickets.specs.declared.refusals.Refusal.TheVariants.{Memory};
+ghost use Rattle.meet_run.specs.Reading.{UsesTurns, EndsInTurns, lines_of};
+ghost use Rattle.meet_run.specs.Running.{CannotRead};
+ghost use Rattle.meet_run.specs.Traces.{IsUnreadTrace, IsTraceFault};
+ghost use Rattle.pool_core.specs.Calls.{settings_refusal};
+ghost use Rattle.pool_core.specs.Histories.{no_base};
+ghost use Rattle.pool_history.specs.declared.checker.PoolFault.TheVariants.{Memory as NoMemory};
+ghost use Rattle.pool_history.specs.Pushing.{HasSeen};
+ghost use Rattle.pool_run.specs.Checks.{why_text, pool_illegal_line, pool_records_behind, pool_fault_in, ArePushed};
+ghost use Rattle.pool_run.specs.Checks.{IsFoundOfPool, IsFoundBehind, IsVerdictOf, NamesLine, PoolCheckEnds};
+
+use crate::next::{next_pool_head, next_pool_record};
+use crate::wording::push_pool_last_line;
+use meet_run::faults::{at_line, cut_short};
+use meet_run::grammar::LONGEST_LINE;
+use meet_run::next::Next;
+use meet_run::output::write_whole;
+use meet_run::wording::push_numbered;
+use meet_run::{MOST_READS, RunFault};
+use meet_tickets::Refusal;
+use pool_core::Settings;
+use pool_history::{PoolChecker, PoolFault, PoolWhy};
+use std::alloc::{AllocError, Global};
+use std::io::{Read, Write};
+
+/// A reason's name.
+fn why_word(why: PoolWhy) -> &'static [u8]
+    ensures { result.now ≡ why_text why }
+{
+    match why {
+        PoolWhy::NoSuchSeat => b"NoSuchSeat",
+        PoolWhy::NotOpen => b"NotOpen",
+        PoolWhy::TicketOrder => b"TicketOrder",
+        PoolWhy::WrongReply => b"WrongReply",
+    }
+}
+
+/// Appends the line of a trace that isn't legal. Where memory runs out, nothing is said of what was appended.
+#[tactic(auto, unfolding(crate::specs::Checks::pool_illegal_line))]
+pub fn push_pool_illegal(out: &mut Vec<u8>, number: u64, why: PoolWhy) -> Result<(), AllocError>
+    ensures { OnOk result (out.new.items ≡ out.old.items ++ pool_illegal_line number why) }
+{
+    push_numbered(out, b"illegal ", number)?;
+    out.extend_from_slice(b" ")?;
+    out.extend_from_slice(why_word(why))?;
+    out.extend_from_slice(b"\n")
+}
+
+/// Whether a push found no memory.
+fn is_memory(pushed: Result<(), PoolFault>) -> bool
+    ensures { IsTrue result ↔ (pushed ≡ Err NoMemory) }
+{
+    match pushed {
+        Err(PoolFault::Memory) => true,
+        Err(PoolFault::Illegal { place: _, why: _ }) => false,
+        Ok(()) => false,
+    }
+}
+
+/// Reads the records behind a trace's first line, and pushes each on the checker. The answer is how many they are.
+fn push_records<R: Read>(
+    reader: &mut R,
+    turns: &mut u64,
+    line: &mut Vec<u8>,
+    checker: &mut PoolChecker,
+) -> Result<u64, RunFault>
+    requires room { LONGEST_LINE ≤ vec_capacity line.old }
+    requires turns { turns.old + 1 < 2 ^ 64 }
+    requires fresh { HasSeen no_base checker.old [] }
+    ensures pushed { IfOk result (λ count. IfSome (R.remaining reader.old) (λ rest.
+        ArePushed checker.new count (pool_records_behind (lines_of rest)))) }
+    ensures settings { checker.new.pool.settings ≡ checker.old.pool.settings }
+    ensures bad { IfErr result (λ fault. IfSome (R.remaining reader.old) (λ rest.
+        NamesLine fault (pool_records_behind (lines_of rest)).fault)) }
+    ensures uses { UsesTurns (R.remaining reader.old) (R.remaining reader.new) turns.old turns.new }
+    ensures spent { turns.old ≡ 0 → CannotRead result }
+    ensures ends { OnOk result (EndsInTurns (R.remaining reader.old) turns.old) }
+    ensures faults { IfErr result IsUnreadTrace }
+{
+    // How many lines were read.
+    let mut read = 1u64;
+    loop {
+        match next_pool_record(reader, turns, line, read) {
+            Next::Read(entry) => {
+                if is_memory(checker.push(entry)) {
+                    return Err(cut_short(Refusal::Memory));
+                }
+                read += 1;
+            }
+            Next::Ended => return Ok(read - 1),
+            Next::Faulty => return Err(at_line(Refusal::BadTrace, read + 1)),
+            Next::Broken => return Err(cut_short(Refusal::ReadFault)),
+        }
+    }
+}
+
+/// What the checker found of so many records, and the line that says so. The only refusal is Memory.
+fn verdict(alloc: Global, checker: &PoolChecker, count: u64) -> Result<(bool, Vec<u8>), Refusal>
+    ensures verdict { IfOk result (λ found. IsVerdictOf checker.now count found.0 found.1.items) }
+    ensures memory { IfErr result (λ why. why ≡ Memory) }
+{
+    let mut text = Vec::new(alloc);
+    match checker.counters() {
+        Ok(counters) => match push_pool_last_line(&mut text, count, counters) {
+            Ok(()) => Ok((true, text)),
+            Err(_) => Err(Refusal::Memory),
+        },
+        Err(PoolFault::Illegal { place, why }) => match push_pool_illegal(&mut text, place, why) {
+            Ok(()) => Ok((false, text)),
+            Err(_) => Err(Refusal::Memory),
+        },
+        Err(PoolFault::Memory) => Err(Refusal::Memory),
+    }
+}
+
+/// Reads the records behind the first line of a trace of such a pool, and says what is found of them, and the line that
+/// says so.
+fn find_records<R: Read>(
+    alloc: Global,
+    reader: &mut R,
+    turns: &mut u64,
+    line: &mut Vec<u8>,
+    settings: Settings,
+) -> Result<(bool, Vec<u8>), RunFault>
+    requires room { LONGEST_LINE ≤ vec_capacity line.old }
+    requires turns { turns.old + 1 < 2 ^ 64 }
+    requires fits { settings_refusal settings ≡ None }
+    ensures found { IfOk result (λ found. IfSome (R.remaining reader.old) (λ rest.
+        IsFoundBehind settings (lines_of rest) found.0 found.1.items)) }
+    ensures bad { IfErr result (λ fault. IfSome (R.remaining reader.old) (λ rest.
+        NamesLine fault (pool_records_behind (lines_of rest)).fault)) }
+    ensures uses { UsesTurns (R.remaining reader.old) (R.remaining reader.new) turns.old turns.new }
+    ensures ends { OnOk result (EndsInTurns (R.remaining reader.old) turns.old) }
+    ensures faults { IfErr result IsUnreadTrace }
+{
+    let mut checker = match PoolChecker::new(alloc, settings) {
+        Ok(checker) => checker,
+        Err(_) => return Err(cut_short(Refusal::Memory)),
+    };
+    let count = match push_records(reader, turns, line, &mut checker) {
+        Ok(count) => count,
+        Err(fault) => return Err(fault),
+    };
+    match verdict(alloc, &checker, count) {
+        Ok(found) => Ok(found),
+        Err(why) => Err(cut_short(why)),
+    }
+}
+
+/// Reads a whole trace, and says what is found of it, and the line that says so.
+fn find_trace<R: Read>(
+    alloc: Global,
+    reader: &mut R,
+    turns: u64,
+) -> Result<(bool, Vec<u8>), RunFault>
+    ensures found { IfOk result (λ found. IfSome (R.remaining reader.old) (λ input.
+        IsFoundOfPool (lines_of input) found.0 found.1.items)) }
+    ensures bad { IfErr result (λ fault. IfSome (R.remaining reader.old) (λ input.
+        NamesLine fault (pool_fault_in (lines_of input)))) }
+    ensures uses { UsesTurns (R.remaining reader.old) (R.remaining reader.new) turns 0 }
+    ensures spent { turns ≡ 0 → CannotRead result }
+    ensures ends { OnOk result (EndsInTurns (R.remaining reader.old) turns) }
+    ensures faults { IfErr result IsUnreadTrace }
+{
+    if turns == 0 {
+        return Err(cut_short(Refusal::ReadFault));
+    }
+    let mut left = turns;
+    let mut line = match Vec::with_capacity(alloc, LONGEST_LINE) {
+        Ok(line) => line,
+        Err(_) => return Err(cut_short(Refusal::Memory)),
+    };
+    match next_pool_head(reader, &mut left, &mut line) {
+        Next::Read(settings) => find_records(alloc, reader, &mut left, &mut line, settings),
+        Next::Ended => Err(at_line(Refusal::BadTrace, 1)),
+        Next::Faulty => Err(at_line(Refusal::BadTrace, 1)),
+        Next::Broken => Err(cut_short(Refusal::ReadFault)),
+    }
+}
+
+/// Checks the pool's trace that this reader gives. The whole of it is read before anything is written, and none of its
+/// records is kept: it takes the memory of the pool that they leave. A read of the reader takes one byte and costs a
+/// turn.
+///
+/// Where its records are legal it writes one line that counts them and says what the pool counts at their end, and the
+/// answer is true. Else it writes one line that names the first record that can't stand, and why, and the answer is
+/// false.
+///
+/// A line that can't be read, or that stands behind the 1,048,576th record, is BadTrace with its number, from 1, and so
+/// is a first line whose pool can't be made; a text without a first line is a fault of line 1. That wins over an illegal
+/// record before it. A read that fails, or no turn left for it, is ReadFault; where memory is wanted and not there, it is
+/// Memory. Then nothing is written. A write that fails or takes no byte is WriteFault, and a prefix of the line is
+/// written. Without a turn it is ReadFault, whether or not there is memory.
+pub fn check_pool_trace_within<R: Read, W: Write>(
+    alloc: Global,
+    reader: &mut R,
+    writer: &mut W,
+    turns: u64,
+) -> Result<bool, RunFault>
+    ensures check { IfSome (R.remaining reader.old) (λ input.
+        PoolCheckEnds (lines_of input) result (W.contents writer.old) (W.contents writer.new)) }
+    ensures uses { UsesTurns (R.remaining reader.old) (R.remaining reader.new) turns 0 }
+    ensures spent { turns ≡ 0 → CannotRead result }
+    ensures ends { OnOk result (EndsInTurns (R.remaining reader.old) turns) }
+    ensures faults { IfErr result IsTraceFault }
+{
+    let (legal, text) = match find_trace(alloc, reader, turns) {
+        Ok(found) => found,
+        Err(fault) => return Err(fault),
+    };
+    match write_whole(writer, text.as_slice()) {
+        Ok(()) => Ok(legal),
+        Err(why) => Err(cut_short(why)),
+    }
+}
+
+/// Checks a pool's trace as `check_pool_trace_within` does, with 2^32 reads.
+pub fn check_pool_trace<R: Read, W: Write>(
+    alloc: Global,
+    reader: &mut R,
+    writer: &mut W,
+) -> Result<bool, RunFault>
+    ensures check { IfSome (R.remaining reader.old) (λ input.
+        PoolCheckEnds (lines_of input) result (W.contents writer.old) (W.contents writer.new)) }
+    ensures uses { UsesTurns (R.remaining reader.old) (R.remaining reader.new) (2 ^ 32) 0 }
+    ensures ends { OnOk result (EndsInTurns (R.remaining reader.old) (2 ^ 32)) }
+    ensures faults { IfErr result IsTraceFault }
+{
+    check_pool_trace_within(alloc, reader, writer, MOST_READS)
+}
