@@ -8,13 +8,14 @@ use Rattle.meet_run.specs.Reading.{lines_of}
 use Rattle.meet_run.specs.Running.{RunEnds}
 use Rattle.meet_run.specs.Script.{fault_of, text_before, output_of}
 use Rattle.meet_run.specs.Traces.{TracesAll, CheckEnds}
+use Rattle.pool_drive.specs.Driven.{IsPoolSized}
 use Rattle.pool_run.specs.Checks.{PoolCheckEnds}
 use Rattle.pool_run.specs.Scripts.{ScriptEnds, TraceEnds}
 use Rattle.meet.specs.declared.command_line.Task.{Task}
 use Rattle.meet.specs.declared.command_line.Task.TheVariants.{Run, Trace, Check, Erase, Chain, PoolRun}
 use Rattle.meet.specs.declared.command_line.Task.TheVariants.{PoolTrace, PoolCheck}
 use Rattle.meet.specs.declared.command_line.Wanted.{Wanted}
-use Rattle.meet.specs.declared.command_line.Wanted.TheVariants.{Text, Drive}
+use Rattle.meet.specs.declared.command_line.Wanted.TheVariants.{Text, Drive, PoolDrive}
 
 -- what came of a task with this input: of a script its replies, or its trace; of a trace what is found of it, or
 -- what is left of it once erased; of a chain of them what is found of it. So it is with those of pools
@@ -32,3 +33,4 @@ Performs PoolCheck input result old new = PoolCheckEnds (lines_of input) result 
 abbrev pub IsWithin : Wanted → Type 0
 IsWithin (Text task) = ⊤
 IsWithin (Drive givers each) = IsSized givers each
+IsWithin (PoolDrive callers each workers) = IsPoolSized callers each workers

@@ -5,6 +5,7 @@ ghost use Rattle.meet.specs.Tasks.{IsWithin};
 
 use clap::{Arg, ArgAction, ArgMatches, Command, Error, value_parser};
 use meet_run::{MOST_EACH, MOST_GIVERS};
+use pool_run::{MOST_CALLERS, MOST_JOBS, MOST_WORKERS};
 use std::alloc::{AllocError, Global};
 
 /// The version; which toolchain proved a build is told by what built it.
@@ -27,6 +28,10 @@ A pool's script names what the pool is made with, and then calls of callers and 
   printf 'pool core 1 maximum 1 callers 1 keep 60000 unbounded policy abort\\n0 execute 7\\n1 ready\\n' | meet pool run
 
 Verbs of a pool: execute N, ready, follow, finish N, idle, leave, failed, shutdown, now, counters, checkpoint
+
+A drive of a pool is threads that hand jobs in, and workers that run them: how many jobs, the sum of their answers, how
+many are done by the records, and what the pool counts.
+  meet pool drive 4 100 2
 
 Exit status:
   0  all is well
@@ -64,6 +69,8 @@ pub enum Wanted {
     Text(Task),
     /// A drive with so many givers, 1 to 64, and so many items of each, 1 to 1,000.
     Drive(u64, u64),
+    /// A drive of a pool with so many callers, 1 to 64, so many jobs of each, 1 to 1,000, and so many workers, 1 to 64.
+    PoolDrive(u64, u64, u64),
 }
 
 /// A number of a drive, 1 to the greatest.
@@ -158,6 +165,19 @@ fn pool_check_command<'a>(alloc: Global) -> Command<'a> {
         .override_usage("meet pool check < TRACE")
 }
 
+/// The command `pool drive`.
+fn pool_drive_command<'a>(alloc: Global) -> Result<Command<'a>, AllocError> {
+    let callers = number(alloc, "N", MOST_CALLERS, "How many callers, each a thread: 1 to 64");
+    let each = number(alloc, "M", MOST_JOBS, "How many jobs each hands in: 1 to 1000");
+    let workers = number(alloc, "W", MOST_WORKERS, "How many workers, each a thread: 1 to 64");
+    Command::new(alloc, "drive")
+        .about("Drives N callers, M jobs each, through a pool of W workers")
+        .override_usage("meet pool drive N M W")
+        .arg(callers)?
+        .arg(each)?
+        .arg(workers)
+}
+
 /// The command `pool`.
 fn pool_command<'a>(alloc: Global) -> Result<Command<'a>, AllocError> {
     Command::new(alloc, "pool")
@@ -165,7 +185,8 @@ fn pool_command<'a>(alloc: Global) -> Result<Command<'a>, AllocError> {
         .override_usage("meet pool <COMMAND> < TEXT")
         .subcommand_required(true)
         .subcommand(pool_run_command(alloc)?)?
-        .subcommand(pool_check_command(alloc))
+        .subcommand(pool_check_command(alloc))?
+        .subcommand(pool_drive_command(alloc)?)
 }
 
 /// The program's command, without the others.
@@ -195,6 +216,11 @@ fn pool_wanted_by(asked: &ArgMatches<'_>) -> Wanted
 {
     match asked.subcommand() {
         Some((name, _)) if name == "check" => Wanted::Text(Task::PoolCheck),
+        Some((name, asked)) if name == "drive" => Wanted::PoolDrive(
+            given(asked, "N", MOST_CALLERS),
+            given(asked, "M", MOST_JOBS),
+            given(asked, "W", MOST_WORKERS),
+        ),
         Some((_, asked)) if asked.get_flag("trace") => Wanted::Text(Task::PoolTrace),
         Some(_) => Wanted::Text(Task::PoolRun),
         None => Wanted::Text(Task::PoolRun),
@@ -222,8 +248,8 @@ fn wanted_by(matches: &ArgMatches<'_>) -> Wanted
 }
 
 /// Reads the words of a command line, the program's name first: none, `run`, `run --trace`, `check`, `check --erase`,
-/// `chain`, `drive N M`, or behind `pool` `run`, `run --trace` or `check`. The error has the text to show; a request for
-/// help or for the version is one.
+/// `chain`, `drive N M`, or behind `pool` `run`, `run --trace`, `check` or `drive N M W`. The error has the text to show;
+/// a request for help or for the version is one.
 pub fn wanted_of(alloc: Global, words: &[String]) -> Result<Wanted, Error>
     ensures { IfOk result IsWithin }
 {

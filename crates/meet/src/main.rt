@@ -16,7 +16,7 @@ use meet_run::{
     run_script, run_trace,
 };
 use meet_tickets::Refusal;
-use pool_run::{check_pool_trace, run_pool, trace_pool};
+use pool_run::{check_pool_trace, run_pool, run_pool_drive, trace_pool};
 use std::alloc::{AllocError, Global};
 use std::io::{IsTerminal, Read, Write};
 use std::process::ExitCode;
@@ -110,6 +110,19 @@ fn main(rt: HostRuntime) -> ExitCode {
                     givers,
                     each,
                     &Teller { rt: &rt },
+                ),
+            )
+        }
+        Ok(Wanted::PoolDrive(callers, each, workers)) => {
+            finish(
+                &rt,
+                &run_pool_drive(
+                    &rt,
+                    rt.alloc(),
+                    &mut rt.stdout(),
+                    callers,
+                    each,
+                    workers,
                 ),
             )
         }

@@ -1,4 +1,5 @@
 pub mod Checks
+pub mod Driving
 pub mod FirstLines
 pub mod RecordSpelling
 pub mod Records
