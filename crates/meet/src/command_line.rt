@@ -167,9 +167,24 @@ fn pool_check_command<'a>(alloc: Global) -> Command<'a> {
 
 /// The command `pool drive`.
 fn pool_drive_command<'a>(alloc: Global) -> Result<Command<'a>, AllocError> {
-    let callers = number(alloc, "N", MOST_CALLERS, "How many callers, each a thread: 1 to 64");
-    let each = number(alloc, "M", MOST_JOBS, "How many jobs each hands in: 1 to 1000");
-    let workers = number(alloc, "W", MOST_WORKERS, "How many workers, each a thread: 1 to 64");
+    let callers = number(
+        alloc,
+        "N",
+        MOST_CALLERS,
+        "How many callers, each a thread: 1 to 64",
+    );
+    let each = number(
+        alloc,
+        "M",
+        MOST_JOBS,
+        "How many jobs each hands in: 1 to 1000",
+    );
+    let workers = number(
+        alloc,
+        "W",
+        MOST_WORKERS,
+        "How many workers, each a thread: 1 to 64",
+    );
     Command::new(alloc, "drive")
         .about("Drives N callers, M jobs each, through a pool of W workers")
         .override_usage("meet pool drive N M W")

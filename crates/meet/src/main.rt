@@ -116,14 +116,7 @@ fn main(rt: HostRuntime) -> ExitCode {
         Ok(Wanted::PoolDrive(callers, each, workers)) => {
             finish(
                 &rt,
-                &run_pool_drive(
-                    &rt,
-                    rt.alloc(),
-                    &mut rt.stdout(),
-                    callers,
-                    each,
-                    workers,
-                ),
+                &run_pool_drive(&rt, rt.alloc(), &mut rt.stdout(), callers, each, workers),
             )
         }
         Err(error) if error.kind() == ErrorKind::OutOfMemory => finish(&rt, &Err(MEMORY)),

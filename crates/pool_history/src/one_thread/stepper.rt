@@ -52,11 +52,7 @@ fn silent(answer: &PoolAnswer<u64>) -> PoolOutcome
 }
 
 /// The reply that tells a receipt, where there is one, or else this.
-fn told(
-    seat: SeatNo,
-    silent: PoolOutcome,
-    receipt: &Option<Receipt<PoolDeed<u64>>>,
-) -> PoolReply
+fn told(seat: SeatNo, silent: PoolOutcome, receipt: &Option<Receipt<PoolDeed<u64>>>) -> PoolReply
     ensures { result ≡ told_receipt seat silent receipt.now }
 {
     match receipt {

@@ -62,7 +62,11 @@ impl CheckedPool {
         } else {
             self.takes_shutdown(seat, ticket, deed)
         };
-        if stands { Ok(()) } else { Err(PoolWhy::WrongReply) }
+        if stands {
+            Ok(())
+        } else {
+            Err(PoolWhy::WrongReply)
+        }
     }
 
     /// Takes an execute in, if the rules give it.
@@ -334,10 +338,7 @@ impl CheckedPool {
             (record { seat = seat; ticket = ticket; deed = DroppedOldest dropped old tag }) }
         ensures settings { self.new.settings ≡ self.old.settings }
     {
-        if self.shut
-            || !self.is_left_to(Policy::DiscardOldest)
-            || !self.is_oldest(dropped, old)
-        {
+        if self.shut || !self.is_left_to(Policy::DiscardOldest) || !self.is_oldest(dropped, old) {
             return false;
         }
         let _ = self.line.partner(Side::Taker);
