@@ -51,8 +51,8 @@ done_in records = count_by (λ r. is_some (answer_of r.deed)) records
 abbrev pub sum_in : List (Record (PoolDeed ℕ)) → ℕ
 sum_in records = sum_by (λ r. option_map_or (λ answer. answer) (answer_of r.deed) 0) records
 
--- there is a legal history of such a pool, which has so many records and leaves what the pool counts; by it just so many
--- jobs are done, and what they answered has the sum of the numbers from 1 up to `each`, of each caller
+-- there is a legal history of such a pool, which has so many records and leaves what the pool counts; by it just so
+-- many jobs are done, and what they answered has the sum of the numbers from 1 up to `each`, of each caller
 pub record IsPoolDriven (callers each workers : ℕ) (drive : PoolDrive) : Type 0 where
   pub history : List (Record (PoolDeed ℕ))
   pub legal : IsLegalOn (fixed callers workers) no_base history

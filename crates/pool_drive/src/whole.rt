@@ -80,8 +80,8 @@ fn slots_of<N: PoolLedgers>(
     slots
 }
 
-/// The seats of these slots, to be given back, and the first reason for which a job was refused. The empty list has room
-/// for them.
+/// The seats of these slots, to be given back, and the first reason for which a job was refused. The empty list has
+/// room for them.
 fn seats_of<N: PoolLedgers>(
     slots: Vec<Mutex<Slot<N>>>,
     empty: Vec<Back<PoolDeed<u64>, N>>,
@@ -353,13 +353,13 @@ fn gates_of(alloc: Global, count: u64) -> Result<Vec<ParkGate>, Refusal>
     Ok(gates)
 }
 
-/// So many callers, each a thread, hand the jobs from 1 up to `each` in, one after another, to a pool of so many workers
-/// that keeps them; a job answers its own number. Then the pool is shut down, its end awaited, it is closed, and its
-/// records are checked.
+/// So many callers, each a thread, hand the jobs from 1 up to `each` in, one after another, to a pool of so many
+/// workers that keeps them; a job answers its own number. Then the pool is shut down, its end awaited, it is closed,
+/// and its records are checked.
 ///
-/// It refuses NoThread where a caller or a worker can't be started, what else the pool refuses, and Memory; Differs where
-/// its records told of other jobs or answers, which none of a pool do. Where `shutdown` itself is refused, the pool's
-/// workers go on waiting, and the pool isn't closed.
+/// It refuses NoThread where a caller or a worker can't be started, what else the pool refuses, and Memory; Differs
+/// where its records told of other jobs or answers, which none of a pool do. Where `shutdown` itself is refused, the
+/// pool's workers go on waiting, and the pool isn't closed.
 pub fn drive_pool<R>(
     rt: &R,
     alloc: Global,

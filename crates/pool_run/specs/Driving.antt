@@ -7,8 +7,8 @@ use Rattle.pool_drive.specs.Driven.{IsPoolDriven}
 use Rattle.pool_drive.specs.declared.whole.PoolDrive.{PoolDrive}
 use Rattle.pool_run.specs.Wording.{pool_last_line}
 
--- its lines: how many jobs were handed in, the sum of what they answered, how many are done by the records, and the line
--- that ends a script
+-- its lines: how many jobs were handed in, the sum of what they answered, how many are done by the records, and the
+-- line that ends a script
 unfoldable pub pool_drive_text : PoolDrive → List ℕ
 pool_drive_text drive =
     codes "jobs " ++ decimal drive.jobs ++ codes "\nsum " ++ decimal drive.sum ++ codes "\ndone " ++ decimal drive.done
@@ -18,7 +18,8 @@ pool_drive_text drive =
 -- of it was; or the fault is in no line, and nothing was written, or a prefix of the text
 abbrev pub PoolDriveEnds : (callers each workers : ℕ) → Result Bool RunFault → (old new : Option (List ℕ)) → Type 0
 PoolDriveEnds callers each workers (Ok legal) old new =
-    (legal ≡ true) × ((drive : PoolDrive) × IsPoolDriven callers each workers drive × Appends old new (pool_drive_text drive))
+    (legal ≡ true) × ((drive : PoolDrive) × IsPoolDriven callers each workers drive
+    × Appends old new (pool_drive_text drive))
 PoolDriveEnds callers each workers (Err fault) old new = (fault.line ≡ None)
     × ((new ≡ old) ⊎ ((drive : PoolDrive) × IsPoolDriven callers each workers drive
     × AppendsPrefix old new (pool_drive_text drive)))

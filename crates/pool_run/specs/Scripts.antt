@@ -119,7 +119,8 @@ ScriptEnds (line ∷ lines) result old new =
     MatchOption (settings_of line) (IsHeadless result old new) (λ s. RunsTo s lines result old new)
 
 -- the trace of the calls before the first line that is none was written
-pub record HasTraced (s : Settings) (lines : List (List ℕ)) (fault : Option ℕ) (old new : Option (List ℕ)) : Type 0 where
+pub record HasTraced (s : Settings) (lines : List (List ℕ)) (fault : Option ℕ) (old new : Option (List ℕ))
+    : Type 0 where
   pub replies : List PoolReply
   pub thread : Thread
   pub at : (requests_behind lines).fault ≡ fault

@@ -191,10 +191,10 @@ fn find_trace<R: Read>(
 /// false.
 ///
 /// A line that can't be read, or that stands behind the 1,048,576th record, is BadTrace with its number, from 1, and so
-/// is a first line whose pool can't be made; a text without a first line is a fault of line 1. That wins over an illegal
-/// record before it. A read that fails, or no turn left for it, is ReadFault; where memory is wanted and not there, it is
-/// Memory. Then nothing is written. A write that fails or takes no byte is WriteFault, and a prefix of the line is
-/// written. Without a turn it is ReadFault, whether or not there is memory.
+/// is a first line whose pool can't be made; a text without a first line is a fault of line 1. That wins over an
+/// illegal record before it. A read that fails, or no turn left for it, is ReadFault; where memory is wanted and not
+/// there, it is Memory. Then nothing is written. A write that fails or takes no byte is WriteFault, and a prefix of the
+/// line is written. Without a turn it is ReadFault, whether or not there is memory.
 pub fn check_pool_trace_within<R: Read, W: Write>(
     alloc: Global,
     reader: &mut R,

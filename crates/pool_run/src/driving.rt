@@ -29,8 +29,8 @@ pub fn push_pool_drive(out: &mut Vec<u8>, drive: PoolDrive) -> Result<(), AllocE
     push_pool_last_line(out, drive.records, drive.counters)
 }
 
-/// So many callers hand the jobs from 1 up to `each` in to a pool of so many workers, as in `drive_pool`; then what came
-/// of it is written, and the answer is true.
+/// So many callers hand the jobs from 1 up to `each` in to a pool of so many workers, as in `drive_pool`; then what
+/// came of it is written, and the answer is true.
 ///
 /// What `drive_pool` refuses is a fault in no line, and nothing is written; where memory is wanted for the text and not
 /// there, it is Memory. A write that fails or takes no byte is WriteFault, and a prefix of the text is written.

@@ -142,8 +142,8 @@ fn trace_requests<R: Read, W: Write>(
     }
 }
 
-/// Runs the pool's script that this reader gives as `run_pool_within` does, and writes its trace instead of the replies:
-/// all records since the first, once the script has ended, or at a bad line those of the calls before it.
+/// Runs the pool's script that this reader gives as `run_pool_within` does, and writes its trace instead of the
+/// replies: all records since the first, once the script has ended, or at a bad line those of the calls before it.
 pub fn trace_pool_within<R: Read, W: Write>(
     alloc: Global,
     reader: &mut R,

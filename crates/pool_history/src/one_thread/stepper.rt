@@ -17,8 +17,8 @@ use pool_core::{
 use std::alloc::Global;
 use std::marker::Model;
 
-/// A pool that one thread uses, whatever seats it speaks for: a pool's core under a book, whose jobs are their tags, and
-/// the records that checkpoints folded away.
+/// A pool that one thread uses, whatever seats it speaks for: a pool's core under a book, whose jobs are their tags,
+/// and the records that checkpoints folded away.
 #[derive(Drop)]
 pub struct PoolStepper {
     alloc: Global,
