@@ -1,6 +1,7 @@
 pub mod Came
 pub mod Checked
 pub mod HeadLemmas
+pub mod Headed
 pub mod RecordLemmas
 pub mod RequestLemmas
 pub mod Running

@@ -1,12 +1,12 @@
 -- A pool's script, line by line: what was made and written, and how it ends.
 use Rattle.std.proofs.Common.{◌≡◌, ◌⊎◌, inl, inr, ℕ, ◌+◌, List, [], ◌∷◌, ◌++◌, Option, Some, None, Result, Ok, Err, Bool, true, cond, replicate, refl, sym, ap, ◌∙◌, subst, append-nil}
-use Rattle.std.specs.Prelude.{IfSome, MatchOption, false}
+use Rattle.std.specs.Prelude.{IfSome, false}
 use Rattle.std.specs.Io.KnownBytes.{Appends}
 use Rattle.meet_tickets.specs.declared.refusals.Refusal.{Refusal}
 use Rattle.meet_tickets.specs.declared.refusals.Refusal.TheVariants.{Memory, BadLine, BadSizes, PolicyNeedsBuffer, ReadFault, WriteFault}
 use Rattle.meet_tickets.specs.Refusals.{IsWhy}
 use Rattle.meet_run.specs.declared.faults.RunFault.{RunFault}
-use Rattle.meet_run.specs.Reading.{lines_of, Both}
+use Rattle.meet_run.specs.Reading.{lines_of}
 use Rattle.meet_run.specs.Writing.{AppendsPrefix, IsPrefix}
 use Rattle.meet_run.proofs.Ran.{appends-nothing}
 use Rattle.meet_run.proofs.WritingLemmas.{appends-more, prefix-of, prefix-more}
@@ -17,9 +17,8 @@ use Rattle.pool_core.specs.Histories.{nobody}
 use Rattle.pool_history.specs.declared.one_thread.replies.PoolReply.{PoolReply}
 use Rattle.pool_history.specs.declared.one_thread.verbs.PoolRequest.{PoolRequest}
 use Rattle.pool_history.specs.OneThread.{Thread, IsNew, IsTurn}
-use Rattle.pool_run.specs.FirstLines.{settings_of}
 use Rattle.pool_run.specs.Requests.{request_of}
-use Rattle.pool_run.specs.Scripts.{requests_from, requests_behind, replies_text, closing, HasRun, IsCut, RunsTo, IsHeadless, IsScriptFault, ScriptEnds}
+use Rattle.pool_run.specs.Scripts.{requests_from, requests_behind, replies_text, closing, HasRun, IsCut, RunsTo, IsScriptFault}
 use Rattle.pool_run.proofs.Came.{HasCome, at-end, at-fault, at-first, has_come-first, has_come-more}
 use Rattle.pool_run.proofs.Turning.{ReadsCall, reads, run-none, run-more, text-none, text-more}
 
@@ -181,59 +180,10 @@ runs-unmade s lines why writer is = by_refusal (settings_refusal s) refl is
 pub runs-unread : (s : Settings) (lines : List (List ℕ)) (writer : Option (List ℕ)) → RunsTo s lines (Err (outside ReadFault)) writer writer
 runs-unread s lines writer = none-made s lines writer
 
--- a script whose first line was read
-pub script-behind : (old mid : Option (List ℕ)) (s : Settings) (r : Result Bool RunFault) (before after : Option (List ℕ)) → Both old mid (λ xs ys. (line : List ℕ) × (lines_of xs ≡ line ∷ lines_of ys) × (settings_of line ≡ Some s)) → IfSome mid (λ ys. RunsTo s (lines_of ys) r before after) → IfSome old (λ xs. ScriptEnds (lines_of xs) r before after)
-unfolding ScriptEnds
-script-behind None mid s r before after head ran = tt
-script-behind (Some xs) None s r before after head ran = absurd head
-script-behind (Some xs) (Some ys) s r before after head ran = subst (λ ls. ScriptEnds ls r before after) (sym head.1) (at-head head.0 (lines_of ys) s r before after head.2 ran)
-  where
-    at-head : (line : List ℕ) (lines : List (List ℕ)) (s : Settings) (r : Result Bool RunFault) (before after : Option (List ℕ)) → settings_of line ≡ Some s → RunsTo s lines r before after → ScriptEnds (line ∷ lines) r before after
-    at-head line lines s r before after is ran = subst (λ o. MatchOption o (IsHeadless r before after) (λ z. RunsTo z lines r before after)) (sym is) ran
-
--- a text without lines, or whose first line says nothing
-pub script-lineless : (old : Option (List ℕ)) (r : Result Bool RunFault) (before after : Option (List ℕ)) → IfSome old (λ xs. lines_of xs ≡ []) → IsHeadless r before after → IfSome old (λ xs. ScriptEnds (lines_of xs) r before after)
-unfolding ScriptEnds
-script-lineless None r before after none is = tt
-script-lineless (Some xs) r before after none is = subst (λ ls. ScriptEnds ls r before after) (sym none) (at-none r before after is)
-  where
-    at-none : (r : Result Bool RunFault) (before after : Option (List ℕ)) → IsHeadless r before after → ScriptEnds [] r before after
-    at-none r before after is = is
-
-pub script-headless : (old : Option (List ℕ)) (r : Result Bool RunFault) (before after : Option (List ℕ)) → IfSome old (λ xs. (line : List ℕ) × (lines : List (List ℕ)) × (lines_of xs ≡ line ∷ lines) × (settings_of line ≡ None)) → IsHeadless r before after → IfSome old (λ xs. ScriptEnds (lines_of xs) r before after)
-unfolding ScriptEnds
-script-headless None r before after bad is = tt
-script-headless (Some xs) r before after bad is = subst (λ ls. ScriptEnds ls r before after) (sym bad.2) (at-bad bad.0 bad.1 r before after bad.3 is)
-  where
-    at-bad : (line : List ℕ) (lines : List (List ℕ)) (r : Result Bool RunFault) (before after : Option (List ℕ)) → settings_of line ≡ None → IsHeadless r before after → ScriptEnds (line ∷ lines) r before after
-    at-bad line lines r before after none is = subst (λ o. MatchOption o (IsHeadless r before after) (λ z. RunsTo z lines r before after)) (sym none) is
-
--- a text of which nothing was read, or for which there was no memory
-pub script-unread : (xs : List ℕ) (why : Refusal) (writer : Option (List ℕ)) → (why ≡ Memory) ⊎ (why ≡ ReadFault) → ScriptEnds (lines_of xs) (Err (outside why)) writer writer
-unfolding ScriptEnds
-script-unread xs why writer is = by_lines (lines_of xs)
-  where
-    headless : IsHeadless (Err (outside why)) writer writer
-    headless = by_why is
-      where
-        by_why : (why ≡ Memory) ⊎ (why ≡ ReadFault) → IsHeadless (Err (outside why)) writer writer
-        by_why (inl same) = subst (λ w. IsHeadless (Err (outside w)) writer writer) (sym same) (appends-nothing writer)
-        by_why (inr same) = subst (λ w. IsHeadless (Err (outside w)) writer writer) (sym same) (appends-nothing writer)
-
-    runs : (s : Settings) (lines : List (List ℕ)) → RunsTo s lines (Err (outside why)) writer writer
-    runs s lines = by_why is
-      where
-        by_why : (why ≡ Memory) ⊎ (why ≡ ReadFault) → RunsTo s lines (Err (outside why)) writer writer
-        by_why (inl same) = subst (λ w. RunsTo s lines (Err (outside w)) writer writer) (sym same) (none-made s lines writer)
-        by_why (inr same) = subst (λ w. RunsTo s lines (Err (outside w)) writer writer) (sym same) (none-made s lines writer)
-
-    by_head : (line : List ℕ) (lines : List (List ℕ)) (o : Option Settings) → MatchOption o (IsHeadless (Err (outside why)) writer writer) (λ z. RunsTo z lines (Err (outside why)) writer writer)
-    by_head line lines None = headless
-    by_head line lines (Some s) = runs s lines
-
-    by_lines : (lines : List (List ℕ)) → ScriptEnds lines (Err (outside why)) writer writer
-    by_lines [] = headless
-    by_lines (line ∷ lines) = by_head line lines (settings_of line)
+-- nothing was read, or there was no memory
+pub runs-none : (s : Settings) (lines : List (List ℕ)) (why : Refusal) (writer : Option (List ℕ)) → (why ≡ Memory) ⊎ (why ≡ ReadFault) → RunsTo s lines (Err (outside why)) writer writer
+runs-none s lines why writer (inl is) = subst (λ w. RunsTo s lines (Err (outside w)) writer writer) (sym is) (none-made s lines writer)
+runs-none s lines why writer (inr is) = subst (λ w. RunsTo s lines (Err (outside w)) writer writer) (sym is) (none-made s lines writer)
 
 -- the faults of a pool that can't be made
 pub refused-fault : (s : Settings) (why : Refusal) → IsWhy (settings_refusal s) why → IsScriptFault (outside why)

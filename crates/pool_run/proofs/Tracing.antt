@@ -1,6 +1,6 @@
 -- A pool's script that is traced: what its calls leave, and how the trace was written.
-use Rattle.std.proofs.Common.{◌≡◌, ◌⊎◌, inl, inr, ℕ, ◌+◌, ◌<◌, List, [], ◌∷◌, ◌++◌, length, take, drop, get_or, Option, Some, None, Result, Ok, Err, Bool, true, refl, sym, ap, ◌∙◌, subst, append-nil, append_assoc}
-use Rattle.std.specs.Prelude.{IfSome, MatchOption}
+use Rattle.std.proofs.Common.{◌≡◌, ◌⊎◌, inl, inr, ℕ, ◌+◌, ◌<◌, List, [], ◌∷◌, ◌++◌, length, take, drop, get_or, Option, Some, None, Ok, Err, true, refl, sym, ap, ◌∙◌, subst, append-nil, append_assoc}
+use Rattle.std.specs.Prelude.{IfSome}
 use Rattle.std.specs.Io.KnownBytes.{Appends}
 use Rattle.std.specs.List.{flat_map}
 use Rattle.std.proofs.lemmas.Grind.{flat_map-append}
@@ -9,8 +9,7 @@ use Rattle.meet_tickets.specs.declared.records.Record.{Record}
 use Rattle.meet_tickets.specs.declared.refusals.Refusal.{Refusal}
 use Rattle.meet_tickets.specs.declared.refusals.Refusal.TheVariants.{Memory, BadLine, BadSizes, PolicyNeedsBuffer, ReadFault, WriteFault}
 use Rattle.meet_tickets.specs.Refusals.{IsWhy}
-use Rattle.meet_run.specs.declared.faults.RunFault.{RunFault}
-use Rattle.meet_run.specs.Reading.{lines_of, Both}
+use Rattle.meet_run.specs.Reading.{lines_of}
 use Rattle.meet_run.specs.Writing.{AppendsPrefix, IsPrefix}
 use Rattle.meet_run.proofs.Ran.{appends-nothing}
 use Rattle.meet_run.proofs.WritingLemmas.{appends-more, prefix-more}
@@ -20,9 +19,8 @@ use Rattle.pool_core.specs.Calls.{settings_refusal}
 use Rattle.pool_history.specs.declared.one_thread.replies.PoolReply.{PoolReply}
 use Rattle.pool_history.specs.declared.one_thread.verbs.PoolRequest.{PoolRequest}
 use Rattle.pool_history.specs.OneThread.{Thread, IsNew, IsTurn}
-use Rattle.pool_run.specs.FirstLines.{settings_of}
 use Rattle.pool_run.specs.Requests.{request_of}
-use Rattle.pool_run.specs.Scripts.{requests_behind, pool_trace_text, HasRun, AreMade, IsTraceCut, IsUnmadeBy, IsHeadless, IsScriptFault, TracesTo, TraceEnds}
+use Rattle.pool_run.specs.Scripts.{requests_behind, pool_trace_text, HasRun, AreMade, IsTraceCut, IsUnmadeBy, IsScriptFault, TracesTo}
 use Rattle.pool_run.specs.Wording.{pool_record_line, pool_head_line}
 use Rattle.pool_run.proofs.Came.{HasCome, at-end, at-fault, has_come-first, has_come-more}
 use Rattle.pool_run.proofs.Turning.{ReadsCall, reads, run-none, run-more}
@@ -155,59 +153,10 @@ pub traces-some : (s : Settings) (old : Option (List ℕ)) (t : Thread) (n : ℕ
 traces-some s None t n before after made wrote = tt
 traces-some s (Some xs) t n before after made wrote = record { replies = made.replies; thread = t; at = made.at; run = made.run; wrote = wrote }
 
--- a script whose first line was read
-pub trace-behind : (old mid : Option (List ℕ)) (s : Settings) (r : Result Bool RunFault) (before after : Option (List ℕ)) → Both old mid (λ xs ys. (line : List ℕ) × (lines_of xs ≡ line ∷ lines_of ys) × (settings_of line ≡ Some s)) → IfSome mid (λ ys. TracesTo s (lines_of ys) r before after) → IfSome old (λ xs. TraceEnds (lines_of xs) r before after)
-unfolding TraceEnds
-trace-behind None mid s r before after head ran = tt
-trace-behind (Some xs) None s r before after head ran = absurd head
-trace-behind (Some xs) (Some ys) s r before after head ran = subst (λ ls. TraceEnds ls r before after) (sym head.1) (at-head head.0 (lines_of ys) s r before after head.2 ran)
-  where
-    at-head : (line : List ℕ) (lines : List (List ℕ)) (s : Settings) (r : Result Bool RunFault) (before after : Option (List ℕ)) → settings_of line ≡ Some s → TracesTo s lines r before after → TraceEnds (line ∷ lines) r before after
-    at-head line lines s r before after is ran = subst (λ o. MatchOption o (IsHeadless r before after) (λ z. TracesTo z lines r before after)) (sym is) ran
-
--- a text without lines, or whose first line says nothing
-pub trace-lineless : (old : Option (List ℕ)) (r : Result Bool RunFault) (before after : Option (List ℕ)) → IfSome old (λ xs. lines_of xs ≡ []) → IsHeadless r before after → IfSome old (λ xs. TraceEnds (lines_of xs) r before after)
-unfolding TraceEnds
-trace-lineless None r before after none is = tt
-trace-lineless (Some xs) r before after none is = subst (λ ls. TraceEnds ls r before after) (sym none) (at-none r before after is)
-  where
-    at-none : (r : Result Bool RunFault) (before after : Option (List ℕ)) → IsHeadless r before after → TraceEnds [] r before after
-    at-none r before after is = is
-
-pub trace-headless : (old : Option (List ℕ)) (r : Result Bool RunFault) (before after : Option (List ℕ)) → IfSome old (λ xs. (line : List ℕ) × (lines : List (List ℕ)) × (lines_of xs ≡ line ∷ lines) × (settings_of line ≡ None)) → IsHeadless r before after → IfSome old (λ xs. TraceEnds (lines_of xs) r before after)
-unfolding TraceEnds
-trace-headless None r before after bad is = tt
-trace-headless (Some xs) r before after bad is = subst (λ ls. TraceEnds ls r before after) (sym bad.2) (at-bad bad.0 bad.1 r before after bad.3 is)
-  where
-    at-bad : (line : List ℕ) (lines : List (List ℕ)) (r : Result Bool RunFault) (before after : Option (List ℕ)) → settings_of line ≡ None → IsHeadless r before after → TraceEnds (line ∷ lines) r before after
-    at-bad line lines r before after none is = subst (λ o. MatchOption o (IsHeadless r before after) (λ z. TracesTo z lines r before after)) (sym none) is
-
--- a text of which nothing was read, or for which there was no memory
-pub trace-unread : (xs : List ℕ) (why : Refusal) (writer : Option (List ℕ)) → (why ≡ Memory) ⊎ (why ≡ ReadFault) → TraceEnds (lines_of xs) (Err (outside why)) writer writer
-unfolding TraceEnds
-trace-unread xs why writer is = by_lines (lines_of xs)
-  where
-    headless : IsHeadless (Err (outside why)) writer writer
-    headless = by_why is
-      where
-        by_why : (why ≡ Memory) ⊎ (why ≡ ReadFault) → IsHeadless (Err (outside why)) writer writer
-        by_why (inl same) = subst (λ w. IsHeadless (Err (outside w)) writer writer) (sym same) (appends-nothing writer)
-        by_why (inr same) = subst (λ w. IsHeadless (Err (outside w)) writer writer) (sym same) (appends-nothing writer)
-
-    traces : (s : Settings) (lines : List (List ℕ)) → TracesTo s lines (Err (outside why)) writer writer
-    traces s lines = by_why is
-      where
-        by_why : (why ≡ Memory) ⊎ (why ≡ ReadFault) → TracesTo s lines (Err (outside why)) writer writer
-        by_why (inl same) = subst (λ w. TracesTo s lines (Err (outside w)) writer writer) (sym same) (untraced s lines writer)
-        by_why (inr same) = subst (λ w. TracesTo s lines (Err (outside w)) writer writer) (sym same) (untraced s lines writer)
-
-    by_head : (line : List ℕ) (lines : List (List ℕ)) (o : Option Settings) → MatchOption o (IsHeadless (Err (outside why)) writer writer) (λ z. TracesTo z lines (Err (outside why)) writer writer)
-    by_head line lines None = headless
-    by_head line lines (Some s) = traces s lines
-
-    by_lines : (lines : List (List ℕ)) → TraceEnds lines (Err (outside why)) writer writer
-    by_lines [] = headless
-    by_lines (line ∷ lines) = by_head line lines (settings_of line)
+-- nothing was read, or there was no memory
+pub traces-none : (s : Settings) (lines : List (List ℕ)) (why : Refusal) (writer : Option (List ℕ)) → (why ≡ Memory) ⊎ (why ≡ ReadFault) → TracesTo s lines (Err (outside why)) writer writer
+traces-none s lines why writer (inl is) = subst (λ w. TracesTo s lines (Err (outside w)) writer writer) (sym is) (untraced s lines writer)
+traces-none s lines why writer (inr is) = subst (λ w. TracesTo s lines (Err (outside w)) writer writer) (sym is) (untraced s lines writer)
 
 -- the faults of calls that weren't made
 pub unmade-fault : (s : Settings) (why : Refusal) → IsUnmadeBy s why → IsScriptFault (outside why)

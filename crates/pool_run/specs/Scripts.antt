@@ -112,11 +112,17 @@ abbrev pub IsHeadless : Result Bool RunFault → (old new : Option (List ℕ)) �
 IsHeadless (Ok legal) old new = ⊥
 IsHeadless (Err f) old new = HeadBreaks f.why f.line old new
 
+-- what came of a text of these lines, whose first one says what the pool is made with, by what comes of the others
+unfoldable pub TextEnds :
+    (Comes : Settings → (lines : List (List ℕ)) → Result Bool RunFault → (old new : Option (List ℕ)) → Type 0)
+    → (lines : List (List ℕ)) → Result Bool RunFault → (old new : Option (List ℕ)) → Type 0
+TextEnds Comes [] result old new = IsHeadless result old new
+TextEnds Comes (line ∷ lines) result old new =
+    MatchOption (settings_of line) (IsHeadless result old new) (λ s. Comes s lines result old new)
+
 -- what came of a script of these lines
-unfoldable pub ScriptEnds : (lines : List (List ℕ)) → Result Bool RunFault → (old new : Option (List ℕ)) → Type 0
-ScriptEnds [] result old new = IsHeadless result old new
-ScriptEnds (line ∷ lines) result old new =
-    MatchOption (settings_of line) (IsHeadless result old new) (λ s. RunsTo s lines result old new)
+abbrev pub ScriptEnds : (lines : List (List ℕ)) → Result Bool RunFault → (old new : Option (List ℕ)) → Type 0
+ScriptEnds lines result old new = TextEnds RunsTo lines result old new
 
 -- the trace of the calls before the first line that is none was written
 pub record HasTraced (s : Settings) (lines : List (List ℕ)) (fault : Option ℕ) (old new : Option (List ℕ))
@@ -153,10 +159,8 @@ TracesTo s lines (Ok legal) old new = (legal ≡ true) × HasTraced s lines None
 TracesTo s lines (Err f) old new = TraceBreaks s lines f.why f.line old new
 
 -- what came of tracing a script of these lines
-unfoldable pub TraceEnds : (lines : List (List ℕ)) → Result Bool RunFault → (old new : Option (List ℕ)) → Type 0
-TraceEnds [] result old new = IsHeadless result old new
-TraceEnds (line ∷ lines) result old new =
-    MatchOption (settings_of line) (IsHeadless result old new) (λ s. TracesTo s lines result old new)
+abbrev pub TraceEnds : (lines : List (List ℕ)) → Result Bool RunFault → (old new : Option (List ℕ)) → Type 0
+TraceEnds lines result old new = TextEnds TracesTo lines result old new
 
 -- the calls of these lines, up to the first that is none, left the pool so; the number of that line, if there is one
 pub record AreMade (s : Settings) (lines : List (List ℕ)) (thread : Thread) (fault : Option ℕ) : Type 0 where
