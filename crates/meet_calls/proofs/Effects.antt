@@ -38,18 +38,14 @@ use Rattle.meet_line.specs.declared.answers.Interrupted.{Interrupted as Struck}
 use Rattle.meet_line.specs.declared.answers.Interrupted.TheVariants.{Cut as CutOff, Flagged}
 use Rattle.meet_line.proofs.Sound.{Stands-partner, there-waiting}
 use Rattle.meet_line.proofs.Following.{there-open}
-use Rattle.meet_calls.specs.declared.queue_calls.DualCall.{DualCall}
-use Rattle.meet_calls.specs.declared.queue_calls.DualCall.TheVariants.{Give, Offer, Take, Poll, FollowUp, Cancel, Expire, Interrupt as InterruptSeat}
-use Rattle.meet_calls.specs.declared.queue_calls.DualAnswer.{DualAnswer}
-use Rattle.meet_calls.specs.declared.queue_calls.DualAnswer.TheVariants.{Gave as ToGive, Offered as ToOffer, Took as ToTake, Polled as ToPoll, Followed as ToFollowUp, TakenBack as ToWithdrawal, Interrupted as ToInterrupt}
-use Rattle.meet_calls.specs.declared.queue_calls.QueueCall.{QueueCall}
-use Rattle.meet_calls.specs.declared.queue_calls.QueueCall.TheVariants.{Put as PutItem, Dual}
-use Rattle.meet_calls.specs.declared.queue_calls.QueueAnswer.{QueueAnswer}
-use Rattle.meet_calls.specs.declared.queue_calls.QueueAnswer.TheVariants.{Put as ToPut, Dual as ToDual}
-use Rattle.meet_calls.specs.QueueSteps.{dual_call, QueueStep, queue_refusal, queue_need, queue_room, put_record, queue_record}
-use Rattle.meet_calls.specs.DualRecords.{made, give_record, offer_record, take_record, poll_record, follow_record, back_record, interrupt_record, dual_record}
 use Rattle.meet_line.specs.Seen.{marked_entry, marked_hold, marked}
-use Rattle.meet_calls.specs.DualSteps.{DualStep, synchronous, kind_of, dual_refusal, dual_need, dual_room, dual_owed}
+use Rattle.meet_calls.specs.declared.queue_calls.QueueCall.{QueueCall}
+use Rattle.meet_calls.specs.declared.queue_calls.QueueCall.TheVariants.{Put as PutItem, Give, Offer, Take, Poll, FollowUp, Cancel, Expire, Interrupt as InterruptSeat}
+use Rattle.meet_calls.specs.declared.queue_calls.QueueAnswer.{QueueAnswer}
+use Rattle.meet_calls.specs.declared.queue_calls.QueueAnswer.TheVariants.{Put as ToPut, Gave as ToGive, Offered as ToOffer, Took as ToTake, Polled as ToPoll, Followed as ToFollowUp, TakenBack as ToWithdrawal, Interrupted as ToInterrupt}
+use Rattle.meet_calls.specs.QueueRecords.{made, give_record, offer_record, put_record, take_record, poll_record, follow_record, back_record, interrupt_record, queue_record}
+use Rattle.meet_calls.specs.QueueSteps.{DualStep, QueueStep, kind_of, queue_refusal, queue_need, queue_room, queue_owed}
+use Rattle.meet_calls.specs.Synchronous.{synchronous-end}
 use Rattle.meet_line.proofs.Marks.{partner-marked}
 use Rattle.meet_calls.proofs.Marking.{entry_of-marked, kept-marked, queued-marked, paired-marked, released-marked, left-marked, cut_off-marked}
 use Rattle.meet_calls.proofs.Owed.{owed-same, owed-more, owed-fewer}
@@ -64,7 +60,7 @@ pub record Writes {T : Type 0} (mark : T → ℕ) (k : Kind) (old new : Queue T)
 
 -- what a call costs: the records that it writes and leaves owed, and its place in the line, where it has room for one
 pub record Costs {T : Type 0} (old new : Queue T) (need room : ℕ) (written : ℕ) : Type 0 where
-  pub owed : written + dual_owed new ≤ dual_owed old + need
+  pub owed : written + queue_owed new ≤ queue_owed old + need
   pub line : length new.line ≤ length old.line + room
 
 -- a step that writes this record, or none and then changes nothing
@@ -93,10 +89,10 @@ entry-open line (Served t u item) e found = refl
 entry-open line (Cut t item) e found = refl
 
 -- what a met seat holds is open, as it was
-pub met-open : {T : Type 0} (mark : T → ℕ) (end : End) (old : Queue T) (side : Side) (t : ℕ) (item : Option T) (e : Entry T) → IsSound old.line (seats_of old).holds old.next → partner end old.line side ≡ Some e → is_open (paired_hold mark e.ticket e.item t item) ≡ true → owed_of (count_of old) (paired mark end (seats_of old) t item e).holds ≡ dual_owed old
+pub met-open : {T : Type 0} (mark : T → ℕ) (end : End) (old : Queue T) (side : Side) (t : ℕ) (item : Option T) (e : Entry T) → IsSound old.line (seats_of old).holds old.next → partner end old.line side ≡ Some e → is_open (paired_hold mark e.ticket e.item t item) ≡ true → owed_of (count_of old) (paired mark end (seats_of old) t item e).holds ≡ queue_owed old
 met-open mark end old side t item e sound found opened = by_waits e.waits refl
   where
-    by_waits : (w : Bool) → e.waits ≡ w → owed_of (count_of old) (cond w (put_at (seats_of old).holds e.seat (paired_hold mark e.ticket e.item t item)) (seats_of old).holds) ≡ dual_owed old
+    by_waits : (w : Bool) → e.waits ≡ w → owed_of (count_of old) (cond w (put_at (seats_of old).holds e.seat (paired_hold mark e.ticket e.item t item)) (seats_of old).holds) ≡ queue_owed old
     by_waits true waits =
         let stands : Stands (seats_of old).holds old.next e = Stands-partner end side e sound found in
         owed-same (seats_of old).holds (count_of old) e.seat (paired_hold mark e.ticket e.item t item) (opened ∙ sym (ap is_open (stands.held waits)))
@@ -126,9 +122,9 @@ module _ {T : Type 0} (mark : T → ℕ) (k : Kind) (old new : Queue T) where
     after = ap (marked mark) leaves.left ∙ after;
   }
 
-  costs-from : (need room written : ℕ) (seats : Seats T) → count_of new ≡ count_of old → seats_of new ≡ seats → written + owed_of (count_of old) seats.holds ≤ dual_owed old + need → length seats.line ≤ length old.line + room → Costs old new need room written
+  costs-from : (need room written : ℕ) (seats : Seats T) → count_of new ≡ count_of old → seats_of new ≡ seats → written + owed_of (count_of old) seats.holds ≤ queue_owed old + need → length seats.line ≤ length old.line + room → Costs old new need room written
   costs-from need room written seats count is owed line =
-      let same : dual_owed new ≡ owed_of (count_of old) seats.holds = ap (λ n. owed_of n (seats_of new).holds) count ∙ ap (λ s. owed_of (count_of old) s.holds) is in
+      let same : queue_owed new ≡ owed_of (count_of old) seats.holds = ap (λ n. owed_of n (seats_of new).holds) count ∙ ap (λ s. owed_of (count_of old) s.holds) is in
       let long : length new.line ≡ length seats.line = ap (λ (s : Seats T). length s.line) is in
       record { owed = omega (arith, same, owed); line = omega (arith, long, line) }
 
@@ -281,8 +277,9 @@ module _ {T : Type 0} (mark : T → ℕ) (k : Kind) (old new : Queue T) where
         costs-from 1 0 1 _ leaves.count leaves.left (omega arith) (omega arith),
       )
 
-  -- an admitted call, whatever it is
-  call-effect : (i : ℕ) (call : DualCall T) (answer : DualAnswer T) → IsSound old.line (seats_of old).holds old.next → dual_refusal old i call ≡ None → DualStep mark (end_of k.order) old i call answer new → HasEffect mark k old new (dual_need call) (dual_room call) (dual_record mark i call answer)
+  -- an admitted call of a queue that keeps nothing, whatever it is
+  call-effect : (i : ℕ) (call : QueueCall T) (answer : QueueAnswer T) → IsSound old.line (seats_of old).holds old.next → queue_refusal old i call ≡ None → DualStep mark (end_of k.order) old i call answer new → HasEffect mark k old new (queue_need call) (queue_room call) (queue_record mark i call answer)
+  call-effect i (PutItem item) (ToGive answer) sound none step = give-effect i item answer sound (free-seat i none) step
   call-effect i (Give item) (ToGive answer) sound none step = give-effect i item answer sound (free-seat i none) step
   call-effect i (Offer item) (ToOffer answer) sound none step = offer-effect i item answer sound (free-seat i none) step
   call-effect i Take (ToTake answer) sound none step = take-effect i answer sound (free-seat i none) step
@@ -293,23 +290,22 @@ module _ {T : Type 0} (mark : T → ℕ) (k : Kind) (old new : Queue T) where
   call-effect i (InterruptSeat j) (ToInterrupt answer) sound none step = interrupt-effect i j answer step
   call-effect i call answer sound none step = absurd step
 
-  -- and a put, of a queue that keeps items or waits
+  -- and of any queue
   queue-effect : (i : ℕ) (call : QueueCall T) (answer : QueueAnswer T) → IsSound old.line (seats_of old).holds old.next → queue_refusal old i call ≡ None → QueueStep mark k old i call answer new → HasEffect mark k old new (queue_need call) (queue_room call) (queue_record mark i call answer)
   queue-effect i (PutItem item) (ToPut answer) sound none (keeps, step) = put-effect i item answer sound (free-seat i none) keeps step
-  queue-effect i (PutItem item) (ToDual answer) sound none (waits, step) = call-effect i (Give item) answer sound none step
-  queue-effect i (Dual call) (ToDual answer) sound none step = call-effect i call answer sound none step
-  queue-effect i (Dual call) (ToPut answer) sound none step = absurd step
+  queue-effect i (PutItem item) answer sound none (waits, step) = call-effect i (PutItem item) answer sound none step
+  queue-effect i call answer sound none step = call-effect i call answer sound none step
 
   -- by the record that was told
-  pub dual-made : (i : ℕ) (call : DualCall T) (answer : DualAnswer T) (r : Option (Record Deed)) → r ≡ dual_record mark i call answer → IsSound old.line (seats_of old).holds old.next → dual_refusal old i call ≡ None → DualStep mark (end_of k.order) old i call answer new → HasEffect mark k old new (dual_need call) (dual_room call) r
-  dual-made i call answer r is sound none step = subst (λ r. HasEffect mark k old new (dual_need call) (dual_room call) r) (sym is) (call-effect i call answer sound none step)
+  pub dual-made : (i : ℕ) (call : QueueCall T) (answer : QueueAnswer T) (r : Option (Record Deed)) → r ≡ queue_record mark i call answer → IsSound old.line (seats_of old).holds old.next → queue_refusal old i call ≡ None → DualStep mark (end_of k.order) old i call answer new → HasEffect mark k old new (queue_need call) (queue_room call) r
+  dual-made i call answer r is sound none step = subst (λ r. HasEffect mark k old new (queue_need call) (queue_room call) r) (sym is) (call-effect i call answer sound none step)
 
   pub queue-made : (i : ℕ) (call : QueueCall T) (answer : QueueAnswer T) (r : Option (Record Deed)) → r ≡ queue_record mark i call answer → IsSound old.line (seats_of old).holds old.next → queue_refusal old i call ≡ None → QueueStep mark k old i call answer new → HasEffect mark k old new (queue_need call) (queue_room call) r
   queue-made i call answer r is sound none step = subst (λ r. HasEffect mark k old new (queue_need call) (queue_room call) r) (sym is) (queue-effect i call answer sound none step)
 
   -- what is written and owed then
-  pub effect-owed : (need room : ℕ) (r : Option (Record Deed)) → HasEffect mark k old new need room r → length (option_to_list r) + dual_owed new ≤ dual_owed old + need
-  effect-owed need room None same = let owed : dual_owed new ≡ dual_owed old = ap dual_owed same in omega (arith, owed)
+  pub effect-owed : (need room : ℕ) (r : Option (Record Deed)) → HasEffect mark k old new need room r → length (option_to_list r) + queue_owed new ≤ queue_owed old + need
+  effect-owed need room None same = let owed : queue_owed new ≡ queue_owed old = ap queue_owed same in omega (arith, owed)
   effect-owed need room (Some r) (writes, costs) = costs.owed
 
   -- and no more room than the call's is used
@@ -319,21 +315,7 @@ module _ {T : Type 0} (mark : T → ℕ) (k : Kind) (old new : Queue T) where
       let whole : length new.line + new.room ≡ length old.line + old.room = places in
       omega (arith, whole, costs.line)
 
--- a place is met at the end at which its line is
-synchronous-end : (end : End) → end_of (synchronous end) ≡ end
-synchronous-end Front = refl
-synchronous-end Back = refl
-
 -- a synchronous queue's step, by the record that was told
-pub synchronous-made : {T : Type 0} (mark : T → ℕ) (end : End) (old new : Queue T) (i : ℕ) (call : DualCall T) (answer : DualAnswer T) (r : Option (Record Deed)) → r ≡ dual_record mark i call answer → IsSound old.line (seats_of old).holds old.next → dual_refusal old i call ≡ None → DualStep mark end old i call answer new → HasEffect mark (kind_of end) old new (dual_need call) (dual_room call) r
+pub synchronous-made : {T : Type 0} (mark : T → ℕ) (end : End) (old new : Queue T) (i : ℕ) (call : QueueCall T) (answer : QueueAnswer T) (r : Option (Record Deed)) → r ≡ queue_record mark i call answer → IsSound old.line (seats_of old).holds old.next → queue_refusal old i call ≡ None → DualStep mark end old i call answer new → HasEffect mark (kind_of end) old new (queue_need call) (queue_room call) r
 synchronous-made mark end old new i call answer r is sound none step =
     dual-made mark (kind_of end) old new i call answer r is sound none (subst (λ e. DualStep mark e old i call answer new) (sym (synchronous-end end)) step)
-
--- it keeps nothing, so a put of it waits
-synchronous-waits : (end : End) → keeps (synchronous end) ≡ false
-synchronous-waits Front = refl
-synchronous-waits Back = refl
-
-pub synchronous-step : {T : Type 0} (mark : T → ℕ) (end : End) (old : Queue T) (i : ℕ) (call : QueueCall T) (answer : DualAnswer T) (new : Queue T) → DualStep mark end old i (dual_call call) answer new → QueueStep mark (kind_of end) old i call (ToDual answer) new
-synchronous-step mark end old i (PutItem item) answer new step = (synchronous-waits end, subst (λ e. DualStep mark e old i (Give item) answer new) (sym (synchronous-end end)) step)
-synchronous-step mark end old i (Dual call) answer new step = subst (λ e. DualStep mark e old i call answer new) (sym (synchronous-end end)) step

@@ -23,11 +23,11 @@ use Rattle.meet_line.specs.declared.answers.Took.TheVariants.{Waits as TakerWait
 use Rattle.meet_line.specs.declared.answers.Polled.TheVariants.{Meets as PollMeets, Fails as PollFails}
 use Rattle.meet_line.specs.declared.answers.Followed.TheVariants.{Done, Got, Interrupted, NotYet}
 use Rattle.meet_line.specs.declared.answers.TakenBack.TheVariants.{Back, Late}
-use Rattle.meet_calls.specs.declared.queue_calls.DualCall.{DualCall}
-use Rattle.meet_calls.specs.declared.queue_calls.DualCall.TheVariants.{Give, Offer, Take, Poll, FollowUp, Cancel, Expire, Interrupt}
-use Rattle.meet_calls.specs.declared.queue_calls.DualAnswer.{DualAnswer}
-use Rattle.meet_calls.specs.declared.queue_calls.DualAnswer.TheVariants.{Took as ToTake, Polled as ToPoll, Followed as ToFollowUp, TakenBack as ToWithdrawal}
-use Rattle.meet_calls.specs.DualSteps.{DualStep, LeadsTo}
+use Rattle.meet_calls.specs.declared.queue_calls.QueueCall.{QueueCall}
+use Rattle.meet_calls.specs.declared.queue_calls.QueueCall.TheVariants.{Put, Give, Offer, Take, Poll, FollowUp, Cancel, Expire, Interrupt}
+use Rattle.meet_calls.specs.declared.queue_calls.QueueAnswer.{QueueAnswer}
+use Rattle.meet_calls.specs.declared.queue_calls.QueueAnswer.TheVariants.{Took as ToTake, Polled as ToPoll, Followed as ToFollowUp, TakenBack as ToWithdrawal}
+use Rattle.meet_calls.specs.QueueSteps.{DualStep, LeadsTo}
 use Rattle.meet_calls.specs.Handed.{handed, HandsOutWhatWasBrought}
 
 -- the request of an item in the line brought it
@@ -67,7 +67,8 @@ module _ {T : Type 0} (mark : T → ℕ) (k : Kind) (b : Based) (records : List 
   cut-brought i t item held = ap (option_and_then brought_by) (remembers.cut i t (Some (mark item)) (ap (marked_hold mark) held))
 
   -- by the answer
-  handed-brought : (end : End) (new : Queue T) (seat : ℕ) (call : DualCall T) (answer : DualAnswer T) → DualStep mark end old seat call answer new → IfSome (handed call answer) (λ given. brought_on b records given.ticket ≡ Some (mark given.item))
+  handed-brought : (end : End) (new : Queue T) (seat : ℕ) (call : QueueCall T) (answer : QueueAnswer T) → DualStep mark end old seat call answer new → IfSome (handed call answer) (λ given. brought_on b records given.ticket ≡ Some (mark given.item))
+  handed-brought end new seat (Put item) answer step = tt
   handed-brought end new seat (Give item) answer step = tt
   handed-brought end new seat (Offer item) answer step = tt
   handed-brought end new seat (Interrupt j) answer step = tt

@@ -12,7 +12,7 @@ use Rattle.meet_tickets.proofs.Based.{tellings_agree_on, no_base_well_formed}
 use Rattle.meet_line.specs.Queue.{Queue, seats_of}
 use Rattle.meet_calls.specs.QueueSteps.{bounded_kind}
 use Rattle.meet_line.specs.Seen.{marked, moment_of_queue}
-use Rattle.meet_calls.specs.DualSteps.{LeadsTo}
+use Rattle.meet_calls.specs.QueueSteps.{LeadsTo}
 use Rattle.meet_calls.proofs.Effects.{Writes, HasEffect}
 
 -- a new queue has no history behind it

@@ -16,7 +16,7 @@ use Rattle.meet_line.specs.Left.{left_in}
 use Rattle.meet_line.specs.LeftTold.{AreLeftOn}
 use Rattle.meet_line.specs.Queue.{Queue}
 use Rattle.meet_line.proofs.LeftThere.{are_left}
-use Rattle.meet_calls.specs.DualSteps.{LeadsTo}
+use Rattle.meet_calls.specs.QueueSteps.{LeadsTo}
 
 pub left_on : {T : Type 0} (mark : T → ℕ) (k : Kind) (end : End) (b : Based) (records : List (Record Deed)) (q : Queue T) (items : List (Left T)) → LeadsTo mark k b records q → IsPermutation (left_in end q) items → IsNonDecreasingBy (λ (x : Left T). x.ticket) items → AreLeftOn mark b records items
 left_on mark k end b records q items leads moved rises =

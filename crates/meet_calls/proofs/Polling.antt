@@ -8,9 +8,8 @@ use Rattle.meet_tickets.specs.declared.lines.Hold.{Hold}
 use Rattle.meet_tickets.specs.declared.lines.Hold.TheVariants.{Free, Waiting}
 use Rattle.meet_tickets.specs.declared.places.Side.TheVariants.{Giver, Taker}
 use Rattle.meet_tickets.specs.declared.places.End.{End}
-use Rattle.meet_tickets.specs.declared.places.Kind.{Kind}
 use Rattle.meet_tickets.specs.declared.refusals.Refusal.TheVariants.{NoSuchSeat, SeatOpen, TicketsSpent}
-use Rattle.meet_tickets.specs.Meeting.{end_of, count_on}
+use Rattle.meet_tickets.specs.Meeting.{count_on}
 use Rattle.meet_tickets.specs.BySeat.{Seats, put_at, is_open, owed_of, paired_hold}
 use Rattle.meet_tickets.specs.Limits.{last_ticket}
 use Rattle.meet_tickets.specs.Refusals.{refusal_of}
@@ -19,16 +18,12 @@ use Rattle.meet_tickets.proofs.Counted.{HasGiver, giver-there}
 use Rattle.meet_line.specs.Queue.{Queue, seats_of, count_of, Stands, IsSound}
 use Rattle.meet_line.specs.declared.answers.Polled.TheVariants.{Meets, Fails}
 use Rattle.meet_line.proofs.Sound.{HasOneSide-sound, Stands-partner}
-use Rattle.meet_calls.specs.declared.queue_calls.DualCall.TheVariants.{Poll}
-use Rattle.meet_calls.specs.declared.queue_calls.DualAnswer.{DualAnswer}
-use Rattle.meet_calls.specs.declared.queue_calls.DualAnswer.TheVariants.{Gave as ToGive, Offered as ToOffer, Took as ToTake, Polled as ToPoll, Followed as ToFollowUp, TakenBack as ToWithdrawal, Interrupted as ToInterrupt}
 use Rattle.meet_book.specs.Draining.{TakesOne}
-use Rattle.meet_calls.specs.declared.queue_calls.QueueCall.TheVariants.{Dual}
+use Rattle.meet_calls.specs.declared.queue_calls.QueueCall.TheVariants.{Poll}
 use Rattle.meet_calls.specs.declared.queue_calls.QueueAnswer.{QueueAnswer}
-use Rattle.meet_calls.specs.declared.queue_calls.QueueAnswer.TheVariants.{Put as ToPut, Dual as ToDual}
-use Rattle.meet_calls.specs.QueueSteps.{QueueStep, queue_record}
-use Rattle.meet_calls.specs.DualRecords.{dual_record}
-use Rattle.meet_calls.specs.DualSteps.{DualStep, dual_refusal, dual_owed, dual_available, dual_left}
+use Rattle.meet_calls.specs.declared.queue_calls.QueueAnswer.TheVariants.{Put as ToPut, Gave as ToGive, Offered as ToOffer, Took as ToTake, Polled as ToPoll, Followed as ToFollowUp, TakenBack as ToWithdrawal, Interrupted as ToInterrupt}
+use Rattle.meet_calls.specs.QueueRecords.{queue_record}
+use Rattle.meet_calls.specs.QueueSteps.{DualStep, queue_refusal, queue_owed, queue_available, queue_left}
 use Rattle.meet_calls.proofs.Effects.{met-open}
 
 -- a request is admitted where its seat is there and free, and a ticket is left
@@ -39,7 +34,7 @@ admitted-from count next s seat there free few =
     λ i. cond (low i) (Some NoSuchSeat) (cond (is_open (free i)) (Some SeatOpen) (cond (left i) (Some TicketsSpent) None))
 
 -- a request isn't refused for want of a ticket where one is left
-pub not-spent : {T : Type 0} (q : Queue T) (seat : ℕ) → 0 < dual_left q → dual_refusal q seat Poll ≢ Some TicketsSpent
+pub not-spent : {T : Type 0} (q : Queue T) (seat : ℕ) → 0 < queue_left q → queue_refusal q seat Poll ≢ Some TicketsSpent
 not-spent q seat some spent =
     let left : nat_lt last_ticket q.next ≡ false = le-ltb last_ticket q.next (omega arith) in
     by_test (nat_le (count_of q) seat) (is_open ((seats_of q).holds seat)) (nat_lt last_ticket q.next) left spent
@@ -57,7 +52,7 @@ others-free q seat e hold free true held =
     ap (λ b. cond b hold ((seats_of q).holds seat)) (ne_eqb seat e.seat apart) ∙ free
 others-free q seat e hold free false held = free
 
-pub poll-takes : {T : Type 0} (mark : T → ℕ) (end : End) (old : Queue T) → IsSound old.line (seats_of old).holds old.next → (seat : ℕ) (answer : DualAnswer T) (new : Queue T) → DualStep mark end old seat Poll answer new → dual_refusal old seat Poll ≡ None → 0 < dual_available old → TakesOne dual_available dual_left dual_owed (λ q. dual_refusal q seat Poll) (dual_record mark seat Poll answer) old new
+pub poll-takes : {T : Type 0} (mark : T → ℕ) (end : End) (old : Queue T) → IsSound old.line (seats_of old).holds old.next → (seat : ℕ) (answer : QueueAnswer T) (new : Queue T) → DualStep mark end old seat Poll answer new → queue_refusal old seat Poll ≡ None → 0 < queue_available old → TakesOne queue_available queue_left queue_owed (λ q. queue_refusal q seat Poll) (queue_record mark seat Poll answer) old new
 poll-takes {T} mark end old sound seat (ToPoll (Meets t u item)) new (e, found, ticket, own, uses) none some =
     let admitted : IsAdmitted (count_of old) old.next (seats_of old) seat = IsAdmitted-from (count_of old) old.next (seats_of old) seat none in
     let giver : HasGiver end old.line = giver-there end old.line (HasOneSide-sound sound) some in
@@ -76,14 +71,10 @@ poll-takes {T} mark end old sound seat (ToPoll (Meets t u item)) new (e, found, 
 poll-takes mark end old sound seat (ToPoll (Fails t)) new (alone, uses) none some =
     let giver : HasGiver end old.line = giver-there end old.line (HasOneSide-sound sound) some in
     absurd (let is : None ≡ Some giver.giver = sym alone ∙ giver.met in cc)
+poll-takes mark end old sound seat (ToPut answer) new step none some = absurd step
 poll-takes mark end old sound seat (ToGive answer) new step none some = absurd step
 poll-takes mark end old sound seat (ToOffer answer) new step none some = absurd step
 poll-takes mark end old sound seat (ToTake answer) new step none some = absurd step
 poll-takes mark end old sound seat (ToFollowUp answer) new step none some = absurd step
 poll-takes mark end old sound seat (ToWithdrawal answer) new step none some = absurd step
 poll-takes mark end old sound seat (ToInterrupt answer) new step none some = absurd step
-
--- so takes one of any kind
-pub queue-takes : {T : Type 0} (mark : T → ℕ) (k : Kind) (old : Queue T) → IsSound old.line (seats_of old).holds old.next → (seat : ℕ) (answer : QueueAnswer T) (new : Queue T) → QueueStep mark k old seat (Dual Poll) answer new → dual_refusal old seat Poll ≡ None → 0 < dual_available old → TakesOne dual_available dual_left dual_owed (λ q. dual_refusal q seat Poll) (queue_record mark seat (Dual Poll) answer) old new
-queue-takes mark k old sound seat (ToDual answer) new step none some = poll-takes mark (end_of k.order) old sound seat answer new step none some
-queue-takes mark k old sound seat (ToPut answer) new step none some = absurd step

@@ -11,13 +11,13 @@ use Rattle.meet_line.specs.declared.answers.Took.TheVariants.{Meets}
 use Rattle.meet_line.specs.declared.answers.Polled.TheVariants.{Meets as PollMeets}
 use Rattle.meet_line.specs.declared.answers.Followed.TheVariants.{Got, Interrupted}
 use Rattle.meet_line.specs.declared.answers.TakenBack.TheVariants.{Back}
-use Rattle.meet_calls.specs.declared.queue_calls.DualCall.{DualCall}
-use Rattle.meet_calls.specs.declared.queue_calls.DualCall.TheVariants.{Take, Poll, FollowUp, Cancel, Expire}
-use Rattle.meet_calls.specs.declared.queue_calls.DualAnswer.{DualAnswer}
-use Rattle.meet_calls.specs.declared.queue_calls.DualAnswer.TheVariants.{Took as ToTake, Polled as ToPoll}
-use Rattle.meet_calls.specs.declared.queue_calls.DualAnswer.TheVariants.{Followed as ToFollowUp}
-use Rattle.meet_calls.specs.declared.queue_calls.DualAnswer.TheVariants.{TakenBack as ToWithdrawal}
-use Rattle.meet_calls.specs.DualSteps.{DualStep, LeadsTo}
+use Rattle.meet_calls.specs.declared.queue_calls.QueueCall.{QueueCall}
+use Rattle.meet_calls.specs.declared.queue_calls.QueueCall.TheVariants.{Take, Poll, FollowUp, Cancel, Expire}
+use Rattle.meet_calls.specs.declared.queue_calls.QueueAnswer.{QueueAnswer}
+use Rattle.meet_calls.specs.declared.queue_calls.QueueAnswer.TheVariants.{Took as ToTake, Polled as ToPoll}
+use Rattle.meet_calls.specs.declared.queue_calls.QueueAnswer.TheVariants.{Followed as ToFollowUp}
+use Rattle.meet_calls.specs.declared.queue_calls.QueueAnswer.TheVariants.{TakenBack as ToWithdrawal}
+use Rattle.meet_calls.specs.QueueSteps.{DualStep, LeadsTo}
 
 -- a giver's ticket, and its item
 pub record Given (T : Type 0) : Type 0 where
@@ -25,7 +25,7 @@ pub record Given (T : Type 0) : Type 0 where
   pub item : T
 
 -- the item that an answer hands out, where it is that of an earlier request: to a taker, or back to its giver
-abbrev pub handed : {T : Type 0} → DualCall T → DualAnswer T → Option (Given T)
+abbrev pub handed : {T : Type 0} → QueueCall T → QueueAnswer T → Option (Given T)
 handed Take (ToTake (Meets t u item)) = Some (record { ticket = u; item = item })
 handed Poll (ToPoll (PollMeets t u item)) = Some (record { ticket = u; item = item })
 handed (FollowUp t) (ToFollowUp (Got u item)) = Some (record { ticket = u; item = item })
@@ -38,6 +38,6 @@ handed call answer = None
 abbrev pub HandsOutWhatWasBrought : {T : Type 0} → (mark : T → ℕ) → Type 0
 HandsOutWhatWasBrought {T} mark =
     (k : Kind) (base : Based) (records : List (Record Deed)) (end : End) (old new : Queue T) (seat : ℕ)
-    (call : DualCall T) (answer : DualAnswer T)
+    (call : QueueCall T) (answer : QueueAnswer T)
     → LeadsTo mark k base records old → DualStep mark end old seat call answer new
     → IfSome (handed call answer) (λ given. brought_on base records given.ticket ≡ Some (mark given.item))

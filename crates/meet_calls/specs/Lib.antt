@@ -1,7 +1,6 @@
-pub mod DualRecords
-pub mod DualRoom
-pub mod DualSteps
 pub mod Handed
+pub mod QueueRecords
 pub mod QueueRoom
 pub mod QueueSteps
 pub mod SeatCounts
+pub mod Synchronous

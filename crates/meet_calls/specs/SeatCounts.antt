@@ -17,21 +17,16 @@ use Rattle.meet_line.specs.declared.answers.TakenBack.{TakenBack}
 use Rattle.meet_line.specs.declared.answers.TakenBack.TheVariants.{Back, Late}
 use Rattle.meet_line.specs.declared.answers.Interrupted.TheVariants.{Cut as CutOff, Flagged}
 use Rattle.meet_line.specs.Steps.{WithdrawStep}
-use Rattle.meet_calls.specs.declared.queue_calls.DualCall.{DualCall}
-use Rattle.meet_calls.specs.declared.queue_calls.DualCall.TheVariants.{Give, Offer, Take, Poll, FollowUp, Cancel}
-use Rattle.meet_calls.specs.declared.queue_calls.DualCall.TheVariants.{Expire, Interrupt}
-use Rattle.meet_calls.specs.declared.queue_calls.DualAnswer.{DualAnswer}
-use Rattle.meet_calls.specs.declared.queue_calls.DualAnswer.TheVariants.{Gave as ToGive, Offered as ToOffer}
-use Rattle.meet_calls.specs.declared.queue_calls.DualAnswer.TheVariants.{Took as ToTake, Polled as ToPoll}
-use Rattle.meet_calls.specs.declared.queue_calls.DualAnswer.TheVariants.{Followed as ToFollowUp}
-use Rattle.meet_calls.specs.declared.queue_calls.DualAnswer.TheVariants.{TakenBack as ToWithdrawal}
-use Rattle.meet_calls.specs.declared.queue_calls.DualAnswer.TheVariants.{Interrupted as ToInterrupt}
 use Rattle.meet_calls.specs.declared.queue_calls.QueueCall.{QueueCall}
-use Rattle.meet_calls.specs.declared.queue_calls.QueueCall.TheVariants.{Put, Dual}
+use Rattle.meet_calls.specs.declared.queue_calls.QueueCall.TheVariants.{Put, Give, Offer, Take, Poll, FollowUp}
+use Rattle.meet_calls.specs.declared.queue_calls.QueueCall.TheVariants.{Cancel, Expire, Interrupt}
 use Rattle.meet_calls.specs.declared.queue_calls.QueueAnswer.{QueueAnswer}
-use Rattle.meet_calls.specs.declared.queue_calls.QueueAnswer.TheVariants.{Put as ToPut, Dual as ToDual}
-use Rattle.meet_calls.specs.DualSteps.{DualStep}
-use Rattle.meet_calls.specs.QueueSteps.{QueueStep}
+use Rattle.meet_calls.specs.declared.queue_calls.QueueAnswer.TheVariants.{Put as ToPut, Gave as ToGive}
+use Rattle.meet_calls.specs.declared.queue_calls.QueueAnswer.TheVariants.{Offered as ToOffer, Took as ToTake}
+use Rattle.meet_calls.specs.declared.queue_calls.QueueAnswer.TheVariants.{Polled as ToPoll, Followed as ToFollowUp}
+use Rattle.meet_calls.specs.declared.queue_calls.QueueAnswer.TheVariants.{TakenBack as ToWithdrawal}
+use Rattle.meet_calls.specs.declared.queue_calls.QueueAnswer.TheVariants.{Interrupted as ToInterrupt}
+use Rattle.meet_calls.specs.QueueSteps.{DualStep, QueueStep}
 
 module _ {T : Type 0} (mark : T → ℕ) where
   hands-count : (end : End) (old : Queue T) (item : T) (t u : ℕ) (new : Queue T) → HandsTo mark end old item t u new
@@ -47,8 +42,11 @@ module _ {T : Type 0} (mark : T → ℕ) where
   withdraw-count old seat t (Back item) new (e, holds, entry, own, leaves) = leaves.count
   withdraw-count old seat t Late new (gone, same) = ap (λ (q : Queue T). count_of q) same
 
-  pub dual-count : (end : End) (old : Queue T) (seat : ℕ) (call : DualCall T) (answer : DualAnswer T) (new : Queue T)
+  pub dual-count : (end : End) (old : Queue T) (seat : ℕ) (call : QueueCall T) (answer : QueueAnswer T) (new : Queue T)
       → DualStep mark end old seat call answer new → count_of new ≡ count_of old
+  dual-count end old seat (Put item) (ToGive (GiverWaits t)) new (alone, flag, uses) = uses.count
+  dual-count end old seat (Put item) (ToGive (GiverMeets t u)) new step = hands-count end old item t u new step
+  dual-count end old seat (Put item) (ToGive (GiverInterrupted t back)) new (alone, flag, same, uses) = uses.count
   dual-count end old seat (Give item) (ToGive (GiverWaits t)) new (alone, flag, uses) = uses.count
   dual-count end old seat (Give item) (ToGive (GiverMeets t u)) new step = hands-count end old item t u new step
   dual-count end old seat (Give item) (ToGive (GiverInterrupted t back)) new (alone, flag, same, uses) = uses.count
@@ -75,8 +73,6 @@ module _ {T : Type 0} (mark : T → ℕ) where
   queue-count k old seat (Put item) (ToPut (PutMeets t u)) new (keeps, step) =
       hands-count (end_of k.order) old item t u new step
   queue-count k old seat (Put item) (ToPut (PutFails t back)) new (keeps, (alone, full, same, uses)) = uses.count
-  queue-count k old seat (Put item) (ToDual answer) new (waits, step) =
-      dual-count (end_of k.order) old seat (Give item) answer new step
-  queue-count k old seat (Dual call) (ToDual answer) new step =
-      dual-count (end_of k.order) old seat call answer new step
-  queue-count k old seat (Dual call) (ToPut answer) new step = absurd step
+  queue-count k old seat (Put item) answer new (waits, step) =
+      dual-count (end_of k.order) old seat (Put item) answer new step
+  queue-count k old seat call answer new step = dual-count (end_of k.order) old seat call answer new step

@@ -3,11 +3,13 @@
 
 mod laws;
 mod make;
+mod place;
 mod queue_calls;
 mod records;
 mod refusals;
 
 pub use laws::handed_items_were_brought;
 pub use make::{admit_call, make_call};
-pub use queue_calls::{DualAnswer, DualCall, QueueAnswer, QueueCall};
+pub use place::QueuePlace;
+pub use queue_calls::{QueueAnswer, QueueCall};
 pub use records::{Answered, answered_put};

@@ -5,9 +5,11 @@ ghost use Rattle.std.specs.Prelude.{◌≡◌};
 use meet_line::{Followed, Gave, Interrupted, Offered, Polled, Put, TakenBack, Took};
 use meet_tickets::{SeatNo, Ticket};
 
-/// A call that each queue has; a synchronous queue, `Dual`, has no other.
+/// A call of a queue, whatever its kind.
 #[derive(Drop)]
-pub enum DualCall<T> {
+pub enum QueueCall<T> {
+    /// `BlockingQueue.put`: a transfer queue keeps the item, a synchronous queue waits for a taker, as with a give.
+    Put(T),
     /// A give that waits for a taker.
     Give(T),
     /// A give to a taker that is there.
@@ -26,36 +28,50 @@ pub enum DualCall<T> {
     Interrupt(SeatNo),
 }
 
-impl<T> DualCall<T> {
-    ghost use Rattle.meet_calls.specs.DualSteps.{dual_need, dual_room};
+impl<T> QueueCall<T> {
+    ghost use Rattle.meet_calls.specs.QueueSteps.{item_in, queue_need, queue_room};
+
+    /// The item that it brings.
+    pub fn into_item(self) -> Option<T>
+        ensures { result ≡ item_in self }
+    {
+        match self {
+            QueueCall::Put(item) | QueueCall::Give(item) | QueueCall::Offer(item) => Some(item),
+            QueueCall::Take | QueueCall::Poll | QueueCall::Interrupt(_) => None,
+            QueueCall::FollowUp(_) | QueueCall::Cancel(_) | QueueCall::Expire(_) => None,
+        }
+    }
 
     /// How many records this call may need.
     pub fn need(&self) -> u64
-        ensures { result ≡ dual_need self.now }
+        ensures { result ≡ queue_need self.now }
     {
         match self {
-            DualCall::Give(_) | DualCall::Offer(_) | DualCall::Take | DualCall::Poll => 2,
-            DualCall::Interrupt(_) => 1,
-            DualCall::FollowUp(_) | DualCall::Cancel(_) | DualCall::Expire(_) => 0,
+            QueueCall::Put(_) | QueueCall::Give(_) | QueueCall::Offer(_) => 2,
+            QueueCall::Take | QueueCall::Poll => 2,
+            QueueCall::Interrupt(_) => 1,
+            QueueCall::FollowUp(_) | QueueCall::Cancel(_) | QueueCall::Expire(_) => 0,
         }
     }
 
     /// How many places in the line this call may need.
     pub fn room(&self) -> u64
-        ensures { result ≡ dual_room self.now }
+        ensures { result ≡ queue_room self.now }
     {
         match self {
-            DualCall::Give(_) | DualCall::Take => 1,
-            DualCall::Offer(_) | DualCall::Poll | DualCall::Interrupt(_) => 0,
-            DualCall::FollowUp(_) | DualCall::Cancel(_) | DualCall::Expire(_) => 0,
+            QueueCall::Put(_) | QueueCall::Give(_) | QueueCall::Take => 1,
+            QueueCall::Offer(_) | QueueCall::Poll | QueueCall::Interrupt(_) => 0,
+            QueueCall::FollowUp(_) | QueueCall::Cancel(_) | QueueCall::Expire(_) => 0,
         }
     }
 }
 
 /// Its answer, as the queue gives it.
 #[derive(Drop)]
-pub enum DualAnswer<T> {
-    /// To a give.
+pub enum QueueAnswer<T> {
+    /// To a put, of a queue that keeps items.
+    Put(Put<T>),
+    /// To a give, or to a put that waits.
     Gave(Gave<T>),
     /// To an offer.
     Offered(Offered<T>),
@@ -71,77 +87,6 @@ pub enum DualAnswer<T> {
     Interrupted(Interrupted),
 }
 
-impl<T> DualAnswer<T> {
-    /// Whether the call met a ticket, or cut one, so that another seat may go on.
-    pub fn frees(&self) -> bool {
-        match self {
-            DualAnswer::Gave(gave) => match gave {
-                Gave::Meets(_, _) => true,
-                Gave::Waits(_) | Gave::EntryInterrupted(_, _) => false,
-            },
-            DualAnswer::Offered(offered) => match offered {
-                Offered::Meets(_, _) => true,
-                Offered::Fails(_, _) => false,
-            },
-            DualAnswer::Took(took) => match took {
-                Took::Meets(_, _, _) => true,
-                Took::Waits(_) | Took::EntryInterrupted(_) => false,
-            },
-            DualAnswer::Polled(polled) => match polled {
-                Polled::Meets(_, _, _) => true,
-                Polled::Fails(_) => false,
-            },
-            DualAnswer::Interrupted(interrupted) => match interrupted {
-                Interrupted::Cut(_) => true,
-                Interrupted::Flagged => false,
-            },
-            DualAnswer::Followed(_) | DualAnswer::TakenBack(_) => false,
-        }
-    }
-}
-
-/// A call of a queue of any kind.
-#[derive(Drop)]
-pub enum QueueCall<T> {
-    /// `BlockingQueue.put`: a transfer queue keeps the item, a synchronous queue waits for a taker.
-    Put(T),
-    /// A call that each queue has.
-    Dual(DualCall<T>),
-}
-
-impl<T> QueueCall<T> {
-    ghost use Rattle.meet_calls.specs.QueueSteps.{queue_need, queue_room};
-
-    /// How many records this call may need.
-    pub fn need(&self) -> u64
-        ensures { result ≡ queue_need self.now }
-    {
-        match self {
-            QueueCall::Put(_) => 2,
-            QueueCall::Dual(call) => call.need(),
-        }
-    }
-
-    /// How many places in the line this call may need.
-    pub fn room(&self) -> u64
-        ensures { result ≡ queue_room self.now }
-    {
-        match self {
-            QueueCall::Put(_) => 1,
-            QueueCall::Dual(call) => call.room(),
-        }
-    }
-}
-
-/// Its answer, as the queue gives it.
-#[derive(Drop)]
-pub enum QueueAnswer<T> {
-    /// To a put, of a queue that keeps items.
-    Put(Put<T>),
-    /// To another call, or to a put that waits.
-    Dual(DualAnswer<T>),
-}
-
 impl<T> QueueAnswer<T> {
     /// Whether the call met a ticket, or cut one, so that another seat may go on.
     pub fn frees(&self) -> bool {
@@ -150,7 +95,27 @@ impl<T> QueueAnswer<T> {
                 Put::Meets(_, _) => true,
                 Put::Kept(_) | Put::Fails(_, _) => false,
             },
-            QueueAnswer::Dual(answer) => answer.frees(),
+            QueueAnswer::Gave(gave) => match gave {
+                Gave::Meets(_, _) => true,
+                Gave::Waits(_) | Gave::EntryInterrupted(_, _) => false,
+            },
+            QueueAnswer::Offered(offered) => match offered {
+                Offered::Meets(_, _) => true,
+                Offered::Fails(_, _) => false,
+            },
+            QueueAnswer::Took(took) => match took {
+                Took::Meets(_, _, _) => true,
+                Took::Waits(_) | Took::EntryInterrupted(_) => false,
+            },
+            QueueAnswer::Polled(polled) => match polled {
+                Polled::Meets(_, _, _) => true,
+                Polled::Fails(_) => false,
+            },
+            QueueAnswer::Interrupted(interrupted) => match interrupted {
+                Interrupted::Cut(_) => true,
+                Interrupted::Flagged => false,
+            },
+            QueueAnswer::Followed(_) | QueueAnswer::TakenBack(_) => false,
         }
     }
 }

@@ -1,20 +1,19 @@
 //! A queue's answers to a seat's calls, each with its record.
 
 ghost use Rattle.std.specs.Prelude.{◌≡◌, Some};
-ghost use Rattle.meet_calls.specs.DualRecords.{give_record, offer_record, take_record, poll_record, follow_record};
-ghost use Rattle.meet_calls.specs.DualRecords.{back_record, interrupt_record};
-ghost use Rattle.meet_calls.specs.QueueSteps.{put_record};
+ghost use Rattle.meet_calls.specs.QueueRecords.{give_record, offer_record, take_record, poll_record, follow_record};
+ghost use Rattle.meet_calls.specs.QueueRecords.{back_record, interrupt_record, put_record};
 
-use crate::queue_calls::{DualAnswer, QueueAnswer};
+use crate::queue_calls::QueueAnswer;
 use meet_line::{Followed, Gave, Interrupted, Offered, Polled, Put, TakenBack, Took};
 use meet_tickets::{Cause, Deed, Marked, Record, SeatNo, Side, Ticket};
 
 /// The answer to a call, and its record, where there is one.
-pub type Answered<T> = (DualAnswer<T>, Option<Record<Deed>>);
+pub type Answered<T> = (QueueAnswer<T>, Option<Record<Deed>>);
 
 /// The answer to a give of an item with this mark.
 pub(crate) fn of_give<T>(seat: SeatNo, mark: u64, gave: Gave<T>) -> Answered<T>
-    ensures { result ≡ (DualAnswer.Gave gave, Some (give_record seat mark gave)) }
+    ensures { result ≡ (QueueAnswer.Gave gave, Some (give_record seat mark gave)) }
 {
     let (ticket, deed) = match &gave {
         Gave::Waits(ticket) => (*ticket, Deed::GiveWaits(mark)),
@@ -22,15 +21,11 @@ pub(crate) fn of_give<T>(seat: SeatNo, mark: u64, gave: Gave<T>) -> Answered<T>
         Gave::EntryInterrupted(ticket, _) => (*ticket, Deed::EntryInterrupted(Side::Giver)),
     };
     let entry = Record { seat, ticket, deed };
-    (DualAnswer::Gave(gave), Some(entry))
+    (QueueAnswer::Gave(gave), Some(entry))
 }
 
 /// The answer to a put of an item with this mark.
-pub fn answered_put<T>(
-    seat: SeatNo,
-    mark: u64,
-    put: Put<T>,
-) -> (QueueAnswer<T>, Option<Record<Deed>>)
+pub fn answered_put<T>(seat: SeatNo, mark: u64, put: Put<T>) -> Answered<T>
     ensures { result ≡ (QueueAnswer.Put put, Some (put_record seat mark put)) }
 {
     let (ticket, deed) = match &put {
@@ -44,19 +39,19 @@ pub fn answered_put<T>(
 
 /// The answer to an offer of an item with this mark.
 pub(crate) fn of_offer<T>(seat: SeatNo, mark: u64, offered: Offered<T>) -> Answered<T>
-    ensures { result ≡ (DualAnswer.Offered offered, Some (offer_record seat mark offered)) }
+    ensures { result ≡ (QueueAnswer.Offered offered, Some (offer_record seat mark offered)) }
 {
     let (ticket, deed) = match &offered {
         Offered::Meets(ticket, with) => (*ticket, Deed::GiveMeets(mark, *with)),
         Offered::Fails(ticket, _) => (*ticket, Deed::GiveFails(mark)),
     };
     let entry = Record { seat, ticket, deed };
-    (DualAnswer::Offered(offered), Some(entry))
+    (QueueAnswer::Offered(offered), Some(entry))
 }
 
 /// The answer to a take.
 pub(crate) fn of_take<T: Marked>(seat: SeatNo, took: Took<T>) -> Answered<T>
-    ensures { result ≡ (DualAnswer.Took took, Some (take_record T.mark_of seat took)) }
+    ensures { result ≡ (QueueAnswer.Took took, Some (take_record T.mark_of seat took)) }
 {
     let (ticket, deed) = match &took {
         Took::Waits(ticket) => (*ticket, Deed::TakeWaits),
@@ -64,19 +59,19 @@ pub(crate) fn of_take<T: Marked>(seat: SeatNo, took: Took<T>) -> Answered<T>
         Took::EntryInterrupted(ticket) => (*ticket, Deed::EntryInterrupted(Side::Taker)),
     };
     let entry = Record { seat, ticket, deed };
-    (DualAnswer::Took(took), Some(entry))
+    (QueueAnswer::Took(took), Some(entry))
 }
 
 /// The answer to a poll.
 pub(crate) fn of_poll<T: Marked>(seat: SeatNo, polled: Polled<T>) -> Answered<T>
-    ensures { result ≡ (DualAnswer.Polled polled, Some (poll_record T.mark_of seat polled)) }
+    ensures { result ≡ (QueueAnswer.Polled polled, Some (poll_record T.mark_of seat polled)) }
 {
     let (ticket, deed) = match &polled {
         Polled::Meets(ticket, with, item) => (*ticket, Deed::TakeMeets(item.mark(), *with)),
         Polled::Fails(ticket) => (*ticket, Deed::TakeFails),
     };
     let entry = Record { seat, ticket, deed };
-    (DualAnswer::Polled(polled), Some(entry))
+    (QueueAnswer::Polled(polled), Some(entry))
 }
 
 /// The answer to this ticket's follow-up; no record where it still stands in the line.
@@ -85,7 +80,7 @@ pub(crate) fn of_follow_up<T: Marked>(
     ticket: Ticket,
     followed: Followed<T>,
 ) -> Answered<T>
-    ensures { result ≡ (DualAnswer.Followed followed, follow_record T.mark_of seat ticket followed) }
+    ensures { result ≡ (QueueAnswer.Followed followed, follow_record T.mark_of seat ticket followed) }
 {
     let deed = match &followed {
         Followed::Done => Some(Deed::Done),
@@ -94,7 +89,7 @@ pub(crate) fn of_follow_up<T: Marked>(
         Followed::NotYet => None,
     };
     let entry = deed.map(|deed| Record { seat, ticket, deed });
-    (DualAnswer::Followed(followed), entry)
+    (QueueAnswer::Followed(followed), entry)
 }
 
 /// The answer to this ticket's withdrawal for this cause; no record where it came too late.
@@ -104,7 +99,7 @@ pub(crate) fn of_withdrawal<T>(
     cause: Cause,
     back: TakenBack<T>,
 ) -> Answered<T>
-    ensures { result ≡ (DualAnswer.TakenBack back, back_record seat ticket cause back) }
+    ensures { result ≡ (QueueAnswer.TakenBack back, back_record seat ticket cause back) }
 {
     let entry = match &back {
         TakenBack::Back(_) => Some(Record {
@@ -114,12 +109,12 @@ pub(crate) fn of_withdrawal<T>(
         }),
         TakenBack::Late => None,
     };
-    (DualAnswer::TakenBack(back), entry)
+    (QueueAnswer::TakenBack(back), entry)
 }
 
 /// The answer to an interrupt, whose record names the ticket that was cut, or 0.
 pub(crate) fn of_interrupt<T>(seat: SeatNo, target: SeatNo, struck: Interrupted) -> Answered<T>
-    ensures { result ≡ (DualAnswer.Interrupted struck, Some (interrupt_record seat target struck)) }
+    ensures { result ≡ (QueueAnswer.Interrupted struck, Some (interrupt_record seat target struck)) }
 {
     let ticket = match &struck {
         Interrupted::Cut(ticket) => *ticket,
@@ -130,5 +125,5 @@ pub(crate) fn of_interrupt<T>(seat: SeatNo, target: SeatNo, struck: Interrupted)
         ticket,
         deed: Deed::Interrupt(target),
     };
-    (DualAnswer::Interrupted(struck), Some(entry))
+    (QueueAnswer::Interrupted(struck), Some(entry))
 }

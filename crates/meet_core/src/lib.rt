@@ -5,7 +5,7 @@
 mod dual;
 
 pub use dual::Dual;
-pub use meet_calls::{DualAnswer, DualCall};
+pub use meet_calls::{QueueAnswer, QueueCall};
 pub use meet_line::{
     Followed, Gave, Interrupted, Left, LeftStanding, Offered, Polled, TakenBack, Took,
 };

@@ -9,15 +9,16 @@ use Rattle.meet_tickets.specs.Refusals.{number_of, refusal_of, absent_refusal, I
 use Rattle.meet_tickets.proofs.Refusing.{request-own, interrupt-own}
 use Rattle.meet_line.specs.Queue.{Queue, seats_of, count_of}
 use Rattle.meet_history.specs.declared.one_thread.setup.Setup.{Setup}
-use Rattle.meet_calls.specs.declared.queue_calls.DualCall.{DualCall}
-use Rattle.meet_calls.specs.declared.queue_calls.DualCall.TheVariants.{Give, Offer, Take, Poll, FollowUp, Cancel, Expire, Interrupt}
+use Rattle.meet_calls.specs.declared.queue_calls.QueueCall.{QueueCall}
+use Rattle.meet_calls.specs.declared.queue_calls.QueueCall.TheVariants.{Put, Give, Offer, Take, Poll, FollowUp, Cancel, Expire, Interrupt}
 use Rattle.meet_book.specs.Booking.{call_refusal}
-use Rattle.meet_calls.specs.DualSteps.{dual_refusal, dual_need, dual_room, dual_owed}
+use Rattle.meet_calls.specs.QueueSteps.{queue_refusal, queue_need, queue_room, queue_owed}
 use Rattle.meet_history.specs.declared.one_thread.replies.Reply.{Reply}
 use Rattle.meet_history.specs.Stepping.{refusal_at}
 
 -- the book's reason is that of the place
-refusal-there : (setup : Setup) (q : Queue ℕ) (gone : ℕ) (cut : Bool) (written seat : ℕ) (call : DualCall ℕ) → count_of q ≡ setup.seats → 0 < dual_need call → call_refusal (dual_refusal q seat call) (nat_lt setup.cap (written + dual_owed q + dual_need call)) ≡ refusal_at setup (record { next = q.next; seats = seats_of q; gone = gone; cut = cut; records = written }) seat call
+refusal-there : (setup : Setup) (q : Queue ℕ) (gone : ℕ) (cut : Bool) (written seat : ℕ) (call : QueueCall ℕ) → count_of q ≡ setup.seats → 0 < queue_need call → call_refusal (queue_refusal q seat call) (nat_lt setup.cap (written + queue_owed q + queue_need call)) ≡ refusal_at setup (record { next = q.next; seats = seats_of q; gone = gone; cut = cut; records = written }) seat call
+refusal-there setup q gone cut written seat (Put mark) count need = ap (λ n. call_refusal (refusal_of n q.next (seats_of q) seat) (nat_lt setup.cap (written + owed_of n (seats_of q).holds + 2))) count
 refusal-there setup q gone cut written seat (Give mark) count need = ap (λ n. call_refusal (refusal_of n q.next (seats_of q) seat) (nat_lt setup.cap (written + owed_of n (seats_of q).holds + 2))) count
 refusal-there setup q gone cut written seat (Offer mark) count need = ap (λ n. call_refusal (refusal_of n q.next (seats_of q) seat) (nat_lt setup.cap (written + owed_of n (seats_of q).holds + 2))) count
 refusal-there setup q gone cut written seat Take count need = ap (λ n. call_refusal (refusal_of n q.next (seats_of q) seat) (nat_lt setup.cap (written + owed_of n (seats_of q).holds + 2))) count
@@ -28,12 +29,13 @@ refusal-there setup q gone cut written seat (Expire t) count need = absurd (omeg
 refusal-there setup q gone cut written seat (Interrupt j) count need = ap (λ n. call_refusal (absent_refusal n seat j) (nat_lt setup.cap (written + owed_of n (seats_of q).holds + 1))) count
 
 -- whatever the book's cap is called
-pub refusal_at-is : (setup : Setup) (q : Queue ℕ) (gone : ℕ) (cut : Bool) (cap written seat : ℕ) (call : DualCall ℕ) → cap ≡ setup.cap → count_of q ≡ setup.seats → 0 < dual_need call → call_refusal (dual_refusal q seat call) (nat_lt cap (written + dual_owed q + dual_need call)) ≡ refusal_at setup (record { next = q.next; seats = seats_of q; gone = gone; cut = cut; records = written }) seat call
+pub refusal_at-is : (setup : Setup) (q : Queue ℕ) (gone : ℕ) (cut : Bool) (cap written seat : ℕ) (call : QueueCall ℕ) → cap ≡ setup.cap → count_of q ≡ setup.seats → 0 < queue_need call → call_refusal (queue_refusal q seat call) (nat_lt cap (written + queue_owed q + queue_need call)) ≡ refusal_at setup (record { next = q.next; seats = seats_of q; gone = gone; cut = cut; records = written }) seat call
 refusal_at-is setup q gone cut cap written seat call same count need =
-    ap (λ n. call_refusal (dual_refusal q seat call) (nat_lt n (written + dual_owed q + dual_need call))) same ∙ refusal-there setup q gone cut written seat call count need
+    ap (λ n. call_refusal (queue_refusal q seat call) (nat_lt n (written + queue_owed q + queue_need call))) same ∙ refusal-there setup q gone cut written seat call count need
 
 -- an admitted call isn't refused by the place; an ending of an open ticket isn't anyway
-pub admitted-at : (setup : Setup) (q : Queue ℕ) (gone : ℕ) (cut : Bool) (cap written seat : ℕ) (call : DualCall ℕ) → cap ≡ setup.cap → count_of q ≡ setup.seats → call_refusal (dual_refusal q seat call) (nat_lt cap (written + dual_owed q + dual_need call)) ≡ None → refusal_at setup (record { next = q.next; seats = seats_of q; gone = gone; cut = cut; records = written }) seat call ≡ None
+pub admitted-at : (setup : Setup) (q : Queue ℕ) (gone : ℕ) (cut : Bool) (cap written seat : ℕ) (call : QueueCall ℕ) → cap ≡ setup.cap → count_of q ≡ setup.seats → call_refusal (queue_refusal q seat call) (nat_lt cap (written + queue_owed q + queue_need call)) ≡ None → refusal_at setup (record { next = q.next; seats = seats_of q; gone = gone; cut = cut; records = written }) seat call ≡ None
+admitted-at setup q gone cut cap written seat (Put mark) same count none = sym (refusal_at-is setup q gone cut cap written seat (Put mark) same count (omega arith)) ∙ none
 admitted-at setup q gone cut cap written seat (Give mark) same count none = sym (refusal_at-is setup q gone cut cap written seat (Give mark) same count (omega arith)) ∙ none
 admitted-at setup q gone cut cap written seat (Offer mark) same count none = sym (refusal_at-is setup q gone cut cap written seat (Offer mark) same count (omega arith)) ∙ none
 admitted-at setup q gone cut cap written seat Take same count none = sym (refusal_at-is setup q gone cut cap written seat Take same count (omega arith)) ∙ none
@@ -64,7 +66,8 @@ call-own None true own is = absurd (omega (arith, ap (λ o. option_map_or number
 call-own None false own is = absurd (omega (arith, ap (λ o. option_map_or number_of o 0) is))
 call-own (Some why) full own is = own is
 
-place-own : (q : Queue ℕ) (seat : ℕ) (call : DualCall ℕ) (full : Bool) → 0 < dual_need call → call_refusal (dual_refusal q seat call) full ≢ Some Memory
+place-own : (q : Queue ℕ) (seat : ℕ) (call : QueueCall ℕ) (full : Bool) → 0 < queue_need call → call_refusal (queue_refusal q seat call) full ≢ Some Memory
+place-own q seat (Put mark) full need = call-own _ full (request-own (count_of q) q.next (seats_of q) seat)
 place-own q seat (Give mark) full need = call-own _ full (request-own (count_of q) q.next (seats_of q) seat)
 place-own q seat (Offer mark) full need = call-own _ full (request-own (count_of q) q.next (seats_of q) seat)
 place-own q seat Take full need = call-own _ full (request-own (count_of q) q.next (seats_of q) seat)
@@ -79,11 +82,12 @@ refused-alone None why memory own is = refl
 refused-alone (Some first) why same own is = absurd (own (ap Some (sym same ∙ is)))
 
 -- a call that was refused for want of memory wasn't refused by the place
-pub memory-alone : (q : Queue ℕ) (seat : ℕ) (call : DualCall ℕ) (full : Bool) (why : Refusal) → 0 < dual_need call → IsWhy (call_refusal (dual_refusal q seat call) full) why → why ≡ Memory → call_refusal (dual_refusal q seat call) full ≡ None
+pub memory-alone : (q : Queue ℕ) (seat : ℕ) (call : QueueCall ℕ) (full : Bool) (why : Refusal) → 0 < queue_need call → IsWhy (call_refusal (queue_refusal q seat call) full) why → why ≡ Memory → call_refusal (queue_refusal q seat call) full ≡ None
 memory-alone q seat call full why need told is = refused-alone _ why told (place-own q seat call full need) is
 
 -- a call needs two records at most, and one place in the line
-pub most-needed : (call : DualCall ℕ) → (dual_need call ≤ 2) × (dual_room call ≤ 1)
+pub most-needed : (call : QueueCall ℕ) → (queue_need call ≤ 2) × (queue_room call ≤ 1)
+most-needed (Put mark) = (omega arith, omega arith)
 most-needed (Give mark) = (omega arith, omega arith)
 most-needed (Offer mark) = (omega arith, omega arith)
 most-needed Take = (omega arith, omega arith)

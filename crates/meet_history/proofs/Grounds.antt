@@ -1,7 +1,7 @@
 -- What a base names and holds as a piece is laid.
-use Rattle.std.proofs.Common.{if◌then◌else◌, ◌≡◌, ◌≢◌, ℕ, ◌+◌, ◌==◌, refl, sym, ap, subst, ◌∙◌, Bool, true, false, ◌||◌, cond, List, [], ◌∷◌, ◌++◌, map, filter, ⊎_elim}
+use Rattle.std.proofs.Common.{if◌then◌else◌, ◌≡◌, ◌≢◌, ℕ, ◌+◌, ◌==◌, refl, sym, ap, ◌∙◌, Bool, true, false, ◌||◌, cond, List, [], ◌∷◌, ◌++◌, map, filter, ⊎_elim}
 use Rattle.std.specs.List.{list_any, flat_map}
-use Rattle.std.proofs.lemmas.Bool.{cases_eq, eq-eqb, ne_eqb, and_parts}
+use Rattle.std.proofs.lemmas.Bool.{cases_eq, eq-eqb, ne_eqb}
 use Rattle.std.proofs.lemmas.Grind.{flat_map-append}
 use Rattle.std.proofs.lemmas.List.{map-append, append-nil}
 use Rattle.std.proofs.lemmas.List.Elements.{filter-append}
@@ -10,11 +10,11 @@ use Rattle.meet_tickets.specs.declared.lines.Entry.{Entry}
 use Rattle.meet_tickets.specs.declared.bases.OpenPair.{OpenPair}
 use Rattle.meet_tickets.specs.declared.bases.OpenCut.{OpenCut}
 use Rattle.meet_tickets.specs.declared.places.Kind.{Kind}
-use Rattle.meet_tickets.specs.Bases.{Based, Held, held_in, named_in, waiting_held, paired_held, cut_held, IsWellFormed}
+use Rattle.meet_tickets.specs.Bases.{Based, Held, waiting_held, paired_held, cut_held}
 use Rattle.meet_tickets.proofs.Keeping.{kept-kept, kept-queued}
 use Rattle.meet_history.specs.declared.pieces.Piece.TheVariants.{Stands, Met, Cut, Flagged}
 use Rattle.meet_history.specs.Pieces.{with_piece, may_follow}
-use Rattle.meet_history.specs.Grounds.{has_number, named_at, held_at, waiting_at, base_of, Adds, IsGround}
+use Rattle.meet_history.specs.Grounds.{has_number, named_at, held_at, waiting_at, Adds, IsGround}
 use Rattle.meet_history.proofs.PieceLaws.{follows-well}
 
 same-test : (i j : ℕ) → (i == j) ≡ (j == i)

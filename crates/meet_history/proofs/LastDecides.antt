@@ -1,5 +1,5 @@
 -- What all of a list pass is told by its last element.
-use Rattle.std.proofs.Common.{if◌then◌else◌, ◌≡◌, ℕ, suc, ◌+◌, ◌-◌, ◌<◌, nat_lt, refl, sym, ap, subst, ◌∙◌, Bool, true, false, not, ◌&&◌, Option, Some, None, is_some, List, [], ◌∷◌, length, get_or, AllPairs, ⊎_elim, arith}
+use Rattle.std.proofs.Common.{if◌then◌else◌, ◌≡◌, ℕ, suc, ◌-◌, ◌<◌, nat_lt, refl, sym, ap, subst, ◌∙◌, Bool, true, false, not, ◌&&◌, Some, None, is_some, List, [], ◌∷◌, length, get_or, AllPairs, ⊎_elim, arith}
 use Rattle.std.specs.List.{list_all, slice_get}
 use Rattle.std.proofs.lemmas.Bool.{cases_Bool, cases_eq, lt-ltb, ltb-true}
 use Rattle.std.proofs.lemmas.List.Folds.{list_all_at}

@@ -21,7 +21,7 @@ use Rattle.meet_tickets.proofs.Members.{Contains-nil}
 use Rattle.meet_tickets.proofs.Keeping.{kept-kept, kept-queued}
 use Rattle.meet_history.specs.declared.pieces.Piece.{Piece}
 use Rattle.meet_history.specs.declared.pieces.Piece.TheVariants.{Stands, Met, Cut, Flagged}
-use Rattle.meet_history.specs.Pieces.{bare_base, with_piece, in_order, is_new, is_unheld, keeps_more, is_nil, entry_fits, pair_fits, cut_fits, flag_fits, piece_fits, may_follow}
+use Rattle.meet_history.specs.Pieces.{bare_base, with_piece, in_order, is_new, is_unheld, keeps_more, is_nil, entry_fits, pair_fits, cut_fits, flag_fits, may_follow}
 
 -- each element passes what all pass
 passes : {X : Type 0} (p : X → Bool) (xs : List X) → list_all p xs ≡ true → (k : ℕ) (d : X) → k < length xs → p (get_or xs k d) ≡ true

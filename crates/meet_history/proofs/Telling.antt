@@ -10,8 +10,6 @@ use Rattle.meet_tickets.specs.declared.lines.Hold.{Hold}
 use Rattle.meet_tickets.specs.declared.lines.Hold.TheVariants.{Free, Waiting, Handed, Served, Cut}
 use Rattle.meet_tickets.specs.declared.places.Side.{Side}
 use Rattle.meet_tickets.specs.declared.places.Side.TheVariants.{Giver, Taker}
-use Rattle.meet_tickets.specs.declared.places.End.{End}
-use Rattle.meet_tickets.specs.declared.places.Kind.{Kind}
 use Rattle.meet_tickets.specs.declared.records.Record.{Record}
 use Rattle.meet_tickets.specs.declared.records.Cause.{Cause}
 use Rattle.meet_tickets.specs.declared.records.Cause.TheVariants.{Cancelled, Expired, Interrupted as ByInterrupt}
@@ -22,7 +20,7 @@ use Rattle.meet_tickets.specs.Bases.{Based}
 use Rattle.meet_tickets.specs.Meeting.{end_of, keeps, partner, kept_count}
 use Rattle.meet_tickets.specs.BySeat.{Seats, paired, meets, entry_of, cut_off, flagged, cut_ticket, open_ticket, is_request, seats_after}
 use Rattle.meet_tickets.specs.Refusals.{refusal_unless}
-use Rattle.meet_line.specs.Queue.{Queue, seats_of, count_of}
+use Rattle.meet_line.specs.Queue.{Queue, seats_of}
 use Rattle.meet_line.specs.Steps.{Uses, GiveStep, PutStep, OfferStep, TakeStep, PollStep, FollowStep, WithdrawStep, InterruptStep}
 use Rattle.meet_line.specs.declared.answers.Gave.{Gave}
 use Rattle.meet_line.specs.declared.answers.Gave.TheVariants.{Waits as GiverWaits, Meets as GiverMeets, EntryInterrupted as GiverInterrupted}
@@ -42,17 +40,12 @@ use Rattle.meet_line.specs.declared.answers.Interrupted.{Interrupted as Struck}
 use Rattle.meet_line.specs.declared.answers.Interrupted.TheVariants.{Cut as CutOff, Flagged}
 use Rattle.meet_book.specs.Booking.{record_of_receipt}
 use Rattle.meet_book.specs.Received.{Received}
-use Rattle.meet_calls.specs.declared.queue_calls.DualCall.{DualCall}
-use Rattle.meet_calls.specs.declared.queue_calls.DualCall.TheVariants.{Give, Offer, Take, Poll, FollowUp, Cancel, Expire, Interrupt}
-use Rattle.meet_calls.specs.declared.queue_calls.DualAnswer.{DualAnswer}
-use Rattle.meet_calls.specs.declared.queue_calls.DualAnswer.TheVariants.{Gave as ToGive, Offered as ToOffer, Took as ToTake, Polled as ToPoll, Followed as ToFollowUp, TakenBack as ToWithdrawal, Interrupted as ToInterrupt}
 use Rattle.meet_calls.specs.declared.queue_calls.QueueCall.{QueueCall}
-use Rattle.meet_calls.specs.declared.queue_calls.QueueCall.TheVariants.{Put, Dual}
+use Rattle.meet_calls.specs.declared.queue_calls.QueueCall.TheVariants.{Put, Give, Offer, Take, Poll, FollowUp, Cancel, Expire, Interrupt}
 use Rattle.meet_calls.specs.declared.queue_calls.QueueAnswer.{QueueAnswer}
-use Rattle.meet_calls.specs.declared.queue_calls.QueueAnswer.TheVariants.{Put as ToPut, Dual as ToDual}
-use Rattle.meet_calls.specs.DualRecords.{made, dual_record}
-use Rattle.meet_calls.specs.DualSteps.{DualStep, dual_refusal}
-use Rattle.meet_calls.specs.QueueSteps.{QueueStep, dual_call, queue_refusal, queue_record}
+use Rattle.meet_calls.specs.declared.queue_calls.QueueAnswer.TheVariants.{Put as ToPut, Gave as ToGive, Offered as ToOffer, Took as ToTake, Polled as ToPoll, Followed as ToFollowUp, TakenBack as ToWithdrawal, Interrupted as ToInterrupt}
+use Rattle.meet_calls.specs.QueueRecords.{made, queue_record}
+use Rattle.meet_calls.specs.QueueSteps.{QueueStep, queue_refusal}
 use Rattle.meet_history.specs.declared.one_thread.setup.Setup.{Setup}
 use Rattle.meet_history.specs.declared.one_thread.replies.Reply.{Reply}
 use Rattle.meet_history.specs.declared.one_thread.replies.Outcome.TheVariants.{Late, Refused}
@@ -72,19 +65,16 @@ module _ (setup : Setup) (q : Queue ℕ) (gone : ℕ) (cut : Bool) (count seat :
   request-refused : (deed : Deed) (item : Option ℕ) (why : Refusal) → request_refusal setup p seat ≡ Some why → request setup p seat deed item ≡ refused p seat why
   request-refused deed item why is = ap (λ o. option_map_or (refused p seat) o (stepped setup p seat p.next deed item)) is
 
-  dual-refused : (call : DualCall ℕ) (why : Refusal) → refusal_at setup p seat call ≡ Some why → turn_of_call setup p seat (Dual call) ≡ refused p seat why
-  dual-refused (Give mark) why is = request-refused _ _ why is
-  dual-refused (Offer mark) why is = request-refused _ _ why is
-  dual-refused Take why is = request-refused _ _ why is
-  dual-refused Poll why is = request-refused _ _ why is
-  dual-refused (FollowUp t) why is = cc
-  dual-refused (Cancel t) why is = cc
-  dual-refused (Expire t) why is = cc
-  dual-refused (Interrupt j) why is = ap (λ o. option_map_or (refused p seat) o (stepped setup p seat (cut_ticket here j) (InterruptDeed j) None)) is
-
-  pub call-refused : (call : QueueCall ℕ) (why : Refusal) → refusal_at setup p seat (dual_call call) ≡ Some why → turn_of_call setup p seat call ≡ refused p seat why
+  pub call-refused : (call : QueueCall ℕ) (why : Refusal) → refusal_at setup p seat call ≡ Some why → turn_of_call setup p seat call ≡ refused p seat why
   call-refused (Put mark) why is = request-refused _ _ why is
-  call-refused (Dual call) why is = dual-refused call why is
+  call-refused (Give mark) why is = request-refused _ _ why is
+  call-refused (Offer mark) why is = request-refused _ _ why is
+  call-refused Take why is = request-refused _ _ why is
+  call-refused Poll why is = request-refused _ _ why is
+  call-refused (FollowUp t) why is = cc
+  call-refused (Cancel t) why is = cc
+  call-refused (Expire t) why is = cc
+  call-refused (Interrupt j) why is = ap (λ o. option_map_or (refused p seat) o (stepped setup p seat (cut_ticket here j) (InterruptDeed j) None)) is
 
   module _ (new : Queue ℕ) where
     -- the turn that writes this record, tells it, and leaves the new queue
@@ -151,7 +141,7 @@ module _ (setup : Setup) (q : Queue ℕ) (gone : ℕ) (cut : Bool) (count seat :
         by_bound None many = absurd many
         by_bound (Some most) many = le-ltb (kept_count here.line) most many
 
-    give-told : (mark : ℕ) (answer : Gave ℕ) → request_refusal setup p seat ≡ None → GiveStep (λ m. m) (end_of setup.kind.order) q seat mark answer new → IsTold (Dual (Give mark)) (ToDual (ToGive answer)) (dual_record (λ m. m) seat (Give mark) (ToGive answer))
+    give-told : (mark : ℕ) (answer : Gave ℕ) → request_refusal setup p seat ≡ None → GiveStep (λ m. m) (end_of setup.kind.order) q seat mark answer new → IsTold (Give mark) (ToGive answer) (queue_record (λ m. m) seat (Give mark) (ToGive answer))
     give-told mark (GiverWaits t) none (alone, flag, uses) =
         request-is t _ (GiveWaits mark) (Some mark) None _ none (give-alone waiting mark alone ∙ ap (λ b. cond b (EntryInterrupted Giver) (GiveWaits mark)) flag) refl uses refl refl
     give-told mark (GiverMeets t u) none (e, found, ticket, own, uses) =
@@ -160,7 +150,7 @@ module _ (setup : Setup) (q : Queue ℕ) (gone : ℕ) (cut : Bool) (count seat :
         request-is t _ (EntryInterrupted Giver) (Some mark) (Some back) _ none (give-alone waiting mark alone ∙ ap (λ b. cond b (EntryInterrupted Giver) (GiveWaits mark)) flag) refl uses refl
         (ap (λ item. told (gone + count + 1) t (EntryInterrupted Giver) (Some item)) (sym same))
 
-    offer-told : (mark : ℕ) (answer : Offered ℕ) → request_refusal setup p seat ≡ None → OfferStep (λ m. m) (end_of setup.kind.order) q mark answer new → IsTold (Dual (Offer mark)) (ToDual (ToOffer answer)) (dual_record (λ m. m) seat (Offer mark) (ToOffer answer))
+    offer-told : (mark : ℕ) (answer : Offered ℕ) → request_refusal setup p seat ≡ None → OfferStep (λ m. m) (end_of setup.kind.order) q mark answer new → IsTold (Offer mark) (ToOffer answer) (queue_record (λ m. m) seat (Offer mark) (ToOffer answer))
     offer-told mark (OfferMeets t u) none (e, found, ticket, own, uses) =
         request-is t _ (GiveMeets mark u) (Some mark) None _ none (give-met immediate mark e u found ticket) refl uses (met-seats Giver t (Some mark) e found) refl
     offer-told mark (OfferFails t back) none (alone, same, uses) =
@@ -185,15 +175,15 @@ module _ (setup : Setup) (q : Queue ℕ) (gone : ℕ) (cut : Bool) (count seat :
     put-told mark (ToPut (PutKept t)) none (keeps, step) = as-put true mark (ToPut (PutKept t)) _ keeps (kept-told mark (PutKept t) none step)
     put-told mark (ToPut (PutMeets t u)) none (keeps, step) = as-put true mark (ToPut (PutMeets t u)) _ keeps (kept-told mark (PutMeets t u) none step)
     put-told mark (ToPut (PutFails t back)) none (keeps, step) = as-put true mark (ToPut (PutFails t back)) _ keeps (kept-told mark (PutFails t back) none step)
-    put-told mark (ToDual (ToGive answer)) none (waits, step) = as-put false mark (ToDual (ToGive answer)) _ waits (give-told mark answer none step)
-    put-told mark (ToDual (ToOffer answer)) none step = absurd step.1
-    put-told mark (ToDual (ToTake answer)) none step = absurd step.1
-    put-told mark (ToDual (ToPoll answer)) none step = absurd step.1
-    put-told mark (ToDual (ToFollowUp answer)) none step = absurd step.1
-    put-told mark (ToDual (ToWithdrawal answer)) none step = absurd step.1
-    put-told mark (ToDual (ToInterrupt answer)) none step = absurd step.1
+    put-told mark (ToGive answer) none (waits, step) = as-put false mark (ToGive answer) _ waits (give-told mark answer none step)
+    put-told mark (ToOffer answer) none step = absurd step.1
+    put-told mark (ToTake answer) none step = absurd step.1
+    put-told mark (ToPoll answer) none step = absurd step.1
+    put-told mark (ToFollowUp answer) none step = absurd step.1
+    put-told mark (ToWithdrawal answer) none step = absurd step.1
+    put-told mark (ToInterrupt answer) none step = absurd step.1
 
-    take-told : (answer : Took ℕ) → request_refusal setup p seat ≡ None → TakeStep (λ m. m) (end_of setup.kind.order) q seat answer new → IsTold (Dual Take) (ToDual (ToTake answer)) (dual_record (λ m. m) seat Take (ToTake answer))
+    take-told : (answer : Took ℕ) → request_refusal setup p seat ≡ None → TakeStep (λ m. m) (end_of setup.kind.order) q seat answer new → IsTold Take (ToTake answer) (queue_record (λ m. m) seat Take (ToTake answer))
     take-told (TakerWaits t) none (alone, flag, uses) =
         request-is t _ TakeWaits None None _ none (take-alone waiting alone ∙ ap (λ b. cond b (EntryInterrupted Taker) TakeWaits) flag) refl uses refl refl
     take-told (TakerMeets t u item) none (e, found, ticket, own, uses) =
@@ -201,12 +191,12 @@ module _ (setup : Setup) (q : Queue ℕ) (gone : ℕ) (cut : Bool) (count seat :
     take-told (TakerInterrupted t) none (alone, flag, uses) =
         request-is t _ (EntryInterrupted Taker) None None _ none (take-alone waiting alone ∙ ap (λ b. cond b (EntryInterrupted Taker) TakeWaits) flag) refl uses refl refl
 
-    pub poll-told : (answer : Polled ℕ) → request_refusal setup p seat ≡ None → PollStep (λ m. m) (end_of setup.kind.order) q answer new → IsTold (Dual Poll) (ToDual (ToPoll answer)) (dual_record (λ m. m) seat Poll (ToPoll answer))
+    pub poll-told : (answer : Polled ℕ) → request_refusal setup p seat ≡ None → PollStep (λ m. m) (end_of setup.kind.order) q answer new → IsTold Poll (ToPoll answer) (queue_record (λ m. m) seat Poll (ToPoll answer))
     poll-told (PollMeets t u item) none (e, found, ticket, own, uses) =
         request-is t _ (TakeMeets item u) None None _ none (take-met immediate e u item found ticket own) refl uses (met-seats Taker t None e found) refl
     poll-told (PollFails t) none (alone, uses) = request-is t _ TakeFails None None _ none (take-alone immediate alone) refl uses refl refl
 
-    follow-told : (t : ℕ) (answer : Followed ℕ) → FollowStep q seat t answer new → IsTold (Dual (FollowUp t)) (ToDual (ToFollowUp answer)) (dual_record (λ m. m) seat (FollowUp t) (ToFollowUp answer))
+    follow-told : (t : ℕ) (answer : Followed ℕ) → FollowStep q seat t answer new → IsTold (FollowUp t) (ToFollowUp answer) (queue_record (λ m. m) seat (FollowUp t) (ToFollowUp answer))
     follow-told t WasMet (u, mark, held, leaves) = ap (follow setup p seat) held ∙ stepped-is t Done None None leaves.next leaves.left refl
     follow-told t (HasGot u item) (held, leaves) = ap (follow setup p seat) held ∙ stepped-is t (Got item u) None None leaves.next leaves.left refl
     follow-told t (WasCut item) (held, leaves) = ap (follow setup p seat) held ∙ stepped-is t (Withdrawn ByInterrupt) item item leaves.next leaves.left refl
@@ -228,11 +218,11 @@ module _ (setup : Setup) (q : Queue ℕ) (gone : ℕ) (cut : Bool) (count seat :
         ∙ ap (stepped setup p seat t (Withdrawn cause)) (sym is)
         ∙ stepped-is t (Withdrawn cause) item item (next ∙ sym (ap (λ b. cond b (q.next + 1) q.next) asks)) left refl
 
-    cancel-told : (t : ℕ) (answer : TakenBack ℕ) → dual_refusal q seat (Cancel t) ≡ None → WithdrawStep q seat t answer new → IsTold (Dual (Cancel t)) (ToDual (ToWithdrawal answer)) (dual_record (λ m. m) seat (Cancel t) (ToWithdrawal answer))
+    cancel-told : (t : ℕ) (answer : TakenBack ℕ) → queue_refusal q seat (Cancel t) ≡ None → WithdrawStep q seat t answer new → IsTold (Cancel t) (ToWithdrawal answer) (queue_record (λ m. m) seat (Cancel t) (ToWithdrawal answer))
     cancel-told t (Back item) opened (e, held, found, is, leaves) = taken-back Cancelled t item e refl held found is leaves.next leaves.left
     cancel-told t TooLate opened (none, same) = (late Cancelled t (here.holds seat) opened none, same)
 
-    expire-told : (t : ℕ) (answer : TakenBack ℕ) → dual_refusal q seat (Expire t) ≡ None → WithdrawStep q seat t answer new → IsTold (Dual (Expire t)) (ToDual (ToWithdrawal answer)) (dual_record (λ m. m) seat (Expire t) (ToWithdrawal answer))
+    expire-told : (t : ℕ) (answer : TakenBack ℕ) → queue_refusal q seat (Expire t) ≡ None → WithdrawStep q seat t answer new → IsTold (Expire t) (ToWithdrawal answer) (queue_record (λ m. m) seat (Expire t) (ToWithdrawal answer))
     expire-told t (Back item) opened (e, held, found, is, leaves) = taken-back Expired t item e refl held found is leaves.next leaves.left
     expire-told t TooLate opened (none, same) = (late Expired t (here.holds seat) opened none, same)
 
@@ -243,7 +233,7 @@ module _ (setup : Setup) (q : Queue ℕ) (gone : ℕ) (cut : Bool) (count seat :
         ∙ ap (λ n. stepped setup p seat n (InterruptDeed j) None) is
         ∙ stepped-is t (InterruptDeed j) None None next left refl
 
-    interrupt-told : (j : ℕ) (answer : Struck) → interrupt_refusal setup p seat j ≡ None → InterruptStep q j answer new → IsTold (Dual (Interrupt j)) (ToDual (ToInterrupt answer)) (dual_record (λ m. m) seat (Interrupt j) (ToInterrupt answer))
+    interrupt-told : (j : ℕ) (answer : Struck) → interrupt_refusal setup p seat j ≡ None → InterruptStep q j answer new → IsTold (Interrupt j) (ToInterrupt answer) (queue_record (λ m. m) seat (Interrupt j) (ToInterrupt answer))
     interrupt-told j (CutOff t) none (e, found, ticket, leaves) =
         struck j t none (ap (λ o. option_map_or (λ (f : Entry ℕ). f.ticket) o 0) found ∙ sym ticket) leaves.next
         (leaves.left ∙ sym (ap (λ o. option_map_or (cut_off here j) o (flagged here j true)) found))
@@ -252,21 +242,17 @@ module _ (setup : Setup) (q : Queue ℕ) (gone : ℕ) (cut : Bool) (count seat :
         (leaves.left ∙ sym (ap (λ o. option_map_or (cut_off here j) o (flagged here j true)) nobody))
 
     -- an admitted call, whatever it is
-    dual-told : (call : DualCall ℕ) (answer : DualAnswer ℕ) → refusal_at setup p seat call ≡ None → dual_refusal q seat call ≡ None → DualStep (λ m. m) (end_of setup.kind.order) q seat call answer new → IsTold (Dual call) (ToDual answer) (dual_record (λ m. m) seat call answer)
-    dual-told (Give mark) (ToGive answer) none own step = give-told mark answer none step
-    dual-told (Offer mark) (ToOffer answer) none own step = offer-told mark answer none step
-    dual-told Take (ToTake answer) none own step = take-told answer none step
-    dual-told Poll (ToPoll answer) none own step = poll-told answer none step
-    dual-told (FollowUp t) (ToFollowUp answer) none own step = follow-told t answer step
-    dual-told (Cancel t) (ToWithdrawal answer) none own step = cancel-told t answer own step
-    dual-told (Expire t) (ToWithdrawal answer) none own step = expire-told t answer own step
-    dual-told (Interrupt j) (ToInterrupt answer) none own step = interrupt-told j answer none step
-    dual-told call answer none own step = absurd step
-
-    pub call-told : (call : QueueCall ℕ) (answer : QueueAnswer ℕ) → refusal_at setup p seat (dual_call call) ≡ None → queue_refusal q seat call ≡ None → QueueStep (λ m. m) setup.kind q seat call answer new → IsTold call answer (queue_record (λ m. m) seat call answer)
+    pub call-told : (call : QueueCall ℕ) (answer : QueueAnswer ℕ) → refusal_at setup p seat call ≡ None → queue_refusal q seat call ≡ None → QueueStep (λ m. m) setup.kind q seat call answer new → IsTold call answer (queue_record (λ m. m) seat call answer)
     call-told (Put mark) answer none own step = put-told mark answer none step
-    call-told (Dual call) (ToDual answer) none own step = dual-told call answer none own step
-    call-told (Dual call) (ToPut answer) none own step = absurd step
+    call-told (Give mark) (ToGive answer) none own step = give-told mark answer none step
+    call-told (Offer mark) (ToOffer answer) none own step = offer-told mark answer none step
+    call-told Take (ToTake answer) none own step = take-told answer none step
+    call-told Poll (ToPoll answer) none own step = poll-told answer none step
+    call-told (FollowUp t) (ToFollowUp answer) none own step = follow-told t answer step
+    call-told (Cancel t) (ToWithdrawal answer) none own step = cancel-told t answer own step
+    call-told (Expire t) (ToWithdrawal answer) none own step = expire-told t answer own step
+    call-told (Interrupt j) (ToInterrupt answer) none own step = interrupt-told j answer none step
+    call-told call answer none own step = absurd step
 
 -- the reply to a call that was made, by its receipt
 abbrev pub reply_by : (seat : ℕ) → QueueCall ℕ → QueueAnswer ℕ → Option (Received Deed) → Reply
@@ -284,7 +270,7 @@ module _ (setup : Setup) (old new : Queue ℕ) (base now : Based) (cut : Bool) (
   turn = turn_of_call setup (place_of before) seat call
 
   -- a call that was refused changes nothing
-  pub takes-refused : (why : Refusal) → new ≡ old → now ≡ base → after ≡ records → refusal_at setup (place_of before) seat (dual_call call) ≡ Some why → TakesTurn turn before behind (record { seat = seat; outcome = Refused why })
+  pub takes-refused : (why : Refusal) → new ≡ old → now ≡ base → after ≡ records → refusal_at setup (place_of before) seat call ≡ Some why → TakesTurn turn before behind (record { seat = seat; outcome = Refused why })
   takes-refused why same based stay is =
       let told : turn ≡ refused (place_of before) seat why = call-refused setup old base.gone cut (length records) seat call why is in
       record {
@@ -319,7 +305,7 @@ module _ (setup : Setup) (old new : Queue ℕ) (base now : Based) (cut : Bool) (
       }
 
   -- one that was made tells its receipt
-  pub takes-made : (answer : QueueAnswer ℕ) (receipt of : Option (Received Deed)) → now ≡ base → receipt ≡ of → refusal_at setup (place_of before) seat (dual_call call) ≡ None → queue_refusal old seat call ≡ None → QueueStep (λ m. m) setup.kind old seat call answer new → record_of_receipt receipt ≡ queue_record (λ m. m) seat call answer → MatchOption receipt ⊤ (λ r. r.place ≡ base.gone + length records + 1) → after ≡ records ++ option_to_list (record_of_receipt receipt) → TakesTurn turn before behind (reply_by seat call answer of)
+  pub takes-made : (answer : QueueAnswer ℕ) (receipt of : Option (Received Deed)) → now ≡ base → receipt ≡ of → refusal_at setup (place_of before) seat call ≡ None → queue_refusal old seat call ≡ None → QueueStep (λ m. m) setup.kind old seat call answer new → record_of_receipt receipt ≡ queue_record (λ m. m) seat call answer → MatchOption receipt ⊤ (λ r. r.place ≡ base.gone + length records + 1) → after ≡ records ++ option_to_list (record_of_receipt receipt) → TakesTurn turn before behind (reply_by seat call answer of)
   takes-made answer receipt of based same none own step is place more =
       subst (λ o. TakesTurn turn before behind (reply_by seat call answer o)) same
       (by-receipt answer receipt based (subst (IsTold setup old base.gone cut (length records) seat new call answer) (sym is) (call-told setup old base.gone cut (length records) seat new call answer none own step)) place more)
@@ -328,35 +314,3 @@ module _ (setup : Setup) (old new : Queue ℕ) (base now : Based) (cut : Bool) (
 pub told-refused : (said : Result Reply Refusal) (reply : Reply) (Other : Type 0) (P : Reply → Type 0) → IfOk said (λ own. own ≡ reply) → IfOk said (λ _. Other) → (Other → P reply) → IfOk said P
 told-refused (Ok own) reply Other P is other told = subst P (sym is) (told other)
 told-refused (Err why) reply Other P is other told = tt
-
--- no call changes how many seats there are
-dual-count : (end : End) (old new : Queue ℕ) (seat : ℕ) (call : DualCall ℕ) (answer : DualAnswer ℕ) → DualStep (λ m. m) end old seat call answer new → count_of new ≡ count_of old
-dual-count end old new seat (Give mark) (ToGive (GiverWaits t)) (alone, flag, uses) = uses.count
-dual-count end old new seat (Give mark) (ToGive (GiverMeets t u)) (e, found, ticket, own, uses) = uses.count
-dual-count end old new seat (Give mark) (ToGive (GiverInterrupted t back)) (alone, flag, same, uses) = uses.count
-dual-count end old new seat (Offer mark) (ToOffer (OfferMeets t u)) (e, found, ticket, own, uses) = uses.count
-dual-count end old new seat (Offer mark) (ToOffer (OfferFails t back)) (alone, same, uses) = uses.count
-dual-count end old new seat Take (ToTake (TakerWaits t)) (alone, flag, uses) = uses.count
-dual-count end old new seat Take (ToTake (TakerMeets t u item)) (e, found, ticket, own, uses) = uses.count
-dual-count end old new seat Take (ToTake (TakerInterrupted t)) (alone, flag, uses) = uses.count
-dual-count end old new seat Poll (ToPoll (PollMeets t u item)) (e, found, ticket, own, uses) = uses.count
-dual-count end old new seat Poll (ToPoll (PollFails t)) (alone, uses) = uses.count
-dual-count end old new seat (FollowUp t) (ToFollowUp WasMet) (u, mark, held, leaves) = leaves.count
-dual-count end old new seat (FollowUp t) (ToFollowUp (HasGot u item)) (held, leaves) = leaves.count
-dual-count end old new seat (FollowUp t) (ToFollowUp (WasCut item)) (held, leaves) = leaves.count
-dual-count end old new seat (FollowUp t) (ToFollowUp NotYet) (held, same) = ap count_of same
-dual-count end old new seat (Cancel t) (ToWithdrawal (Back item)) (e, held, found, is, leaves) = leaves.count
-dual-count end old new seat (Cancel t) (ToWithdrawal TooLate) (none, same) = ap count_of same
-dual-count end old new seat (Expire t) (ToWithdrawal (Back item)) (e, held, found, is, leaves) = leaves.count
-dual-count end old new seat (Expire t) (ToWithdrawal TooLate) (none, same) = ap count_of same
-dual-count end old new seat (Interrupt j) (ToInterrupt (CutOff t)) (e, found, ticket, leaves) = leaves.count
-dual-count end old new seat (Interrupt j) (ToInterrupt Flagged) (none, leaves) = leaves.count
-dual-count end old new seat call answer step = absurd step
-
-pub call-count : (k : Kind) (old new : Queue ℕ) (seat : ℕ) (call : QueueCall ℕ) (answer : QueueAnswer ℕ) → QueueStep (λ m. m) k old seat call answer new → count_of new ≡ count_of old
-call-count k old new seat (Put mark) (ToPut (PutKept t)) (keeps, (alone, room, uses)) = uses.count
-call-count k old new seat (Put mark) (ToPut (PutMeets t u)) (keeps, (e, found, ticket, own, uses)) = uses.count
-call-count k old new seat (Put mark) (ToPut (PutFails t back)) (keeps, (alone, full, same, uses)) = uses.count
-call-count k old new seat (Put mark) (ToDual answer) (waits, step) = dual-count (end_of k.order) old new seat (Give mark) answer step
-call-count k old new seat (Dual call) (ToDual answer) step = dual-count (end_of k.order) old new seat call answer step
-call-count k old new seat (Dual call) (ToPut answer) step = absurd step

@@ -1,11 +1,10 @@
 -- Worked bases, computed by the definitions.
-use Rattle.std.proofs.Common.{◌≡◌, ℕ, refl, true, false, Some, None, [], ◌∷◌}
+use Rattle.std.proofs.Common.{◌≡◌, ℕ, refl, true, false, Some, None}
 use Rattle.meet_tickets.specs.declared.lines.Entry.{Entry}
-use Rattle.meet_tickets.specs.declared.places.Order.TheVariants.{Fair, Transfer}
-use Rattle.meet_tickets.specs.declared.places.Side.TheVariants.{Taker}
+use Rattle.meet_tickets.specs.declared.places.Order.TheVariants.{Fair}
 use Rattle.meet_tickets.specs.declared.places.Kind.{Kind}
 use Rattle.meet_tickets.specs.Bases.{Based}
-use Rattle.meet_history.specs.declared.pieces.Piece.TheVariants.{Stands, Met, Cut, Flagged}
+use Rattle.meet_history.specs.declared.pieces.Piece.TheVariants.{Stands, Flagged}
 use Rattle.meet_history.specs.Pieces.{bare_base, with_piece, may_follow}
 
 abbrev fair : Kind

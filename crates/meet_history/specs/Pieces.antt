@@ -1,6 +1,6 @@
 -- Bases that are told piece by piece (our choice): the line in order of request, then the open tickets that were met
 -- and those that were cut, each by rising ticket, then the flagged seats, rising.
-use Rattle.std.specs.Prelude.{◌≡◌, ℕ, nat_lt, nat_le, ◌==◌, ◌&&◌, not, Bool, true, false, Option, is_some, List, []}
+use Rattle.std.specs.Prelude.{ℕ, nat_lt, nat_le, ◌==◌, ◌&&◌, not, Bool, true, false, is_some, List, []}
 use Rattle.std.specs.Prelude.{◌∷◌, ◌++◌}
 use Rattle.std.specs.Prelude.{if◌then◌else◌}
 use Rattle.std.specs.List.{list_any, list_all}
@@ -10,7 +10,7 @@ use Rattle.meet_tickets.specs.declared.bases.OpenPair.{OpenPair}
 use Rattle.meet_tickets.specs.declared.bases.OpenCut.{OpenCut}
 use Rattle.meet_tickets.specs.declared.places.Kind.{Kind}
 use Rattle.meet_tickets.specs.Meeting.{keeps, kept_count}
-use Rattle.meet_tickets.specs.Bases.{Based, Held, held_in, named_in, waiting_held, paired_held, cut_held}
+use Rattle.meet_tickets.specs.Bases.{Based, held_in, named_in}
 use Rattle.meet_history.specs.declared.pieces.Piece.{Piece}
 use Rattle.meet_history.specs.declared.pieces.Piece.TheVariants.{Stands, Met, Cut, Flagged}
 

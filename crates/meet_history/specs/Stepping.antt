@@ -14,16 +14,13 @@ use Rattle.meet_line.specs.declared.answers.TakenBack.TheVariants.{Back}
 use Rattle.meet_book.specs.Received.{Received}
 use Rattle.meet_tickets.specs.Bases.{Based}
 use Rattle.meet_tickets.specs.BySeat.{owed_of}
-use Rattle.meet_calls.specs.declared.queue_calls.DualCall.{DualCall}
-use Rattle.meet_calls.specs.declared.queue_calls.DualCall.TheVariants.{Give, Offer, Take, Poll, FollowUp, Cancel}
-use Rattle.meet_calls.specs.declared.queue_calls.DualCall.TheVariants.{Expire, Interrupt}
-use Rattle.meet_calls.specs.declared.queue_calls.DualAnswer.TheVariants.{Gave as ToGive, Offered as ToOffer}
-use Rattle.meet_calls.specs.declared.queue_calls.DualAnswer.TheVariants.{Followed as ToFollowUp}
-use Rattle.meet_calls.specs.declared.queue_calls.DualAnswer.TheVariants.{TakenBack as ToWithdrawal}
 use Rattle.meet_calls.specs.declared.queue_calls.QueueCall.{QueueCall}
-use Rattle.meet_calls.specs.declared.queue_calls.QueueCall.TheVariants.{Put, Dual}
+use Rattle.meet_calls.specs.declared.queue_calls.QueueCall.TheVariants.{Put, Give, Offer, Take, Poll, FollowUp}
+use Rattle.meet_calls.specs.declared.queue_calls.QueueCall.TheVariants.{Cancel, Expire, Interrupt}
 use Rattle.meet_calls.specs.declared.queue_calls.QueueAnswer.{QueueAnswer}
-use Rattle.meet_calls.specs.declared.queue_calls.QueueAnswer.TheVariants.{Put as ToPut, Dual as ToDual}
+use Rattle.meet_calls.specs.declared.queue_calls.QueueAnswer.TheVariants.{Put as ToPut, Gave as ToGive}
+use Rattle.meet_calls.specs.declared.queue_calls.QueueAnswer.TheVariants.{Offered as ToOffer, Followed as ToFollowUp}
+use Rattle.meet_calls.specs.declared.queue_calls.QueueAnswer.TheVariants.{TakenBack as ToWithdrawal}
 use Rattle.meet_history.specs.declared.one_thread.setup.Setup.{Setup}
 use Rattle.meet_history.specs.declared.one_thread.replies.Reply.{Reply}
 use Rattle.meet_history.specs.declared.one_thread.replies.Outcome.{Outcome}
@@ -69,17 +66,18 @@ pub record TakesTurn (turn : Turn) (old new : Stepping) (reply : Reply) : Type 0
 -- the turn of a queue's call; an ending is of the seat's open ticket
 abbrev pub turn_of_call : Setup → Place → (seat : ℕ) → QueueCall ℕ → Turn
 turn_of_call setup p i (Put mark) = give setup p i (put_form setup.kind.order) mark
-turn_of_call setup p i (Dual (Give mark)) = give setup p i waiting mark
-turn_of_call setup p i (Dual (Offer mark)) = give setup p i immediate mark
-turn_of_call setup p i (Dual Take) = take setup p i waiting
-turn_of_call setup p i (Dual Poll) = take setup p i immediate
-turn_of_call setup p i (Dual (FollowUp t)) = follow setup p i (p.seats.holds i)
-turn_of_call setup p i (Dual (Cancel t)) = withdraw setup p i Cancelled (p.seats.holds i)
-turn_of_call setup p i (Dual (Expire t)) = withdraw setup p i Expired (p.seats.holds i)
-turn_of_call setup p i (Dual (Interrupt j)) = interrupt setup p i j
+turn_of_call setup p i (Give mark) = give setup p i waiting mark
+turn_of_call setup p i (Offer mark) = give setup p i immediate mark
+turn_of_call setup p i Take = take setup p i waiting
+turn_of_call setup p i Poll = take setup p i immediate
+turn_of_call setup p i (FollowUp t) = follow setup p i (p.seats.holds i)
+turn_of_call setup p i (Cancel t) = withdraw setup p i Cancelled (p.seats.holds i)
+turn_of_call setup p i (Expire t) = withdraw setup p i Expired (p.seats.holds i)
+turn_of_call setup p i (Interrupt j) = interrupt setup p i j
 
 -- why a call is refused, Memory aside; an ending of an open ticket isn't
-abbrev pub refusal_at : Setup → Place → (seat : ℕ) → DualCall ℕ → Option Refusal
+abbrev pub refusal_at : Setup → Place → (seat : ℕ) → QueueCall ℕ → Option Refusal
+refusal_at setup p i (Put mark) = request_refusal setup p i
 refusal_at setup p i (Give mark) = request_refusal setup p i
 refusal_at setup p i (Offer mark) = request_refusal setup p i
 refusal_at setup p i Take = request_refusal setup p i
@@ -105,16 +103,16 @@ pub record LacksMemory (first : Option Refusal) (old new : Stepping) (why : Refu
 -- the giver's item that an answer brings back, where it brings one
 abbrev pub back_of : QueueAnswer ℕ → Option ℕ
 back_of (ToPut (PutFails t item)) = Some item
-back_of (ToDual (ToGive (EntryInterrupted t item))) = Some item
-back_of (ToDual (ToOffer (Fails t item))) = Some item
-back_of (ToDual (ToFollowUp (Interrupted item))) = item
-back_of (ToDual (ToWithdrawal (Back item))) = item
+back_of (ToGive (EntryInterrupted t item)) = Some item
+back_of (ToOffer (Fails t item)) = Some item
+back_of (ToFollowUp (Interrupted item)) = item
+back_of (ToWithdrawal (Back item)) = item
 back_of answer = None
 
 -- what is told of a call that writes no record: a follow-up comes too early, a withdrawal too late; no other call is
 -- without one
 abbrev pub unrecorded : QueueCall ℕ → Outcome
-unrecorded (Dual (FollowUp t)) = NotYet
+unrecorded (FollowUp t) = NotYet
 unrecorded call = Late
 
 -- the reply that tells a receipt

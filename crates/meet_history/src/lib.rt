@@ -10,9 +10,7 @@ mod pieces;
 pub use checker::{CheckFault, Checker, Standing, Why, check};
 pub use ground::Ground;
 pub use meet_book::{Bases, Book, Drains, Holds, Object, Receipt, Same, compare};
-pub use meet_queues::{
-    AnyQueue, DualAnswer, DualCall, QueueAnswer, QueueCall, queue_book, transfer_book,
-};
+pub use meet_queues::{AnyQueue, QueueAnswer, QueueCall, queue_book, transfer_book};
 pub use meet_tickets::{Base, Kind, Order};
 pub use one_thread::{
     Answer, Call, Outcome, Reply, Run, Setup, Stepper, Verb, calls_have_one_deed, is_served,

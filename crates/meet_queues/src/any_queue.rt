@@ -8,14 +8,13 @@ ghost use Rattle.meet_line.specs.Queue.{seats_of, count_of};
 ghost use Rattle.meet_tickets.specs.Bases.{no_base, IsBaseOf};
 ghost use Rattle.meet_tickets.specs.Limits.{most_seats, last_ticket};
 ghost use Rattle.meet_line.specs.Seen.{moment_of_queue};
-ghost use Rattle.meet_calls.specs.DualSteps.{LeadsTo, dual_owed, dual_available, dual_left};
-ghost use Rattle.meet_calls.specs.DualRoom.{roomy, roomy-leads, roomless, roomy-fresh};
-ghost use Rattle.meet_calls.specs.QueueSteps.{QueueStep, dual_call, queue_refusal, queue_need, queue_room};
-ghost use Rattle.meet_calls.specs.QueueSteps.{queue_record};
-ghost use Rattle.meet_calls.specs.QueueRoom.{roomy-queue-refusal, roomy-queue-steps, own-queue-record};
+ghost use Rattle.meet_calls.specs.QueueSteps.{LeadsTo, queue_owed, queue_available, queue_left};
+ghost use Rattle.meet_calls.specs.QueueRoom.{roomy, roomy-leads, roomless, roomy-fresh};
+ghost use Rattle.meet_calls.specs.QueueSteps.{QueueStep, queue_refusal, queue_need, queue_room};
+ghost use Rattle.meet_calls.specs.QueueRecords.{queue_record};
+ghost use Rattle.meet_calls.specs.QueueRoom.{roomy-refusal, roomy-queue-steps, own-record};
 ghost use Rattle.meet_calls.specs.SeatCounts.{queue-count};
-ghost use Rattle.meet_calls.specs.declared.queue_calls.DualCall.TheVariants.{Poll};
-ghost use Rattle.meet_calls.specs.declared.queue_calls.QueueCall.TheVariants.{Dual as EachHas};
+ghost use Rattle.meet_calls.specs.declared.queue_calls.QueueCall.TheVariants.{Poll};
 
 use meet_book::{Bases, Drains, Object};
 use meet_calls::{QueueAnswer, QueueCall};
@@ -25,8 +24,6 @@ use meet_tickets::{Base, Deed, Kind, Order, Record, Refusal, SeatNo, Ticket};
 use meet_transfer::Transfer;
 use std::alloc::Global;
 use std::marker::Model;
-
-mod put_waits;
 
 /// A queue of numbers that meets, waits and keeps as a place of its kind.
 #[derive(Drop)]
@@ -197,7 +194,7 @@ impl Object for AnyQueue {
 
     ghost refusal_of = { λ any seat call. queue_refusal any.queue seat call };
 
-    ghost owed_of = { λ any. dual_owed any.queue };
+    ghost owed_of = { λ any. queue_owed any.queue };
 
     ghost need_of = { λ call. queue_need call };
 
@@ -209,7 +206,7 @@ impl Object for AnyQueue {
 
     ghost with_room = { λ any room. record any { queue = roomy any.queue room } };
 
-    ghost own_record = { λ seat call answer. own-queue-record (λ mark. mark) seat call answer };
+    ghost own_record = { λ seat call answer. own-record (λ mark. mark) seat call answer };
 
     ghost same_place = { λ any. refl };
 
@@ -218,7 +215,7 @@ impl Object for AnyQueue {
 
     ghost roomy_seats = { λ any room. refl };
 
-    ghost same_refusal = { λ any room seat call. roomy-queue-refusal any.queue room seat call };
+    ghost same_refusal = { λ any room seat call. roomy-refusal any.queue room seat call };
 
     ghost same_owed = { λ any room. refl };
 
@@ -228,7 +225,7 @@ impl Object for AnyQueue {
     ghost same_steps = { λ any room seat call answer new need step.
         (step.0, roomy-queue-steps (λ mark. mark) any.kind any.queue room seat call answer new.queue need step.1) };
 
-    ghost roomless = { λ call none. roomless (dual_call call) none };
+    ghost roomless = { λ call none. roomless call none };
 
     ghost fresh_owes = { λ any leads. roomy-fresh (λ mark. mark) any.kind any.queue leads };
 
@@ -244,8 +241,8 @@ impl Object for AnyQueue {
 
     fn admit(&self, seat: SeatNo, call: &QueueCall<u64>) -> Result<(), Refusal> {
         match &self.queue {
-            ByKind::Fair(queue) => put_waits::admit(queue, seat, call),
-            ByKind::Unfair(queue) => put_waits::admit(queue, seat, call),
+            ByKind::Fair(queue) => Object::admit(queue, seat, call),
+            ByKind::Unfair(queue) => Object::admit(queue, seat, call),
             ByKind::Transfer(queue) => Object::admit(queue, seat, call),
         }
     }
@@ -280,8 +277,8 @@ impl Object for AnyQueue {
         call: QueueCall<u64>,
     ) -> (QueueAnswer<u64>, Option<Record<Deed>>) {
         match &mut self.queue {
-            ByKind::Fair(queue) => return put_waits::step(queue, seat, call),
-            ByKind::Unfair(queue) => return put_waits::step(queue, seat, call),
+            ByKind::Fair(queue) => return queue.step(seat, call),
+            ByKind::Unfair(queue) => return queue.step(seat, call),
             ByKind::Transfer(queue) => return queue.step(seat, call),
         }
     }
@@ -304,11 +301,11 @@ impl Bases for AnyQueue {
 }
 
 impl Drains for AnyQueue {
-    ghost poll = { EachHas Poll };
+    ghost poll = { Poll };
 
-    ghost available_of = { λ any. dual_available any.queue };
+    ghost available_of = { λ any. queue_available any.queue };
 
-    ghost left_of = { λ any. dual_left any.queue };
+    ghost left_of = { λ any. queue_left any.queue };
 
     ghost poll_fits = { refl };
 
@@ -338,8 +335,8 @@ impl Drains for AnyQueue {
 
     fn poll_call(&self) -> QueueCall<u64> {
         match &self.queue {
-            ByKind::Fair(queue) => QueueCall::Dual(queue.poll_call()),
-            ByKind::Unfair(queue) => QueueCall::Dual(queue.poll_call()),
+            ByKind::Fair(queue) => queue.poll_call(),
+            ByKind::Unfair(queue) => queue.poll_call(),
             ByKind::Transfer(queue) => queue.poll_call(),
         }
     }

@@ -2,7 +2,7 @@
 
 use crate::parcels::{Parcel, Told};
 use meet_line::{Followed, Gave, Interrupted, Offered, Polled, Put, TakenBack, Took};
-use meet_queues::{DualAnswer, QueueAnswer};
+use meet_queues::QueueAnswer;
 use meet_tickets::{Refusal, Refused};
 
 pub fn gave(gave: Gave<Parcel>) -> Told {
@@ -81,23 +81,16 @@ pub fn returned(refused: Refused<Parcel>) -> Told {
     Told::Refused(refused.why, Some(refused.back.serial))
 }
 
-/// What a book of a synchronous queue answers.
-pub fn dual(answer: DualAnswer<Parcel>) -> Told {
-    match answer {
-        DualAnswer::Gave(answer) => gave(answer),
-        DualAnswer::Offered(answer) => offered(answer),
-        DualAnswer::Took(answer) => took(answer),
-        DualAnswer::Polled(answer) => polled(answer),
-        DualAnswer::Followed(answer) => followed(answer),
-        DualAnswer::TakenBack(answer) => taken_back(answer),
-        DualAnswer::Interrupted(answer) => interrupted(answer),
-    }
-}
-
-/// What a book of a transfer queue answers.
+/// What a book of a queue answers.
 pub fn queue(answer: QueueAnswer<Parcel>) -> Told {
     match answer {
         QueueAnswer::Put(answer) => put(answer),
-        QueueAnswer::Dual(answer) => dual(answer),
+        QueueAnswer::Gave(answer) => gave(answer),
+        QueueAnswer::Offered(answer) => offered(answer),
+        QueueAnswer::Took(answer) => took(answer),
+        QueueAnswer::Polled(answer) => polled(answer),
+        QueueAnswer::Followed(answer) => followed(answer),
+        QueueAnswer::TakenBack(answer) => taken_back(answer),
+        QueueAnswer::Interrupted(answer) => interrupted(answer),
     }
 }

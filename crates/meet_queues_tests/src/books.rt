@@ -1,53 +1,28 @@
 //! The queues under a book.
 
-use crate::answers::{dual, queue};
+use crate::answers::queue;
 use crate::parcels::{Ask, Parcel, Told, numbered, seat, ticket};
 use crate::places::{Place, Shown};
 use meet_book::{Book, Object, Receipt};
 use meet_core::Dual;
 use meet_line::Line;
-use meet_queues::{DualCall, QueueAnswer, QueueCall};
+use meet_queues::{QueueAnswer, QueueCall};
 use meet_tickets::{Base, Deed, Record, Refused, SeatNo};
 use meet_transfer::{Transfer, Unbounded};
 use std::process::Abort;
 
-/// The call of a synchronous queue that a seat makes.
-fn dual_call(rt: &impl Abort, ask: Ask) -> DualCall<Parcel> {
-    match ask {
-        Ask::Give(serial) => DualCall::Give(numbered(serial)),
-        Ask::Put(serial) => DualCall::Give(numbered(serial)),
-        Ask::Offer(serial) => DualCall::Offer(numbered(serial)),
-        Ask::Take => DualCall::Take,
-        Ask::Poll => DualCall::Poll,
-        Ask::Follow(own) => DualCall::FollowUp(ticket(rt, own)),
-        Ask::Cancel(own) => DualCall::Cancel(ticket(rt, own)),
-        Ask::Expire(own) => DualCall::Expire(ticket(rt, own)),
-        Ask::Interrupt(target) => DualCall::Interrupt(seat(rt, target)),
-    }
-}
-
-/// The call of a transfer queue that a seat makes.
-fn queue_call(rt: &impl Abort, ask: Ask) -> QueueCall<Parcel> {
+/// The call of a queue that a seat makes.
+fn call_of(rt: &impl Abort, ask: Ask) -> QueueCall<Parcel> {
     match ask {
         Ask::Put(serial) => QueueCall::Put(numbered(serial)),
-        _ => QueueCall::Dual(dual_call(rt, ask)),
-    }
-}
-
-/// The serial number of the parcel in a call that comes back.
-fn in_dual_call(call: DualCall<Parcel>) -> Option<u64> {
-    match call {
-        DualCall::Give(item) => Some(item.serial),
-        DualCall::Offer(item) => Some(item.serial),
-        _ => None,
-    }
-}
-
-/// The same of a transfer queue's call.
-fn in_queue_call(call: QueueCall<Parcel>) -> Option<u64> {
-    match call {
-        QueueCall::Put(item) => Some(item.serial),
-        QueueCall::Dual(call) => in_dual_call(call),
+        Ask::Give(serial) => QueueCall::Give(numbered(serial)),
+        Ask::Offer(serial) => QueueCall::Offer(numbered(serial)),
+        Ask::Take => QueueCall::Take,
+        Ask::Poll => QueueCall::Poll,
+        Ask::Follow(own) => QueueCall::FollowUp(ticket(rt, own)),
+        Ask::Cancel(own) => QueueCall::Cancel(ticket(rt, own)),
+        Ask::Expire(own) => QueueCall::Expire(ticket(rt, own)),
+        Ask::Interrupt(target) => QueueCall::Interrupt(seat(rt, target)),
     }
 }
 
@@ -86,20 +61,20 @@ fn steps<O: Object<Deed = Deed, Base = Base>>(
     }
 }
 
-/// What a seat is told of a transfer queue's answer.
+/// What a seat is told of a queue's answer.
 fn told(made: Result<QueueAnswer<Parcel>, Refused<QueueCall<Parcel>>>) -> Told {
     match made {
         Ok(answer) => queue(answer),
-        Err(refused) => Told::Refused(refused.why, in_queue_call(refused.back)),
+        Err(refused) => Told::Refused(
+            refused.why,
+            refused.back.into_item().map(|item| item.serial),
+        ),
     }
 }
 
 impl<L: Line<Parcel>> Place for Book<Dual<Parcel, L>> {
     fn answer<A: Abort>(&mut self, rt: &A, at: SeatNo, ask: Ask) -> Told {
-        match steps(rt, self, at, dual_call(rt, ask)) {
-            Ok(answer) => dual(answer),
-            Err(refused) => Told::Refused(refused.why, in_dual_call(refused.back)),
-        }
+        told(steps(rt, self, at, call_of(rt, ask)))
     }
 }
 
@@ -119,13 +94,13 @@ impl<L: Line<Parcel>> Shown for Book<Dual<Parcel, L>> {
 
 impl Place for Book<Transfer<Parcel>> {
     fn answer<A: Abort>(&mut self, rt: &A, at: SeatNo, ask: Ask) -> Told {
-        told(steps(rt, self, at, queue_call(rt, ask)))
+        told(steps(rt, self, at, call_of(rt, ask)))
     }
 }
 
 impl Place for Book<Unbounded<Parcel>> {
     fn answer<A: Abort>(&mut self, rt: &A, at: SeatNo, ask: Ask) -> Told {
-        told(steps(rt, self, at, queue_call(rt, ask)))
+        told(steps(rt, self, at, call_of(rt, ask)))
     }
 }
 

@@ -1,12 +1,12 @@
 //! A drain of a book hands out the very parcels, in the order of its queue, with a receipt for each.
 
-use crate::answers::{dual, queue};
+use crate::answers::queue;
 use crate::parcels::{Ask, Parcel, Row, Told, seat, ticket};
 use crate::places::plays;
 use meet_book::{Book, Receipt, Unwatched};
 use meet_core::Dual;
 use meet_line::{FairLine, Line, StackLine};
-use meet_queues::{DualAnswer, QueueAnswer, queue_book, transfer_book};
+use meet_queues::{QueueAnswer, queue_book, transfer_book};
 use meet_tickets::{Deed, Marked, Record, Refusal, SeatNo};
 use meet_transfer::Transfer;
 use std::alloc::Global;
@@ -43,10 +43,10 @@ fn is_taken(rt: &impl Abort, told: Told, receipt: &Receipt<Deed>, taken: Taken) 
 }
 
 /// A drain handed out these parcels.
-pub fn are_taken(rt: &impl Abort, got: Vec<(DualAnswer<Parcel>, Receipt<Deed>)>, rows: &[Taken]) {
+pub fn are_taken(rt: &impl Abort, got: Vec<(QueueAnswer<Parcel>, Receipt<Deed>)>, rows: &[Taken]) {
     assert_eq!(rt; got.len(), rows.len());
     for ((answer, receipt), taken) in got.into_iter().zip(rows) {
-        is_taken(rt, dual(answer), &receipt, *taken);
+        is_taken(rt, queue(answer), &receipt, *taken);
     }
 }
 
@@ -56,7 +56,7 @@ fn drained<T: Marked, L: Line<T>>(
     book: &mut Book<Dual<T, L>>,
     seat: SeatNo,
     most: u64,
-) -> Result<Vec<(DualAnswer<T>, Receipt<Deed>)>, Refusal> {
+) -> Result<Vec<(QueueAnswer<T>, Receipt<Deed>)>, Refusal> {
     book.drain(alloc, seat, most)
 }
 
@@ -91,11 +91,7 @@ fn drains_kept(
     most: u64,
     rows: &[Taken],
 ) {
-    let got = drained_kept(rt, alloc, book, seat(rt, 3), most);
-    assert_eq!(rt; got.len(), rows.len());
-    for ((answer, receipt), taken) in got.into_iter().zip(rows) {
-        is_taken(rt, queue(answer), &receipt, *taken);
-    }
+    are_taken(rt, drained_kept(rt, alloc, book, seat(rt, 3), most), rows);
 }
 
 /// What a book of a synchronous queue hands out in two drains.
@@ -124,7 +120,7 @@ fn filled(
     alloc: Global,
     book: &mut Book<Dual<Parcel, FairLine<Parcel>>>,
     count: usize,
-) -> Vec<(DualAnswer<Parcel>, Receipt<Deed>)> {
+) -> Vec<(QueueAnswer<Parcel>, Receipt<Deed>)> {
     let room = Vec::with_capacity(alloc, count).expect(rt, "memory");
     match book.drain_into(seat(rt, 3), 9, room, &mut Unwatched {}) {
         Ok(got) => got,

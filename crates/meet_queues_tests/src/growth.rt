@@ -7,7 +7,7 @@ use crate::places::{Fair, Shown, Unfair, plays};
 use meet_book::{Book, Receipt};
 use meet_core::Dual;
 use meet_line::Line;
-use meet_queues::{DualAnswer, queue_book, ready_queue_book, ready_transfer_book, transfer_book};
+use meet_queues::{QueueAnswer, queue_book, ready_queue_book, ready_transfer_book, transfer_book};
 use meet_tickets::{Deed, Refusal};
 use meet_transfer::{Transfer, Unbounded};
 use std::alloc::Global;
@@ -160,7 +160,7 @@ fn drained(
     rt: &impl Abort,
     alloc: Global,
     book: &mut Book<Fair>,
-) -> Vec<(DualAnswer<Parcel>, Receipt<Deed>)> {
+) -> Vec<(QueueAnswer<Parcel>, Receipt<Deed>)> {
     let at = seat(rt, 3);
     let before = book.shown();
     match book.drain(alloc, at, 9) {

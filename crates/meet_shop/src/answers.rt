@@ -15,6 +15,7 @@ fn answered(answer: Answer<u64>) -> Told {
         Answer::Gave(with) => Told::Gave(with.number()),
         Answer::Got(with, item) => Told::Got(with.number(), item),
         Answer::Failed(back) => Told::Failed(back),
+        Answer::Kept => Told::Kept,
         Answer::EntryInterrupted(back) => Told::Stopped(back),
     }
 }

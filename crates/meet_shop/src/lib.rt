@@ -2,6 +2,7 @@
 #![tactic(auto)]
 
 mod answers;
+mod asking;
 mod asks;
 mod calls;
 mod checkpoints;

@@ -1,4 +1,6 @@
+pub mod Askings
+pub mod Awaited
+pub mod Histories
 pub mod Reasons
-pub mod SameSeat
 pub mod Takings
 pub mod Wholes

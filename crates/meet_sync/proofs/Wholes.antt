@@ -3,10 +3,11 @@ use Rattle.std.proofs.Common.{◌≡◌, ℕ, ap, ◌∙◌, Option, Some, List,
 use Rattle.std.proofs.Common.{inr}
 use Rattle.std.specs.Prelude.{⊤}
 use Rattle.std.proofs.lemmas.List.{map-append}
+use Rattle.meet_tickets.specs.declared.places.Kind.{Kind}
 use Rattle.meet_tickets.specs.declared.records.Record.{Record}
 use Rattle.meet_tickets.specs.declared.records.Deed.{Deed}
 use Rattle.meet_book.specs.Received.{Received}
-use Rattle.meet_calls.specs.DualRecords.{made}
+use Rattle.meet_calls.specs.QueueRecords.{made}
 use Rattle.meet_place.specs.Seats.{SeatView, PendingView, Adds, entries}
 use Rattle.meet_sync.specs.Asking.{AskedAs, waiting_deed, brought}
 use Rattle.meet_sync.specs.Ending.{EndedAs, EndsAs, WaitedAs, OutcomeOf, NotExpired, MarksBack, last_deed}
@@ -25,62 +26,62 @@ adds_both a b c xs ys (one, is, same) (two, is', same') = (
   map-append (λ r. r.entry) one two ∙ ap (λ l. l ++ entries two) same ∙ ap (λ l. xs ++ l) same',
 )
 
-waited_with : {T : Type 0} (mark : T → ℕ) (seat : SeatView Deed) (p : PendingView Deed) (after : SeatView Deed)
-    (request : Request T) (first last : Deed) → p.number ≡ seat.number → waiting_deed mark request ≡ Some first
+waited_with : {T : Type 0} (k : Kind) (mark : T → ℕ) (seat : SeatView Deed) (p : PendingView Deed) (after : SeatView Deed)
+    (request : Request T) (first last : Deed) → p.number ≡ seat.number → waiting_deed k mark request ≡ Some first
     → Adds seat.list p.list (made seat.number p.ticket first ∷ [])
-    → Adds p.list after.list (made p.number p.ticket last ∷ []) → WaitedAs mark seat after request last
-waited_with mark seat p after request first last number is one two =
+    → Adds p.list after.list (made p.number p.ticket last ∷ []) → WaitedAs k mark seat after request last
+waited_with k mark seat p after request first last number is one two =
     (p.ticket, first, is, adds_both seat.list p.list after.list _ _ one (rw (← number) two))
 
 deed_is : {a b : Deed} → Some a ≡ Some b → b ≡ a
 deed_is e = cc
 
 -- an end that isn't an expiry
-untimed : {T : Type 0} (MayExpire : Type 0) (mark : T → ℕ) (seat after : SeatView Deed) (request : Request T)
-    (end : End T) (last : Deed) → last_deed mark end ≡ Some last → WaitedAs mark seat after request last
-    → MarksBack mark (brought mark request) end → NotExpired end → EndsAs MayExpire mark seat after request end
-untimed MayExpire mark seat after request (Gave u) last is w back not = absurd (cc)
-untimed MayExpire mark seat after request (Got u item) last is w back not = inr (rw (← deed_is is) w)
-untimed MayExpire mark seat after request (Failed b) last is w back not = absurd (cc)
-untimed MayExpire mark seat after request Kept last is w back not = absurd (cc)
-untimed MayExpire mark seat after request (EntryInterrupted b) last is w back not = absurd (cc)
-untimed MayExpire mark seat after request Done last is w back not = rw (← deed_is is) w
-untimed MayExpire mark seat after request (Interrupted b) last is w back not = (back, rw (← deed_is is) w)
-untimed MayExpire mark seat after request (TimedOut b) last is w back not = absurd not
+untimed : {T : Type 0} (k : Kind) (MayExpire : Type 0) (mark : T → ℕ) (seat after : SeatView Deed) (request : Request T)
+    (end : End T) (last : Deed) → last_deed mark end ≡ Some last → WaitedAs k mark seat after request last
+    → MarksBack mark (brought mark request) end → NotExpired end → EndsAs k MayExpire mark seat after request end
+untimed k MayExpire mark seat after request (Gave u) last is w back not = absurd (cc)
+untimed k MayExpire mark seat after request (Got u item) last is w back not = inr (rw (← deed_is is) w)
+untimed k MayExpire mark seat after request (Failed b) last is w back not = absurd (cc)
+untimed k MayExpire mark seat after request Kept last is w back not = absurd (cc)
+untimed k MayExpire mark seat after request (EntryInterrupted b) last is w back not = absurd (cc)
+untimed k MayExpire mark seat after request Done last is w back not = rw (← deed_is is) w
+untimed k MayExpire mark seat after request (Interrupted b) last is w back not = (back, rw (← deed_is is) w)
+untimed k MayExpire mark seat after request (TimedOut b) last is w back not = absurd not
 
 -- an end that may be an expiry
-timed : {T : Type 0} (mark : T → ℕ) (seat after : SeatView Deed) (request : Request T) (end : End T) (last : Deed)
-    → last_deed mark end ≡ Some last → WaitedAs mark seat after request last → MarksBack mark (brought mark request) end
-    → EndsAs ⊤ mark seat after request end
-timed mark seat after request (Gave u) last is w back = absurd (cc)
-timed mark seat after request (Got u item) last is w back = inr (rw (← deed_is is) w)
-timed mark seat after request (Failed b) last is w back = absurd (cc)
-timed mark seat after request Kept last is w back = absurd (cc)
-timed mark seat after request (EntryInterrupted b) last is w back = absurd (cc)
-timed mark seat after request Done last is w back = rw (← deed_is is) w
-timed mark seat after request (Interrupted b) last is w back = (back, rw (← deed_is is) w)
-timed mark seat after request (TimedOut b) last is w back = (tt, back, rw (← deed_is is) w)
+timed : {T : Type 0} (k : Kind) (mark : T → ℕ) (seat after : SeatView Deed) (request : Request T) (end : End T) (last : Deed)
+    → last_deed mark end ≡ Some last → WaitedAs k mark seat after request last → MarksBack mark (brought mark request) end
+    → EndsAs k ⊤ mark seat after request end
+timed k mark seat after request (Gave u) last is w back = absurd (cc)
+timed k mark seat after request (Got u item) last is w back = inr (rw (← deed_is is) w)
+timed k mark seat after request (Failed b) last is w back = absurd (cc)
+timed k mark seat after request Kept last is w back = absurd (cc)
+timed k mark seat after request (EntryInterrupted b) last is w back = absurd (cc)
+timed k mark seat after request Done last is w back = rw (← deed_is is) w
+timed k mark seat after request (Interrupted b) last is w back = (back, rw (← deed_is is) w)
+timed k mark seat after request (TimedOut b) last is w back = (tt, back, rw (← deed_is is) w)
 
 same_mark : {T : Type 0} (mark : T → ℕ) (own own' : Option ℕ) (end : End T) → own ≡ own' → MarksBack mark own end
     → MarksBack mark own' end
 same_mark mark own own' end e h = rw e at h
 
-pub waited : {T N : Type 0} (MayExpire : Type 0) (mark : T → ℕ) (seat : SeatView Deed) (p : PendingView Deed)
-    (request : Request T) (ended : Ended T N) → AskedAs {N = N} mark seat request (Parked p) → OutcomeOf mark p ended
-    → NotExpired ended.end → EndedAs MayExpire mark seat request ended
-waited MayExpire mark seat p request ended (number, own, (first, is, one)) (number', back, (last, is', two)) not = (
+pub waited : {T N : Type 0} (k : Kind) (MayExpire : Type 0) (mark : T → ℕ) (seat : SeatView Deed) (p : PendingView Deed)
+    (request : Request T) (ended : Ended T N) → AskedAs {N = N} k mark seat request (Parked p) → OutcomeOf mark p ended
+    → NotExpired ended.end → EndedAs k MayExpire mark seat request ended
+waited k MayExpire mark seat p request ended (number, own, (first, is, one)) (number', back, (last, is', two)) not = (
   (number'.0 ∙ number.0, number'.1 ∙ number.1),
-  untimed MayExpire mark seat ended.seat request ended.end last is'
-      (waited_with mark seat p ended.seat request first last number.0 is one two)
+  untimed k MayExpire mark seat ended.seat request ended.end last is'
+      (waited_with k mark seat p ended.seat request first last number.0 is one two)
       (same_mark mark p.mark (brought mark request) ended.end own back) not,
 )
 
-pub waited_for : {T N : Type 0} (mark : T → ℕ) (seat : SeatView Deed) (p : PendingView Deed) (request : Request T)
-    (ended : Ended T N) → AskedAs {N = N} mark seat request (Parked p) → OutcomeOf mark p ended
-    → EndedAs ⊤ mark seat request ended
-waited_for mark seat p request ended (number, own, (first, is, one)) (number', back, (last, is', two)) = (
+pub waited_for : {T N : Type 0} (k : Kind) (mark : T → ℕ) (seat : SeatView Deed) (p : PendingView Deed) (request : Request T)
+    (ended : Ended T N) → AskedAs {N = N} k mark seat request (Parked p) → OutcomeOf mark p ended
+    → EndedAs k ⊤ mark seat request ended
+waited_for k mark seat p request ended (number, own, (first, is, one)) (number', back, (last, is', two)) = (
   (number'.0 ∙ number.0, number'.1 ∙ number.1),
-  timed mark seat ended.seat request ended.end last is'
-      (waited_with mark seat p ended.seat request first last number.0 is one two)
+  timed k mark seat ended.seat request ended.end last is'
+      (waited_with k mark seat p ended.seat request first last number.0 is one two)
       (same_mark mark p.mark (brought mark request) ended.end own back),
 )

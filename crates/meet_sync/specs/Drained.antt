@@ -4,12 +4,10 @@ use Rattle.meet_tickets.specs.declared.records.Record.{Record}
 use Rattle.meet_tickets.specs.declared.records.Deed.{Deed}
 use Rattle.meet_tickets.specs.declared.records.Deed.TheVariants.{TakeMeets}
 use Rattle.meet_line.specs.declared.answers.Polled.TheVariants.{Meets}
-use Rattle.meet_calls.specs.declared.queue_calls.DualAnswer.{DualAnswer}
-use Rattle.meet_calls.specs.declared.queue_calls.DualAnswer.TheVariants.{Polled}
 use Rattle.meet_calls.specs.declared.queue_calls.QueueAnswer.{QueueAnswer}
-use Rattle.meet_calls.specs.declared.queue_calls.QueueAnswer.TheVariants.{Dual}
-use Rattle.meet_calls.specs.DualRecords.{made}
-use Rattle.meet_calls.specs.DualSteps.{dual_available}
+use Rattle.meet_calls.specs.declared.queue_calls.QueueAnswer.TheVariants.{Polled}
+use Rattle.meet_calls.specs.QueueRecords.{made}
+use Rattle.meet_calls.specs.QueueSteps.{queue_available}
 use Rattle.meet_line.specs.Queue.{Queue, count_of}
 use Rattle.meet_place.specs.Seats.{SeatView, AddsFrom}
 
@@ -31,26 +29,21 @@ module _ {T : Type 0} where
       × AddsFrom last old.list new.list (map (taken_record mark old.number) all)
 
   -- the item that an answer brings, where it is to a poll that met
-  abbrev pub item_in : DualAnswer T → Option T
-  item_in (Polled (Meets t u item)) = Some item
-  item_in answer = None
-
-  -- the same of a transfer queue's answer
-  abbrev pub item_within : QueueAnswer T → Option T
-  item_within (Dual answer) = item_in answer
-  item_within answer = None
+  abbrev pub item_told : QueueAnswer T → Option T
+  item_told (Polled (Meets t u item)) = Some item
+  item_told answer = None
 
   -- each of the answers brings an item
-  abbrev pub AllBring : {A : Type 0} → (A → Option T) → List A → Type 0
-  AllBring item_of [] = ⊤
-  AllBring item_of (answer ∷ answers) = IsSome (item_of answer) × AllBring item_of answers
+  abbrev pub AllBring : List (QueueAnswer T) → Type 0
+  AllBring [] = ⊤
+  AllBring (answer ∷ answers) = IsSome (item_told answer) × AllBring answers
 
   -- these are the items that the answers bring, in order
-  abbrev pub AreItemsOf : {A : Type 0} → (A → Option T) → List A → List T → Type 0
-  AreItemsOf item_of answers items = map item_of answers ≡ map (λ item. Some item) items
+  abbrev pub AreItemsOf : List (QueueAnswer T) → List T → Type 0
+  AreItemsOf answers items = map item_told answers ≡ map (λ item. Some item) items
 
 -- so many are the least of what was there to be taken when the drain looked, of `max`, and of what was there at its own
 -- hold; both times the queue had so many seats
 abbrev pub IsLeastFor : (T : Type 0) → (seats max count : ℕ) → Type 0
 IsLeastFor T seats max count = (looked held : Queue T) × (count_of looked ≡ seats) × (count_of held ≡ seats)
-    × (count ≡ min (min (dual_available looked) max) (dual_available held))
+    × (count ≡ min (min (queue_available looked) max) (queue_available held))

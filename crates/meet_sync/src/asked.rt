@@ -1,17 +1,21 @@
 //! What a seat asks of a queue, and what it is answered. Each answer brings the seat back, free or with an open ticket.
 
 ghost use Rattle.std.specs.Prelude.{◌≡◌};
-ghost use Rattle.meet_sync.specs.Asking.{item_of};
+ghost use Rattle.meet_sync.specs.Asking.{item_of, call_of, brought};
 ghost use Rattle.meet_sync.specs.Ending.{end_of};
 
+use meet_calls::QueueCall;
 use meet_place::{Ledgers, Pending, Seat};
-use meet_tickets::{Deed, Refusal, Ticket};
+use meet_tickets::{Deed, Marked, Refusal, Ticket};
 use std::fmt;
 use std::fmt::{Debug, Display, Formatter, Write};
 
 /// A request that a queue settles, or that waits.
 #[derive(Drop)]
 pub enum Request<T> {
+    /// A give that a transfer queue never lets wait, since it keeps the item: `LinkedTransferQueue.put`. In a
+    /// synchronous queue it waits: `SynchronousQueue.put`.
+    Put(T),
     /// A give that waits for a taker: `SynchronousQueue.put`, `LinkedTransferQueue.transfer`.
     Give(T),
     /// A give to a taker that waits: `SynchronousQueue.offer`, `LinkedTransferQueue.tryTransfer`.
@@ -31,6 +35,8 @@ pub enum Answer<T> {
     Got(Ticket, T),
     /// Nobody was there; a giver's item comes back.
     Failed(Option<T>),
+    /// The item is kept in the line, and its giver goes on.
+    Kept,
     /// It would have waited, and its seat was flagged; a giver's item comes back.
     EntryInterrupted(Option<T>),
 }
@@ -152,10 +158,33 @@ impl<T> Request<T> {
         ensures { result ≡ item_of self }
     {
         match self {
-            Request::Give(item) => Some(item),
-            Request::Offer(item) => Some(item),
-            Request::Take => None,
-            Request::Poll => None,
+            Request::Put(item) | Request::Give(item) | Request::Offer(item) => Some(item),
+            Request::Take | Request::Poll => None,
+        }
+    }
+
+    /// The call of a queue that makes it.
+    pub(crate) fn into_call(self) -> QueueCall<T>
+        ensures { result ≡ call_of self }
+    {
+        match self {
+            Request::Put(item) => QueueCall::Put(item),
+            Request::Give(item) => QueueCall::Give(item),
+            Request::Offer(item) => QueueCall::Offer(item),
+            Request::Take => QueueCall::Take,
+            Request::Poll => QueueCall::Poll,
+        }
+    }
+}
+
+impl<T: Marked> Request<T> {
+    /// The mark of the item that it brings.
+    pub(crate) fn mark(&self) -> Option<u64>
+        ensures { result ≡ brought T.mark_of self.now }
+    {
+        match self {
+            Request::Put(item) | Request::Give(item) | Request::Offer(item) => Some(item.mark()),
+            Request::Take | Request::Poll => None,
         }
     }
 }
@@ -169,6 +198,7 @@ impl<T> Answer<T> {
             Answer::Gave(with) => End::Gave(with),
             Answer::Got(with, item) => End::Got(with, item),
             Answer::Failed(back) => End::Failed(back),
+            Answer::Kept => End::Kept,
             Answer::EntryInterrupted(back) => End::EntryInterrupted(back),
         }
     }

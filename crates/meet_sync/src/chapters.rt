@@ -4,19 +4,16 @@
 ghost use Rattle.std.specs.Prelude.{◌≡◌, ◌⊎◌, ◌+◌, ◌<◌, ◌≤◌, ℕ, None, length, IsOk, IsOkAnd, IfOk, IfErr};
 ghost use Rattle.meet_tickets.specs.Limits.{most_gone};
 ghost use Rattle.meet_tickets.specs.declared.refusals.Refusal.TheVariants.{Memory};
-ghost use Rattle.meet_calls.specs.DualSteps.{kind_of};
-ghost use Rattle.meet_calls.specs.QueueSteps.{bounded_kind};
 ghost use Rattle.meet_place.specs.Seats.{Checkpoints, Trims};
 ghost use Rattle.meet_place.specs.Tending.{Tends, may_lie};
 ghost use Rattle.meet_sync.specs.Chronicles.{IsChapter};
 ghost use Rattle.meet_sync.specs.Told.{IsCutWhy};
 
 use crate::asked::SeatRefused;
-use crate::sync_queue::SyncQueue;
-use crate::transfer_queue::TransferQueue;
+use crate::queue::Queue;
 use meet_book as book;
 use meet_book::Bases;
-use meet_line::Line;
+use meet_calls::QueuePlace;
 use meet_place::{Ledgers, Place, Seat};
 use meet_tickets::{Base, Deed, Marked, Record, Refusal};
 use std::sync::Wait;
@@ -68,7 +65,7 @@ where
     place.locked_rotate(rt, seat, room)
 }
 
-impl<T: Marked, L: Line<T>, G, N: Ledgers> SyncQueue<T, L, G, N> {
+impl<O: QueuePlace, G, N: Ledgers> Queue<O, G, N> {
     /// Sees to it that the history never fills: behind each call, by each seat. Where more receipts lie in the seat's
     /// list than the history's greatest number of records, parted by the seats, and that by four, and the history may
     /// be more than half full, it takes the lock once, makes a checkpoint where it is, and lets go of the seat's
@@ -78,7 +75,7 @@ impl<T: Marked, L: Line<T>, G, N: Ledgers> SyncQueue<T, L, G, N> {
         &self,
         rt: &R,
         mut seat: Seat<Deed, N>,
-    ) -> Result<Seat<Deed, N>, SeatRefused<T, N>>
+    ) -> Result<Seat<Deed, N>, SeatRefused<O::Item, N>>
         ensures few { length seat.list ≤ may_lie N.cap N.parts → IsOkAnd result (λ tended. tended ≡ seat) }
         ensures tended { IfOk result (λ tended. (tended ≡ seat) ⊎ Tends seat tended) }
         ensures trimmed { IfErr result (λ refused. (gone : ℕ) × Trims gone seat refused.seat) }
@@ -104,8 +101,8 @@ impl<T: Marked, L: Line<T>, G, N: Ledgers> SyncQueue<T, L, G, N> {
         rt: &R,
         mut seat: Seat<Deed, N>,
         room: Vec<Record<Deed>>,
-    ) -> Result<(Seat<Deed, N>, Chapter), SeatRefused<T, N>>
-        ensures chapter { IfOk result (λ made. IsChapter (kind_of L.end) made.1.base made.1.records.items) }
+    ) -> Result<(Seat<Deed, N>, Chapter), SeatRefused<O::Item, N>>
+        ensures chapter { IfOk result (λ made. IsChapter O.kind made.1.base made.1.records.items) }
         ensures counted { IfOk result (λ made. Checkpoints (length made.1.records.items) seat made.0) }
         ensures few { IfOk result (λ made. made.1.base.gone + length made.1.records.items ≤ most_gone) }
         ensures cap { IfOk result (λ made. length made.1.records.items ≤ N.cap) }
@@ -130,83 +127,7 @@ impl<T: Marked, L: Line<T>, G, N: Ledgers> SyncQueue<T, L, G, N> {
     /// seat is asked for, so it tells what happened also where a seat is lost, and `close` can't be had any more. The
     /// only refusal is Memory.
     pub fn history<R: Wait>(&self, rt: &R) -> Result<Chapter, Refusal>
-        ensures chapter { IfOk result (λ chapter. IsChapter (kind_of L.end) chapter.base chapter.records.items) }
-        ensures cap { IfOk result (λ chapter. length chapter.records.items ≤ N.cap) }
-        ensures why { IfErr result (λ why. why ≡ Memory) }
-    {
-        match self.place.history(rt) {
-            Ok(chapter) => {
-                let book::Chapter { base, records } = chapter;
-                Ok(Chapter { base, records })
-            }
-            Err(why) => Err(why),
-        }
-    }
-}
-
-impl<T: Marked, G, N: Ledgers> TransferQueue<T, G, N> {
-    /// Sees to it that the history never fills: behind each call, by each seat. Where more receipts lie in the seat's
-    /// list than the history's greatest number of records, parted by the seats, and that by four, and the history may
-    /// be more than half full, it takes the lock once, makes a checkpoint where it is, and lets go of the seat's
-    /// receipts for all that is folded away. Most calls touch no lock. It is refused as a checkpoint is; the receipts
-    /// are let go then too.
-    pub fn tend<R: Wait>(
-        &self,
-        rt: &R,
-        mut seat: Seat<Deed, N>,
-    ) -> Result<Seat<Deed, N>, SeatRefused<T, N>>
-        ensures few { length seat.list ≤ may_lie N.cap N.parts → IsOkAnd result (λ tended. tended ≡ seat) }
-        ensures tended { IfOk result (λ tended. (tended ≡ seat) ⊎ Tends seat tended) }
-        ensures trimmed { IfErr result (λ refused. (gone : ℕ) × Trims gone seat refused.seat) }
-        ensures item { IfErr result (λ refused. refused.item ≡ None) }
-        ensures why { IfErr result (λ refused. IsCutWhy refused.why) }
-    {
-        match tend(rt, &self.place, &mut seat) {
-            Ok(()) => Ok(seat),
-            Err(why) => Err(SeatRefused {
-                why,
-                seat,
-                item: None,
-            }),
-        }
-    }
-
-    /// A checkpoint that hands out what it folds away: the records so far, and the base on which they stand. They count
-    /// for the seat. The records to come are written into this list, whose own are let go, so that a list is used again
-    /// once what it held is kept elsewhere. It refuses HistoryFull where more than 2^63 - 1 records would be folded
-    /// away, else Memory; then nothing has changed but the list, which is let go.
-    pub fn rotate<R: Wait>(
-        &self,
-        rt: &R,
-        mut seat: Seat<Deed, N>,
-        room: Vec<Record<Deed>>,
-    ) -> Result<(Seat<Deed, N>, Chapter), SeatRefused<T, N>>
-        ensures chapter { IfOk result (λ made. IsChapter (bounded_kind None) made.1.base made.1.records.items) }
-        ensures counted { IfOk result (λ made. Checkpoints (length made.1.records.items) seat made.0) }
-        ensures few { IfOk result (λ made. made.1.base.gone + length made.1.records.items ≤ most_gone) }
-        ensures cap { IfOk result (λ made. length made.1.records.items ≤ N.cap) }
-        ensures back { IfErr result (λ refused. refused.seat ≡ seat) }
-        ensures item { IfErr result (λ refused. refused.item ≡ None) }
-        ensures why { IfErr result (λ refused. IsCutWhy refused.why) }
-    {
-        match rotate(rt, &self.place, &mut seat, room) {
-            Ok(chapter) => {
-                let book::Chapter { base, records } = chapter;
-                Ok((seat, Chapter { base, records }))
-            }
-            Err(why) => Err(SeatRefused {
-                why,
-                seat,
-                item: None,
-            }),
-        }
-    }
-
-    /// The records so far, and the base on which they stand, copied under one hold of the lock. Nothing changes, and no
-    /// seat is asked for, so it tells what happened also where a seat is lost, and `close` can't be had any more. The
-    /// only refusal is Memory.
-    pub fn history<R: Wait>(&self, rt: &R) -> Result<Chapter, Refusal>
-        ensures chapter { IfOk result (λ chapter. IsChapter (bounded_kind None) chapter.base chapter.records.items) }
+        ensures chapter { IfOk result (λ chapter. IsChapter O.kind chapter.base chapter.records.items) }
         ensures cap { IfOk result (λ chapter. length chapter.records.items ≤ N.cap) }
         ensures why { IfErr result (λ why. why ≡ Memory) }
     {

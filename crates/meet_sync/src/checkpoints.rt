@@ -7,10 +7,9 @@ ghost use Rattle.meet_place.specs.Seats.{Checkpoints, Trims, TrimsPending};
 ghost use Rattle.meet_sync.specs.Told.{IsCutWhy};
 
 use crate::asked::SeatRefused;
-use crate::sync_queue::SyncQueue;
-use crate::transfer_queue::TransferQueue;
+use crate::queue::Queue;
 use meet_book::Bases;
-use meet_line::Line;
+use meet_calls::QueuePlace;
 use meet_place::{Ledgers, Pending, Place, Seat};
 use meet_tickets::{Deed, Marked, Refusal};
 use std::sync::Wait;
@@ -31,7 +30,7 @@ where
     place.locked_cut(rt, seat)
 }
 
-impl<T: Marked, L: Line<T>, G, N: Ledgers> SyncQueue<T, L, G, N> {
+impl<O: QueuePlace, G, N: Ledgers> Queue<O, G, N> {
     /// Folds the records so far into the queue's base, under one hold of the lock, and answers how many were folded
     /// away since the first; those of this time count for the seat. It writes no record. It refuses HistoryFull where
     /// these would be more than 2^63 - 1, else Memory; then nothing has changed.
@@ -39,48 +38,7 @@ impl<T: Marked, L: Line<T>, G, N: Ledgers> SyncQueue<T, L, G, N> {
         &self,
         rt: &R,
         mut seat: Seat<Deed, N>,
-    ) -> Result<(Seat<Deed, N>, u64), SeatRefused<T, N>>
-        ensures seat { IfOk result (λ made. (more : ℕ) × (more ≤ made.1) × Checkpoints more seat made.0) }
-        ensures gone { IfOk result (λ made. made.1 ≤ most_gone) }
-        ensures back { IfErr result (λ refused. refused.seat ≡ seat) }
-        ensures item { IfErr result (λ refused. refused.item ≡ None) }
-        ensures why { IfErr result (λ refused. IsCutWhy refused.why) }
-    {
-        match cut(rt, &self.place, &mut seat) {
-            Ok(gone) => Ok((seat, gone)),
-            Err(why) => Err(SeatRefused {
-                why,
-                seat,
-                item: None,
-            }),
-        }
-    }
-
-    /// Drops the seat's receipts for records that are folded away by now. It takes no memory.
-    pub fn trim<R: Wait>(&self, rt: &R, mut seat: Seat<Deed, N>) -> Seat<Deed, N>
-        ensures { (gone : ℕ) × Trims gone seat result }
-    {
-        self.place.trim(rt, &mut seat);
-        seat
-    }
-
-    /// The same with a seat whose ticket is open, and stays open.
-    pub fn trim_pending<R: Wait>(&self, rt: &R, pending: Pending<Deed, N>) -> Pending<Deed, N>
-        ensures { (gone : ℕ) × TrimsPending gone pending result }
-    {
-        self.place.trim_pending(rt, pending)
-    }
-}
-
-impl<T: Marked, G, N: Ledgers> TransferQueue<T, G, N> {
-    /// Folds the records so far into the queue's base, under one hold of the lock, and answers how many were folded
-    /// away since the first; those of this time count for the seat. It writes no record. It refuses HistoryFull where
-    /// these would be more than 2^63 - 1, else Memory; then nothing has changed.
-    pub fn checkpoint<R: Wait>(
-        &self,
-        rt: &R,
-        mut seat: Seat<Deed, N>,
-    ) -> Result<(Seat<Deed, N>, u64), SeatRefused<T, N>>
+    ) -> Result<(Seat<Deed, N>, u64), SeatRefused<O::Item, N>>
         ensures seat { IfOk result (λ made. (more : ℕ) × (more ≤ made.1) × Checkpoints more seat made.0) }
         ensures gone { IfOk result (λ made. made.1 ≤ most_gone) }
         ensures back { IfErr result (λ refused. refused.seat ≡ seat) }

@@ -1,22 +1,18 @@
 //! The end of a queue for threads: its one history.
 
 ghost use Rattle.std.specs.Prelude.{◌≡◌, ◌+◌, ◌<◌, ◌≤◌, ◌^◌, None, List, length, map, vec_len, IfOk, IfErr};
-ghost use Rattle.meet_calls.specs.DualSteps.{kind_of};
-ghost use Rattle.meet_calls.specs.QueueSteps.{bounded_kind};
 ghost use Rattle.meet_place.specs.Backs.{list_of, AreOrdered, shares_in, folded_in};
 ghost use Rattle.meet_place.specs.declared.seats.Back.{Back};
 ghost use Rattle.meet_sync.specs.Chronicles.{IsChronicle};
 ghost use Rattle.meet_sync.specs.Faults.{QueueFaultFits, missing_in, why_of};
 ghost use Rattle.meet_tickets.specs.declared.refusals.Refusal.TheVariants.{Memory as NoMemory};
 
-use crate::sync_queue::SyncQueue;
-use crate::transfer_queue::TransferQueue;
+use crate::queue::Queue;
 use meet_book::{Book, Receipt};
-use meet_core::Dual;
-use meet_line::{Left, Line};
+use meet_calls::QueuePlace;
+use meet_line::Left;
 use meet_place::{Back, CloseFault, Closed, Ledgers, missing_seats};
-use meet_tickets::{Base, Deed, Marked, Record, Refusal, SeatNo};
-use meet_transfer::Unbounded;
+use meet_tickets::{Base, Deed, Record, Refusal, SeatNo};
 use std::alloc::Global;
 use std::fmt;
 use std::fmt::{Debug, Display, Formatter, Write};
@@ -121,7 +117,7 @@ impl<Q: Drop, B: Drop, N: Ledgers> QueueFault<Q, B, N> {
     }
 }
 
-impl<T: Marked, L: Line<T>, G: Drop, N: Ledgers> SyncQueue<T, L, G, N> {
+impl<O: QueuePlace, G: Drop, N: Ledgers> Queue<O, G, N> {
     /// Ends the queue: takes all seats back, free or with an open ticket, in whatever order, compares the records with
     /// the seats' receipts, and takes out what is left. So the threads' calls, however they interleaved, have one legal
     /// history, in which each seat's calls stand once, in the seat's order, and no others. It refuses SeatMissing
@@ -131,8 +127,8 @@ impl<T: Marked, L: Line<T>, G: Drop, N: Ledgers> SyncQueue<T, L, G, N> {
         self,
         alloc: Global,
         seats: Vec<Back<Deed, N>>,
-    ) -> Result<Chronicle<T>, QueueFault<Self, Book<Dual<T, L>>, N>>
-        ensures history { IfOk result (λ c. IsChronicle T.mark_of (kind_of L.end) c.base c.records.items
+    ) -> Result<Chronicle<O::Item>, QueueFault<Self, Book<O>, N>>
+        ensures history { IfOk result (λ c. IsChronicle O.Item.mark_of O.kind c.base c.records.items
             (map (λ list. list.items) c.lists.items) c.left.items) }
         ensures lists { IfOk result (λ c. (ordered : List (Back Deed N)) × AreOrdered seats.items ordered
             × (map (λ list. list.items) c.lists.items ≡ map list_of ordered)) }
@@ -143,7 +139,7 @@ impl<T: Marked, L: Line<T>, G: Drop, N: Ledgers> SyncQueue<T, L, G, N> {
         ensures cap { IfOk result (λ c. length c.records.items ≤ N.cap) }
         ensures fault { IfErr result (λ fault. QueueFaultFits self seats.items fault) }
     {
-        let SyncQueue { place } = self;
+        let Queue { place } = self;
         match place.close(alloc, seats) {
             Ok(closed) => {
                 let Closed {
@@ -168,81 +164,11 @@ impl<T: Marked, L: Line<T>, G: Drop, N: Ledgers> SyncQueue<T, L, G, N> {
                 } => Err(QueueFault::SeatMissing {
                     have,
                     made,
-                    queue: SyncQueue { place },
+                    queue: Queue { place },
                     seats,
                 }),
                 CloseFault::Memory { place, seats } => Err(QueueFault::Memory {
-                    queue: SyncQueue { place },
-                    seats,
-                }),
-                CloseFault::Differs {
-                    seat,
-                    index,
-                    book,
-                    seats,
-                } => Err(QueueFault::Differs {
-                    seat,
-                    index,
-                    book,
-                    seats,
-                }),
-            },
-        }
-    }
-}
-
-impl<T: Marked, G: Drop, N: Ledgers> TransferQueue<T, G, N> {
-    /// Ends the queue: takes all seats back, free or with an open ticket, in whatever order, compares the records with
-    /// the seats' receipts, and takes out what is left. So the threads' calls, however they interleaved, have one legal
-    /// history, in which each seat's calls stand once, in the seat's order, and no others. It refuses SeatMissing
-    /// exactly where fewer seats are given back than were made, then Memory, then Differs, at the least seat whose
-    /// receipts aren't its records.
-    pub fn close(
-        self,
-        alloc: Global,
-        seats: Vec<Back<Deed, N>>,
-    ) -> Result<Chronicle<T>, QueueFault<Self, Book<Unbounded<T>>, N>>
-        ensures history { IfOk result (λ c. IsChronicle T.mark_of (bounded_kind None) c.base c.records.items
-            (map (λ list. list.items) c.lists.items) c.left.items) }
-        ensures lists { IfOk result (λ c. (ordered : List (Back Deed N)) × AreOrdered seats.items ordered
-            × (map (λ list. list.items) c.lists.items ≡ map list_of ordered)) }
-        ensures count { IfOk result (λ c. vec_len c.lists ≡ self) }
-        ensures shares { IfOk result (λ c. c.base.gone + length c.records.items ≡ shares_in seats.items) }
-        ensures folded { IfOk result (λ c. c.base.gone ≡ folded_in seats.items) }
-        ensures few { IfOk result (λ c. c.base.gone + length c.records.items < 2 ^ 64) }
-        ensures cap { IfOk result (λ c. length c.records.items ≤ N.cap) }
-        ensures fault { IfErr result (λ fault. QueueFaultFits self seats.items fault) }
-    {
-        let TransferQueue { place } = self;
-        match place.close(alloc, seats) {
-            Ok(closed) => {
-                let Closed {
-                    base,
-                    records,
-                    lists,
-                    left,
-                } = closed;
-                Ok(Chronicle {
-                    base,
-                    records,
-                    lists,
-                    left,
-                })
-            }
-            Err(fault) => match fault {
-                CloseFault::SeatMissing {
-                    have,
-                    made,
-                    place,
-                    seats,
-                } => Err(QueueFault::SeatMissing {
-                    have,
-                    made,
-                    queue: TransferQueue { place },
-                    seats,
-                }),
-                CloseFault::Memory { place, seats } => Err(QueueFault::Memory {
-                    queue: TransferQueue { place },
+                    queue: Queue { place },
                     seats,
                 }),
                 CloseFault::Differs {

@@ -2,61 +2,71 @@
 
 ghost use Rattle.std.specs.Prelude.{◌≡◌};
 ghost use Rattle.meet_tickets.specs.declared.records.Cause.TheVariants.{Cancelled, Expired};
-ghost use Rattle.meet_sync.specs.Asking.{FollowedAs, WithdrawnAs};
+ghost use Rattle.meet_sync.specs.Asking.{FollowedAs, WithdrawnAs, WithdrawnBy};
+ghost use Rattle.meet_sync.specs.Told.{IsWithdrawal};
 
 use crate::asked::{FollowedUp, Withdrawn};
-use crate::steps::{Ending, QueueRef};
-use crate::told::{told_followed, told_taken_back};
-use meet_line::{Followed, Line, TakenBack};
+use crate::queue::{Ending, Queue};
+use meet_calls::{QueueAnswer, QueuePlace};
+use meet_line::{Followed, TakenBack};
 use meet_place::{Gate, Ledgers, Pending};
-use meet_tickets::{Deed, Marked};
+use meet_tickets::Deed;
 use std::sync::Wait;
 
-impl<T: Marked, L: Line<T>, G: Gate, N: Ledgers> QueueRef<'_, T, L, G, N> {
-    /// The follow-up of an open ticket.
-    pub(crate) fn follow_up<R: Wait>(&self, rt: &R, pending: Pending<Deed, N>) -> FollowedUp<T, N>
-        ensures { FollowedAs T.mark_of pending result }
+impl<O: QueuePlace, G: Gate, N: Ledgers> Queue<O, G, N> {
+    /// Follows an open ticket up: how it ended, or NotYet while it stands in the line. It is never refused.
+    pub fn follow_up<R: Wait>(&self, rt: &R, pending: Pending<Deed, N>) -> FollowedUp<O::Item, N>
+        ensures { FollowedAs O.Item.mark_of pending result }
     {
         let (mut seat, ticket, mark) = pending.into_parts();
-        let followed = match self.end(rt, &mut seat, (ticket, mark), Ending::FollowUp) {
-            Some(answer) => told_followed(answer),
-            None => return FollowedUp::NotYet(Pending::new(seat, ticket, mark)),
-        };
-        match followed {
-            Followed::Done => FollowedUp::Done(seat),
-            Followed::Got(with, item) => FollowedUp::Got(seat, with, item),
-            Followed::Interrupted(back) => FollowedUp::Interrupted(seat, back),
-            Followed::NotYet => FollowedUp::NotYet(Pending::new(seat, ticket, mark)),
+        match self.end(rt, &mut seat, (ticket, mark), Ending::FollowUp) {
+            None => FollowedUp::NotYet(Pending::new(seat, ticket, mark)),
+            Some(answer) => match answer {
+                QueueAnswer::Followed(followed) => match followed {
+                    Followed::Done => FollowedUp::Done(seat),
+                    Followed::Got(with, item) => FollowedUp::Got(seat, with, item),
+                    Followed::Interrupted(back) => FollowedUp::Interrupted(seat, back),
+                    Followed::NotYet => FollowedUp::NotYet(Pending::new(seat, ticket, mark)),
+                },
+                _ => unreachable!(),
+            },
         }
     }
 
-    /// Takes an open ticket back.
-    pub(crate) fn cancel<R: Wait>(&self, rt: &R, pending: Pending<Deed, N>) -> Withdrawn<T, N>
-        ensures { WithdrawnAs T.mark_of pending Cancelled result }
+    /// Takes an open ticket back, or answers Late where it was met or cut before. It is never refused.
+    pub fn cancel<R: Wait>(&self, rt: &R, pending: Pending<Deed, N>) -> Withdrawn<O::Item, N>
+        ensures { WithdrawnAs O.Item.mark_of pending Cancelled result }
     {
-        let (mut seat, ticket, mark) = pending.into_parts();
-        let taken_back = match self.end(rt, &mut seat, (ticket, mark), Ending::Cancel) {
-            Some(answer) => told_taken_back(answer),
-            None => return Withdrawn::Late(Pending::new(seat, ticket, mark)),
-        };
-        match taken_back {
-            TakenBack::Back(back) => Withdrawn::Back(seat, back),
-            TakenBack::Late => Withdrawn::Late(Pending::new(seat, ticket, mark)),
-        }
+        self.withdraw(rt, pending, Ending::Cancel)
     }
 
-    /// The time of an open ticket ran out: it is taken back.
-    pub(crate) fn expire<R: Wait>(&self, rt: &R, pending: Pending<Deed, N>) -> Withdrawn<T, N>
-        ensures { WithdrawnAs T.mark_of pending Expired result }
+    /// The same, told as an expiry: the ticket's time ran out.
+    pub fn expire<R: Wait>(&self, rt: &R, pending: Pending<Deed, N>) -> Withdrawn<O::Item, N>
+        ensures { WithdrawnAs O.Item.mark_of pending Expired result }
+    {
+        self.withdraw(rt, pending, Ending::Expire)
+    }
+
+    /// Takes an open ticket back by this ending, which is no follow-up.
+    fn withdraw<R: Wait>(
+        &self,
+        rt: &R,
+        pending: Pending<Deed, N>,
+        ending: Ending,
+    ) -> Withdrawn<O::Item, N>
+        requires withdrawal { IsWithdrawal ending }
+        ensures { WithdrawnBy O.Item.mark_of pending ending result }
     {
         let (mut seat, ticket, mark) = pending.into_parts();
-        let taken_back = match self.end(rt, &mut seat, (ticket, mark), Ending::Expire) {
-            Some(answer) => told_taken_back(answer),
-            None => return Withdrawn::Late(Pending::new(seat, ticket, mark)),
-        };
-        match taken_back {
-            TakenBack::Back(back) => Withdrawn::Back(seat, back),
-            TakenBack::Late => Withdrawn::Late(Pending::new(seat, ticket, mark)),
+        match self.end(rt, &mut seat, (ticket, mark), ending) {
+            None => Withdrawn::Late(Pending::new(seat, ticket, mark)),
+            Some(answer) => match answer {
+                QueueAnswer::TakenBack(back) => match back {
+                    TakenBack::Back(item) => Withdrawn::Back(seat, item),
+                    TakenBack::Late => Withdrawn::Late(Pending::new(seat, ticket, mark)),
+                },
+                _ => unreachable!(),
+            },
         }
     }
 }

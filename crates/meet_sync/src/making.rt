@@ -1,19 +1,24 @@
 //! New queues for threads.
 
-ghost use Rattle.std.specs.Prelude.{◌≡◌, Some, None, vec_len, IfOk, IfErr, if◌then◌else◌};
-ghost use Rattle.meet_tickets.specs.declared.refusals.Refusal.TheVariants.{BadSizes};
-ghost use Rattle.meet_tickets.specs.Limits.{most_records};
+ghost use Rattle.std.specs.Prelude.{◌≡◌, ◌+◌, Some, None, length, vec_len, IfOk, IfErr, if◌then◌else◌};
+ghost use Rattle.meet_tickets.specs.declared.refusals.Refusal.TheVariants.{BadSizes, Memory};
+ghost use Rattle.meet_line.specs.Queue.{seats_of};
+ghost use Rattle.meet_tickets.specs.BySeat.{nobody};
+ghost use Rattle.meet_tickets.specs.Limits.{most_records, most_seats};
 ghost use Rattle.meet_tickets.specs.Refusals.{IsWhy};
 ghost use Rattle.meet_place.specs.Ledgers.{AreOf};
 ghost use Rattle.meet_place.specs.Seats.{AreFresh};
 ghost use Rattle.meet_sync.specs.Making.{making_refusal};
 
-use crate::sync_queue::SyncQueue;
-use crate::transfer_queue::TransferQueue;
+use crate::queue::Queue;
+use meet_book::Book;
+use meet_calls::QueuePlace;
+use meet_core::Dual;
 use meet_line::Line;
 use meet_place::{Blanks, Ledgers, NewPlace, Place, Seat};
 use meet_queues::{ready_queue_book, ready_transfer_book};
 use meet_tickets::{Deed, MOST_RECORDS, MOST_SEATS, Marked, Refusal, Refused};
+use meet_transfer::Unbounded;
 use std::alloc::Global;
 
 /// What a queue for threads is made of. Beside the names and the parts of the ledgers, who makes a queue picks `N.cap`:
@@ -33,7 +38,55 @@ fn fits(gates: usize, cap: u64) -> bool
     gates != 0 && gates as u64 <= MOST_SEATS && cap != 0 && cap <= MOST_RECORDS
 }
 
-impl<T: Marked, L: Line<T>, G: Drop, N: Ledgers> SyncQueue<T, L, G, N> {
+impl<O: QueuePlace, G: Drop, N: Ledgers> Queue<O, G, N> {
+    /// A queue with a seat for each gate, over the book of a queue that has no history yet. The only refusal is Memory;
+    /// then the gates and the ledgers come back.
+    fn over(
+        alloc: Global,
+        parts: NewQueue<G>,
+        book: Book<O>,
+    ) -> Result<(Self, Vec<Seat<Deed, N>>), Refused<NewQueue<G>>>
+        requires fresh { seats_of (O.queue_of book.object) ≡ nobody }
+        requires unwritten { O.gone_of book.base + length book.records ≡ 0 }
+        requires first { book.base ≡ O.no_base }
+        requires seats { O.seat_count_of book.object ≡ vec_len parts.gates }
+        requires book_cap { book.cap ≡ N.cap }
+        requires gates { making_refusal (vec_len parts.gates) N.cap ≡ None }
+        requires ledgers { AreOf N.name N.folds N.parts parts.blanks }
+        requires one_each { N.parts ≡ vec_len parts.gates }
+        ensures count { IfOk result (λ made. made.0 ≡ vec_len parts.gates) }
+        ensures seats { IfOk result (λ made. vec_len made.1 ≡ vec_len parts.gates) }
+        ensures numbers { IfOk result (λ made. AreFresh made.1.items) }
+        ensures why { IfErr result (λ refused. refused.why ≡ Memory) }
+        ensures back { IfErr result (λ refused. refused.back ≡ parts) }
+    {
+        let NewQueue { gates, blanks } = parts;
+        let whole = NewPlace {
+            book,
+            gates,
+            blanks,
+        };
+        match Place::new(alloc, whole) {
+            Ok((place, seats)) => Ok((Queue { place }, seats)),
+            Err(refused) => {
+                let Refused { why, back } = refused;
+                let NewPlace {
+                    book,
+                    gates,
+                    blanks,
+                } = back;
+                let (queue, _, _) = book.into_parts();
+                queue.destroy_empty();
+                Err(Refused {
+                    why,
+                    back: NewQueue { gates, blanks },
+                })
+            }
+        }
+    }
+}
+
+impl<T: Marked, L: Line<T>, G: Drop, N: Ledgers> Queue<Dual<T, L>, G, N> {
     /// A queue with a seat for each gate, numbered from 0, and at most so many records. It refuses BadSizes where there
     /// is no gate or more than 65,536, or the records are none or more than 1,048,576; then Memory. All comes back.
     pub fn with_cap(
@@ -57,32 +110,9 @@ impl<T: Marked, L: Line<T>, G: Drop, N: Ledgers> SyncQueue<T, L, G, N> {
                 back: parts,
             });
         }
-        let book = match ready_queue_book(alloc, parts.gates.len() as u64, cap) {
-            Ok(book) => book,
-            Err(why) => return Err(Refused { why, back: parts }),
-        };
-        let NewQueue { gates, blanks } = parts;
-        let whole = NewPlace {
-            book,
-            gates,
-            blanks,
-        };
-        match Place::new(alloc, whole) {
-            Ok((place, seats)) => Ok((SyncQueue { place }, seats)),
-            Err(refused) => {
-                let Refused { why, back } = refused;
-                let NewPlace {
-                    book,
-                    gates,
-                    blanks,
-                } = back;
-                let (queue, _, _) = book.into_parts();
-                queue.destroy_empty();
-                Err(Refused {
-                    why,
-                    back: NewQueue { gates, blanks },
-                })
-            }
+        match ready_queue_book(alloc, parts.gates.len() as u64, cap) {
+            Ok(book) => Self::over(alloc, parts, book),
+            Err(why) => Err(Refused { why, back: parts }),
         }
     }
 
@@ -106,7 +136,7 @@ impl<T: Marked, L: Line<T>, G: Drop, N: Ledgers> SyncQueue<T, L, G, N> {
     }
 }
 
-impl<T: Marked, G: Drop, N: Ledgers> TransferQueue<T, G, N> {
+impl<T: Marked, G: Drop, N: Ledgers> Queue<Unbounded<T>, G, N> {
     /// A queue with a seat for each gate, numbered from 0, and at most so many records. It refuses BadSizes where there
     /// is no gate or more than 65,536, or the records are none or more than 1,048,576; then Memory. All comes back.
     pub fn with_cap(
@@ -130,32 +160,9 @@ impl<T: Marked, G: Drop, N: Ledgers> TransferQueue<T, G, N> {
                 back: parts,
             });
         }
-        let book = match ready_transfer_book(alloc, parts.gates.len() as u64, cap) {
-            Ok(book) => book,
-            Err(why) => return Err(Refused { why, back: parts }),
-        };
-        let NewQueue { gates, blanks } = parts;
-        let whole = NewPlace {
-            book,
-            gates,
-            blanks,
-        };
-        match Place::new(alloc, whole) {
-            Ok((place, seats)) => Ok((TransferQueue { place }, seats)),
-            Err(refused) => {
-                let Refused { why, back } = refused;
-                let NewPlace {
-                    book,
-                    gates,
-                    blanks,
-                } = back;
-                let (queue, _, _) = book.into_parts();
-                queue.destroy_empty();
-                Err(Refused {
-                    why,
-                    back: NewQueue { gates, blanks },
-                })
-            }
+        match ready_transfer_book(alloc, parts.gates.len() as u64, cap) {
+            Ok(book) => Self::over(alloc, parts, book),
+            Err(why) => Err(Refused { why, back: parts }),
         }
     }
 
@@ -175,6 +182,6 @@ impl<T: Marked, G: Drop, N: Ledgers> TransferQueue<T, G, N> {
         ensures why { IfErr result (λ refused. IsWhy (making_refusal (vec_len parts.gates) most_records) refused.why) }
         ensures back { IfErr result (λ refused. refused.back ≡ parts) }
     {
-        TransferQueue::with_cap(alloc, parts, MOST_RECORDS)
+        Self::with_cap(alloc, parts, MOST_RECORDS)
     }
 }

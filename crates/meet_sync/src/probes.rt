@@ -1,26 +1,18 @@
 //! What a queue for threads shows of itself. None of these takes memory. Of those that look under the lock nothing is
 //! promised: once they answer, other threads may have changed what they saw.
 
-ghost use Rattle.std.specs.Prelude.{◌≡◌, ◌≤◌, true, false, None};
-ghost use Rattle.meet_tickets.specs.Limits.{most_seats, told_capacity};
+ghost use Rattle.std.specs.Prelude.{◌≡◌, true, false, None};
+ghost use Rattle.meet_tickets.specs.Limits.{told_capacity};
 
-use crate::sync_queue::SyncQueue;
-use crate::transfer_queue::TransferQueue;
+use crate::queue::Queue;
+use meet_core::Dual;
 use meet_line::Line;
 use meet_place::Ledgers;
 use meet_tickets::{Marked, TOLD_CAPACITY};
+use meet_transfer::Unbounded;
 use std::sync::Wait;
 
-impl<T: Marked, L: Line<T>, G, N: Ledgers> SyncQueue<T, L, G, N> {
-    /// How many seats there are.
-    pub fn seats(&self) -> usize
-        ensures count { result ≡ self.now }
-        ensures parts { result ≡ N.parts }
-        ensures limit { result ≤ most_seats }
-    {
-        self.place.seats()
-    }
-
+impl<T: Marked, L: Line<T>, G, N: Ledgers> Queue<Dual<T, L>, G, N> {
     /// `SynchronousQueue.isEmpty`: always true, whoever waits.
     pub fn is_empty(&self) -> bool
         ensures { result ≡ true }
@@ -57,16 +49,7 @@ impl<T: Marked, L: Line<T>, G, N: Ledgers> SyncQueue<T, L, G, N> {
     }
 }
 
-impl<T: Marked, G, N: Ledgers> TransferQueue<T, G, N> {
-    /// How many seats there are.
-    pub fn seats(&self) -> usize
-        ensures count { result ≡ self.now }
-        ensures parts { result ≡ N.parts }
-        ensures limit { result ≤ most_seats }
-    {
-        self.place.seats()
-    }
-
+impl<T: Marked, G, N: Ledgers> Queue<Unbounded<T>, G, N> {
     /// `LinkedTransferQueue.remainingCapacity`: always 2,147,483,647.
     pub fn remaining_capacity(&self) -> u64
         ensures { result ≡ told_capacity }

@@ -8,21 +8,21 @@ ghost use Rattle.meet_sync.specs.declared.asked.Request.TheVariants.{Give, Offer
 
 use crate::asked::{Asked, End, Ended, FollowedUp, Request, SeatRefused, Withdrawn};
 use crate::deadline::Deadline;
-use crate::steps::QueueRef;
-use meet_line::Line;
+use crate::queue::Queue;
+use meet_calls::QueuePlace;
 use meet_place::{Gate, Ledgers, Pending, Seat, Turn};
-use meet_tickets::{Deed, Marked};
+use meet_tickets::Deed;
 use std::sync::Wait;
 use std::time::Clock;
 
-impl<T: Marked, L: Line<T>, G: Gate, N: Ledgers> QueueRef<'_, T, L, G, N> {
+impl<O: QueuePlace, G: Gate, N: Ledgers> Queue<O, G, N> {
     /// Follows an open ticket up: how it ended, or the ticket as it was.
     fn look<R: Wait>(
         &self,
         rt: &R,
         pending: Pending<Deed, N>,
-    ) -> Result<Ended<T, N>, Pending<Deed, N>>
-        ensures outcome { IfOk result (λ ended. OutcomeOf T.mark_of pending ended) }
+    ) -> Result<Ended<O::Item, N>, Pending<Deed, N>>
+        ensures outcome { IfOk result (λ ended. OutcomeOf O.Item.mark_of pending ended) }
         ensures untimed { IfOk result (λ ended. NotExpired ended.end) }
         ensures again { IfErr result (λ again. again ≡ pending) }
     {
@@ -44,8 +44,8 @@ impl<T: Marked, L: Line<T>, G: Gate, N: Ledgers> QueueRef<'_, T, L, G, N> {
     }
 
     /// Waits until an open ticket ends: it looks again each time it is woken.
-    fn await_end<R: Wait + Clock>(&self, rt: &R, first: Pending<Deed, N>) -> Ended<T, N>
-        ensures outcome { OutcomeOf T.mark_of first result }
+    fn await_end<R: Wait + Clock>(&self, rt: &R, first: Pending<Deed, N>) -> Ended<O::Item, N>
+        ensures outcome { OutcomeOf O.Item.mark_of first result }
         ensures untimed { NotExpired result.end }
     {
         let mut pending = first;
@@ -60,8 +60,8 @@ impl<T: Marked, L: Line<T>, G: Gate, N: Ledgers> QueueRef<'_, T, L, G, N> {
     }
 
     /// Looks until an open ticket ends, which was met or cut.
-    fn collect<R: Wait>(&self, rt: &R, first: Pending<Deed, N>) -> Ended<T, N>
-        ensures outcome { OutcomeOf T.mark_of first result }
+    fn collect<R: Wait>(&self, rt: &R, first: Pending<Deed, N>) -> Ended<O::Item, N>
+        ensures outcome { OutcomeOf O.Item.mark_of first result }
     {
         let mut pending = first;
         for _ in rt.forever() {
@@ -74,8 +74,8 @@ impl<T: Marked, L: Line<T>, G: Gate, N: Ledgers> QueueRef<'_, T, L, G, N> {
     }
 
     /// The time of an open ticket ran out: it is withdrawn, or ends as it was met or cut.
-    fn run_out<R: Wait>(&self, rt: &R, pending: Pending<Deed, N>) -> Ended<T, N>
-        ensures outcome { OutcomeOf T.mark_of pending result }
+    fn run_out<R: Wait>(&self, rt: &R, pending: Pending<Deed, N>) -> Ended<O::Item, N>
+        ensures outcome { OutcomeOf O.Item.mark_of pending result }
     {
         match self.expire(rt, pending) {
             Withdrawn::Back(seat, back) => Ended {
@@ -87,8 +87,13 @@ impl<T: Marked, L: Line<T>, G: Gate, N: Ledgers> QueueRef<'_, T, L, G, N> {
     }
 
     /// Waits until an open ticket ends, or its time runs out, however often it is woken in between.
-    fn await_for<R: Wait + Clock>(&self, rt: &R, first: Pending<Deed, N>, limit: u64) -> Ended<T, N>
-        ensures outcome { OutcomeOf T.mark_of first result }
+    fn await_for<R: Wait + Clock>(
+        &self,
+        rt: &R,
+        first: Pending<Deed, N>,
+        limit: u64,
+    ) -> Ended<O::Item, N>
+        ensures outcome { OutcomeOf O.Item.mark_of first result }
     {
         let deadline = Deadline::after(rt, limit);
         let mut left = limit;
@@ -111,9 +116,9 @@ impl<T: Marked, L: Line<T>, G: Gate, N: Ledgers> QueueRef<'_, T, L, G, N> {
         &self,
         rt: &R,
         seat: Seat<Deed, N>,
-        request: Request<T>,
-    ) -> Result<Ended<T, N>, SeatRefused<T, N>>
-        ensures ended { IfOk result (λ ended. EndedAs ⊥ T.mark_of seat request ended) }
+        request: Request<O::Item>,
+    ) -> Result<Ended<O::Item, N>, SeatRefused<O::Item, N>>
+        ensures ended { IfOk result (λ ended. EndedAs O.kind ⊥ O.Item.mark_of seat request ended) }
         ensures number { IfErr result (λ refused. refused.seat.number ≡ seat.number) }
         ensures past { IfErr result (λ refused. refused.seat.past ≡ seat.past) }
         ensures list { IfErr result (λ refused. refused.seat.list ≡ seat.list) }
@@ -138,10 +143,10 @@ impl<T: Marked, L: Line<T>, G: Gate, N: Ledgers> QueueRef<'_, T, L, G, N> {
         &self,
         rt: &R,
         seat: Seat<Deed, N>,
-        request: Request<T>,
+        request: Request<O::Item>,
         limit: u64,
-    ) -> Result<Ended<T, N>, SeatRefused<T, N>>
-        ensures ended { IfOk result (λ ended. EndedAs ⊤ T.mark_of seat request ended) }
+    ) -> Result<Ended<O::Item, N>, SeatRefused<O::Item, N>>
+        ensures ended { IfOk result (λ ended. EndedAs O.kind ⊤ O.Item.mark_of seat request ended) }
         ensures number { IfErr result (λ refused. refused.seat.number ≡ seat.number) }
         ensures past { IfErr result (λ refused. refused.seat.past ≡ seat.past) }
         ensures list { IfErr result (λ refused. refused.seat.list ≡ seat.list) }
@@ -166,11 +171,11 @@ impl<T: Marked, L: Line<T>, G: Gate, N: Ledgers> QueueRef<'_, T, L, G, N> {
         &self,
         rt: &R,
         seat: Seat<Deed, N>,
-        item: T,
+        item: O::Item,
         limit: u64,
-    ) -> Result<Ended<T, N>, SeatRefused<T, N>>
-        ensures now { limit ≡ 0 → IfOk result (λ ended. EndedAs ⊥ T.mark_of seat (Offer item) ended) }
-        ensures timed { 0 < limit → IfOk result (λ ended. EndedAs ⊤ T.mark_of seat (Give item) ended) }
+    ) -> Result<Ended<O::Item, N>, SeatRefused<O::Item, N>>
+        ensures now { limit ≡ 0 → IfOk result (λ ended. EndedAs O.kind ⊥ O.Item.mark_of seat (Offer item) ended) }
+        ensures timed { 0 < limit → IfOk result (λ ended. EndedAs O.kind ⊤ O.Item.mark_of seat (Give item) ended) }
         ensures number { IfErr result (λ refused. refused.seat.number ≡ seat.number) }
         ensures past { IfErr result (λ refused. refused.seat.past ≡ seat.past) }
         ensures list { IfErr result (λ refused. refused.seat.list ≡ seat.list) }
@@ -183,15 +188,47 @@ impl<T: Marked, L: Line<T>, G: Gate, N: Ledgers> QueueRef<'_, T, L, G, N> {
         self.ask_for(rt, seat, Request::Give(item), limit)
     }
 
-    /// A take that waits for so many milliseconds; with a limit of 0 it is a poll.
-    pub(crate) fn take_for<R: Wait + Clock>(
+    /// `BlockingQueue.take`: takes an item, and waits until there is one. Refuses as `request`.
+    pub fn take<R: Wait + Clock>(
+        &self,
+        rt: &R,
+        seat: Seat<Deed, N>,
+    ) -> Result<Ended<O::Item, N>, SeatRefused<O::Item, N>>
+        ensures ended { IfOk result (λ ended. EndedAs O.kind ⊥ O.Item.mark_of seat Take ended) }
+        ensures number { IfErr result (λ refused. refused.seat.number ≡ seat.number) }
+        ensures past { IfErr result (λ refused. refused.seat.past ≡ seat.past) }
+        ensures list { IfErr result (λ refused. refused.seat.list ≡ seat.list) }
+        ensures item { IfErr result (λ refused. refused.item ≡ item_of Take) }
+        ensures why { IfErr result (λ refused. IsRequestWhy refused.why) }
+    {
+        self.ask(rt, seat, Request::Take)
+    }
+
+    /// `Queue.poll`: takes an item from a giver that is there, or fails. Refuses as `request`.
+    pub fn poll<R: Wait + Clock>(
+        &self,
+        rt: &R,
+        seat: Seat<Deed, N>,
+    ) -> Result<Ended<O::Item, N>, SeatRefused<O::Item, N>>
+        ensures ended { IfOk result (λ ended. EndedAs O.kind ⊥ O.Item.mark_of seat Poll ended) }
+        ensures number { IfErr result (λ refused. refused.seat.number ≡ seat.number) }
+        ensures past { IfErr result (λ refused. refused.seat.past ≡ seat.past) }
+        ensures list { IfErr result (λ refused. refused.seat.list ≡ seat.list) }
+        ensures item { IfErr result (λ refused. refused.item ≡ item_of Poll) }
+        ensures why { IfErr result (λ refused. IsRequestWhy refused.why) }
+    {
+        self.ask(rt, seat, Request::Poll)
+    }
+
+    /// `BlockingQueue.poll` with a limit in milliseconds; with a limit of 0 it is `poll`. Refuses as `request`.
+    pub fn poll_for<R: Wait + Clock>(
         &self,
         rt: &R,
         seat: Seat<Deed, N>,
         limit: u64,
-    ) -> Result<Ended<T, N>, SeatRefused<T, N>>
-        ensures now { limit ≡ 0 → IfOk result (λ ended. EndedAs ⊥ T.mark_of seat Poll ended) }
-        ensures timed { 0 < limit → IfOk result (λ ended. EndedAs ⊤ T.mark_of seat Take ended) }
+    ) -> Result<Ended<O::Item, N>, SeatRefused<O::Item, N>>
+        ensures now { limit ≡ 0 → IfOk result (λ ended. EndedAs O.kind ⊥ O.Item.mark_of seat Poll ended) }
+        ensures timed { 0 < limit → IfOk result (λ ended. EndedAs O.kind ⊤ O.Item.mark_of seat Take ended) }
         ensures number { IfErr result (λ refused. refused.seat.number ≡ seat.number) }
         ensures past { IfErr result (λ refused. refused.seat.past ≡ seat.past) }
         ensures list { IfErr result (λ refused. refused.seat.list ≡ seat.list) }

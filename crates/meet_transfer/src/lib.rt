@@ -5,7 +5,7 @@
 mod transfer;
 mod unbounded;
 
-pub use meet_calls::{DualAnswer, DualCall, QueueAnswer, QueueCall};
+pub use meet_calls::{QueueAnswer, QueueCall};
 pub use meet_line::{
     Followed, Gave, Interrupted, Left, LeftStanding, Offered, Polled, Put, TakenBack, Took,
 };

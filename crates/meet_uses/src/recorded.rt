@@ -9,7 +9,7 @@ ghost use Rattle.meet_uses.specs.Named.{Names};
 use crate::parcels::{Parcel, parcel_of};
 use anyhow::Result;
 use meet_book::{Book, Receipt};
-use meet_calls::{DualAnswer, DualCall};
+use meet_calls::{QueueAnswer, QueueCall};
 use meet_core::Dual;
 use meet_line::{FairLine, Line, Polled};
 use meet_queues::queue_book;
@@ -26,12 +26,12 @@ pub fn take_on_record<L: Line<Parcel>>(
     ensures nobody { IfOk result (λ made. IsNone made ↔ (partner L.end book.old.object.line Taker ≡ None)) }
     ensures named { IfOk result (λ made. IfSome made (λ taken. Names seat taken.0 taken.1.entry)) }
 {
-    let (answer, receipt) = book.step(seat, DualCall::Poll).map_err(Refused::into_why)?;
+    let (answer, receipt) = book.step(seat, QueueCall::Poll).map_err(Refused::into_why)?;
     let Some(receipt) = receipt else {
         unreachable!()
     };
     match answer {
-        DualAnswer::Polled(polled) => match polled {
+        QueueAnswer::Polled(polled) => match polled {
             Polled::Meets(_, _, parcel) => Ok(Some((parcel, receipt))),
             Polled::Fails(_) => Ok(None),
         },
@@ -67,8 +67,8 @@ fn all_calls(
 /// A seat gives a parcel, and its record is told.
 fn give(rt: &HostRuntime, book: &mut Recorded, seat: SeatNo, item: Parcel) -> Result<()> {
     // A refusal would bring the call back, and the parcel in it; `into_why` lets both go.
-    let given = book.step(seat, DualCall::Give(item));
-    let (_, receipt) = given.map_err(Refused::into_why)?; // DualAnswer::Gave(..), Some(receipt)
+    let given = book.step(seat, QueueCall::Give(item));
+    let (_, receipt) = given.map_err(Refused::into_why)?; // QueueAnswer::Gave(..), Some(receipt)
     if let Some(receipt) = receipt {
         let entry = receipt.entry(); // the record; receipt.place() is its number
         println!(rt; "record {} of t{}", receipt.place(), entry.ticket.number())?;

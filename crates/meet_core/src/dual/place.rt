@@ -2,7 +2,7 @@
 
 ghost use Rattle.std.specs.Prelude.{◌≡◌, ◌≤◌, None, [], List, length, refl};
 ghost use Rattle.meet_line.specs.Queue.{places_of, count_of};
-ghost use Rattle.meet_calls.specs.DualRecords.{dual_record};
+ghost use Rattle.meet_calls.specs.QueueRecords.{queue_record};
 ghost use Rattle.meet_tickets.specs.Bases.{Based, no_base, IsBaseOf};
 ghost use Rattle.std.specs.Vec.{vec_capacity};
 ghost use Rattle.meet_tickets.specs.declared.records.Deed.{Deed as Told};
@@ -10,24 +10,25 @@ ghost use Rattle.meet_tickets.specs.declared.records.Record.{Record as Entered};
 ghost use Rattle.meet_line.specs.Left.{left_in};
 ghost use Rattle.meet_line.specs.LeftTold.{AreLeftOn};
 ghost use Rattle.meet_line.specs.Seen.{moment_of_queue};
-ghost use Rattle.meet_calls.specs.DualSteps.{DualStep, LeadsTo, kind_of, dual_refusal, dual_need, dual_room};
-ghost use Rattle.meet_calls.specs.DualSteps.{dual_owed, dual_available, dual_left};
-ghost use Rattle.meet_calls.specs.DualRoom.{roomy, roomy-refusal, roomy-leads, roomy-steps, roomless, roomy-fresh};
-ghost use Rattle.meet_calls.specs.DualRoom.{own-record};
+ghost use Rattle.meet_calls.specs.QueueSteps.{DualStep, LeadsTo, kind_of, queue_refusal, queue_need, queue_room};
+ghost use Rattle.meet_calls.specs.QueueSteps.{queue_owed, queue_available, queue_left};
+ghost use Rattle.meet_calls.specs.QueueRoom.{roomy, roomy-refusal, roomy-leads, roomy-steps, roomless, roomy-fresh};
+ghost use Rattle.meet_calls.specs.QueueRoom.{own-record};
 ghost use Rattle.meet_calls.specs.SeatCounts.{dual-count};
-ghost use Rattle.meet_calls.specs.declared.queue_calls.DualCall.TheVariants.{Poll};
+ghost use Rattle.meet_calls.specs.Synchronous.{synchronous-step};
+ghost use Rattle.meet_calls.specs.declared.queue_calls.QueueCall.TheVariants.{Poll};
 
 use super::Dual;
 use meet_book::{Bases, Drains, Leaves, Object, Wakes};
-use meet_calls::{Answered, DualAnswer, DualCall, admit_call, make_call};
+use meet_calls::{Answered, QueueAnswer, QueueCall, QueuePlace, admit_call, make_call};
 use meet_line::{Left, Line};
-use meet_tickets::{Base, Deed, Marked, Record, Refusal, SeatNo};
+use meet_tickets::{Base, Deed, Marked, Record, Refusal, SeatNo, Ticket};
 use std::alloc::Global;
 
 impl<T: Marked, L: Line<T>> Object for Dual<T, L> {
-    type Call = DualCall<T>;
+    type Call = QueueCall<T>;
 
-    type Answer = DualAnswer<T>;
+    type Answer = QueueAnswer<T>;
 
     type Deed = Deed;
 
@@ -41,17 +42,17 @@ impl<T: Marked, L: Line<T>> Object for Dual<T, L> {
 
     ghost steps = { λ old seat call answer new. DualStep T.mark_of L.end old seat call answer new };
 
-    ghost record_of = { λ seat call answer. dual_record T.mark_of seat call answer };
+    ghost record_of = { λ seat call answer. queue_record T.mark_of seat call answer };
 
-    ghost refusal_of = { λ q seat call. dual_refusal q seat call };
+    ghost refusal_of = { λ q seat call. queue_refusal q seat call };
 
-    ghost owed_of = { λ q. dual_owed q };
+    ghost owed_of = { λ q. queue_owed q };
 
-    ghost need_of = { λ call. dual_need call };
+    ghost need_of = { λ call. queue_need call };
 
     ghost seat_count_of = { λ q. count_of q };
 
-    ghost room_of = { λ call. dual_room call };
+    ghost room_of = { λ call. queue_room call };
 
     ghost spare = { λ q. q.room };
 
@@ -88,15 +89,15 @@ impl<T: Marked, L: Line<T>> Object for Dual<T, L> {
         base.gone
     }
 
-    fn admit(&self, seat: SeatNo, call: &DualCall<T>) -> Result<(), Refusal> {
+    fn admit(&self, seat: SeatNo, call: &QueueCall<T>) -> Result<(), Refusal> {
         admit_call(&self.meetings, seat, call)
     }
 
-    fn need(call: &DualCall<T>) -> u64 {
+    fn need(call: &QueueCall<T>) -> u64 {
         call.need()
     }
 
-    fn room(call: &DualCall<T>) -> u64 {
+    fn room(call: &QueueCall<T>) -> u64 {
         call.room()
     }
 
@@ -108,7 +109,7 @@ impl<T: Marked, L: Line<T>> Object for Dual<T, L> {
         Dual::reserve(self, room)
     }
 
-    fn step(&mut self, seat: SeatNo, call: DualCall<T>) -> (DualAnswer<T>, Option<Record<Deed>>) {
+    fn step(&mut self, seat: SeatNo, call: QueueCall<T>) -> (QueueAnswer<T>, Option<Record<Deed>>) {
         self.stays_sound();
         self.make(seat, call)
     }
@@ -129,9 +130,9 @@ impl<T: Marked, L: Line<T>> Bases for Dual<T, L> {
 impl<T: Marked, L: Line<T>> Drains for Dual<T, L> {
     ghost poll = { Poll };
 
-    ghost available_of = { λ q. dual_available q };
+    ghost available_of = { λ q. queue_available q };
 
-    ghost left_of = { λ q. dual_left q };
+    ghost left_of = { λ q. queue_left q };
 
     ghost poll_fits = { refl };
 
@@ -144,12 +145,12 @@ impl<T: Marked, L: Line<T>> Drains for Dual<T, L> {
     }
 
     fn admit_poll(&self, seat: SeatNo) -> Result<(), Refusal> {
-        admit_call(&self.meetings, seat, &DualCall::Poll)
+        admit_call(&self.meetings, seat, &QueueCall::Poll)
     }
 
-    fn poll_call(&self) -> DualCall<T> {
+    fn poll_call(&self) -> QueueCall<T> {
         self.stays_sound();
-        DualCall::Poll
+        QueueCall::Poll
     }
 
     fn met(&self) -> Option<SeatNo> {
@@ -158,7 +159,7 @@ impl<T: Marked, L: Line<T>> Drains for Dual<T, L> {
 }
 
 impl<T: Marked, L: Line<T>> Wakes for Dual<T, L> {
-    fn wakes(&self, answer: &DualAnswer<T>) -> Option<SeatNo> {
+    fn wakes(&self, answer: &QueueAnswer<T>) -> Option<SeatNo> {
         if answer.frees() {
             self.meetings.changed()
         } else {
@@ -188,13 +189,52 @@ impl<T: Marked, L: Line<T>> Leaves for Dual<T, L> {
     }
 }
 
+impl<T: Marked, L: Line<T>> QueuePlace for Dual<T, L> {
+    type Item = T;
+
+    ghost kind = { kind_of L.end };
+
+    ghost queue_of = { λ q. q };
+
+    ghost is_step = { λ old seat call answer new step.
+        synchronous-step T.mark_of L.end old seat call answer new step };
+
+    ghost is_record = { λ seat call answer. refl };
+
+    ghost is_refusal = { λ q seat call. refl };
+
+    ghost is_need = { λ call. refl };
+
+    ghost is_count = { λ q. refl };
+
+    ghost is_poll = { refl };
+
+    ghost is_available = { λ q. refl };
+
+    ghost is_no_base = { refl };
+
+    ghost is_gone = { refl };
+
+    ghost is_history = { λ base records q leads. leads };
+
+    ghost is_left = { λ base records left are. are };
+
+    fn awaits(&self, seat: SeatNo, ticket: Ticket, mark: Option<u64>) -> bool {
+        Dual::awaits(self, seat, ticket, mark)
+    }
+
+    fn destroy_empty(self) {
+        Dual::destroy_empty(self);
+    }
+}
+
 impl<T: Marked, L: Line<T>> Dual<T, L> {
     /// Makes an admitted call, for which there is room.
-    fn make(&mut self, seat: SeatNo, call: DualCall<T>) -> Answered<T>
-        requires admitted { dual_refusal self.old seat call ≡ None }
-        requires room { dual_room call ≤ self.old.room }
+    fn make(&mut self, seat: SeatNo, call: QueueCall<T>) -> Answered<T>
+        requires admitted { queue_refusal self.old seat call ≡ None }
+        requires room { queue_room call ≤ self.old.room }
         ensures step { DualStep T.mark_of L.end self.old seat call result.0 self.new }
-        ensures entry { result.1 ≡ dual_record T.mark_of seat call result.0 }
+        ensures entry { result.1 ≡ queue_record T.mark_of seat call result.0 }
         ensures places { places_of self.new ≡ places_of self.old }
     {
         make_call(&mut self.meetings, seat, call)

@@ -6,7 +6,7 @@ ghost use Rattle.meet_history.specs.OneThread.{named, told};
 ghost use Rattle.meet_history.specs.Stepping.{back_of};
 
 use meet_line::{Followed, Gave, Offered, Put, TakenBack};
-use meet_queues::{DualAnswer, QueueAnswer};
+use meet_queues::QueueAnswer;
 use meet_tickets::{Cause, Deed, Record, Refusal, SeatNo, Ticket};
 
 /// A reply, to the seat that made the call.
@@ -98,25 +98,23 @@ fn back_of(answer: &QueueAnswer<u64>) -> Option<u64>
             Put::Fails(_, item) => Some(*item),
             _ => None,
         },
-        QueueAnswer::Dual(answer) => match answer {
-            DualAnswer::Gave(gave) => match gave {
-                Gave::EntryInterrupted(_, item) => Some(*item),
-                _ => None,
-            },
-            DualAnswer::Offered(offered) => match offered {
-                Offered::Fails(_, item) => Some(*item),
-                _ => None,
-            },
-            DualAnswer::Followed(followed) => match followed {
-                Followed::Interrupted(item) => *item,
-                _ => None,
-            },
-            DualAnswer::TakenBack(back) => match back {
-                TakenBack::Back(item) => *item,
-                TakenBack::Late => None,
-            },
+        QueueAnswer::Gave(gave) => match gave {
+            Gave::EntryInterrupted(_, item) => Some(*item),
             _ => None,
         },
+        QueueAnswer::Offered(offered) => match offered {
+            Offered::Fails(_, item) => Some(*item),
+            _ => None,
+        },
+        QueueAnswer::Followed(followed) => match followed {
+            Followed::Interrupted(item) => *item,
+            _ => None,
+        },
+        QueueAnswer::TakenBack(back) => match back {
+            TakenBack::Back(item) => *item,
+            TakenBack::Late => None,
+        },
+        _ => None,
     }
 }
 

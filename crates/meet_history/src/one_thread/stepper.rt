@@ -11,7 +11,7 @@ use super::replies::push_reserved;
 use super::{Call, Outcome, Reply, Setup, Verb};
 use crate::checker::Standing;
 use meet_book::{Book, Receipt};
-use meet_queues::{AnyQueue, DualAnswer, DualCall, QueueAnswer, QueueCall};
+use meet_queues::{AnyQueue, QueueAnswer, QueueCall};
 use meet_tickets::{Base, Deed, Record, Refusal, SeatNo};
 use std::alloc::Global;
 use std::marker::Model;
@@ -85,11 +85,8 @@ fn unrecorded(call: &QueueCall<u64>) -> Outcome
     ensures { result ≡ unrecorded call.now }
 {
     match call {
-        QueueCall::Put(_) => Outcome::Late,
-        QueueCall::Dual(call) => match call {
-            DualCall::FollowUp(_) => Outcome::NotYet,
-            _ => Outcome::Late,
-        },
+        QueueCall::FollowUp(_) => Outcome::NotYet,
+        _ => Outcome::Late,
     }
 }
 
@@ -105,14 +102,13 @@ fn counted(seat: SeatNo, number: u64) -> Reply
 
 impl Stepper {
     ghost use Rattle.meet_tickets.specs.Bases.{IsWellFormed, IsLegalOn};
-    ghost use Rattle.meet_calls.specs.DualSteps.{dual_need, dual_refusal};
+    ghost use Rattle.meet_calls.specs.QueueSteps.{queue_need, queue_refusal};
     ghost use Rattle.meet_history.specs.OneThread.{start, turn, turn_of, standing_of};
     ghost use Rattle.meet_history.specs.Served.{serves, IsOne, IsAnswered};
     ghost use Rattle.meet_history.specs.Stepping.{place_of, HasWritten, Takes, TakesTurn, LacksMemory, HasRoom};
     ghost use Rattle.meet_history.specs.Stepping.{StaysButForRoom};
     ghost use Rattle.meet_history.specs.declared.one_thread.verbs.Verb.TheVariants.{Checkpoint};
     ghost use Rattle.meet_history.specs.Stepping.{turn_of_call, refusal_at};
-    ghost use Rattle.meet_calls.specs.QueueSteps.{dual_call, queue_need, queue_refusal};
     ghost use Rattle.meet_history.specs.Limits.{IsInLimits};
 
     /// The place of this setup, before any call. The only refusal is Memory.
@@ -141,7 +137,7 @@ impl Stepper {
         ensures turn { IfOk result (TakesTurn (turn_of_call self.old.setup (place_of self.old) seat call) self.old
             self.new) }
         ensures memory { IfErr result (LacksMemory
-            (refusal_at self.old.setup (place_of self.old) seat (dual_call call)) self.old self.new) }
+            (refusal_at self.old.setup (place_of self.old) seat call) self.old self.new) }
         ensures enough { HasRoom self.old → IsOk result }
     {
         let otherwise = unrecorded(&call);
@@ -156,19 +152,6 @@ impl Stepper {
                 outcome: otherwise,
             }),
         }
-    }
-
-    /// Makes a call that each queue has.
-    #[inline(always)]
-    fn dual(&mut self, seat: SeatNo, call: DualCall<u64>) -> Result<Reply, Refusal>
-        requires opened { dual_need call ≡ 0 → dual_refusal self.old.queue seat call ≡ None }
-        ensures turn { IfOk result (TakesTurn (turn_of_call self.old.setup (place_of self.old) seat
-            (QueueCall.Dual call)) self.old self.new) }
-        ensures memory { IfErr result (LacksMemory (refusal_at self.old.setup (place_of self.old) seat call) self.old
-            self.new) }
-        ensures enough { HasRoom self.old → IsOk result }
-    {
-        self.make(seat, QueueCall::Dual(call))
     }
 
     /// The reply to a call that has one.
@@ -187,26 +170,26 @@ impl Stepper {
                 if self.setup.kind.order.keeps() {
                     self.make(seat, QueueCall::Put(mark))
                 } else {
-                    self.dual(seat, DualCall::Offer(mark))
+                    self.make(seat, QueueCall::Offer(mark))
                 }
             }
-            Verb::Take => self.dual(seat, DualCall::Take),
-            Verb::Poll => self.dual(seat, DualCall::Poll),
-            Verb::Transfer(mark) => self.dual(seat, DualCall::Give(mark)),
-            Verb::Try(mark) => self.dual(seat, DualCall::Offer(mark)),
+            Verb::Take => self.make(seat, QueueCall::Take),
+            Verb::Poll => self.make(seat, QueueCall::Poll),
+            Verb::Transfer(mark) => self.make(seat, QueueCall::Give(mark)),
+            Verb::Try(mark) => self.make(seat, QueueCall::Offer(mark)),
             Verb::Follow => match self.book.probe().open_ticket(seat) {
-                Some(ticket) => self.dual(seat, DualCall::FollowUp(ticket)),
+                Some(ticket) => self.make(seat, QueueCall::FollowUp(ticket)),
                 None => Ok(refused(seat, Refusal::NotOpen)),
             },
             Verb::Cancel => match self.book.probe().open_ticket(seat) {
-                Some(ticket) => self.dual(seat, DualCall::Cancel(ticket)),
+                Some(ticket) => self.make(seat, QueueCall::Cancel(ticket)),
                 None => Ok(refused(seat, Refusal::NotOpen)),
             },
             Verb::Expire => match self.book.probe().open_ticket(seat) {
-                Some(ticket) => self.dual(seat, DualCall::Expire(ticket)),
+                Some(ticket) => self.make(seat, QueueCall::Expire(ticket)),
                 None => Ok(refused(seat, Refusal::NotOpen)),
             },
-            Verb::Interrupt(target) => self.dual(seat, DualCall::Interrupt(target)),
+            Verb::Interrupt(target) => self.make(seat, QueueCall::Interrupt(target)),
             Verb::Size => Ok(counted(seat, self.book.probe().size())),
             Verb::Room => Ok(counted(seat, self.book.probe().remaining_capacity())),
             Verb::Peek => Ok(Reply {

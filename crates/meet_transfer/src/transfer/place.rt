@@ -10,19 +10,18 @@ ghost use Rattle.meet_tickets.specs.declared.records.Record.{Record as Entered};
 ghost use Rattle.meet_line.specs.Left.{left_in};
 ghost use Rattle.meet_line.specs.LeftTold.{AreLeftOn};
 ghost use Rattle.meet_line.specs.Seen.{moment_of_queue};
-ghost use Rattle.meet_calls.specs.DualSteps.{LeadsTo, dual_owed, dual_available, dual_left};
+ghost use Rattle.meet_calls.specs.QueueSteps.{LeadsTo, queue_owed, queue_available, queue_left};
 ghost use Rattle.meet_transfer.specs.Bounded.{BoundedStep};
-ghost use Rattle.meet_calls.specs.QueueSteps.{bounded_kind, dual_call, queue_refusal, queue_need, queue_room};
-ghost use Rattle.meet_calls.specs.QueueSteps.{queue_record};
-ghost use Rattle.meet_calls.specs.DualRoom.{roomy, roomy-leads, roomless, roomy-fresh};
-ghost use Rattle.meet_calls.specs.QueueRoom.{roomy-queue-refusal, roomy-queue-steps, own-queue-record};
+ghost use Rattle.meet_calls.specs.QueueSteps.{bounded_kind, queue_refusal, queue_need, queue_room};
+ghost use Rattle.meet_calls.specs.QueueRecords.{queue_record};
+ghost use Rattle.meet_calls.specs.QueueRoom.{roomy, roomy-leads, roomless, roomy-fresh};
+ghost use Rattle.meet_calls.specs.QueueRoom.{roomy-refusal, roomy-queue-steps, own-record};
 ghost use Rattle.meet_calls.specs.SeatCounts.{queue-count};
-ghost use Rattle.meet_calls.specs.declared.queue_calls.DualCall.TheVariants.{Poll};
-ghost use Rattle.meet_calls.specs.declared.queue_calls.QueueCall.TheVariants.{Dual as EachHas};
+ghost use Rattle.meet_calls.specs.declared.queue_calls.QueueCall.TheVariants.{Poll};
 
 use super::Transfer;
 use meet_book::{Bases, Drains, Leaves, Object, Wakes};
-use meet_calls::{DualCall, QueueAnswer, QueueCall, admit_call, answered_put, make_call};
+use meet_calls::{Answered, QueueAnswer, QueueCall, admit_call, answered_put, make_call};
 use meet_line::Left;
 use meet_tickets::{Base, Deed, Marked, Record, Refusal, SeatNo};
 use std::alloc::Global;
@@ -48,7 +47,7 @@ impl<T: Marked> Object for Transfer<T> {
 
     ghost refusal_of = { λ b seat call. queue_refusal b.queue seat call };
 
-    ghost owed_of = { λ b. dual_owed b.queue };
+    ghost owed_of = { λ b. queue_owed b.queue };
 
     ghost need_of = { λ call. queue_need call };
 
@@ -60,7 +59,7 @@ impl<T: Marked> Object for Transfer<T> {
 
     ghost with_room = { λ b room. record b { queue = roomy b.queue room } };
 
-    ghost own_record = { λ seat call answer. own-queue-record T.mark_of seat call answer };
+    ghost own_record = { λ seat call answer. own-record T.mark_of seat call answer };
 
     ghost same_place = { λ b. refl };
 
@@ -69,7 +68,7 @@ impl<T: Marked> Object for Transfer<T> {
 
     ghost roomy_seats = { λ b room. refl };
 
-    ghost same_refusal = { λ b room seat call. roomy-queue-refusal b.queue room seat call };
+    ghost same_refusal = { λ b room seat call. roomy-refusal b.queue room seat call };
 
     ghost same_owed = { λ b room. refl };
 
@@ -82,7 +81,7 @@ impl<T: Marked> Object for Transfer<T> {
           step.1,
     ) };
 
-    ghost roomless = { λ call none. roomless (dual_call call) none };
+    ghost roomless = { λ call none. roomless call none };
 
     ghost fresh_owes = { λ b leads. roomy-fresh T.mark_of (bounded_kind b.bound) b.queue leads };
 
@@ -97,11 +96,7 @@ impl<T: Marked> Object for Transfer<T> {
     }
 
     fn admit(&self, seat: SeatNo, call: &QueueCall<T>) -> Result<(), Refusal> {
-        match call {
-            // What becomes of an item doesn't bear on what is refused.
-            QueueCall::Put(_) => admit_call(&self.meetings, seat, &DualCall::Take),
-            QueueCall::Dual(call) => admit_call(&self.meetings, seat, call),
-        }
+        admit_call(&self.meetings, seat, call)
     }
 
     fn need(call: &QueueCall<T>) -> u64 {
@@ -139,11 +134,11 @@ impl<T: Marked> Bases for Transfer<T> {
 }
 
 impl<T: Marked> Drains for Transfer<T> {
-    ghost poll = { EachHas Poll };
+    ghost poll = { Poll };
 
-    ghost available_of = { λ b. dual_available b.queue };
+    ghost available_of = { λ b. queue_available b.queue };
 
-    ghost left_of = { λ b. dual_left b.queue };
+    ghost left_of = { λ b. queue_left b.queue };
 
     ghost poll_fits = { refl };
 
@@ -156,12 +151,12 @@ impl<T: Marked> Drains for Transfer<T> {
     }
 
     fn admit_poll(&self, seat: SeatNo) -> Result<(), Refusal> {
-        admit_call(&self.meetings, seat, &DualCall::Poll)
+        admit_call(&self.meetings, seat, &QueueCall::Poll)
     }
 
     fn poll_call(&self) -> QueueCall<T> {
         self.stays_sound();
-        QueueCall::Dual(DualCall::Poll)
+        QueueCall::Poll
     }
 
     fn met(&self) -> Option<SeatNo> {
@@ -203,7 +198,7 @@ impl<T: Marked> Leaves for Transfer<T> {
 
 impl<T: Marked> Transfer<T> {
     /// Makes an admitted call, for which there is room.
-    fn make(&mut self, seat: SeatNo, call: QueueCall<T>) -> (QueueAnswer<T>, Option<Record<Deed>>)
+    fn make(&mut self, seat: SeatNo, call: QueueCall<T>) -> Answered<T>
         requires admitted { queue_refusal self.old.queue seat call ≡ None }
         requires room { queue_room call ≤ self.old.queue.room }
         ensures step { BoundedStep T.mark_of self.old seat call result.0 self.new }
@@ -215,10 +210,7 @@ impl<T: Marked> Transfer<T> {
                 let mark = item.mark();
                 answered_put(seat, mark, self.put_admitted(seat, item))
             }
-            QueueCall::Dual(call) => {
-                let (answer, entry) = make_call(&mut self.meetings, seat, call);
-                (QueueAnswer::Dual(answer), entry)
-            }
+            call => make_call(&mut self.meetings, seat, call),
         }
     }
 }

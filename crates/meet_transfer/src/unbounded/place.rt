@@ -10,21 +10,21 @@ ghost use Rattle.meet_line.specs.Queue.{count_of};
 ghost use Rattle.meet_line.specs.Left.{left_in};
 ghost use Rattle.meet_line.specs.LeftTold.{AreLeftOn};
 ghost use Rattle.meet_line.specs.Seen.{moment_of_queue};
-ghost use Rattle.meet_calls.specs.DualSteps.{LeadsTo, dual_owed, dual_available, dual_left};
-ghost use Rattle.meet_calls.specs.DualRoom.{roomy, roomy-leads, roomless, roomy-fresh};
-ghost use Rattle.meet_calls.specs.QueueRoom.{roomy-queue-refusal, roomy-queue-steps, own-queue-record};
+ghost use Rattle.meet_calls.specs.QueueSteps.{LeadsTo, queue_owed, queue_available, queue_left};
+ghost use Rattle.meet_calls.specs.QueueRoom.{roomy, roomy-leads, roomless, roomy-fresh};
+ghost use Rattle.meet_calls.specs.QueueRoom.{roomy-refusal, roomy-queue-steps, own-record};
 ghost use Rattle.meet_calls.specs.SeatCounts.{queue-count};
-ghost use Rattle.meet_calls.specs.QueueSteps.{QueueStep, bounded_kind, dual_call, queue_refusal, queue_need};
-ghost use Rattle.meet_calls.specs.QueueSteps.{queue_room, queue_record};
-ghost use Rattle.meet_calls.specs.declared.queue_calls.DualCall.TheVariants.{Poll};
-ghost use Rattle.meet_calls.specs.declared.queue_calls.QueueCall.TheVariants.{Dual as EachHas};
+ghost use Rattle.meet_calls.specs.QueueSteps.{QueueStep, bounded_kind, queue_refusal, queue_need};
+ghost use Rattle.meet_calls.specs.QueueSteps.{queue_room};
+ghost use Rattle.meet_calls.specs.QueueRecords.{queue_record};
+ghost use Rattle.meet_calls.specs.declared.queue_calls.QueueCall.TheVariants.{Poll};
 
 use super::Unbounded;
 use crate::transfer::Transfer;
 use meet_book::{Bases, Drains, Leaves, Object, Wakes};
-use meet_calls::{DualCall, QueueAnswer, QueueCall};
+use meet_calls::{QueueAnswer, QueueCall, QueuePlace};
 use meet_line::Left;
-use meet_tickets::{Base, Deed, Marked, Record, Refusal, SeatNo};
+use meet_tickets::{Base, Deed, Marked, Record, Refusal, SeatNo, Ticket};
 use std::alloc::Global;
 
 impl<T: Marked> Object for Unbounded<T> {
@@ -48,7 +48,7 @@ impl<T: Marked> Object for Unbounded<T> {
 
     ghost refusal_of = { λ q seat call. queue_refusal q seat call };
 
-    ghost owed_of = { λ q. dual_owed q };
+    ghost owed_of = { λ q. queue_owed q };
 
     ghost need_of = { λ call. queue_need call };
 
@@ -60,7 +60,7 @@ impl<T: Marked> Object for Unbounded<T> {
 
     ghost with_room = { λ q room. roomy q room };
 
-    ghost own_record = { λ seat call answer. own-queue-record T.mark_of seat call answer };
+    ghost own_record = { λ seat call answer. own-record T.mark_of seat call answer };
 
     ghost same_place = { λ q. refl };
 
@@ -69,7 +69,7 @@ impl<T: Marked> Object for Unbounded<T> {
 
     ghost roomy_seats = { λ q room. refl };
 
-    ghost same_refusal = { λ q room seat call. roomy-queue-refusal q room seat call };
+    ghost same_refusal = { λ q room seat call. roomy-refusal q room seat call };
 
     ghost same_owed = { λ q room. refl };
 
@@ -79,7 +79,7 @@ impl<T: Marked> Object for Unbounded<T> {
     ghost same_steps = { λ q room seat call answer new need step.
         roomy-queue-steps T.mark_of (bounded_kind None) q room seat call answer new need step };
 
-    ghost roomless = { λ call none. roomless (dual_call call) none };
+    ghost roomless = { λ call none. roomless call none };
 
     ghost fresh_owes = { λ q leads. roomy-fresh T.mark_of (bounded_kind None) q leads };
 
@@ -131,11 +131,11 @@ impl<T: Marked> Bases for Unbounded<T> {
 }
 
 impl<T: Marked> Drains for Unbounded<T> {
-    ghost poll = { EachHas Poll };
+    ghost poll = { Poll };
 
-    ghost available_of = { λ q. dual_available q };
+    ghost available_of = { λ q. queue_available q };
 
-    ghost left_of = { λ q. dual_left q };
+    ghost left_of = { λ q. queue_left q };
 
     ghost poll_fits = { refl };
 
@@ -153,7 +153,7 @@ impl<T: Marked> Drains for Unbounded<T> {
 
     fn poll_call(&self) -> QueueCall<T> {
         self.queue.stays_sound();
-        QueueCall::Dual(DualCall::Poll)
+        QueueCall::Poll
     }
 
     fn met(&self) -> Option<SeatNo> {
@@ -186,5 +186,43 @@ impl<T: Marked> Leaves for Unbounded<T> {
             → AreLeftOn T.mark_of base records result.items }
     {
         self.queue.leave(empty)
+    }
+}
+
+impl<T: Marked> QueuePlace for Unbounded<T> {
+    type Item = T;
+
+    ghost kind = { bounded_kind None };
+
+    ghost queue_of = { λ q. q };
+
+    ghost is_step = { λ old seat call answer new step. step };
+
+    ghost is_record = { λ seat call answer. refl };
+
+    ghost is_refusal = { λ q seat call. refl };
+
+    ghost is_need = { λ call. refl };
+
+    ghost is_count = { λ q. refl };
+
+    ghost is_poll = { refl };
+
+    ghost is_available = { λ q. refl };
+
+    ghost is_no_base = { refl };
+
+    ghost is_gone = { refl };
+
+    ghost is_history = { λ base records q leads. leads };
+
+    ghost is_left = { λ base records left are. are };
+
+    fn awaits(&self, seat: SeatNo, ticket: Ticket, mark: Option<u64>) -> bool {
+        self.queue.awaits(seat, ticket, mark)
+    }
+
+    fn destroy_empty(self) {
+        Unbounded::destroy_empty(self);
     }
 }

@@ -1,5 +1,5 @@
 use Rattle.std.proofs.Common.{sym, subst, ◌<◌}
-use Rattle.meet_calls.specs.DualSteps.{kind_of}
+use Rattle.meet_calls.specs.QueueSteps.{kind_of}
 use Rattle.meet_calls.proofs.Leading.{fresh-leads}
 use Rattle.meet_queues.proofs.books.queue_book.Goals as goal
 

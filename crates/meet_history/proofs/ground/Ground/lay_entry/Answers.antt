@@ -1,4 +1,4 @@
-use Rattle.std.proofs.Common.{◌≡◌, ℕ, ◌+◌, true, List, sym, ap, subst, ◌∙◌}
+use Rattle.std.proofs.Common.{◌≡◌, ℕ, true, List, sym, subst}
 use Rattle.meet_tickets.specs.Bases.{Based}
 use Rattle.meet_history.specs.declared.pieces.Piece.TheVariants.{Stands}
 use Rattle.meet_history.specs.Pieces.{may_follow, with_piece}

@@ -1,8 +1,8 @@
-use Rattle.std.proofs.Common.{◌≡◌, ◌+◌, true, List, sym, ap, subst, ◌∙◌}
+use Rattle.std.proofs.Common.{◌≡◌, true, sym, subst}
 use Rattle.meet_tickets.specs.Bases.{Based}
 use Rattle.meet_history.specs.declared.pieces.Piece.TheVariants.{Flagged}
-use Rattle.meet_history.specs.Pieces.{may_follow, with_piece}
-use Rattle.meet_history.specs.Grounds.{Grounded, base_of, Adds, IsGround}
+use Rattle.meet_history.specs.Pieces.{may_follow}
+use Rattle.meet_history.specs.Grounds.{Grounded, base_of, IsGround}
 use Rattle.meet_history.proofs.Grounds.{ground-flag}
 use Rattle.meet_history.proofs.ground.Ground.lay_flag.Goals as goal
 

@@ -1,4 +1,4 @@
-use Rattle.std.proofs.Common.{◌+◌, ◌≤◌, arith}
+use Rattle.std.proofs.Common.{arith}
 use Rattle.meet_tickets.proofs.Histories.{tellings_are_one}
 use Rattle.meet_history.specs.OneThread.{start}
 use Rattle.meet_history.proofs.Called.{all_called, all_served}

@@ -1,8 +1,20 @@
-use Rattle.std.proofs.Common.{refl}
+use Rattle.std.proofs.Common.{refl, ap}
+use Rattle.meet_tickets.specs.declared.places.End.TheVariants.{Front, Back}
+use Rattle.meet_calls.specs.QueueSteps.{bounded_kind}
+use Rattle.meet_calls.specs.Synchronous.{synchronous-step}
 use Rattle.meet_queues.proofs.any_queue.AnyQueueObject.step.Goals as goal
 
 pub returns-in-Fair-clause-step : goal.returns-in-Fair-clause-step
-returns-in-Fair-clause-step c = rw (← c.self.view_is, c.in-Fair.is) (refl, c.step.ensures.step)
+returns-in-Fair-clause-step c =
+    let step = synchronous-step (λ mark. mark) Front c.in-Fair.queue c.args.seat c.args.call c.step.result.0 c.step.new.self c.step.ensures.step in
+    rw (← c.self.view_is, c.in-Fair.is) (refl, step)
 
 pub returns-in-Unfair-clause-step : goal.returns-in-Unfair-clause-step
-returns-in-Unfair-clause-step c = rw (← c.self.view_is, c.in-Unfair.is) (refl, c.step-in-Unfair.ensures.step)
+returns-in-Unfair-clause-step c =
+    let step = synchronous-step (λ mark. mark) Back c.in-Unfair.queue c.args.seat c.args.call c.step-in-Unfair.result.0 c.step-in-Unfair.new.self c.step-in-Unfair.ensures.step in
+    rw (← c.self.view_is, c.in-Unfair.is) (refl, step)
+
+pub returns-in-Transfer-clause-step : goal.returns-in-Transfer-clause-step
+returns-in-Transfer-clause-step c =
+    let step = c.step-in-Transfer.ensures.step in
+    rw (← c.self.view_is, c.in-Transfer.is) (ap bounded_kind step.0, step.1)

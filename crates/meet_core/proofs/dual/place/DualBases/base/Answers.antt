@@ -1,5 +1,5 @@
 use Rattle.std.proofs.lemmas.Result.{IfOk-weaker}
-use Rattle.meet_calls.specs.DualSteps.{kind_of}
+use Rattle.meet_calls.specs.QueueSteps.{kind_of}
 use Rattle.meet_calls.proofs.Leading.{base-leads}
 use Rattle.meet_core.proofs.dual.place.DualBases.base.Goals as goal
 

@@ -1,4 +1,4 @@
-use Rattle.meet_calls.specs.DualSteps.{kind_of}
+use Rattle.meet_calls.specs.QueueSteps.{kind_of}
 use Rattle.meet_calls.proofs.Effects.{synchronous-made, effect-owed, effect-room}
 use Rattle.meet_calls.proofs.Leading.{leads-on}
 use Rattle.meet_core.proofs.dual.place.DualObject.step.Goals as goal

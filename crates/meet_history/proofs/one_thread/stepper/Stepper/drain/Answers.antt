@@ -6,7 +6,7 @@ use Rattle.meet_calls.specs.declared.queue_calls.QueueAnswer.{QueueAnswer}
 use Rattle.meet_history.specs.declared.one_thread.replies.Outcome.TheVariants.{Drained}
 use Rattle.meet_book.specs.Received.{Received}
 use Rattle.meet_history.specs.OneThread.{Turn, drain, drain_refusal, refused}
-use Rattle.meet_calls.specs.DualSteps.{dual_available}
+use Rattle.meet_calls.specs.QueueSteps.{queue_available}
 use Rattle.meet_history.specs.Stepping.{Stepping, place_of, reply_of, back_of}
 use Rattle.meet_history.proofs.Calling.{refused-so}
 use Rattle.meet_history.proofs.Foldings.{folded-more}
@@ -18,7 +18,7 @@ returns-in-Ok-refused_unless_memory-clause-replies c =
     let book = c.self.inside.book in
     let setup = c.self.inside.setup in
     let old : Stepping = record { setup = setup; queue = book.object.queue; base = book.base; cut = c.self.inside.cut; records = book.records; room = book.room } in
-    let k = min c.args.most (dual_available book.object.queue) in
+    let k = min c.args.most (queue_available book.object.queue) in
     let is : drain_refusal setup (place_of old) c.args.seat k ≡ Some c.in-Err.why = sym (drain_refusal-is setup c.args.seat book.base.gone c.self.inside.cut book.object.queue book.cap (length book.records) k c.self.invariant.2 c.self.invariant.1) ∙ refused-so _ c.in-Err.why c.in-Err.ensures.why c.in-Ok-refused_unless_memory.ensures.other in
     let turn : drain setup (place_of old) c.args.seat k ≡ refused (place_of old) c.args.seat c.in-Err.why = drain-refused setup c.args.seat book.base.gone c.self.inside.cut (place_of old) k c.in-Err.why is in
     rw (← c.self.view_is) (c.push_reserved.ensures.items ∙ (λ i. c.reserve.ensures.items i ++ c.in-Ok-refused_unless_memory.ensures.reply i ∷ []) ∙ ap (λ (t : Turn). c.args.replies.now.items ++ t.replies) (sym turn))
@@ -28,7 +28,7 @@ returns-in-Ok-refused_unless_memory-clause-takes c =
     let book = c.self.inside.book in
     let setup = c.self.inside.setup in
     let old : Stepping = record { setup = setup; queue = book.object.queue; base = book.base; cut = c.self.inside.cut; records = book.records; room = book.room } in
-    let k = min c.args.most (dual_available book.object.queue) in
+    let k = min c.args.most (queue_available book.object.queue) in
     let is : drain_refusal setup (place_of old) c.args.seat k ≡ Some c.in-Err.why = sym (drain_refusal-is setup c.args.seat book.base.gone c.self.inside.cut book.object.queue book.cap (length book.records) k c.self.invariant.2 c.self.invariant.1) ∙ refused-so _ c.in-Err.why c.in-Err.ensures.why c.in-Ok-refused_unless_memory.ensures.other in
     let turn : drain setup (place_of old) c.args.seat k ≡ refused (place_of old) c.args.seat c.in-Err.why = drain-refused setup c.args.seat book.base.gone c.self.inside.cut (place_of old) k c.in-Err.why is in
     let same = c.in-Err.ensures.unchanged in
@@ -41,14 +41,14 @@ returns-in-Ok-refused_unless_memory-clause-takes c =
 pub invariant_of-self-2 : goal.invariant_of-self-2
 invariant_of-self-2 c =
     let book = c.self.inside.book in
-    let k = min c.args.most (dual_available book.object.queue) in
+    let k = min c.args.most (queue_available book.object.queue) in
     let end = drained c.self.inside.setup c.args.seat book.base.gone c.self.inside.cut book.object c.drain.new.self.object book.cap (length book.records) k c.in-Ok.got.items c.self.invariant.2 c.self.invariant.1 c.self.invariant.0 c.in-Ok.ensures.admitted c.in-Ok.ensures.count c.in-Ok.ensures.places c.in-Ok.ensures.polls in
     (end.kind, end.count, c.drain.ensures.cap ∙ c.self.invariant.2)
 
 pub returns-clause-replies : goal.returns-clause-replies
 returns-clause-replies c =
     let book = c.self.inside.book in
-    let k = min c.args.most (dual_available book.object.queue) in
+    let k = min c.args.most (queue_available book.object.queue) in
     let end = drained c.self.inside.setup c.args.seat book.base.gone c.self.inside.cut book.object c.drain.new.self.object book.cap (length book.records) k c.in-Ok.got.items c.self.invariant.2 c.self.invariant.1 c.self.invariant.0 c.in-Ok.ensures.admitted c.in-Ok.ensures.count c.in-Ok.ensures.places c.in-Ok.ensures.polls in
     let count : c.min-count.result ≡ k = search rules in
     rw (← c.self.view_is) (c.push_reserved-2.ensures.items
@@ -60,7 +60,7 @@ returns-clause-replies c =
 pub returns-clause-takes : goal.returns-clause-takes
 returns-clause-takes c =
     let book = c.self.inside.book in
-    let k = min c.args.most (dual_available book.object.queue) in
+    let k = min c.args.most (queue_available book.object.queue) in
     let end = drained c.self.inside.setup c.args.seat book.base.gone c.self.inside.cut book.object c.drain.new.self.object book.cap (length book.records) k c.in-Ok.got.items c.self.invariant.2 c.self.invariant.1 c.self.invariant.0 c.in-Ok.ensures.admitted c.in-Ok.ensures.count c.in-Ok.ensures.places c.in-Ok.ensures.polls in
     let long : length c.drain.new.self.records ≡ length book.records + length c.in-Ok.got.items = ap length c.in-Ok.ensures.records ∙ length-append book.records _ ∙ ap (λ n. length book.records + n) (length-map c.in-Ok.got.items _) in
     rw (← c.self.view_is) (record {

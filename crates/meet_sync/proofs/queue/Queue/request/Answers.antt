@@ -1,0 +1,30 @@
+use Rattle.std.proofs.Common.{subst, option_to_list}
+use Rattle.meet_calls.specs.QueueRecords.{queue_record}
+use Rattle.meet_place.specs.Seats.{Adds}
+use Rattle.meet_sync.specs.Asking.{AnsweredBy}
+use Rattle.meet_sync.specs.Told.{IsAnswer, IsRefusalOf}
+use Rattle.meet_sync.proofs.Askings.{asked_as, asked_why}
+use Rattle.meet_sync.proofs.queue.Queue.request.Goals as goal
+
+pub returns-in-Ok-clause-asked : goal.returns-in-Ok-clause-asked
+returns-in-Ok-clause-asked g c =
+    let k = g.O.QueuePlace.kind in
+    let mark = g.O.Item.Marked.mark_of in
+    let roomy = c.reserve.new.self in
+    let after = c.step.new.seat in
+    let answer = c.in-Ok.answer in
+    let adds = subst (λ call. Adds roomy.list after.list (option_to_list (queue_record mark roomy.number call answer)))
+    c.into_call.ensures c.in-Ok.ensures.adds in
+    let step = subst (λ call. IsAnswer k mark g.N.Ledger.parts roomy.number call answer) c.into_call.ensures
+    c.in-Ok.ensures.step in
+    let told = subst (λ m. AnsweredBy after m answer c.asked_of.result) c.mark-mark.ensures c.asked_of.ensures in
+    asked_as k mark g.N.Ledger.parts c.args.seat roomy after c.args.request answer c.asked_of.result
+    c.reserve.ensures.number c.reserve.ensures.past c.reserve.ensures.list c.in-Ok.ensures.number c.in-Ok.ensures.past
+    adds step told
+
+pub returns-in-Err-clause-why : goal.returns-in-Err-clause-why
+returns-in-Err-clause-why g c =
+    let why = c.in-Err.refused.why in
+    let n = c.reserve.new.self.number in
+    let refused = subst (λ call. IsRefusalOf g.N.Ledger.parts n call why) c.into_call.ensures c.in-Err.ensures.why in
+    rw c.refused_with.ensures.why (asked_why g.N.Ledger.parts n c.args.request why refused)

@@ -1,8 +1,0 @@
-use Rattle.meet_sync.proofs.Wholes.{waited}
-use Rattle.meet_sync.proofs.steps.QueueRef.ask.Goals as goal
-
-pub returns-in-Parked-clause-ended : goal.returns-in-Parked-clause-ended
-returns-in-Parked-clause-ended g c =
-    let out = c.await_end.ensures in
-    waited ⊥ g.T.Marked.mark_of c.args.seat c.in-Parked.pending c.args.request c.await_end.result
-    (rw c.in-Parked.is at c.in-Ok.ensures.asked) out.outcome out.untimed

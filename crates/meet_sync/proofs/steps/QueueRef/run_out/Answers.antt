@@ -1,8 +1,0 @@
-use Rattle.std.proofs.Common.{refl}
-use Rattle.meet_tickets.specs.declared.records.Cause.TheVariants.{Expired}
-use Rattle.meet_tickets.specs.declared.records.Deed.TheVariants.{Withdrawn}
-use Rattle.meet_sync.proofs.steps.QueueRef.run_out.Goals as goal
-
-pub returns-in-Back : goal.returns-in-Back
-returns-in-Back g c =
-    let h = c.in-Back.ensures in record { outcome = (h.0, h.1, (Withdrawn Expired, refl, h.2)) }

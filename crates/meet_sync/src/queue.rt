@@ -1,0 +1,141 @@
+//! A queue for threads: a queue of one thread under a lock. A call is one step under one hold of it, and whom the step
+//! should wake is woken once the lock is free.
+
+ghost use Rattle.std.specs.Prelude.{◌≡◌, ◌+◌, ◌<◌, ◌≤◌, length, option_to_list, IfOk, IfErr, IfSome, IfNone};
+ghost use Rattle.meet_calls.specs.QueueRecords.{queue_record};
+ghost use Rattle.meet_place.specs.Seats.{Adds};
+ghost use Rattle.meet_sync.specs.Told.{IsAnswer, IsEnding, IsRefusalOf, ending_call};
+ghost use Rattle.meet_tickets.specs.Limits.{most_seats};
+
+use meet_calls::{QueueAnswer, QueueCall, QueuePlace};
+use meet_place::{Gate, Ledgers, Pending, Place, Seat, Turn};
+use meet_tickets::{Deed, Refused, SeatNo, Ticket};
+use std::marker::Model;
+use std::sync::Wait;
+use std::time::Clock;
+
+/// A queue for threads, over a queue of one thread. Each thread calls it with a seat of its own, and gets the seat back
+/// with the answer. A contract sees the number of its seats.
+#[derive(Drop)]
+pub struct Queue<O: QueuePlace, G, N: Ledgers> {
+    pub(crate) place: Place<O, G, N>,
+}
+
+impl<O: QueuePlace, G, N: Ledgers> Model for Queue<O, G, N> {
+    ghost use Rattle.std.specs.Prelude.{ℕ};
+
+    ghost Value = { ℕ };
+
+    ghost view = { λ queue. queue.place };
+}
+
+/// How a ticket is ended.
+#[derive(Clone, Copy)]
+pub(crate) enum Ending {
+    FollowUp,
+    Cancel,
+    Expire,
+}
+
+impl Ending {
+    /// The call that ends this ticket so.
+    fn of<T>(self, ticket: Ticket) -> QueueCall<T>
+        ensures { result ≡ ending_call self ticket }
+    {
+        match self {
+            Ending::FollowUp => QueueCall::FollowUp(ticket),
+            Ending::Cancel => QueueCall::Cancel(ticket),
+            Ending::Expire => QueueCall::Expire(ticket),
+        }
+    }
+}
+
+impl<O: QueuePlace, G, N: Ledgers> Queue<O, G, N> {
+    /// How many seats there are.
+    pub fn seats(&self) -> usize
+        ensures count { result ≡ self.now }
+        ensures parts { result ≡ N.parts }
+        ensures limit { result ≤ most_seats }
+    {
+        self.place.seats()
+    }
+}
+
+impl<O: QueuePlace, G: Gate, N: Ledgers> Queue<O, G, N> {
+    /// Makes a call of a seat, whose list has room for its receipt, under one hold of the lock, and wakes whom it
+    /// should. It refuses what the queue's book does; then the seat is as it was, and the call comes back.
+    pub(crate) fn step<R: Wait>(
+        &self,
+        rt: &R,
+        seat: &mut Seat<Deed, N>,
+        call: QueueCall<O::Item>,
+    ) -> Result<QueueAnswer<O::Item>, Refused<QueueCall<O::Item>>>
+        requires room { 0 < seat.old.room }
+        ensures number { seat.new.number ≡ seat.old.number }
+        ensures past { seat.new.past ≡ seat.old.past }
+        ensures room { length seat.new.list + seat.new.room ≡ length seat.old.list + seat.old.room }
+        ensures adds { IfOk result (λ answer. Adds seat.old.list seat.new.list
+            (option_to_list (queue_record O.Item.mark_of seat.old.number call answer))) }
+        ensures step { IfOk result (λ answer. IsAnswer O.kind O.Item.mark_of N.parts seat.old.number call answer) }
+        ensures why { IfErr result (λ refused. IsRefusalOf N.parts seat.old.number call refused.why) }
+        ensures back { IfErr result (λ refused. refused.back ≡ call) }
+        ensures same { IfErr result (λ _. seat.new ≡ seat.old) }
+    {
+        match self.place.locked_step(rt, seat, call) {
+            Ok((answer, woken)) => {
+                self.place.wake(woken);
+                Ok(answer)
+            }
+            Err(refused) => Err(refused),
+        }
+    }
+
+    /// Ends a ticket, where it is the seat's open one, and its item, if it lies in the queue, has the mark that its
+    /// request brought: looked at under the hold that ends it, since behind a lock a caller can't know. Else nothing is
+    /// done; with a seat and its own open ticket that can't come.
+    pub(crate) fn end<R: Wait>(
+        &self,
+        rt: &R,
+        seat: &mut Seat<Deed, N>,
+        awaited: (Ticket, Option<u64>),
+        ending: Ending,
+    ) -> Option<QueueAnswer<O::Item>>
+        requires room { 0 < seat.old.room }
+        ensures number { seat.new.number ≡ seat.old.number }
+        ensures past { seat.new.past ≡ seat.old.past }
+        ensures room { length seat.new.list + seat.new.room ≡ length seat.old.list + seat.old.room }
+        ensures adds { IfSome result (λ answer. Adds seat.old.list seat.new.list
+            (option_to_list (queue_record O.Item.mark_of seat.old.number (ending_call ending awaited.0) answer))) }
+        ensures step { IfSome result (λ answer. IsEnding O.kind O.Item.mark_of seat.old.number awaited.0 awaited.1
+            (ending_call ending awaited.0) answer) }
+        ensures same { IfNone result (seat.new ≡ seat.old) }
+    {
+        let (ticket, mark) = awaited;
+        let mut shared = self.place.hold(rt);
+        if !shared.probe().awaits(seat.number(), ticket, mark) {
+            return None;
+        }
+        match shared.step(seat, ending.of(ticket)) {
+            Ok(answer) => Some(answer),
+            Err(_) => unreachable!(),
+        }
+    }
+
+    /// Waits at the gate of this seat, for this many milliseconds where there is a limit: `LockSupport.park`,
+    /// `parkNanos`. The gate is woken once the ticket is met or cut; of why a wait ends nothing is promised, so who
+    /// waited follows its ticket up. It takes no memory and no lock.
+    pub fn wait<R: Wait + Clock>(
+        &self,
+        rt: &R,
+        pending: &Pending<Deed, N>,
+        limit: Option<u64>,
+    ) -> Turn {
+        self.place.wait(rt, pending, limit)
+    }
+
+    /// Wakes who waits at the gate of this seat, or else the next that comes to wait: `LockSupport.unpark`. It does
+    /// nothing where there is no such seat, and takes no memory and no lock.
+    pub fn wake(&self, seat: SeatNo) {
+        self.place.wake(Some(seat));
+    }
+}
