@@ -192,8 +192,8 @@ impl<G: Gate, N: Ledgers> Course<G, N> {
             Asked::Settled(seat, answer) => match answer {
                 Answer::Gave(_) => (seat, Passed::Gave),
                 Answer::Got(_, item) => (seat, Passed::Got(item)),
-                // A call that waits doesn't fail, and nobody is flagged in a drive.
-                Answer::Failed(_) => (seat, Passed::Stopped),
+                // A call that waits doesn't fail, a synchronous queue keeps nothing, and nobody is flagged in a drive.
+                Answer::Failed(_) | Answer::Kept => (seat, Passed::Stopped),
                 Answer::EntryInterrupted(_) => (seat, Passed::Stopped),
             },
         }

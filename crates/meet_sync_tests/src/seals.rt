@@ -57,7 +57,7 @@ fn refused<N: Ledgers>(refused: SeatRefused<Seal, N>) -> Came<N> {
 
 fn answered(answer: Answer<Seal>) -> Option<u64> {
     match answer {
-        Answer::Gave(_) => None,
+        Answer::Gave(_) | Answer::Kept => None,
         Answer::Got(_, item) => Some(broken(item)),
         Answer::Failed(back) => broken_if_there(back),
         Answer::EntryInterrupted(back) => broken_if_there(back),
