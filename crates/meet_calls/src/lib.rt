@@ -10,6 +10,6 @@ mod refusals;
 
 pub use laws::handed_items_were_brought;
 pub use make::{admit_call, make_call};
-pub use place::QueuePlace;
+pub use place::{QueueDrains, QueueLeaves, QueuePlace};
 pub use queue_calls::{QueueAnswer, QueueCall};
 pub use records::{Answered, answered_put};

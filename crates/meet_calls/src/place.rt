@@ -1,7 +1,8 @@
-//! What a queue for threads asks of a queue of one thread.
+//! What a queue for threads asks of a queue of one thread. What only some of its calls ask for stands in traits of its
+//! own, since each call pays for all that is asked.
 
 use crate::queue_calls::{QueueAnswer, QueueCall};
-use meet_book::{Bases, Drains, Leaves, Object, Wakes};
+use meet_book::{Drains, Leaves, Object, Wakes};
 use meet_line::Left;
 use meet_tickets::{Base, Deed, Marked, SeatNo, Ticket};
 
@@ -13,10 +14,7 @@ pub trait QueuePlace: Object<
     Deed = Deed,
     Base = Base,
 >
-    + Bases
-    + Drains
-    + Wakes
-    + Leaves<Left = Left<Self::Item>> {
+    + Wakes {
     ghost use Rattle.std.specs.Prelude.{◌≡◌, ◌↔◌, ℕ, IsTrue, List};
     ghost use Rattle.meet_tickets.specs.declared.places.Kind.{Kind};
     ghost use Rattle.meet_tickets.specs.declared.records.Record.{Record};
@@ -24,14 +22,10 @@ pub trait QueuePlace: Object<
     ghost use Rattle.meet_tickets.specs.Bases.{Based, no_base};
     ghost use Rattle.meet_tickets.specs.BySeat.{nobody};
     ghost use Rattle.meet_line.specs.Awaits.{AwaitsAs};
-    ghost use Rattle.meet_line.specs.LeftTold.{AreLeftOn};
     ghost use Rattle.meet_line.specs.Queue.{Queue, seats_of, count_of};
-    ghost use Rattle.meet_line.specs.declared.left.Left.{Left};
     ghost use Rattle.meet_calls.specs.QueueRecords.{queue_record};
     ghost use Rattle.meet_calls.specs.QueueSteps.{QueueStep, LeadsTo, queue_refusal, queue_need};
-    ghost use Rattle.meet_calls.specs.QueueSteps.{queue_available};
     ghost use Rattle.meet_calls.specs.declared.queue_calls.QueueCall.{QueueCall};
-    ghost use Rattle.meet_calls.specs.declared.queue_calls.QueueCall.TheVariants.{Poll};
     ghost use Rattle.meet_calls.specs.declared.queue_calls.QueueAnswer.{QueueAnswer};
 
     /// What goes through it.
@@ -71,12 +65,6 @@ pub trait QueuePlace: Object<
     /// Its seats are those that it shows.
     ghost is_count: { (o : Self) → Self.seat_count_of o ≡ count_of (queue_of o) };
 
-    /// A drain polls it.
-    ghost is_poll: { Self.poll ≡ Poll };
-
-    /// As many items can be drained as givers stand in the line.
-    ghost is_available: { (o : Self) → Self.available_of o ≡ queue_available (queue_of o) };
-
     /// It has no base of its own.
     ghost is_no_base: { Self.no_base ≡ no_base };
 
@@ -86,8 +74,31 @@ pub trait QueuePlace: Object<
     /// Its history is that of a queue of its kind.
     ghost is_history: { (base : Based) (records : List (Record Deed)) (o : Self) → Self.leads base records o
         → LeadsTo Self.Item.mark_of kind base records (queue_of o) };
+}
 
-    /// And what it leaves is what a queue leaves.
+/// Such a place whose items can be drained as those of a queue.
+pub trait QueueDrains: QueuePlace + Drains {
+    ghost use Rattle.std.specs.Prelude.{◌≡◌};
+    ghost use Rattle.meet_calls.specs.QueueSteps.{queue_available};
+    ghost use Rattle.meet_calls.specs.declared.queue_calls.QueueCall.TheVariants.{Poll};
+
+    /// A drain polls it.
+    ghost is_poll: { Self.poll ≡ Poll };
+
+    /// As many items can be drained as givers stand in the line.
+    ghost is_available: { (o : Self) → Self.available_of o ≡ queue_available (Self.queue_of o) };
+}
+
+/// Such a place that leaves what a queue leaves.
+pub trait QueueLeaves: QueuePlace + Leaves<Left = Left<Self::Item>> {
+    ghost use Rattle.std.specs.Prelude.{List};
+    ghost use Rattle.meet_tickets.specs.declared.records.Record.{Record};
+    ghost use Rattle.meet_tickets.specs.declared.records.Deed.{Deed};
+    ghost use Rattle.meet_tickets.specs.Bases.{Based};
+    ghost use Rattle.meet_line.specs.LeftTold.{AreLeftOn};
+    ghost use Rattle.meet_line.specs.declared.left.Left.{Left};
+
+    /// It leaves what a queue leaves.
     ghost is_left: { (base : Based) (records : List (Record Deed)) (left : List (Left Self.Item))
         → Self.are_left base records left → AreLeftOn Self.Item.mark_of base records left };
 }

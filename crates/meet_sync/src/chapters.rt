@@ -65,7 +65,7 @@ where
     place.locked_rotate(rt, seat, room)
 }
 
-impl<O: QueuePlace, G, N: Ledgers> Queue<O, G, N> {
+impl<O: QueuePlace + Bases, G, N: Ledgers> Queue<O, G, N> {
     /// Sees to it that the history never fills: behind each call, by each seat. Where more receipts lie in the seat's
     /// list than the history's greatest number of records, parted by the seats, and that by four, and the history may
     /// be more than half full, it takes the lock once, makes a checkpoint where it is, and lets go of the seat's

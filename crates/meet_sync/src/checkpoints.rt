@@ -30,7 +30,7 @@ where
     place.locked_cut(rt, seat)
 }
 
-impl<O: QueuePlace, G, N: Ledgers> Queue<O, G, N> {
+impl<O: QueuePlace + Bases, G, N: Ledgers> Queue<O, G, N> {
     /// Folds the records so far into the queue's base, under one hold of the lock, and answers how many were folded
     /// away since the first; those of this time count for the seat. It writes no record. It refuses HistoryFull where
     /// these would be more than 2^63 - 1, else Memory; then nothing has changed.
@@ -54,7 +54,9 @@ impl<O: QueuePlace, G, N: Ledgers> Queue<O, G, N> {
             }),
         }
     }
+}
 
+impl<O: QueuePlace, G, N: Ledgers> Queue<O, G, N> {
     /// Drops the seat's receipts for records that are folded away by now. It takes no memory.
     pub fn trim<R: Wait>(&self, rt: &R, mut seat: Seat<Deed, N>) -> Seat<Deed, N>
         ensures { (gone : ℕ) × Trims gone seat result }

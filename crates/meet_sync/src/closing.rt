@@ -9,7 +9,7 @@ ghost use Rattle.meet_tickets.specs.declared.refusals.Refusal.TheVariants.{Memor
 
 use crate::queue::Queue;
 use meet_book::{Book, Receipt};
-use meet_calls::QueuePlace;
+use meet_calls::QueueLeaves;
 use meet_line::Left;
 use meet_place::{Back, CloseFault, Closed, Ledgers, missing_seats};
 use meet_tickets::{Base, Deed, Record, Refusal, SeatNo};
@@ -117,7 +117,7 @@ impl<Q: Drop, B: Drop, N: Ledgers> QueueFault<Q, B, N> {
     }
 }
 
-impl<O: QueuePlace, G: Drop, N: Ledgers> Queue<O, G, N> {
+impl<O: QueueLeaves, G: Drop, N: Ledgers> Queue<O, G, N> {
     /// Ends the queue: takes all seats back, free or with an open ticket, in whatever order, compares the records with
     /// the seats' receipts, and takes out what is left. So the threads' calls, however they interleaved, have one legal
     /// history, in which each seat's calls stand once, in the seat's order, and no others. It refuses SeatMissing

@@ -7,7 +7,7 @@ ghost use Rattle.meet_sync.specs.Told.{IsRequestWhy};
 
 use crate::asked::SeatRefused;
 use crate::queue::Queue;
-use meet_calls::{QueueAnswer, QueuePlace};
+use meet_calls::{QueueAnswer, QueueDrains};
 use meet_line::Polled;
 use meet_place::{Gate, Ledgers, Seat};
 use meet_tickets::{Deed, Refusal};
@@ -51,7 +51,7 @@ pub struct DrainedItems<T, N: Ledgers> {
     pub items: Vec<T>,
 }
 
-impl<O: QueuePlace, G: Gate, N: Ledgers> Queue<O, G, N> {
+impl<O: QueueDrains, G: Gate, N: Ledgers> Queue<O, G, N> {
     /// Takes the items, one poll after another under one hold. It refuses Memory where the list of the items or the
     /// seat's can't grow; else what the book does, before anything is taken.
     fn take_all<R: Wait>(

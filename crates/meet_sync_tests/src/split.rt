@@ -162,6 +162,27 @@ fn a_put_is_kept(rt: HostRuntime) -> Result<(), Fail> {
     told(&rt, rt.alloc(), Order::Transfer, &KEPT, 9)
 }
 
+/// Where nothing is kept, a put waits as a give does, goes to a taker that waits, and is refused where its seat is
+/// flagged.
+const PUT_WAITS: [Row; 10] = [
+    (0, Ask::Put(1), Told::Parks(1)),
+    (1, Ask::Take, Told::Got(1, 1)),
+    (0, Ask::Follow, Told::Done),
+    (1, Ask::Take, Told::Parks(3)),
+    (0, Ask::Put(2), Told::Gave(3)),
+    (1, Ask::Follow, Told::Got(4, 2)),
+    (0, Ask::Put(3), Told::Parks(5)),
+    (0, Ask::Cancel, Told::Back(Some(3))),
+    (1, Ask::Interrupt(0), Told::Flagged),
+    (0, Ask::Put(4), Told::Stopped(Some(4))),
+];
+
+#[test]
+fn a_put_waits_where_nothing_is_kept(rt: HostRuntime) -> Result<(), Fail> {
+    told(&rt, rt.alloc(), Order::Fair, &PUT_WAITS, 10)?;
+    told(&rt, rt.alloc(), Order::Unfair, &PUT_WAITS, 10)
+}
+
 /// A seat has one open ticket at most, but may interrupt, also itself; and no target that isn't there.
 const OPEN: [Row; 8] = [
     (0, Ask::Give(5), Told::Parks(1)),
@@ -178,7 +199,7 @@ const OPEN: [Row; 8] = [
     (0, Ask::Follow, Told::WasCut(Some(5))),
 ];
 
-/// Nor does it put an item that is kept.
+/// Nor does it put an item.
 const OPEN_PUT: [Row; 3] = [
     (0, Ask::Give(5), Told::Parks(1)),
     (0, Ask::Put(8), Told::Refused(Refusal::SeatOpen, Some(8))),
@@ -190,6 +211,7 @@ fn what_is_refused(rt: HostRuntime) -> Result<(), Fail> {
     told(&rt, rt.alloc(), Order::Fair, &OPEN, 3)?;
     told(&rt, rt.alloc(), Order::Unfair, &OPEN, 3)?;
     told(&rt, rt.alloc(), Order::Transfer, &OPEN, 3)?;
+    told(&rt, rt.alloc(), Order::Fair, &OPEN_PUT, 2)?;
     told(&rt, rt.alloc(), Order::Transfer, &OPEN_PUT, 2)
 }
 

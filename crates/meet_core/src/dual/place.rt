@@ -20,7 +20,9 @@ ghost use Rattle.meet_calls.specs.declared.queue_calls.QueueCall.TheVariants.{Po
 
 use super::Dual;
 use meet_book::{Bases, Drains, Leaves, Object, Wakes};
-use meet_calls::{Answered, QueueAnswer, QueueCall, QueuePlace, admit_call, make_call};
+use meet_calls::{
+    Answered, QueueAnswer, QueueCall, QueueDrains, QueueLeaves, QueuePlace, admit_call, make_call,
+};
 use meet_line::{Left, Line};
 use meet_tickets::{Base, Deed, Marked, Record, Refusal, SeatNo, Ticket};
 use std::alloc::Global;
@@ -207,17 +209,11 @@ impl<T: Marked, L: Line<T>> QueuePlace for Dual<T, L> {
 
     ghost is_count = { λ q. refl };
 
-    ghost is_poll = { refl };
-
-    ghost is_available = { λ q. refl };
-
     ghost is_no_base = { refl };
 
     ghost is_gone = { refl };
 
     ghost is_history = { λ base records q leads. leads };
-
-    ghost is_left = { λ base records left are. are };
 
     fn awaits(&self, seat: SeatNo, ticket: Ticket, mark: Option<u64>) -> bool {
         Dual::awaits(self, seat, ticket, mark)
@@ -226,6 +222,16 @@ impl<T: Marked, L: Line<T>> QueuePlace for Dual<T, L> {
     fn destroy_empty(self) {
         Dual::destroy_empty(self);
     }
+}
+
+impl<T: Marked, L: Line<T>> QueueDrains for Dual<T, L> {
+    ghost is_poll = { refl };
+
+    ghost is_available = { λ q. refl };
+}
+
+impl<T: Marked, L: Line<T>> QueueLeaves for Dual<T, L> {
+    ghost is_left = { λ base records left are. are };
 }
 
 impl<T: Marked, L: Line<T>> Dual<T, L> {

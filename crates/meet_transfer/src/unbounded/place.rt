@@ -22,7 +22,7 @@ ghost use Rattle.meet_calls.specs.declared.queue_calls.QueueCall.TheVariants.{Po
 use super::Unbounded;
 use crate::transfer::Transfer;
 use meet_book::{Bases, Drains, Leaves, Object, Wakes};
-use meet_calls::{QueueAnswer, QueueCall, QueuePlace};
+use meet_calls::{QueueAnswer, QueueCall, QueueDrains, QueueLeaves, QueuePlace};
 use meet_line::Left;
 use meet_tickets::{Base, Deed, Marked, Record, Refusal, SeatNo, Ticket};
 use std::alloc::Global;
@@ -206,17 +206,11 @@ impl<T: Marked> QueuePlace for Unbounded<T> {
 
     ghost is_count = { λ q. refl };
 
-    ghost is_poll = { refl };
-
-    ghost is_available = { λ q. refl };
-
     ghost is_no_base = { refl };
 
     ghost is_gone = { refl };
 
     ghost is_history = { λ base records q leads. leads };
-
-    ghost is_left = { λ base records left are. are };
 
     fn awaits(&self, seat: SeatNo, ticket: Ticket, mark: Option<u64>) -> bool {
         self.queue.awaits(seat, ticket, mark)
@@ -225,4 +219,14 @@ impl<T: Marked> QueuePlace for Unbounded<T> {
     fn destroy_empty(self) {
         Unbounded::destroy_empty(self);
     }
+}
+
+impl<T: Marked> QueueDrains for Unbounded<T> {
+    ghost is_poll = { refl };
+
+    ghost is_available = { λ q. refl };
+}
+
+impl<T: Marked> QueueLeaves for Unbounded<T> {
+    ghost is_left = { λ base records left are. are };
 }

@@ -15,5 +15,5 @@ returns-in-Ok-clause-history g c =
           c.in-Ok.ensures.first;
       listed = subst (λ gone_of. AreListed (gone_of closed.base) closed.records.items
           (map (λ list. list.items) closed.lists.items)) laws.is_gone c.in-Ok.ensures.listed;
-      left = laws.is_left closed.base closed.records.items closed.left.items c.in-Ok.ensures.left;
+      left = g.met.O.QueueLeaves.is_left closed.base closed.records.items closed.left.items c.in-Ok.ensures.left;
     }
