@@ -3,6 +3,11 @@
 //! to be before each of the other's. Of two calls that overlap either may come first.
 #![tactic(auto)]
 
+ghost use Rattle.std.specs.Prelude.{◌≡◌, ◌≤◌, [], ◌∷◌, ◌++◌, Contains, IfOk, OnOk, IfSome, IfNone};
+ghost use Rattle.std.specs.List.Sorted.{IsNonDecreasingBy};
+ghost use Rattle.meet_stamps.specs.Orders.{AreInOrder, AreInOrderAt, AreMoments, IsFurthest, stamp_of};
+ghost use Rattle.meet_stamps.specs.declared.Moment.TheVariants.{Begins, Ends};
+
 use std::alloc::Global;
 use std::fmt;
 use std::fmt::{Display, Formatter, Write};
@@ -78,7 +83,9 @@ enum Moment {
 
 impl Moment {
     /// When that is.
-    fn stamp(self) -> u64 {
+    fn stamp(self) -> u64
+        ensures { result ≡ stamp_of self }
+    {
         match self {
             Moment::Begins(call) => call.begin,
             Moment::Ends(call) => call.end,
@@ -86,39 +93,74 @@ impl Moment {
     }
 }
 
-/// The moments of these calls, in order of their stamps.
-fn moments(alloc: Global, calls: &[Stamped]) -> Result<Vec<Moment>, &'static str> {
+/// Puts both moments of a call behind others. The only refusal is for memory.
+fn push_both(moments: &mut Vec<Moment>, call: Stamped) -> Result<(), &'static str>
+    ensures { OnOk result (moments.new.items ≡ moments.old.items ++ Begins call ∷ Ends call ∷ []) }
+{
+    if moments.reserve(2).is_err() {
+        return Err("memory");
+    }
+    moments.push_reserved(Moment::Begins(call));
+    moments.push_reserved(Moment::Ends(call));
+    Ok(())
+}
+
+/// The moments of these calls, in order of their stamps. The only refusal is for memory.
+fn moments(alloc: Global, calls: &[Stamped]) -> Result<Vec<Moment>, &'static str>
+    ensures moments { IfOk result (λ moments. AreMoments calls.now moments.items) }
+    ensures sorted { IfOk result (λ moments. IsNonDecreasingBy stamp_of moments.items) }
+{
     let mut moments = Vec::new(alloc);
     for call in calls {
-        moments.push(Moment::Begins(*call)).map_err(|_| "memory")?;
-        moments.push(Moment::Ends(*call)).map_err(|_| "memory")?;
+        push_both(&mut moments, *call)?;
     }
     moments.sort_unstable_by_key(|moment| moment.stamp());
     Ok(moments)
 }
 
 /// Of two calls the one whose last record is the later.
-fn reaching(one: Option<Stamped>, other: Stamped) -> Stamped {
+fn reaching(one: Option<Stamped>, other: Stamped) -> Stamped
+    ensures { IsFurthest one other result }
+{
     match one {
         Some(one) if other.last < one.last => one,
         _ => other,
     }
 }
 
-/// Two of these calls that are in wrong order, if any are. No two of their stamps are the same.
-pub fn find_disorder(alloc: Global, calls: &[Stamped]) -> Result<Option<Disorder>, &'static str> {
+/// Two calls in wrong order among these moments, which are in order of their stamps.
+fn first_disorder(moments: &[Moment]) -> Option<Disorder>
+    requires sorted { IsNonDecreasingBy stamp_of moments.now }
+    ensures found { IfSome result (λ found. Contains moments.now (Ends found.earlier)
+        × Contains moments.now (Begins found.later) × (found.earlier.end ≤ found.later.begin)
+        × (found.later.first ≤ found.earlier.last)) }
+    ensures none { IfNone result (AreInOrderAt moments.now) }
+{
     let mut ended: Option<Stamped> = None;
-    for moment in moments(alloc, calls)? {
-        match moment {
+    for moment in moments {
+        match *moment {
             Moment::Ends(call) => ended = Some(reaching(ended, call)),
             Moment::Begins(later) => {
                 if let Some(earlier) = ended {
                     if later.first <= earlier.last {
-                        return Ok(Some(Disorder { earlier, later }));
+                        return Some(Disorder { earlier, later });
                     }
                 }
             }
         }
     }
-    Ok(None)
+    None
+}
+
+/// Two of these calls that are in wrong order, exactly where there are such: an earlier one that had ended before a
+/// later one began, and wrote a record that isn't before all of the later one's. Two stamps that are the same may be
+/// taken for either order; those of one counter never are. The only refusal is for memory. It costs n log n.
+pub fn find_disorder(alloc: Global, calls: &[Stamped]) -> Result<Option<Disorder>, &'static str>
+    ensures found { IfOk result (λ told. IfSome told (λ found. Contains calls.now found.earlier
+        × Contains calls.now found.later × (found.earlier.end ≤ found.later.begin)
+        × (found.later.first ≤ found.earlier.last))) }
+    ensures none { IfOk result (λ told. IfNone told (AreInOrder calls.now)) }
+{
+    let moments = moments(alloc, calls)?;
+    Ok(first_disorder(moments.as_slice()))
 }
