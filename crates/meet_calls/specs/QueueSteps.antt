@@ -32,7 +32,8 @@ use Rattle.meet_calls.specs.declared.queue_calls.QueueAnswer.TheVariants.{Interr
 
 -- a seat's call makes the step of a queue that keeps nothing, with an answer of its own kind: a put waits as a give
 -- does (SynchronousQueue.put)
-abbrev pub DualStep : {T : Type 0} → (T → ℕ) → End → Queue T → (seat : ℕ) → QueueCall T → QueueAnswer T → Queue T → Type 0
+abbrev pub DualStep : {T : Type 0} → (T → ℕ) → End → Queue T → (seat : ℕ) → QueueCall T → QueueAnswer T → Queue T
+    → Type 0
 DualStep mark end old i (Put item) (ToGive answer) new = GiveStep mark end old i item answer new
 DualStep mark end old i (Give item) (ToGive answer) new = GiveStep mark end old i item answer new
 DualStep mark end old i (Offer item) (ToOffer answer) new = OfferStep mark end old item answer new

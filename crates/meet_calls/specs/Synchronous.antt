@@ -25,6 +25,7 @@ pub synchronous-step : {T : Type 0} (mark : T → ℕ) (end : End) (old : Queue 
     → QueueStep mark (kind_of end) old seat call answer new
 synchronous-step mark end old seat (Put item) (ToPut answer) new step = absurd step
 synchronous-step mark end old seat (Put item) answer new step =
-    (synchronous-waits end, subst (λ e. DualStep mark e old seat (Put item) answer new) (sym (synchronous-end end)) step)
+    let there = subst (λ e. DualStep mark e old seat (Put item) answer new) (sym (synchronous-end end)) step in
+    (synchronous-waits end, there)
 synchronous-step mark end old seat call answer new step =
     subst (λ e. DualStep mark e old seat call answer new) (sym (synchronous-end end)) step

@@ -11,7 +11,8 @@ use Rattle.meet_place.specs.Seats.{SeatView, PendingView, Adds, SameSeat, FreesS
 use Rattle.meet_sync.specs.Asking.{waiting_deed, brought, SettledAs}
 use Rattle.meet_sync.specs.declared.asked.Request.{Request}
 use Rattle.meet_sync.specs.declared.asked.Answer.{Answer}
-use Rattle.meet_sync.specs.declared.asked.Answer.TheVariants.{Gave as ToGave, Got as ToGot, Failed as ToFailed, Kept as ToKept}
+use Rattle.meet_sync.specs.declared.asked.Answer.TheVariants.{Gave as ToGave, Got as ToGot, Failed as ToFailed}
+use Rattle.meet_sync.specs.declared.asked.Answer.TheVariants.{Kept as ToKept}
 use Rattle.meet_sync.specs.declared.asked.Answer.TheVariants.{EntryInterrupted as ToEntryInterrupted}
 use Rattle.meet_sync.specs.declared.asked.End.{End}
 use Rattle.meet_sync.specs.declared.asked.End.TheVariants.{Gave, Got, Failed, Kept, EntryInterrupted, Done}

@@ -125,8 +125,10 @@ impl<T: Marked, G: Gate, N: Ledgers> Queue<Unbounded<T>, G, N> {
         item: T,
         limit: u64,
     ) -> Result<Ended<T, N>, SeatRefused<T, N>>
-        ensures now { limit ≡ 0 → IfOk result (λ ended. EndedAs (bounded_kind None) ⊥ T.mark_of seat (Offer item) ended) }
-        ensures timed { 0 < limit → IfOk result (λ ended. EndedAs (bounded_kind None) ⊤ T.mark_of seat (Give item) ended) }
+        ensures now { limit ≡ 0 → IfOk result (λ ended. EndedAs (bounded_kind None) ⊥ T.mark_of seat (Offer item)
+            ended) }
+        ensures timed { 0 < limit → IfOk result (λ ended. EndedAs (bounded_kind None) ⊤ T.mark_of seat (Give item)
+            ended) }
         ensures number { IfErr result (λ refused. refused.seat.number ≡ seat.number) }
         ensures past { IfErr result (λ refused. refused.seat.past ≡ seat.past) }
         ensures list { IfErr result (λ refused. refused.seat.list ≡ seat.list) }
