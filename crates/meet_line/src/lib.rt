@@ -5,6 +5,7 @@
 mod answers;
 mod bucket_table;
 mod fair;
+mod itemless;
 mod left;
 mod line;
 mod linked;

@@ -10,6 +10,7 @@ ghost use Rattle.meet_tickets.specs.declared.refusals.Refusal.TheVariants.{Memor
 ghost use Rattle.meet_line.specs.Rolled.{StandsAt, IsLeft, IsTableSize};
 ghost use Rattle.meet_line.specs.Stored.{slot_at, entries_of, keys_in, Holds, fellows, IsLookedAt};
 
+use crate::itemless::let_go_none;
 use crate::roll::Roll;
 use meet_tickets::{Entry, Refusal, Ticket};
 use std::alloc::Global;
@@ -147,10 +148,7 @@ impl<T> Linked<T> {
         ensures looked { self.new.looked ≡ self.old.looked }
     {
         let key = self.roll.push_back(entry.ticket.number());
-        match self.slots[key].replace(entry) {
-            None => {}
-            Some(_) => unreachable!(),
-        }
+        let_go_none(self.slots[key].replace(entry));
         self.room -= 1;
     }
 
@@ -245,10 +243,7 @@ impl<T> Linked<T> {
             looked: _,
         } = self;
         while let Some(slot) = slots.pop() {
-            match slot {
-                None => {}
-                Some(_) => unreachable!(),
-            }
+            let_go_none(slot);
         }
         slots.destroy_empty();
     }

@@ -8,6 +8,7 @@ ghost use Rattle.meet_tickets.specs.declared.lines.Hold.TheVariants.{Handed, Ser
 ghost use Rattle.meet_tickets.specs.declared.places.Side.TheVariants.{Giver};
 ghost use Rattle.meet_line.specs.Table.{hold_at, HasNoItem};
 
+use crate::itemless::let_go_none;
 use crate::line::Line;
 use crate::table::SeatTable;
 use meet_tickets::{Entry, Hold, Marked, Side, Ticket};
@@ -60,10 +61,7 @@ pub(crate) fn serve<T>(seats: &mut SeatTable<T>, taker: Entry<T>, giver: Ticket,
         item: brought,
         waits: _,
     } = taker;
-    match brought {
-        None => {}
-        Some(_) => unreachable!(),
-    }
+    let_go_none(brought);
     seats.put(seat, Hold::Served(ticket, giver, item));
     ticket
 }

@@ -9,6 +9,7 @@ ghost use Rattle.meet_tickets.specs.declared.lines.Hold.TheVariants.{Free};
 ghost use Rattle.meet_line.specs.Table.{grown, hold_at};
 ghost use Rattle.meet_line.specs.Left.{left_of_hold, left_at_seats};
 
+use crate::itemless::let_go_hold;
 use crate::left::{Left, push_left};
 use meet_tickets::{Hold, MOST_SEATS, SeatNo};
 use std::alloc::{AllocError, Global};
@@ -159,10 +160,7 @@ impl<T> SeatTable<T> {
         ensures count { length self.new.holds ≡ length self.old.holds }
         ensures flags { self.new.flags ≡ self.old.flags }
     {
-        match self.replace(seat, hold) {
-            Hold::Free | Hold::Waiting(_) | Hold::Handed(_, _, _) => {}
-            Hold::Served(_, _, _) | Hold::Cut(_, _) => unreachable!(),
-        }
+        let_go_hold(self.replace(seat, hold));
     }
 
     /// How many seats have an open ticket that isn't in the line.
@@ -238,10 +236,7 @@ fn destroy_holds<T>(holds: Vec<Hold<T>>)
 {
     let mut holds = holds.into_iter();
     while let Some(hold) = holds.next() {
-        match hold {
-            Hold::Free | Hold::Waiting(_) | Hold::Handed(_, _, _) => {}
-            Hold::Served(_, _, _) | Hold::Cut(_, _) => unreachable!(),
-        }
+        let_go_hold(hold);
     }
     holds.destroy_empty();
 }

@@ -1,4 +1,4 @@
-use Rattle.std.proofs.Common.{◌≡◌, ◌∙◌, ◌∷◌, [], ap, sym, refl, inl, inr, None, Some, length, get_or}
+use Rattle.std.proofs.Common.{◌∙◌, ◌∷◌, [], ap, sym, refl, inl, inr, None, length, get_or}
 use Rattle.std.proofs.lemmas.List.{get_or_append_left, get_or_past, get_or_at}
 use Rattle.std.proofs.lemmas.Bool.{cases_lt}
 use Rattle.meet_line.proofs.Stored.{all-vacant}
@@ -15,9 +15,7 @@ loop-slot-preserved g c k =
       | inr past ↦ get_or_past items k None past
     ]
 
-pub unreachable-requires : goal.unreachable-requires
-unreachable-requires g c =
+pub let_go_none-requires : goal.let_go_none-requires
+let_go_none-requires g c =
     let items = c.pop.new.self.items in
-    let last : c.in-Some.slot ≡ None = sym (get_or_at items c.in-Some.slot [] None (length items) refl) ∙ ap (λ xs. get_or xs (length items) None) (sym c.in-Some.ensures.items) ∙ c.loop-slot.invariant (length items) in
-    let clash : Some c.in-Some-slot.field-0 ≡ None = sym c.in-Some-slot.is ∙ last in
-    absurd (cc)
+    sym (get_or_at items c.in-Some.slot [] None (length items) refl) ∙ ap (λ xs. get_or xs (length items) None) (sym c.in-Some.ensures.items) ∙ c.loop-slot.invariant (length items)

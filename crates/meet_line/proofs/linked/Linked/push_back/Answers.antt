@@ -1,18 +1,17 @@
-use Rattle.std.proofs.Common.{◌≡◌, ◌≢◌, ◌<◌, ◌∙◌, ◌++◌, ◌∷◌, [], ap, sym, subst, arith, None, Some, All}
+use Rattle.std.proofs.Common.{◌≡◌, ◌≢◌, ◌<◌, ◌∙◌, ◌++◌, ◌∷◌, [], ap, sym, subst, arith, None, All}
 use Rattle.std.proofs.lemmas.List.{get_or_read}
 use Rattle.meet_line.specs.Stored.{slot_at}
 use Rattle.meet_line.proofs.Stored.{put-in, vacant-slot}
 use Rattle.meet_line.proofs.linked.Linked.push_back.Goals as goal
 
-pub unreachable-requires : goal.unreachable-requires
-unreachable-requires g c =
+pub let_go_none-requires : goal.let_go_none-requires
+let_go_none-requires g c =
     let key = c.push_back-key.result in
     let slots = c.self.inside.slots.items in
     let within : key < c.self.inside.slots.len = omega (arith, c.push_back-key.ensures.within, c.push_back-key.ensures.width, c.self.invariant.wide, c.self.inside.slots.ok.0) in
     let vacant : slot_at slots key ≡ None = vacant-slot c.self.inside.roll slots c.self.inside.room c.self.invariant key c.push_back-key.ensures.fresh in
     let was : c.index_mut.result.now ≡ None = get_or_read slots key c.index_mut.result.now (omega (arith, within, c.self.inside.slots.ok.0)) c.index_mut.ensures.value None ∙ vacant in
-    let clash : Some c.in-Some.field-0 ≡ None = sym c.in-Some.is ∙ c.replace.ensures.value ∙ was in
-    absurd (cc)
+    c.replace.ensures.value ∙ was
 
 pub invariant_of-self : goal.invariant_of-self
 invariant_of-self g c =
