@@ -12,11 +12,11 @@ use crate::checker::place::CheckedPlace;
 use meet_tickets::{Cause, Deed, Entry, Hold, SeatNo, Ticket};
 
 impl CheckedPlace {
-    /// Takes an ending's record in, if the rules give it.
+    /// Takes a record in, if it is an ending's and the rules give it.
     pub(super) fn takes_ending(&mut self, seat: SeatNo, ticket: Ticket, deed: Deed) -> bool
         requires seat { seat < length self.old.table.holds }
-        requires ending { is_ending deed ≡ true }
-        ensures allowed { IsTrue result ↔ Allows self.old.kind (moment_at self.old).seats seat ticket deed }
+        ensures allowed { IsTrue result ↔ ((is_ending deed ≡ true)
+            × Allows self.old.kind (moment_at self.old).seats seat ticket deed) }
         ensures seats { IsTrue result → (moment_at self.new).seats
             ≡ seats_after self.old.kind (moment_at self.old).seats seat ticket deed }
         ensures last { self.new.last ≡ self.old.last }
@@ -32,7 +32,7 @@ impl CheckedPlace {
                 self.ends(seat, may)
             }
             Deed::Withdrawn(cause) => self.takes_back(seat, ticket, cause),
-            _ => unreachable!(),
+            _ => false,
         }
     }
 

@@ -11,14 +11,14 @@ use crate::checker::place::CheckedPlace;
 use meet_tickets::{Deed, Entry, Hold, SeatNo, Side, Ticket};
 
 impl CheckedPlace {
-    /// Takes a request's record in, if the rules give it, where its seat is free and its ticket is new.
+    /// Takes a record in, if it is a request's and the rules give it, where its seat is free and its ticket is new.
     pub(super) fn takes_request(&mut self, seat: SeatNo, ticket: Ticket, deed: Deed) -> bool
         requires seat { seat < length self.old.table.holds }
         requires room { 0 < self.old.room }
-        requires request { is_request deed ≡ true }
         requires free { IsFree (moment_at self.old).seats seat }
         requires above { self.old.last < ticket }
-        ensures allowed { IsTrue result ↔ Allows self.old.kind (moment_at self.old).seats seat ticket deed }
+        ensures allowed { IsTrue result ↔ ((is_request deed ≡ true)
+            × Allows self.old.kind (moment_at self.old).seats seat ticket deed) }
         ensures seats { IsTrue result → (moment_at self.new).seats
             ≡ seats_after self.old.kind (moment_at self.old).seats seat ticket deed }
         ensures last { IsTrue result → self.new.last ≡ ticket }
@@ -33,7 +33,7 @@ impl CheckedPlace {
             Deed::TakeFails => self.fails(ticket, Side::Taker),
             Deed::GiveKept(mark) => self.keeps(seat, ticket, mark),
             Deed::EntryInterrupted(side) => self.is_refused_at_entry(seat, ticket, side),
-            _ => unreachable!(),
+            _ => false,
         }
     }
 
