@@ -4,7 +4,8 @@
 use crate::queue_calls::{QueueAnswer, QueueCall};
 use meet_book::{Drains, Leaves, Object, Wakes};
 use meet_line::Left;
-use meet_tickets::{Base, Deed, Marked, SeatNo, Ticket};
+use meet_tickets::{Base, Deed, Marked, Refusal, SeatNo, Ticket};
+use std::alloc::Global;
 
 /// A queue of one thread as a book's place, always of one kind: its steps, refusals and records are those of a queue of
 /// this kind, and so is its history.
@@ -15,15 +16,18 @@ pub trait QueuePlace: Object<
     Base = Base,
 >
     + Wakes {
-    ghost use Rattle.std.specs.Prelude.{◌≡◌, ◌↔◌, ℕ, IsTrue, List};
+    ghost use Rattle.std.specs.Prelude.{◌≡◌, ◌↔◌, ◌≤◌, ℕ, IsTrue, IfOk, IfErr, List, []};
     ghost use Rattle.meet_tickets.specs.declared.places.Kind.{Kind};
     ghost use Rattle.meet_tickets.specs.declared.records.Record.{Record};
     ghost use Rattle.meet_tickets.specs.declared.records.Deed.{Deed};
     ghost use Rattle.meet_tickets.specs.Bases.{Based, no_base};
     ghost use Rattle.meet_tickets.specs.BySeat.{nobody};
+    ghost use Rattle.meet_tickets.specs.Limits.{most_seats};
+    ghost use Rattle.meet_tickets.specs.declared.refusals.Refusal.TheVariants.{Memory};
     ghost use Rattle.meet_line.specs.Awaits.{AwaitsAs};
     ghost use Rattle.meet_line.specs.Queue.{Queue, seats_of, count_of};
     ghost use Rattle.meet_calls.specs.QueueRecords.{queue_record};
+    ghost use Rattle.meet_calls.specs.QueueRoom.{roomy};
     ghost use Rattle.meet_calls.specs.QueueSteps.{QueueStep, LeadsTo, queue_refusal, queue_need};
     ghost use Rattle.meet_calls.specs.declared.queue_calls.QueueCall.{QueueCall};
     ghost use Rattle.meet_calls.specs.declared.queue_calls.QueueAnswer.{QueueAnswer};
@@ -36,6 +40,17 @@ pub trait QueuePlace: Object<
 
     /// What it shows of itself.
     ghost queue_of: { Self → Queue Self.Item };
+
+    /// A queue with this many seats, at most 65,536, of which nobody has asked yet, and with no history; its first
+    /// ticket is 1. The only refusal is Memory.
+    fn unused(alloc: Global, seats: u64) -> Result<Self, Refusal>
+        requires seats { seats ≤ most_seats }
+        ensures free { IfOk result (λ queue. seats_of (queue_of queue) ≡ nobody) }
+        ensures seats { IfOk result (λ queue. count_of (queue_of queue) ≡ seats) }
+        ensures last { IfOk result (λ queue. (queue_of queue).last ≡ 0) }
+        ensures next { IfOk result (λ queue. (queue_of queue).next ≡ 1) }
+        ensures history { IfOk result (λ queue. Self.leads Self.no_base [] queue) }
+        ensures memory { IfErr result (λ why. why ≡ Memory) };
 
     /// Whether the seat's open ticket is this one; and while its item lies here, since it waits or was cut, whether the
     /// item has this mark, or there is none where this is none.
@@ -64,6 +79,12 @@ pub trait QueuePlace: Object<
 
     /// Its seats are those that it shows.
     ghost is_count: { (o : Self) → Self.seat_count_of o ≡ count_of (queue_of o) };
+
+    /// Its room is the one that it shows.
+    ghost is_room: { (o : Self) → Self.spare o ≡ (queue_of o).room };
+
+    /// With other room it shows nothing else.
+    ghost is_roomy: { (o : Self) (room : ℕ) → queue_of (Self.with_room o room) ≡ roomy (queue_of o) room };
 
     /// It has no base of its own.
     ghost is_no_base: { Self.no_base ≡ no_base };

@@ -10,4 +10,4 @@ pub use books::{queue_book, transfer_book};
 pub use meet_calls::{QueueAnswer, QueueCall};
 pub use meet_core::Dual;
 pub use meet_transfer::{Transfer, Unbounded};
-pub use ready::{READY_RECORDS, ready_queue_book, ready_transfer_book};
+pub use ready::{READY_RECORDS, ready_book};

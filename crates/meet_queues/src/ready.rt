@@ -3,80 +3,37 @@
 ghost use Rattle.std.specs.Prelude.{◌≡◌, ◌<◌, ◌≤◌, [], IfOk, IfErr};
 ghost use Rattle.meet_tickets.specs.BySeat.{nobody};
 ghost use Rattle.meet_tickets.specs.Limits.{most_seats, most_records};
-ghost use Rattle.meet_tickets.specs.Bases.{no_base};
 ghost use Rattle.meet_tickets.specs.declared.refusals.Refusal.TheVariants.{Memory};
 ghost use Rattle.meet_line.specs.Queue.{seats_of, count_of};
 ghost use Rattle.meet_queues.specs.Ready.{ready_room};
 
-use crate::books::queue_book;
 use meet_book::Book;
-use meet_core::Dual;
-use meet_line::Line;
+use meet_calls::QueuePlace;
 use meet_tickets::{Marked, Refusal};
-use meet_transfer::Unbounded;
 use std::alloc::Global;
 
 /// For how many records a ready book has room at first, where its cap isn't less.
 pub const READY_RECORDS: u64 = 4_096;
 
-/// The book of a new synchronous queue with this many seats, at most 65,536, and at most this many records, 1 to
-/// 1,048,576; its first ticket is 1. The line has room for a waiting request of every seat, and the book for the
-/// records up to its cap or `READY_RECORDS`, the lesser. The only refusal is Memory; it asks no `Drop` of the items or
-/// the line.
-pub fn ready_queue_book<T: Marked, L: Line<T>>(
-    alloc: Global,
-    seats: u64,
-    cap: u64,
-) -> Result<Book<Dual<T, L>>, Refusal>
+/// The book of a new queue with this many seats, at most 65,536, and at most this many records, 1 to 1,048,576; its
+/// first ticket is 1. The line has room for a waiting request of every seat, and the book for the records up to its cap
+/// or `READY_RECORDS`, the lesser. The only refusal is Memory; it asks no `Drop` of the items or the line.
+pub fn ready_book<O: QueuePlace>(alloc: Global, seats: u64, cap: u64) -> Result<Book<O>, Refusal>
     requires seats { seats ≤ most_seats }
     requires cap_from { 0 < cap }
     requires cap_to { cap ≤ most_records }
-    ensures fresh { IfOk result (λ book. seats_of book.object ≡ nobody) }
-    ensures seats { IfOk result (λ book. count_of book.object ≡ seats) }
-    ensures unused { IfOk result (λ book. book.object.last ≡ 0) }
-    ensures first { IfOk result (λ book. book.object.next ≡ 1) }
-    ensures base { IfOk result (λ book. book.base ≡ no_base) }
-    ensures gone { IfOk result (λ book. book.base.gone ≡ 0) }
+    ensures fresh { IfOk result (λ book. seats_of (O.queue_of book.object) ≡ nobody) }
+    ensures seats { IfOk result (λ book. count_of (O.queue_of book.object) ≡ seats) }
+    ensures unused { IfOk result (λ book. (O.queue_of book.object).last ≡ 0) }
+    ensures first { IfOk result (λ book. (O.queue_of book.object).next ≡ 1) }
+    ensures base { IfOk result (λ book. book.base ≡ O.no_base) }
     ensures records { IfOk result (λ book. book.records ≡ []) }
     ensures cap { IfOk result (λ book. book.cap ≡ cap) }
     ensures room { IfOk result (λ book. ready_room cap ≤ book.room) }
-    ensures line { IfOk result (λ book. seats ≤ book.object.room) }
+    ensures line { IfOk result (λ book. seats ≤ (O.queue_of book.object).room) }
     ensures memory { IfErr result (λ why. why ≡ Memory) }
 {
-    let mut book = queue_book(alloc, seats, 1, cap)?;
-    match book.reserve(ready_room(cap), seats) {
-        Ok(()) => Ok(book),
-        Err(why) => {
-            let (queue, _, _) = book.into_parts();
-            queue.destroy_empty();
-            Err(why)
-        }
-    }
-}
-
-/// The book of a new transfer queue without a bound, which tells so. Seats, cap, first ticket, room and refusal as of
-/// `ready_queue_book`.
-pub fn ready_transfer_book<T: Marked>(
-    alloc: Global,
-    seats: u64,
-    cap: u64,
-) -> Result<Book<Unbounded<T>>, Refusal>
-    requires seats { seats ≤ most_seats }
-    requires cap_from { 0 < cap }
-    requires cap_to { cap ≤ most_records }
-    ensures fresh { IfOk result (λ book. seats_of book.object ≡ nobody) }
-    ensures seats { IfOk result (λ book. count_of book.object ≡ seats) }
-    ensures unused { IfOk result (λ book. book.object.last ≡ 0) }
-    ensures first { IfOk result (λ book. book.object.next ≡ 1) }
-    ensures base { IfOk result (λ book. book.base ≡ no_base) }
-    ensures gone { IfOk result (λ book. book.base.gone ≡ 0) }
-    ensures records { IfOk result (λ book. book.records ≡ []) }
-    ensures cap { IfOk result (λ book. book.cap ≡ cap) }
-    ensures room { IfOk result (λ book. ready_room cap ≤ book.room) }
-    ensures line { IfOk result (λ book. seats ≤ book.object.room) }
-    ensures memory { IfErr result (λ why. why ≡ Memory) }
-{
-    let mut book = Book::new(alloc, Unbounded::new(alloc, seats, 1)?, cap);
+    let mut book = Book::new(alloc, O::unused(alloc, seats)?, cap);
     match book.reserve(ready_room(cap), seats) {
         Ok(()) => Ok(book),
         Err(why) => {

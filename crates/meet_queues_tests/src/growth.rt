@@ -5,9 +5,10 @@ use crate::drains::are_taken;
 use crate::parcels::{Ask, Parcel, Row, Told, seat};
 use crate::places::{Fair, Shown, Unfair, plays};
 use meet_book::{Book, Receipt};
+use meet_calls::QueuePlace;
 use meet_core::Dual;
 use meet_line::Line;
-use meet_queues::{QueueAnswer, queue_book, ready_queue_book, ready_transfer_book, transfer_book};
+use meet_queues::{QueueAnswer, queue_book, ready_book, transfer_book};
 use meet_tickets::{Deed, Refusal};
 use meet_transfer::{Transfer, Unbounded};
 use std::alloc::Global;
@@ -53,19 +54,11 @@ fn book_of_transfer(rt: &impl Abort, alloc: Global) -> Book<Transfer<Parcel>> {
     }
 }
 
-/// The same of a synchronous queue's book that is ready.
-fn ready_book_of_queue(rt: &impl Abort, alloc: Global) -> Book<Fair> {
-    match ready_queue_book(alloc, 6, 40) {
+/// The same of a queue's book that is ready.
+fn readied<O: QueuePlace>(rt: &impl Abort, alloc: Global) -> Book<O> {
+    match ready_book(alloc, 6, 40) {
         Ok(book) => book,
-        Err(_) => ready_queue_book(alloc, 6, 40).expect(rt, "memory"),
-    }
-}
-
-/// The same of a transfer queue's book that is ready.
-fn ready_book_of_transfer(rt: &impl Abort, alloc: Global) -> Book<Unbounded<Parcel>> {
-    match ready_transfer_book(alloc, 6, 40) {
-        Ok(book) => book,
-        Err(_) => ready_transfer_book(alloc, 6, 40).expect(rt, "memory"),
+        Err(_) => ready_book(alloc, 6, 40).expect(rt, "memory"),
     }
 }
 
@@ -191,13 +184,13 @@ fn a_book_of_items_that_are_kept(rt: HostRuntime) {
 /// Once it is made, nothing is refused.
 #[test]
 fn a_ready_book_of_givers_that_wait(rt: HostRuntime) {
-    let mut book = ready_book_of_queue(&rt, rt.alloc());
+    let mut book = readied::<Fair>(&rt, rt.alloc());
     plays(&rt, &mut book, &GIVEN);
 }
 
 /// Nor here.
 #[test]
 fn a_ready_book_of_items_that_are_kept(rt: HostRuntime) {
-    let mut book = ready_book_of_transfer(&rt, rt.alloc());
+    let mut book = readied::<Unbounded<Parcel>>(&rt, rt.alloc());
     plays(&rt, &mut book, &KEPT);
 }

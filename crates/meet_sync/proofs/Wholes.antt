@@ -1,7 +1,7 @@
 -- A request that waits and its ending make a whole call.
-use Rattle.std.proofs.Common.{◌≡◌, ℕ, ap, ◌∙◌, Option, Some, List, [], ◌∷◌, ◌++◌, append_assoc}
+use Rattle.std.proofs.Common.{◌≡◌, ℕ, ap, ◌∙◌, Option, Some, None, List, [], ◌∷◌, ◌++◌, append_assoc}
 use Rattle.std.proofs.Common.{inr}
-use Rattle.std.specs.Prelude.{⊤}
+use Rattle.std.specs.Prelude.{⊤, IfNone}
 use Rattle.std.proofs.lemmas.List.{map-append}
 use Rattle.meet_tickets.specs.declared.places.Kind.{Kind}
 use Rattle.meet_tickets.specs.declared.records.Record.{Record}
@@ -10,7 +10,7 @@ use Rattle.meet_book.specs.Received.{Received}
 use Rattle.meet_calls.specs.QueueRecords.{made}
 use Rattle.meet_place.specs.Seats.{SeatView, PendingView, Adds, entries}
 use Rattle.meet_sync.specs.Asking.{AskedAs, waiting_deed, brought}
-use Rattle.meet_sync.specs.Ending.{EndedAs, EndsAs, WaitedAs, OutcomeOf, NotExpired, MarksBack, last_deed}
+use Rattle.meet_sync.specs.Ending.{MayRunOut, EndedAs, EndsAs, WaitedAs, OutcomeOf, NotExpired, MarksBack, last_deed}
 use Rattle.meet_sync.specs.declared.asked.Request.{Request}
 use Rattle.meet_sync.specs.declared.asked.Asked.TheVariants.{Parked}
 use Rattle.meet_sync.specs.declared.asked.End.{End}
@@ -66,22 +66,21 @@ same_mark : {T : Type 0} (mark : T → ℕ) (own own' : Option ℕ) (end : End T
     → MarksBack mark own' end
 same_mark mark own own' end e h = rw e at h
 
-pub waited : {T N : Type 0} (k : Kind) (MayExpire : Type 0) (mark : T → ℕ) (seat : SeatView Deed) (p : PendingView Deed)
+-- an end that may be an expiry where there is a limit
+limited : {T : Type 0} (k : Kind) (limit : Option ℕ) (mark : T → ℕ) (seat after : SeatView Deed) (request : Request T)
+    (end : End T) (last : Deed) → last_deed mark end ≡ Some last → WaitedAs k mark seat after request last
+    → MarksBack mark (brought mark request) end → IfNone limit (NotExpired end)
+    → EndsAs k (MayRunOut limit) mark seat after request end
+limited k None mark seat after request end last is w back not = untimed k ⊥ mark seat after request end last is w back not
+limited k (Some limit) mark seat after request end last is w back not =
+    timed k mark seat after request end last is w back
+
+pub waited : {T N : Type 0} (k : Kind) (limit : Option ℕ) (mark : T → ℕ) (seat : SeatView Deed) (p : PendingView Deed)
     (request : Request T) (ended : Ended T N) → AskedAs {N = N} k mark seat request (Parked p) → OutcomeOf mark p ended
-    → NotExpired ended.end → EndedAs k MayExpire mark seat request ended
-waited k MayExpire mark seat p request ended (number, own, (first, is, one)) (number', back, (last, is', two)) not = (
+    → IfNone limit (NotExpired ended.end) → EndedAs k (MayRunOut limit) mark seat request ended
+waited k limit mark seat p request ended (number, own, (first, is, one)) (number', back, (last, is', two)) not = (
   (number'.0 ∙ number.0, number'.1 ∙ number.1),
-  untimed k MayExpire mark seat ended.seat request ended.end last is'
+  limited k limit mark seat ended.seat request ended.end last is'
       (waited_with k mark seat p ended.seat request first last number.0 is one two)
       (same_mark mark p.mark (brought mark request) ended.end own back) not,
-)
-
-pub waited_for : {T N : Type 0} (k : Kind) (mark : T → ℕ) (seat : SeatView Deed) (p : PendingView Deed) (request : Request T)
-    (ended : Ended T N) → AskedAs {N = N} k mark seat request (Parked p) → OutcomeOf mark p ended
-    → EndedAs k ⊤ mark seat request ended
-waited_for k mark seat p request ended (number, own, (first, is, one)) (number', back, (last, is', two)) = (
-  (number'.0 ∙ number.0, number'.1 ∙ number.1),
-  timed k mark seat ended.seat request ended.end last is'
-      (waited_with k mark seat p ended.seat request first last number.0 is one two)
-      (same_mark mark p.mark (brought mark request) ended.end own back),
 )

@@ -12,6 +12,7 @@ use Rattle.meet_tickets.specs.declared.records.Deed.TheVariants.{TakeWaits, Take
 use Rattle.meet_tickets.specs.declared.records.Deed.TheVariants.{TakeFails, EntryInterrupted as RefusedAtEntry}
 use Rattle.meet_tickets.specs.declared.records.Deed.TheVariants.{Done as DoneDeed, Got as GotDeed}
 use Rattle.meet_tickets.specs.declared.records.Deed.TheVariants.{Withdrawn as WithdrawnDeed, Interrupt}
+use Rattle.meet_tickets.specs.declared.refusals.Refusal.{Refusal}
 use Rattle.meet_line.specs.declared.answers.Put.TheVariants.{Kept as PutKept, Meets as PutMeets, Fails as PutFails}
 use Rattle.meet_line.specs.declared.answers.Gave.TheVariants.{Waits as GiverWaits, Meets as GiverMeets}
 use Rattle.meet_line.specs.declared.answers.Gave.TheVariants.{EntryInterrupted as GiverInterrupted}
@@ -42,6 +43,7 @@ use Rattle.meet_sync.specs.declared.asked.FollowedUp.{FollowedUp}
 use Rattle.meet_sync.specs.declared.asked.FollowedUp.TheVariants.{Done, Got as HasGot, Interrupted as WasCut, NotYet}
 use Rattle.meet_sync.specs.declared.asked.Withdrawn.{Withdrawn}
 use Rattle.meet_sync.specs.declared.asked.Withdrawn.TheVariants.{Back, Late}
+use Rattle.meet_sync.specs.declared.asked.SeatRefused.{SeatRefused}
 use Rattle.meet_sync.specs.declared.asked.Struck.{Struck}
 use Rattle.meet_sync.specs.declared.asked.Struck.TheVariants.{Cut, Flagged}
 
@@ -152,6 +154,12 @@ module _ {T N : Type 0} where
   AskedAs k mark seat request (Parked p) = ParksSeat seat p × (p.mark ≡ brought mark request)
       × ((deed : Deed) × (waiting_deed k mark request ≡ Some deed)
       × Adds seat.list p.list (made seat.number p.ticket deed ∷ []))
+
+  -- a call of this seat was refused for such a reason: the seat comes back, with its receipts as they were, and so does
+  -- the item that was brought
+  abbrev pub RefusedAs : (Refusal → Type 0) → SeatView Deed → Option T → SeatRefused T N → Type 0
+  RefusedAs IsReason seat item refused = SameSeat seat refused.seat × (refused.seat.list ≡ seat.list)
+      × (refused.item ≡ item) × IsReason refused.why
 
   -- a follow-up ended the ticket with one receipt, whose deed is its answer's, and what comes back has the mark that
   -- the request brought; or nothing was written

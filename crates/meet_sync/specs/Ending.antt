@@ -19,6 +19,11 @@ use Rattle.meet_sync.specs.declared.asked.End.TheVariants.{Gave, Got, Failed, Ke
 use Rattle.meet_sync.specs.declared.asked.End.TheVariants.{Interrupted, TimedOut}
 use Rattle.meet_sync.specs.declared.asked.Ended.{Ended}
 
+-- a call with a limit in milliseconds may run out of time, and one without can't
+abbrev pub MayRunOut : (limit : Option ℕ) → Type 0
+MayRunOut None = ⊥
+MayRunOut (Some limit) = ⊤
+
 module _ {T : Type 0} where
   -- the end of a whole call that was settled so
   abbrev pub end_of : Answer T → End T

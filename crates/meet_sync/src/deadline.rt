@@ -1,35 +1,26 @@
-//! When a timed call's wait is over.
+//! What is left of a timed call's wait.
+
+ghost use Rattle.std.specs.Prelude.{◌≡◌, None, IfNone};
 
 use std::time::{Clock, Instant};
 
-/// A time to wait for, from when it was made. It is a hint: no clause says when it is over.
-#[derive(Drop)]
-pub(crate) struct Deadline {
-    // None where there is no clock.
-    start: Option<Instant>,
-    limit: u64,
+/// How many milliseconds passed since this start; none where there is no clock.
+fn passed<R: Clock>(rt: &R, start: Option<Instant>) -> Option<u64> {
+    let passed = start?.elapsed(rt).ok()?.as_millis();
+    Some(u64::try_from(passed).unwrap_or(u64::MAX))
 }
 
-impl Deadline {
-    /// So many milliseconds from now.
-    pub(crate) fn after<R: Clock>(rt: &R, limit: u64) -> Self {
-        Deadline {
-            start: Instant::now(rt).ok(),
-            limit,
-        }
-    }
-
-    /// How many milliseconds are left, a begun one counted whole; all of them where there is no clock.
-    pub(crate) fn left<R: Clock>(&self, rt: &R) -> u64 {
-        self.until(rt).unwrap_or(self.limit)
-    }
-
-    /// The same; none where there is no clock.
-    fn until<R: Clock>(&self, rt: &R) -> Option<u64> {
-        let passed = self.start?.elapsed(rt).ok()?.as_millis();
-        Some(
-            self.limit
-                .saturating_sub(u64::try_from(passed).unwrap_or(u64::MAX)),
-        )
+/// What is left of a limit in milliseconds that began at this start, a begun one counted whole: all of it where there
+/// is no clock, and none where there is no limit. It is a hint: no clause says when a wait is over.
+pub(crate) fn left_of<R: Clock>(
+    rt: &R,
+    start: Option<Instant>,
+    limit: Option<u64>,
+) -> Option<u64>
+    ensures untimed { IfNone limit (result ≡ None) }
+{
+    match limit {
+        None => None,
+        Some(limit) => Some(limit.saturating_sub(passed(rt, start).unwrap_or(0))),
     }
 }

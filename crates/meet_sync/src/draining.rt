@@ -3,6 +3,7 @@
 ghost use Rattle.std.specs.Prelude.{◌≡◌, Some, None, [], ◌≤◌, length, vec_len, IfOk, IfErr, IsSome};
 ghost use Rattle.std.specs.Vec.{vec_capacity};
 ghost use Rattle.meet_sync.specs.Drained.{DrainedTo, IsLeastFor, AllBring, AreItemsOf, item_told};
+ghost use Rattle.meet_sync.specs.Asking.{RefusedAs};
 ghost use Rattle.meet_sync.specs.Told.{IsRequestWhy};
 
 use crate::asked::SeatRefused;
@@ -96,11 +97,7 @@ impl<O: QueueDrains, G: Gate, N: Ledgers> Queue<O, G, N> {
         ensures past { IfOk result (λ drained. drained.seat.past ≡ seat.past) }
         ensures count { IfOk result (λ drained. IsLeastFor O.Item N.parts max (length drained.items.items)) }
         ensures drained { IfOk result (λ drained. DrainedTo O.Item.mark_of seat drained.seat drained.items.items) }
-        ensures back { IfErr result (λ refused. refused.seat.number ≡ seat.number) }
-        ensures back_past { IfErr result (λ refused. refused.seat.past ≡ seat.past) }
-        ensures list { IfErr result (λ refused. refused.seat.list ≡ seat.list) }
-        ensures item { IfErr result (λ refused. refused.item ≡ None) }
-        ensures why { IfErr result (λ refused. IsRequestWhy refused.why) }
+        ensures refused { IfErr result (RefusedAs IsRequestWhy seat None) }
     {
         match self.take_all(rt, alloc, &mut seat, max) {
             Ok(items) => Ok(DrainedItems { seat, items }),

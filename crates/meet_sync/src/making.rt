@@ -1,8 +1,8 @@
 //! New queues for threads.
 
-ghost use Rattle.std.specs.Prelude.{◌≡◌, ◌+◌, Some, None, length, vec_len, IfOk, IfErr, if◌then◌else◌};
+ghost use Rattle.std.specs.Prelude.{◌≡◌, Some, None, [], vec_len, IfOk, IfErr, if◌then◌else◌};
 ghost use Rattle.meet_tickets.specs.declared.refusals.Refusal.TheVariants.{BadSizes, Memory};
-ghost use Rattle.meet_line.specs.Queue.{seats_of};
+ghost use Rattle.meet_line.specs.Queue.{seats_of, count_of};
 ghost use Rattle.meet_tickets.specs.BySeat.{nobody};
 ghost use Rattle.meet_tickets.specs.Limits.{most_records, most_seats};
 ghost use Rattle.meet_tickets.specs.Refusals.{IsWhy};
@@ -13,12 +13,9 @@ ghost use Rattle.meet_sync.specs.Making.{making_refusal};
 use crate::queue::Queue;
 use meet_book::Book;
 use meet_calls::QueuePlace;
-use meet_core::Dual;
-use meet_line::Line;
 use meet_place::{Blanks, Ledgers, NewPlace, Place, Seat};
-use meet_queues::{ready_queue_book, ready_transfer_book};
-use meet_tickets::{Deed, MOST_RECORDS, MOST_SEATS, Marked, Refusal, Refused};
-use meet_transfer::Unbounded;
+use meet_queues::ready_book;
+use meet_tickets::{Deed, MOST_RECORDS, MOST_SEATS, Refusal, Refused};
 use std::alloc::Global;
 
 /// What a queue for threads is made of. Beside the names and the parts of the ledgers, who makes a queue picks `N.cap`:
@@ -47,9 +44,9 @@ impl<O: QueuePlace, G: Drop, N: Ledgers> Queue<O, G, N> {
         book: Book<O>,
     ) -> Result<(Self, Vec<Seat<Deed, N>>), Refused<NewQueue<G>>>
         requires fresh { seats_of (O.queue_of book.object) ≡ nobody }
-        requires unwritten { O.gone_of book.base + length book.records ≡ 0 }
         requires first { book.base ≡ O.no_base }
-        requires seats { O.seat_count_of book.object ≡ vec_len parts.gates }
+        requires unwritten { book.records ≡ [] }
+        requires seats { count_of (O.queue_of book.object) ≡ vec_len parts.gates }
         requires book_cap { book.cap ≡ N.cap }
         requires gates { making_refusal (vec_len parts.gates) N.cap ≡ None }
         requires ledgers { AreOf N.name N.folds N.parts parts.blanks }
@@ -84,9 +81,7 @@ impl<O: QueuePlace, G: Drop, N: Ledgers> Queue<O, G, N> {
             }
         }
     }
-}
 
-impl<T: Marked, L: Line<T>, G: Drop, N: Ledgers> Queue<Dual<T, L>, G, N> {
     /// A queue with a seat for each gate, numbered from 0, and at most so many records. It refuses BadSizes where there
     /// is no gate or more than 65,536, or the records are none or more than 1,048,576; then Memory. All comes back.
     pub fn with_cap(
@@ -110,64 +105,15 @@ impl<T: Marked, L: Line<T>, G: Drop, N: Ledgers> Queue<Dual<T, L>, G, N> {
                 back: parts,
             });
         }
-        match ready_queue_book(alloc, parts.gates.len() as u64, cap) {
+        match ready_book(alloc, parts.gates.len() as u64, cap) {
             Ok(book) => Self::over(alloc, parts, book),
             Err(why) => Err(Refused { why, back: parts }),
         }
     }
 
-    /// A queue with a seat for each gate, numbered from 0, and at most 1,048,576 records: `new SynchronousQueue(fair)`.
-    /// It refuses BadSizes where there is no gate or more than 65,536; then Memory. All comes back.
-    pub fn new(
-        alloc: Global,
-        parts: NewQueue<G>,
-    ) -> Result<(Self, Vec<Seat<Deed, N>>), Refused<NewQueue<G>>>
-        requires ledgers { AreOf N.name N.folds N.parts parts.blanks }
-        requires one_each { N.parts ≡ vec_len parts.gates }
-        requires cap { N.cap ≡ most_records }
-        ensures count { IfOk result (λ made. made.0 ≡ vec_len parts.gates) }
-        ensures seats { IfOk result (λ made. vec_len made.1 ≡ vec_len parts.gates) }
-        ensures numbers { IfOk result (λ made. AreFresh made.1.items) }
-        ensures sizes { IfOk result (λ _. making_refusal (vec_len parts.gates) most_records ≡ None) }
-        ensures why { IfErr result (λ refused. IsWhy (making_refusal (vec_len parts.gates) most_records) refused.why) }
-        ensures back { IfErr result (λ refused. refused.back ≡ parts) }
-    {
-        Self::with_cap(alloc, parts, MOST_RECORDS)
-    }
-}
-
-impl<T: Marked, G: Drop, N: Ledgers> Queue<Unbounded<T>, G, N> {
-    /// A queue with a seat for each gate, numbered from 0, and at most so many records. It refuses BadSizes where there
-    /// is no gate or more than 65,536, or the records are none or more than 1,048,576; then Memory. All comes back.
-    pub fn with_cap(
-        alloc: Global,
-        parts: NewQueue<G>,
-        cap: u64,
-    ) -> Result<(Self, Vec<Seat<Deed, N>>), Refused<NewQueue<G>>>
-        requires ledgers { AreOf N.name N.folds N.parts parts.blanks }
-        requires one_each { N.parts ≡ vec_len parts.gates }
-        requires cap { N.cap ≡ cap }
-        ensures count { IfOk result (λ made. made.0 ≡ vec_len parts.gates) }
-        ensures seats { IfOk result (λ made. vec_len made.1 ≡ vec_len parts.gates) }
-        ensures numbers { IfOk result (λ made. AreFresh made.1.items) }
-        ensures sizes { IfOk result (λ _. making_refusal (vec_len parts.gates) cap ≡ None) }
-        ensures why { IfErr result (λ refused. IsWhy (making_refusal (vec_len parts.gates) cap) refused.why) }
-        ensures back { IfErr result (λ refused. refused.back ≡ parts) }
-    {
-        if !fits(parts.gates.len(), cap) {
-            return Err(Refused {
-                why: Refusal::BadSizes,
-                back: parts,
-            });
-        }
-        match ready_transfer_book(alloc, parts.gates.len() as u64, cap) {
-            Ok(book) => Self::over(alloc, parts, book),
-            Err(why) => Err(Refused { why, back: parts }),
-        }
-    }
-
-    /// A queue with a seat for each gate, numbered from 0, and at most 1,048,576 records: `new LinkedTransferQueue()`.
-    /// It refuses BadSizes where there is no gate or more than 65,536; then Memory. All comes back.
+    /// A queue with a seat for each gate, numbered from 0, and at most 1,048,576 records: `new SynchronousQueue(fair)`,
+    /// `new LinkedTransferQueue()`. It refuses BadSizes where there is no gate or more than 65,536; then Memory. All
+    /// comes back.
     pub fn new(
         alloc: Global,
         parts: NewQueue<G>,

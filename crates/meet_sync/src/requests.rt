@@ -2,7 +2,7 @@
 
 ghost use Rattle.std.specs.Prelude.{◌≡◌, ◌<◌, ◌≤◌, None, IfOk, IfErr};
 ghost use Rattle.meet_calls.specs.QueueSteps.{item_in};
-ghost use Rattle.meet_sync.specs.Asking.{item_of, AskedAs, StruckAs, AnsweredBy, IsToRequest};
+ghost use Rattle.meet_sync.specs.Asking.{item_of, RefusedAs, AskedAs, StruckAs, AnsweredBy, IsToRequest};
 ghost use Rattle.meet_sync.specs.Told.{IsRequestWhy, IsInterruptWhy};
 
 use crate::asked::{Answer, Asked, Request, SeatRefused, Struck};
@@ -81,11 +81,7 @@ impl<O: QueuePlace, G: Gate, N: Ledgers> Queue<O, G, N> {
         request: Request<O::Item>,
     ) -> Result<Asked<O::Item, N>, SeatRefused<O::Item, N>>
         ensures asked { IfOk result (λ asked. AskedAs O.kind O.Item.mark_of seat request asked) }
-        ensures number { IfErr result (λ refused. refused.seat.number ≡ seat.number) }
-        ensures past { IfErr result (λ refused. refused.seat.past ≡ seat.past) }
-        ensures list { IfErr result (λ refused. refused.seat.list ≡ seat.list) }
-        ensures item { IfErr result (λ refused. refused.item ≡ item_of request) }
-        ensures why { IfErr result (λ refused. IsRequestWhy refused.why) }
+        ensures refused { IfErr result (RefusedAs IsRequestWhy seat (item_of request)) }
     {
         if seat.reserve(2).is_err() {
             return Err(SeatRefused {
@@ -112,11 +108,7 @@ impl<O: QueuePlace, G: Gate, N: Ledgers> Queue<O, G, N> {
     ) -> Result<Struck<N>, SeatRefused<O::Item, N>>
         ensures struck { IfOk result (λ struck. StruckAs seat target struck) }
         ensures there { IfOk result (λ _. target < N.parts) }
-        ensures number { IfErr result (λ refused. refused.seat.number ≡ seat.number) }
-        ensures past { IfErr result (λ refused. refused.seat.past ≡ seat.past) }
-        ensures list { IfErr result (λ refused. refused.seat.list ≡ seat.list) }
-        ensures item { IfErr result (λ refused. refused.item ≡ None) }
-        ensures why { IfErr result (λ refused. IsInterruptWhy N.parts target refused.why) }
+        ensures refused { IfErr result (RefusedAs (IsInterruptWhy N.parts target) seat None) }
     {
         if seat.reserve(1).is_err() {
             return Err(SeatRefused {

@@ -2,7 +2,7 @@
 
 ghost use Rattle.std.specs.Prelude.{◌≡◌, ◌<◌, ⊤, IfOk, IfErr};
 ghost use Rattle.meet_calls.specs.QueueSteps.{kind_of};
-ghost use Rattle.meet_sync.specs.Asking.{item_of};
+ghost use Rattle.meet_sync.specs.Asking.{item_of, RefusedAs};
 ghost use Rattle.meet_sync.specs.Ending.{EndedAs};
 ghost use Rattle.meet_sync.specs.Told.{IsRequestWhy};
 ghost use Rattle.meet_sync.specs.declared.asked.Request.TheVariants.{Give, Offer};
@@ -29,13 +29,9 @@ impl<T: Marked, L: Line<T>, G: Gate, N: Ledgers> Queue<Dual<T, L>, G, N> {
         item: T,
     ) -> Result<Ended<T, N>, SeatRefused<T, N>>
         ensures ended { IfOk result (λ ended. EndedAs (kind_of L.end) ⊥ T.mark_of seat (Give item) ended) }
-        ensures number { IfErr result (λ refused. refused.seat.number ≡ seat.number) }
-        ensures past { IfErr result (λ refused. refused.seat.past ≡ seat.past) }
-        ensures list { IfErr result (λ refused. refused.seat.list ≡ seat.list) }
-        ensures item { IfErr result (λ refused. refused.item ≡ item_of (Give item)) }
-        ensures why { IfErr result (λ refused. IsRequestWhy refused.why) }
+        ensures refused { IfErr result (RefusedAs IsRequestWhy seat (item_of (Give item))) }
     {
-        self.ask(rt, seat, Request::Give(item))
+        self.ask(rt, seat, Request::Give(item), None)
     }
 
     /// `SynchronousQueue.offer`: gives an item to a taker that waits, or fails. Refuses as `request`.
@@ -46,13 +42,9 @@ impl<T: Marked, L: Line<T>, G: Gate, N: Ledgers> Queue<Dual<T, L>, G, N> {
         item: T,
     ) -> Result<Ended<T, N>, SeatRefused<T, N>>
         ensures ended { IfOk result (λ ended. EndedAs (kind_of L.end) ⊥ T.mark_of seat (Offer item) ended) }
-        ensures number { IfErr result (λ refused. refused.seat.number ≡ seat.number) }
-        ensures past { IfErr result (λ refused. refused.seat.past ≡ seat.past) }
-        ensures list { IfErr result (λ refused. refused.seat.list ≡ seat.list) }
-        ensures item { IfErr result (λ refused. refused.item ≡ item_of (Offer item)) }
-        ensures why { IfErr result (λ refused. IsRequestWhy refused.why) }
+        ensures refused { IfErr result (RefusedAs IsRequestWhy seat (item_of (Offer item))) }
     {
-        self.ask(rt, seat, Request::Offer(item))
+        self.ask(rt, seat, Request::Offer(item), None)
     }
 
     /// `SynchronousQueue.offer` with a limit in milliseconds; with a limit of 0 it is `offer`. Refuses as `request`.
@@ -65,11 +57,7 @@ impl<T: Marked, L: Line<T>, G: Gate, N: Ledgers> Queue<Dual<T, L>, G, N> {
     ) -> Result<Ended<T, N>, SeatRefused<T, N>>
         ensures now { limit ≡ 0 → IfOk result (λ ended. EndedAs (kind_of L.end) ⊥ T.mark_of seat (Offer item) ended) }
         ensures timed { 0 < limit → IfOk result (λ ended. EndedAs (kind_of L.end) ⊤ T.mark_of seat (Give item) ended) }
-        ensures number { IfErr result (λ refused. refused.seat.number ≡ seat.number) }
-        ensures past { IfErr result (λ refused. refused.seat.past ≡ seat.past) }
-        ensures list { IfErr result (λ refused. refused.seat.list ≡ seat.list) }
-        ensures item { IfErr result (λ refused. refused.item ≡ item_of (Give item)) }
-        ensures why { IfErr result (λ refused. IsRequestWhy refused.why) }
+        ensures refused { IfErr result (RefusedAs IsRequestWhy seat (item_of (Give item))) }
     {
         self.give_for(rt, seat, item, limit)
     }

@@ -2,7 +2,7 @@
 
 ghost use Rattle.std.specs.Prelude.{◌≡◌, ◌<◌, ⊤, None, IfOk, IfErr};
 ghost use Rattle.meet_calls.specs.QueueSteps.{bounded_kind};
-ghost use Rattle.meet_sync.specs.Asking.{item_of};
+ghost use Rattle.meet_sync.specs.Asking.{item_of, RefusedAs};
 ghost use Rattle.meet_sync.specs.Ending.{EndedAs};
 ghost use Rattle.meet_sync.specs.Told.{IsRequestWhy};
 ghost use Rattle.meet_sync.specs.declared.asked.Request.TheVariants.{Put, Give, Offer};
@@ -28,11 +28,7 @@ impl<T: Marked, G: Gate, N: Ledgers> Queue<Unbounded<T>, G, N> {
         item: T,
     ) -> Result<Ended<T, N>, SeatRefused<T, N>>
         ensures ended { IfOk result (λ ended. EndedAs (bounded_kind None) ⊥ T.mark_of seat (Put item) ended) }
-        ensures number { IfErr result (λ refused. refused.seat.number ≡ seat.number) }
-        ensures past { IfErr result (λ refused. refused.seat.past ≡ seat.past) }
-        ensures list { IfErr result (λ refused. refused.seat.list ≡ seat.list) }
-        ensures item { IfErr result (λ refused. refused.item ≡ item_of (Put item)) }
-        ensures why { IfErr result (λ refused. IsRequestWhy refused.why) }
+        ensures refused { IfErr result (RefusedAs IsRequestWhy seat (item_of (Put item))) }
     {
         match self.request(rt, seat, Request::Put(item)) {
             Ok(asked) => match asked {
@@ -55,11 +51,7 @@ impl<T: Marked, G: Gate, N: Ledgers> Queue<Unbounded<T>, G, N> {
         item: T,
     ) -> Result<Ended<T, N>, SeatRefused<T, N>>
         ensures ended { IfOk result (λ ended. EndedAs (bounded_kind None) ⊥ T.mark_of seat (Put item) ended) }
-        ensures number { IfErr result (λ refused. refused.seat.number ≡ seat.number) }
-        ensures past { IfErr result (λ refused. refused.seat.past ≡ seat.past) }
-        ensures list { IfErr result (λ refused. refused.seat.list ≡ seat.list) }
-        ensures item { IfErr result (λ refused. refused.item ≡ item_of (Put item)) }
-        ensures why { IfErr result (λ refused. IsRequestWhy refused.why) }
+        ensures refused { IfErr result (RefusedAs IsRequestWhy seat (item_of (Put item))) }
     {
         self.put(rt, seat, item)
     }
@@ -73,11 +65,7 @@ impl<T: Marked, G: Gate, N: Ledgers> Queue<Unbounded<T>, G, N> {
         _limit: u64,
     ) -> Result<Ended<T, N>, SeatRefused<T, N>>
         ensures ended { IfOk result (λ ended. EndedAs (bounded_kind None) ⊥ T.mark_of seat (Put item) ended) }
-        ensures number { IfErr result (λ refused. refused.seat.number ≡ seat.number) }
-        ensures past { IfErr result (λ refused. refused.seat.past ≡ seat.past) }
-        ensures list { IfErr result (λ refused. refused.seat.list ≡ seat.list) }
-        ensures item { IfErr result (λ refused. refused.item ≡ item_of (Put item)) }
-        ensures why { IfErr result (λ refused. IsRequestWhy refused.why) }
+        ensures refused { IfErr result (RefusedAs IsRequestWhy seat (item_of (Put item))) }
     {
         self.offer(rt, seat, item)
     }
@@ -90,13 +78,9 @@ impl<T: Marked, G: Gate, N: Ledgers> Queue<Unbounded<T>, G, N> {
         item: T,
     ) -> Result<Ended<T, N>, SeatRefused<T, N>>
         ensures ended { IfOk result (λ ended. EndedAs (bounded_kind None) ⊥ T.mark_of seat (Give item) ended) }
-        ensures number { IfErr result (λ refused. refused.seat.number ≡ seat.number) }
-        ensures past { IfErr result (λ refused. refused.seat.past ≡ seat.past) }
-        ensures list { IfErr result (λ refused. refused.seat.list ≡ seat.list) }
-        ensures item { IfErr result (λ refused. refused.item ≡ item_of (Give item)) }
-        ensures why { IfErr result (λ refused. IsRequestWhy refused.why) }
+        ensures refused { IfErr result (RefusedAs IsRequestWhy seat (item_of (Give item))) }
     {
-        self.ask(rt, seat, Request::Give(item))
+        self.ask(rt, seat, Request::Give(item), None)
     }
 
     /// `LinkedTransferQueue.tryTransfer`: gives an item to a taker that waits, or fails. Refuses as `request`.
@@ -107,13 +91,9 @@ impl<T: Marked, G: Gate, N: Ledgers> Queue<Unbounded<T>, G, N> {
         item: T,
     ) -> Result<Ended<T, N>, SeatRefused<T, N>>
         ensures ended { IfOk result (λ ended. EndedAs (bounded_kind None) ⊥ T.mark_of seat (Offer item) ended) }
-        ensures number { IfErr result (λ refused. refused.seat.number ≡ seat.number) }
-        ensures past { IfErr result (λ refused. refused.seat.past ≡ seat.past) }
-        ensures list { IfErr result (λ refused. refused.seat.list ≡ seat.list) }
-        ensures item { IfErr result (λ refused. refused.item ≡ item_of (Offer item)) }
-        ensures why { IfErr result (λ refused. IsRequestWhy refused.why) }
+        ensures refused { IfErr result (RefusedAs IsRequestWhy seat (item_of (Offer item))) }
     {
-        self.ask(rt, seat, Request::Offer(item))
+        self.ask(rt, seat, Request::Offer(item), None)
     }
 
     /// `LinkedTransferQueue.tryTransfer` with a limit in milliseconds; with a limit of 0 it is `try_transfer`. Refuses
@@ -129,11 +109,7 @@ impl<T: Marked, G: Gate, N: Ledgers> Queue<Unbounded<T>, G, N> {
             ended) }
         ensures timed { 0 < limit → IfOk result (λ ended. EndedAs (bounded_kind None) ⊤ T.mark_of seat (Give item)
             ended) }
-        ensures number { IfErr result (λ refused. refused.seat.number ≡ seat.number) }
-        ensures past { IfErr result (λ refused. refused.seat.past ≡ seat.past) }
-        ensures list { IfErr result (λ refused. refused.seat.list ≡ seat.list) }
-        ensures item { IfErr result (λ refused. refused.item ≡ item_of (Give item)) }
-        ensures why { IfErr result (λ refused. IsRequestWhy refused.why) }
+        ensures refused { IfErr result (RefusedAs IsRequestWhy seat (item_of (Give item))) }
     {
         self.give_for(rt, seat, item, limit)
     }

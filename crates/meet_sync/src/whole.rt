@@ -1,19 +1,19 @@
 //! The whole calls of a queue: a request, and where it waits, the wait for its ending.
 
-ghost use Rattle.std.specs.Prelude.{◌≡◌, ◌<◌, ⊤, IfOk, IfErr};
-ghost use Rattle.meet_sync.specs.Asking.{item_of};
-ghost use Rattle.meet_sync.specs.Ending.{EndedAs, OutcomeOf, NotExpired};
+ghost use Rattle.std.specs.Prelude.{◌≡◌, ◌<◌, ⊤, IfOk, IfErr, IfNone};
+ghost use Rattle.meet_sync.specs.Asking.{item_of, RefusedAs};
+ghost use Rattle.meet_sync.specs.Ending.{EndedAs, MayRunOut, OutcomeOf, NotExpired};
 ghost use Rattle.meet_sync.specs.Told.{IsRequestWhy};
 ghost use Rattle.meet_sync.specs.declared.asked.Request.TheVariants.{Give, Offer, Take, Poll};
 
 use crate::asked::{Asked, End, Ended, FollowedUp, Request, SeatRefused, Withdrawn};
-use crate::deadline::Deadline;
+use crate::deadline::left_of;
 use crate::queue::Queue;
 use meet_calls::QueuePlace;
 use meet_place::{Gate, Ledgers, Pending, Seat, Turn};
 use meet_tickets::Deed;
 use std::sync::Wait;
-use std::time::Clock;
+use std::time::{Clock, Instant};
 
 impl<O: QueuePlace, G: Gate, N: Ledgers> Queue<O, G, N> {
     /// Follows an open ticket up: how it ended, or the ticket as it was.
@@ -43,87 +43,85 @@ impl<O: QueuePlace, G: Gate, N: Ledgers> Queue<O, G, N> {
         }
     }
 
-    /// Waits until an open ticket ends: it looks again each time it is woken.
-    fn await_end<R: Wait + Clock>(&self, rt: &R, first: Pending<Deed, N>) -> Ended<O::Item, N>
-        ensures outcome { OutcomeOf O.Item.mark_of first result }
-        ensures untimed { NotExpired result.end }
-    {
-        let mut pending = first;
-        for _ in rt.forever() {
-            let _ = self.wait(rt, &pending, None);
-            match self.look(rt, pending) {
-                Ok(ended) => return ended,
-                Err(again) => pending = again,
-            }
-        }
-        unreachable!()
-    }
-
-    /// Looks until an open ticket ends, which was met or cut.
-    fn collect<R: Wait>(&self, rt: &R, first: Pending<Deed, N>) -> Ended<O::Item, N>
-        ensures outcome { OutcomeOf O.Item.mark_of first result }
-    {
-        let mut pending = first;
-        for _ in rt.forever() {
-            match self.look(rt, pending) {
-                Ok(ended) => return ended,
-                Err(again) => pending = again,
-            }
-        }
-        unreachable!()
-    }
-
     /// The time of an open ticket ran out: it is withdrawn, or ends as it was met or cut.
-    fn run_out<R: Wait>(&self, rt: &R, pending: Pending<Deed, N>) -> Ended<O::Item, N>
-        ensures outcome { OutcomeOf O.Item.mark_of pending result }
+    fn run_out<R: Wait>(
+        &self,
+        rt: &R,
+        pending: Pending<Deed, N>,
+    ) -> Result<Ended<O::Item, N>, Pending<Deed, N>>
+        ensures outcome { IfOk result (λ ended. OutcomeOf O.Item.mark_of pending ended) }
+        ensures again { IfErr result (λ again. again ≡ pending) }
     {
         match self.expire(rt, pending) {
-            Withdrawn::Back(seat, back) => Ended {
+            Withdrawn::Back(seat, back) => Ok(Ended {
                 seat,
                 end: End::TimedOut(back),
-            },
-            Withdrawn::Late(again) => self.collect(rt, again),
+            }),
+            Withdrawn::Late(again) => self.look(rt, again),
         }
     }
 
-    /// Waits until an open ticket ends, or its time runs out, however often it is woken in between.
-    fn await_for<R: Wait + Clock>(
+    /// One wait at the seat's gate, for as many milliseconds as are left where there is a limit, and a look at how the
+    /// ticket ended; where the time is up, it is withdrawn.
+    fn turn<R: Wait + Clock>(
+        &self,
+        rt: &R,
+        pending: Pending<Deed, N>,
+        left: Option<u64>,
+    ) -> Result<Ended<O::Item, N>, Pending<Deed, N>>
+        ensures outcome { IfOk result (λ ended. OutcomeOf O.Item.mark_of pending ended) }
+        ensures untimed { IfNone left (IfOk result (λ ended. NotExpired ended.end)) }
+        ensures again { IfErr result (λ again. again ≡ pending) }
+    {
+        match left {
+            None => {
+                let _ = self.wait(rt, &pending, None);
+                self.look(rt, pending)
+            }
+            Some(time) => {
+                if time == 0 || self.wait(rt, &pending, left) == Turn::Elapsed {
+                    self.run_out(rt, pending)
+                } else {
+                    self.look(rt, pending)
+                }
+            }
+        }
+    }
+
+    /// Waits until an open ticket ends, or its time runs out where there is a limit in milliseconds, however often it
+    /// is woken in between.
+    fn await_end<R: Wait + Clock>(
         &self,
         rt: &R,
         first: Pending<Deed, N>,
-        limit: u64,
+        limit: Option<u64>,
     ) -> Ended<O::Item, N>
         ensures outcome { OutcomeOf O.Item.mark_of first result }
+        ensures untimed { IfNone limit (NotExpired result.end) }
     {
-        let deadline = Deadline::after(rt, limit);
+        let start = Instant::now(rt).ok();
         let mut left = limit;
         let mut pending = first;
         for _ in rt.forever() {
-            if left == 0 || self.wait(rt, &pending, Some(left)) == Turn::Elapsed {
-                return self.run_out(rt, pending);
-            }
-            match self.look(rt, pending) {
+            match self.turn(rt, pending, left) {
                 Ok(ended) => return ended,
                 Err(again) => pending = again,
             }
-            left = deadline.left(rt);
+            left = left_of(rt, start, limit);
         }
         unreachable!()
     }
 
-    /// A request, and the wait for its ending.
+    /// A request, and the wait for its ending, for so many milliseconds where there is a limit.
     pub(crate) fn ask<R: Wait + Clock>(
         &self,
         rt: &R,
         seat: Seat<Deed, N>,
         request: Request<O::Item>,
+        limit: Option<u64>,
     ) -> Result<Ended<O::Item, N>, SeatRefused<O::Item, N>>
-        ensures ended { IfOk result (λ ended. EndedAs O.kind ⊥ O.Item.mark_of seat request ended) }
-        ensures number { IfErr result (λ refused. refused.seat.number ≡ seat.number) }
-        ensures past { IfErr result (λ refused. refused.seat.past ≡ seat.past) }
-        ensures list { IfErr result (λ refused. refused.seat.list ≡ seat.list) }
-        ensures item { IfErr result (λ refused. refused.item ≡ item_of request) }
-        ensures why { IfErr result (λ refused. IsRequestWhy refused.why) }
+        ensures ended { IfOk result (λ ended. EndedAs O.kind (MayRunOut limit) O.Item.mark_of seat request ended) }
+        ensures refused { IfErr result (RefusedAs IsRequestWhy seat (item_of request)) }
     {
         let asked = match self.request(rt, seat, request) {
             Ok(asked) => asked,
@@ -134,35 +132,7 @@ impl<O: QueuePlace, G: Gate, N: Ledgers> Queue<O, G, N> {
                 seat,
                 end: answer.into_end(),
             }),
-            Asked::Parked(pending) => Ok(self.await_end(rt, pending)),
-        }
-    }
-
-    /// A request, and the wait for its ending, for so many milliseconds.
-    fn ask_for<R: Wait + Clock>(
-        &self,
-        rt: &R,
-        seat: Seat<Deed, N>,
-        request: Request<O::Item>,
-        limit: u64,
-    ) -> Result<Ended<O::Item, N>, SeatRefused<O::Item, N>>
-        ensures ended { IfOk result (λ ended. EndedAs O.kind ⊤ O.Item.mark_of seat request ended) }
-        ensures number { IfErr result (λ refused. refused.seat.number ≡ seat.number) }
-        ensures past { IfErr result (λ refused. refused.seat.past ≡ seat.past) }
-        ensures list { IfErr result (λ refused. refused.seat.list ≡ seat.list) }
-        ensures item { IfErr result (λ refused. refused.item ≡ item_of request) }
-        ensures why { IfErr result (λ refused. IsRequestWhy refused.why) }
-    {
-        let asked = match self.request(rt, seat, request) {
-            Ok(asked) => asked,
-            Err(refused) => return Err(refused),
-        };
-        match asked {
-            Asked::Settled(seat, answer) => Ok(Ended {
-                seat,
-                end: answer.into_end(),
-            }),
-            Asked::Parked(pending) => Ok(self.await_for(rt, pending, limit)),
+            Asked::Parked(pending) => Ok(self.await_end(rt, pending, limit)),
         }
     }
 
@@ -176,16 +146,12 @@ impl<O: QueuePlace, G: Gate, N: Ledgers> Queue<O, G, N> {
     ) -> Result<Ended<O::Item, N>, SeatRefused<O::Item, N>>
         ensures now { limit ≡ 0 → IfOk result (λ ended. EndedAs O.kind ⊥ O.Item.mark_of seat (Offer item) ended) }
         ensures timed { 0 < limit → IfOk result (λ ended. EndedAs O.kind ⊤ O.Item.mark_of seat (Give item) ended) }
-        ensures number { IfErr result (λ refused. refused.seat.number ≡ seat.number) }
-        ensures past { IfErr result (λ refused. refused.seat.past ≡ seat.past) }
-        ensures list { IfErr result (λ refused. refused.seat.list ≡ seat.list) }
-        ensures item { IfErr result (λ refused. refused.item ≡ item_of (Give item)) }
-        ensures why { IfErr result (λ refused. IsRequestWhy refused.why) }
+        ensures refused { IfErr result (RefusedAs IsRequestWhy seat (item_of (Give item))) }
     {
         if limit == 0 {
-            return self.ask(rt, seat, Request::Offer(item));
+            return self.ask(rt, seat, Request::Offer(item), None);
         }
-        self.ask_for(rt, seat, Request::Give(item), limit)
+        self.ask(rt, seat, Request::Give(item), Some(limit))
     }
 
     /// `BlockingQueue.take`: takes an item, and waits until there is one. Refuses as `request`.
@@ -195,13 +161,9 @@ impl<O: QueuePlace, G: Gate, N: Ledgers> Queue<O, G, N> {
         seat: Seat<Deed, N>,
     ) -> Result<Ended<O::Item, N>, SeatRefused<O::Item, N>>
         ensures ended { IfOk result (λ ended. EndedAs O.kind ⊥ O.Item.mark_of seat Take ended) }
-        ensures number { IfErr result (λ refused. refused.seat.number ≡ seat.number) }
-        ensures past { IfErr result (λ refused. refused.seat.past ≡ seat.past) }
-        ensures list { IfErr result (λ refused. refused.seat.list ≡ seat.list) }
-        ensures item { IfErr result (λ refused. refused.item ≡ item_of Take) }
-        ensures why { IfErr result (λ refused. IsRequestWhy refused.why) }
+        ensures refused { IfErr result (RefusedAs IsRequestWhy seat (item_of Take)) }
     {
-        self.ask(rt, seat, Request::Take)
+        self.ask(rt, seat, Request::Take, None)
     }
 
     /// `Queue.poll`: takes an item from a giver that is there, or fails. Refuses as `request`.
@@ -211,13 +173,9 @@ impl<O: QueuePlace, G: Gate, N: Ledgers> Queue<O, G, N> {
         seat: Seat<Deed, N>,
     ) -> Result<Ended<O::Item, N>, SeatRefused<O::Item, N>>
         ensures ended { IfOk result (λ ended. EndedAs O.kind ⊥ O.Item.mark_of seat Poll ended) }
-        ensures number { IfErr result (λ refused. refused.seat.number ≡ seat.number) }
-        ensures past { IfErr result (λ refused. refused.seat.past ≡ seat.past) }
-        ensures list { IfErr result (λ refused. refused.seat.list ≡ seat.list) }
-        ensures item { IfErr result (λ refused. refused.item ≡ item_of Poll) }
-        ensures why { IfErr result (λ refused. IsRequestWhy refused.why) }
+        ensures refused { IfErr result (RefusedAs IsRequestWhy seat (item_of Poll)) }
     {
-        self.ask(rt, seat, Request::Poll)
+        self.ask(rt, seat, Request::Poll, None)
     }
 
     /// `BlockingQueue.poll` with a limit in milliseconds; with a limit of 0 it is `poll`. Refuses as `request`.
@@ -229,15 +187,11 @@ impl<O: QueuePlace, G: Gate, N: Ledgers> Queue<O, G, N> {
     ) -> Result<Ended<O::Item, N>, SeatRefused<O::Item, N>>
         ensures now { limit ≡ 0 → IfOk result (λ ended. EndedAs O.kind ⊥ O.Item.mark_of seat Poll ended) }
         ensures timed { 0 < limit → IfOk result (λ ended. EndedAs O.kind ⊤ O.Item.mark_of seat Take ended) }
-        ensures number { IfErr result (λ refused. refused.seat.number ≡ seat.number) }
-        ensures past { IfErr result (λ refused. refused.seat.past ≡ seat.past) }
-        ensures list { IfErr result (λ refused. refused.seat.list ≡ seat.list) }
-        ensures item { IfErr result (λ refused. refused.item ≡ item_of Take) }
-        ensures why { IfErr result (λ refused. IsRequestWhy refused.why) }
+        ensures refused { IfErr result (RefusedAs IsRequestWhy seat (item_of Take)) }
     {
         if limit == 0 {
-            return self.ask(rt, seat, Request::Poll);
+            return self.ask(rt, seat, Request::Poll, None);
         }
-        self.ask_for(rt, seat, Request::Take, limit)
+        self.ask(rt, seat, Request::Take, Some(limit))
     }
 }

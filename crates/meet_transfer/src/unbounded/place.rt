@@ -206,11 +206,20 @@ impl<T: Marked> QueuePlace for Unbounded<T> {
 
     ghost is_count = { λ q. refl };
 
+    ghost is_room = { λ q. refl };
+
+    ghost is_roomy = { λ q room. refl };
+
     ghost is_no_base = { refl };
 
     ghost is_gone = { refl };
 
     ghost is_history = { λ base records q leads. leads };
+
+    fn unused(alloc: Global, seats: u64) -> Result<Self, Refusal> {
+        let queue = Unbounded::new(alloc, seats, 1)?;
+        Ok(queue)
+    }
 
     fn awaits(&self, seat: SeatNo, ticket: Ticket, mark: Option<u64>) -> bool {
         self.queue.awaits(seat, ticket, mark)

@@ -1,5 +1,10 @@
-use Rattle.std.proofs.Common.{◌≡◌}
+use Rattle.std.proofs.Common.{◌≡◌, None}
+use Rattle.std.specs.Prelude.{IfNone}
 use Rattle.meet_sync.proofs.queue.Queue.await_end.Given as goal
 
+-- without a limit there never is one
 abbrev pub invariant-loop : goal.invariant-loop
-invariant-loop g l = l.pending ≡ l.fn.first
+invariant-loop g l = record {
+  same : l.pending ≡ l.fn.first;
+  untimed : IfNone l.fn.limit (l.left ≡ None);
+}

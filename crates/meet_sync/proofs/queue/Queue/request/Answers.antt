@@ -1,9 +1,10 @@
-use Rattle.std.proofs.Common.{subst, option_to_list}
+use Rattle.std.proofs.Common.{ap, ◌∙◌, subst, option_to_list}
 use Rattle.meet_calls.specs.QueueRecords.{queue_record}
+use Rattle.meet_calls.specs.QueueSteps.{item_in}
 use Rattle.meet_place.specs.Seats.{Adds}
 use Rattle.meet_sync.specs.Asking.{AnsweredBy}
 use Rattle.meet_sync.specs.Told.{IsAnswer, IsRefusalOf}
-use Rattle.meet_sync.proofs.Askings.{asked_as, asked_why}
+use Rattle.meet_sync.proofs.Askings.{asked_as, asked_why, call_item}
 use Rattle.meet_sync.proofs.queue.Queue.request.Goals as goal
 
 pub returns-in-Ok-clause-asked : goal.returns-in-Ok-clause-asked
@@ -22,9 +23,14 @@ returns-in-Ok-clause-asked g c =
     c.reserve.ensures.number c.reserve.ensures.past c.reserve.ensures.list c.in-Ok.ensures.number c.in-Ok.ensures.past
     adds step told
 
-pub returns-in-Err-clause-why : goal.returns-in-Err-clause-why
-returns-in-Err-clause-why g c =
+pub returns-in-Err-clause-refused : goal.returns-in-Err-clause-refused
+returns-in-Err-clause-refused g c =
     let why = c.in-Err.refused.why in
     let n = c.reserve.new.self.number in
     let refused = subst (λ call. IsRefusalOf g.N.Ledger.parts n call why) c.into_call.ensures c.in-Err.ensures.why in
-    rw c.refused_with.ensures.why (asked_why g.N.Ledger.parts n c.args.request why refused)
+    let same = c.refused_with.ensures.seat ∙ c.in-Err.ensures.same in (
+      (ap (λ s. s.number) same ∙ c.reserve.ensures.number, ap (λ s. s.past) same ∙ c.reserve.ensures.past),
+      ap (λ s. s.list) same ∙ c.reserve.ensures.list,
+      c.refused_with.ensures.item ∙ ap item_in (c.in-Err.ensures.back ∙ c.into_call.ensures) ∙ call_item c.args.request,
+      rw c.refused_with.ensures.why (asked_why g.N.Ledger.parts n c.args.request why refused),
+    )

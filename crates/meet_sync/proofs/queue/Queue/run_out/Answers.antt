@@ -3,6 +3,5 @@ use Rattle.meet_tickets.specs.declared.records.Cause.TheVariants.{Expired}
 use Rattle.meet_tickets.specs.declared.records.Deed.TheVariants.{Withdrawn}
 use Rattle.meet_sync.proofs.queue.Queue.run_out.Goals as goal
 
-pub returns-in-Back : goal.returns-in-Back
-returns-in-Back g c =
-    let h = c.in-Back.ensures in record { outcome = (h.0, h.1, (Withdrawn Expired, refl, h.2)) }
+pub returns-in-Back-clause-outcome : goal.returns-in-Back-clause-outcome
+returns-in-Back-clause-outcome g c = let h = c.in-Back.ensures in (h.0, h.1, (Withdrawn Expired, refl, h.2))
