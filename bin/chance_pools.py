@@ -1,4 +1,4 @@
-"""Scripts of chance about pools, for `bin/chance`: what each records is legal, and tells what the pool counts at its end; of each trace one
+"""Random scripts about pools, for `bin/chance`: what each records is legal, and tells what the pool counts at its end; of each trace one
 word is turned, or two lines are exchanged, or one is left out, and `meet pool check` and a second checker (`bin/second_pool`) say the same.
 """
 import random

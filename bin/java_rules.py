@@ -1,4 +1,4 @@
-"""What `bin/java` expects of exchangers and pools: scripts of chance, and their replies by the rules of
+"""What `bin/java` expects of exchangers and pools: random scripts, and their replies by the rules of
 docs/DEFINITIONS.md ("The exchanger", "Pools"), which are written here a second time, in another language, and not
 proved. java/Exchanges.java and java/Pools.java say how a script is written.
 """
