@@ -12,11 +12,7 @@ fn passed<R: Clock>(rt: &R, start: Option<Instant>) -> Option<u64> {
 
 /// What is left of a limit in milliseconds that began at this start, a begun one counted whole: all of it where there
 /// is no clock, and none where there is no limit. It is a hint: no clause says when a wait is over.
-pub(crate) fn left_of<R: Clock>(
-    rt: &R,
-    start: Option<Instant>,
-    limit: Option<u64>,
-) -> Option<u64>
+pub(crate) fn left_of<R: Clock>(rt: &R, start: Option<Instant>, limit: Option<u64>) -> Option<u64>
     ensures untimed { IfNone limit (result ≡ None) }
 {
     match limit {
