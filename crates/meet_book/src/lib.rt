@@ -1,4 +1,10 @@
-//! The book that a place keeps of its steps, and its receipts.
+//! The book that a place keeps of its steps, and its receipts. A place is anything whose calls are atomic steps (trait
+//! `Object`): the book knows neither queues nor threads.
+//!
+//! A call makes one step, and its record goes to the end of the book with the next number (a log of what was done,
+//! written as it is done); whoever called gets a receipt of it, which the book alone makes. Room for the record, and
+//! for those that open tickets may still owe, is made before the step: so no ending is ever refused. A book is cut by a
+//! checkpoint, which puts a base in the place of its records, as a snapshot does in a log.
 #![tactic(auto)]
 
 mod book;

@@ -6,7 +6,7 @@ use meet_tickets::Record;
 use std::marker::Model;
 
 /// A receipt for one record of a book. A book alone makes one, and none is made from another.
-#[derive(Drop)]
+#[derive(Debug, Drop)]
 pub struct Receipt<D: Copy> {
     place: u64,
     entry: Record<D>,

@@ -1,4 +1,5 @@
-//! What a seat asks of a queue, what it is answered, and the record of it.
+//! What a seat asks of a queue, what it is answered, and the record of it: one call type for all queues, said once,
+//! over the meetings that they share. `QueuePlace` is what a queue for threads asks of a queue of one thread.
 #![tactic(auto)]
 
 mod laws;

@@ -6,7 +6,7 @@ use meet_line::{Followed, Gave, Interrupted, Offered, Polled, Put, TakenBack, To
 use meet_tickets::{SeatNo, Ticket};
 
 /// A call of a queue, whatever its kind.
-#[derive(Drop)]
+#[derive(Debug, Drop)]
 pub enum QueueCall<T> {
     /// `BlockingQueue.put`: a transfer queue keeps the item, a synchronous queue waits for a taker, as with a give.
     Put(T),
@@ -67,7 +67,7 @@ impl<T> QueueCall<T> {
 }
 
 /// Its answer, as the queue gives it.
-#[derive(Drop)]
+#[derive(Debug, Drop)]
 pub enum QueueAnswer<T> {
     /// To a put, of a queue that keeps items.
     Put(Put<T>),

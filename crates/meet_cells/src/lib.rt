@@ -1,4 +1,8 @@
 //! Where threads wait, and what they are told while they wait: gates, and bells that are rung once. It names no queue.
+//!
+//! A gate keeps one wake, as a permit of `LockSupport.park` and `unpark`: a wake that comes before the wait ends it.
+//! Both gates and bells are hints: who was woken, or wasn't, looks at the place, so no answer of any place rests on
+//! them.
 #![tactic(auto)]
 
 mod bells;

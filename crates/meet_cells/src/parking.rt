@@ -1,9 +1,12 @@
 //! A gate at which a thread parks.
 
-ghost use Rattle.std.specs.Prelude.{◌≡◌, None, IfNone};
+ghost use Rattle.std.specs.Prelude.{◌≡◌, None, IfNone, IfOk, IfErr, vec_len};
 ghost use Rattle.meet_cells.specs.declared.gates.Turn.TheVariants.{Woken};
+ghost use Rattle.meet_tickets.specs.declared.refusals.Refusal.TheVariants.{Memory};
 
 use crate::gates::{Gate, Turn};
+use meet_tickets::Refusal;
+use std::alloc::Global;
 use std::sync::Wait;
 use std::sync::atomic::{AtomicBool, Ordering};
 use std::thread;
@@ -62,6 +65,18 @@ impl ParkGate {
             parker: Parker::new(),
             woken: AtomicBool::new(false),
         }
+    }
+
+    /// So many gates that nobody woke, one for each seat of a place. The only refusal is Memory.
+    pub fn many(alloc: Global, count: usize) -> Result<Vec<ParkGate>, Refusal>
+        ensures count { IfOk result (λ gates. vec_len gates ≡ count) }
+        ensures memory { IfErr result (λ why. why ≡ Memory) }
+    {
+        let mut gates = Vec::new(alloc);
+        for _ in 0..count {
+            gates.push(ParkGate::new()).map_err(|_| Refusal::Memory)?;
+        }
+        Ok(gates)
     }
 
     /// Takes the wake that is kept: whether there was one.

@@ -1,10 +1,13 @@
 //! A gate at which a thread spins before it parks.
 
-ghost use Rattle.std.specs.Prelude.{◌≡◌, IfNone};
+ghost use Rattle.std.specs.Prelude.{◌≡◌, IfNone, IfOk, IfErr, vec_len};
 ghost use Rattle.meet_cells.specs.declared.gates.Turn.TheVariants.{Woken};
+ghost use Rattle.meet_tickets.specs.declared.refusals.Refusal.TheVariants.{Memory};
 
 use crate::gates::{Gate, Turn};
 use crate::parking::ParkGate;
+use meet_tickets::Refusal;
+use std::alloc::Global;
 use std::sync::Wait;
 use std::time::Clock;
 
@@ -24,6 +27,21 @@ impl SpinGate {
             gate: ParkGate::new(),
             turns,
         }
+    }
+
+    /// So many gates that nobody woke, one for each seat of a place, each with so many turns. The only refusal is
+    /// Memory.
+    pub fn many(alloc: Global, count: usize, turns: u64) -> Result<Vec<SpinGate>, Refusal>
+        ensures count { IfOk result (λ gates. vec_len gates ≡ count) }
+        ensures memory { IfErr result (λ why. why ≡ Memory) }
+    {
+        let mut gates = Vec::new(alloc);
+        for _ in 0..count {
+            gates
+                .push(SpinGate::new(turns))
+                .map_err(|_| Refusal::Memory)?;
+        }
+        Ok(gates)
     }
 }
 

@@ -14,7 +14,7 @@ use crate::threads::{Count, NOTHING, Slot, run_all};
 use meet_cells::{Gate, ParkGate};
 use meet_history::{CheckFault, Kind, Order, check};
 use meet_laws::delivered;
-use meet_sync::{Back, Blanks, Chronicle, Ledgers, NewQueue, Seat, SyncQueue};
+use meet_sync::{Back, Chronicle, Ledgers, NewQueue, Seat, SyncQueue};
 use meet_tickets::{Base, Deed, Record, Refusal};
 use std::alloc::Global;
 use std::marker::Brand;
@@ -312,12 +312,6 @@ where
     requires { IsSized givers each }
     ensures { IfOk result (λ ended. length ended.chronicle.records.items ≤ cap) }
 {
-    let mut gates = Vec::new(alloc);
-    for _ in 0..givers {
-        gates.push(ParkGate::new()).map_err(|_| Refusal::Memory)?;
-        gates.push(ParkGate::new()).map_err(|_| Refusal::Memory)?;
-    }
-    let blanks = Blanks::new(gates.len() as u64);
-    let parts = NewQueue { gates, blanks };
+    let parts = NewQueue::parked(alloc, 2 * givers as usize)?;
     driving::<ParkGate, Brand, R, P>(rt, alloc, parts, each, cap, most, progress)
 }

@@ -22,7 +22,7 @@ use std::fmt;
 use std::fmt::{Debug, Display, Formatter, Write};
 
 /// What an arena came to.
-#[derive(Drop)]
+#[derive(Debug, Drop)]
 pub struct Closed<T> {
     /// The rounds of each slot, in order.
     pub slots: Vec<Vec<Round>>,

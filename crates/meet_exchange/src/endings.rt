@@ -10,7 +10,7 @@ use crate::steps::{collect, withdraw};
 use meet_tickets::Marked;
 
 /// What a collecting came to.
-#[derive(Drop)]
+#[derive(Debug, Drop)]
 pub enum Gathered<T> {
     /// The other seat's item.
     Got(Seat<T>, T),
@@ -19,7 +19,7 @@ pub enum Gathered<T> {
 }
 
 /// What a withdrawal came to.
-#[derive(Drop)]
+#[derive(Debug, Drop)]
 pub enum Returned<T> {
     /// The seat's own item is back.
     Back(Seat<T>, T),

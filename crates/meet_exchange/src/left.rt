@@ -19,7 +19,7 @@ pub enum Standing {
 }
 
 /// An item that is left in a slot.
-#[derive(Drop)]
+#[derive(Debug, Drop)]
 pub struct LeftIn<T> {
     /// The slot.
     pub slot: usize,

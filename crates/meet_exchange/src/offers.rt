@@ -15,7 +15,7 @@ use crate::words::{FREE, POSTED, code, round};
 use meet_tickets::{LAST_ROUND, Marked};
 
 /// What an offer came to.
-#[derive(Drop)]
+#[derive(Debug, Drop)]
 pub enum Offered<T> {
     /// The slot was free, and the item is posted there.
     Posted(Pending<T>),

@@ -7,6 +7,8 @@ ghost use Rattle.meet_exchange.specs.Seats.{IsIdle, HasOffer, PendingView, SeatV
 use crate::records::Part;
 use crate::steps::Token;
 use meet_tickets::SeatNo;
+use std::fmt;
+use std::fmt::{Debug, Formatter, Write};
 use std::marker::Model;
 
 /// A seat's number, its list and its token, whatever it has in hand.
@@ -34,6 +36,13 @@ impl<T> Model for Seat<T> {
         (vec_capacity s.inner.list - vec_len s.inner.list) s.inner.token.me };
 
     ghost invariant = { λ s. IsIdle s.inner.number s.inner.list.items s.inner.token.me };
+}
+
+/// The seat's number alone.
+impl<T> Debug for Seat<T> {
+    fn fmt<W: Write>(&self, f: &mut Formatter<W>) -> fmt::Result {
+        write!(f, "Seat({})", self.inner.number.number())
+    }
 }
 
 impl<T> Seat<T> {
@@ -105,6 +114,19 @@ pub(crate) struct Offer<T> {
     pub(crate) slot: usize,
     pub(crate) round: u64,
     pub(crate) mark: u64,
+}
+
+/// The seat's number, and the slot and the round of its offer.
+impl<T> Debug for Pending<T> {
+    fn fmt<W: Write>(&self, f: &mut Formatter<W>) -> fmt::Result {
+        write!(
+            f,
+            "Pending({}, {}, {})",
+            self.seat.number.number(),
+            self.slot,
+            self.round
+        )
+    }
 }
 
 impl<T> Pending<T> {
@@ -184,7 +206,7 @@ impl<T> Pending<T> {
 }
 
 /// A seat that is given back, free or with an offer.
-#[derive(Drop)]
+#[derive(Debug, Drop)]
 pub enum Back<T> {
     Free(Seat<T>),
     Held(Pending<T>),

@@ -14,7 +14,7 @@ use meet_tickets::Marked;
 use std::sync::Wait;
 
 /// How an exchange ended.
-#[derive(Drop)]
+#[derive(Debug, Drop)]
 pub enum Exchanged<T> {
     /// With the other seat's item.
     Swapped(Seat<T>, T),

@@ -1,4 +1,7 @@
 //! The checker of histories, and the replies of one thread. What books and queues show of themselves is found here too.
+//!
+//! A checker knows records alone, and not the queue that wrote them: it plays each on a place of its own, of a line of
+//! marks and a table of seats, and stops at the first that can't stand there.
 #![tactic(auto)]
 
 mod checker;

@@ -5,7 +5,7 @@ ghost use Rattle.std.specs.Prelude.{◌≡◌};
 use meet_tickets::{Hold, Ticket};
 
 /// The answer to a give: the first ticket is its own.
-#[derive(Drop)]
+#[derive(Debug, Drop)]
 pub enum Gave<T> {
     /// The giver waits in the line.
     Waits(Ticket),
@@ -16,7 +16,7 @@ pub enum Gave<T> {
 }
 
 /// The answer to a put: the first ticket is its own.
-#[derive(Drop)]
+#[derive(Debug, Drop)]
 pub enum Put<T> {
     /// The item is kept in the line, and its giver goes on.
     Kept(Ticket),
@@ -27,7 +27,7 @@ pub enum Put<T> {
 }
 
 /// The answer to a take: the first ticket is its own.
-#[derive(Drop)]
+#[derive(Debug, Drop)]
 pub enum Took<T> {
     /// The taker waits in the line.
     Waits(Ticket),
@@ -38,7 +38,7 @@ pub enum Took<T> {
 }
 
 /// The answer to an offer: the first ticket is its own.
-#[derive(Drop)]
+#[derive(Debug, Drop)]
 pub enum Offered<T> {
     /// The item went to the taker with the second ticket.
     Meets(Ticket, Ticket),
@@ -47,7 +47,7 @@ pub enum Offered<T> {
 }
 
 /// The answer to a poll: the first ticket is its own.
-#[derive(Drop)]
+#[derive(Debug, Drop)]
 pub enum Polled<T> {
     /// The item came from the giver with the second ticket.
     Meets(Ticket, Ticket, T),
@@ -56,7 +56,7 @@ pub enum Polled<T> {
 }
 
 /// The answer to a follow-up.
-#[derive(Drop)]
+#[derive(Debug, Drop)]
 pub enum Followed<T> {
     /// The giver was met.
     Done,
@@ -69,7 +69,7 @@ pub enum Followed<T> {
 }
 
 /// The answer to a cancel or an expiry.
-#[derive(Drop)]
+#[derive(Debug, Drop)]
 pub enum TakenBack<T> {
     /// The ticket left the line and ended; a giver's item comes back.
     Back(Option<T>),

@@ -17,7 +17,7 @@ pub enum LeftStanding {
 }
 
 /// An item that is left in a queue, with its giver's ticket.
-#[derive(Drop)]
+#[derive(Debug, Drop)]
 pub struct Left<T> {
     pub ticket: Ticket,
     pub item: T,

@@ -1,5 +1,9 @@
 //! What the queues of one thread are made of: the line of unmatched tickets, the table of the seats, and the meetings
-//! of one line at one table.
+//! of one line at one table. It knows neither books nor threads.
+//!
+//! A line holds givers or takers, never both (the dual queue and the dual stack of Scherer and Scott, DISC 2004): a
+//! request of the other side takes the entry at the end that is met, the first or the last, and else joins the line
+//! itself. A seat whose entry was taken keeps what came of it in the table, until it follows its ticket up.
 #![tactic(auto)]
 
 mod answers;

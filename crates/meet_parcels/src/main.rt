@@ -7,10 +7,9 @@ mod passing;
 #[cfg(test)]
 mod plans;
 
-use meet_cells::ParkGate;
 use meet_history::{Kind, Order};
 use meet_run::write_trace;
-use meet_sync::{Blanks, NewQueue};
+use meet_sync::NewQueue;
 use meet_tickets::{MOST_RECORDS, Refusal};
 use passing::{Passed, Plan, pass};
 use std::alloc::Global;
@@ -40,11 +39,8 @@ fn pass_by_plan<R>(rt: &R, alloc: Global, plan: Plan) -> Result<Passed, Refusal>
 where
     R: Threads + Wait + Clock + Sync,
 {
-    let mut gates = Vec::new(alloc);
-    gates.push(ParkGate::new()).map_err(|_| Refusal::Memory)?; // a gate for each seat
-    gates.push(ParkGate::new()).map_err(|_| Refusal::Memory)?;
-    let blanks = Blanks::new(gates.len() as u64);
-    pass::<Brand, R>(rt, alloc, NewQueue { gates, blanks }, plan)
+    let parts = NewQueue::parked(alloc, 2)?; // two seats, each with a gate
+    pass::<Brand, R>(rt, alloc, parts, plan)
 }
 
 /// Whether the trace is asked for, which any word of the command line does.

@@ -1,5 +1,13 @@
 //! A place that threads share: a book under a lock, a seat for each thread, and a gate at which each seat waits. It
 //! names no queue.
+//!
+//! - The lock: a call is one step of the book under one hold. Of a value that a lock guards nothing is known from one
+//!   hold to the next, so a call says that there was a state from which it was the step.
+//! - The ledger: each seat keeps its receipts in a list of its own, which no lock guards. A ghost ledger counts the
+//!   records over all seats; each seat has a share of it, as large as its list, which can't be copied. So no receipt is
+//!   counted twice, and none is missing where all shares are there.
+//! - The end: `close` takes all seats back, and compares the records with their receipts, seat by seat. So what threads
+//!   did, however they interleaved, is one legal history, with each seat's calls in the seat's order and no others.
 #![tactic(auto)]
 
 mod backs;

@@ -12,10 +12,12 @@ use crate::ledgers::{Ledgers, Stake};
 use meet_book::Receipt;
 use meet_tickets::{Refusal, SeatNo, Ticket};
 use std::alloc::Global;
+use std::fmt;
+use std::fmt::{Debug, Formatter, Write};
 use std::marker::Model;
 
 /// What a seat has behind it.
-#[derive(Clone, Copy)]
+#[derive(Clone, Copy, Debug)]
 pub struct Past {
     /// How many receipts were dropped from its list.
     pub trimmed: u64,
@@ -53,6 +55,13 @@ impl<D: Copy, N: Ledgers> Model for Seat<D, N> {
 
     ghost invariant = { λ s. (s.share.parts ≡ 1) × (s.share.amount ≡ s.past.trimmed + vec_len s.list)
         × (s.share.folds ≡ s.past.folded) × (s.number < N.parts) };
+}
+
+/// The seat's number alone.
+impl<D: Copy, N: Ledgers> Debug for Seat<D, N> {
+    fn fmt<W: Write>(&self, f: &mut Formatter<W>) -> fmt::Result {
+        write!(f, "Seat({})", self.number.number())
+    }
 }
 
 impl<D: Copy, N: Ledgers> Seat<D, N> {
@@ -195,6 +204,18 @@ impl<D: Copy, N: Ledgers> Model for Pending<D, N> {
     ghost invariant = { λ p. 0 < p.seat.room };
 }
 
+/// The seat's number and its open ticket.
+impl<D: Copy, N: Ledgers> Debug for Pending<D, N> {
+    fn fmt<W: Write>(&self, f: &mut Formatter<W>) -> fmt::Result {
+        write!(
+            f,
+            "Pending({}, {})",
+            self.seat.number.number(),
+            self.ticket.number()
+        )
+    }
+}
+
 impl<D: Copy, N: Ledgers> Pending<D, N> {
     /// This seat, which has room for one receipt more, with its open ticket and the mark that its request brought.
     pub fn new(seat: Seat<D, N>, ticket: Ticket, mark: Option<u64>) -> Self
@@ -254,7 +275,7 @@ impl<D: Copy, N: Ledgers> Pending<D, N> {
 }
 
 /// A seat that is given back at the end.
-#[derive(Drop)]
+#[derive(Debug, Drop)]
 pub enum Back<D: Copy, N: Ledgers> {
     /// One without an open ticket.
     Free(Seat<D, N>),

@@ -18,7 +18,7 @@ use crate::seated::{passed_of, seats_of, slots_of};
 use crate::threads::{Count, NOTHING, Passed, Slot, put_back};
 use crate::times::{Pairs, Spread, Times};
 use meet_cells::ParkGate;
-use meet_sync::{Blanks, Chronicle, Ended, Ledgers, NewQueue, Seat, SeatRefused, TransferQueue};
+use meet_sync::{Chronicle, Ended, Ledgers, NewQueue, Seat, SeatRefused, TransferQueue};
 use meet_tickets::{Deed, Refusal};
 use std::alloc::Global;
 use std::marker::Brand;
@@ -333,10 +333,6 @@ pub fn run_checkpoints<R: Wait + Clock>(
     alloc: Global,
     folding: Folding,
 ) -> Result<Folded, Refusal> {
-    let mut gates = Vec::new(alloc);
-    for _ in 0..folding.seats {
-        gates.push(ParkGate::new()).map_err(|_| Refusal::Memory)?;
-    }
-    let blanks = Blanks::new(gates.len() as u64);
-    run_at::<Brand, R>(rt, alloc, NewQueue { gates, blanks }, folding)
+    let parts = NewQueue::parked(alloc, folding.seats as usize)?;
+    run_at::<Brand, R>(rt, alloc, parts, folding)
 }

@@ -10,7 +10,7 @@ use crate::round::Finish;
 use crate::threads::{Call, Count, NOTHING, Passed, Slot, Track, run_timed};
 use meet_cells::{Gate, ParkGate, SpinGate};
 use meet_sync::{
-    Back, Blanks, End, Ended, FairLine, Ledgers, NewQueue, Seat, SeatRefused, Struck, SyncQueue,
+    Back, End, Ended, FairLine, Ledgers, NewQueue, Seat, SeatRefused, Struck, SyncQueue,
 };
 use meet_tickets::{Deed, Refusal, SeatNo};
 use std::alloc::Global;
@@ -164,12 +164,8 @@ pub fn run_parked<R>(rt: &R, alloc: Global, race: Race) -> Result<Finish, Refusa
 where
     R: Threads + Wait + Clock + Sync,
 {
-    let mut gates = Vec::new(alloc);
-    for _ in 0..race.threads() {
-        gates.push(ParkGate::new()).map_err(|_| Refusal::Memory)?;
-    }
-    let blanks = Blanks::new(gates.len() as u64);
-    run_over::<ParkGate, Brand, R>(rt, alloc, NewQueue { gates, blanks }, race.each)
+    let parts = NewQueue::parked(alloc, race.threads() as usize)?;
+    run_over::<ParkGate, Brand, R>(rt, alloc, parts, race.each)
 }
 
 /// The same over a queue whose threads spin before they park.
@@ -177,12 +173,6 @@ pub fn run_spinning<R>(rt: &R, alloc: Global, race: Race) -> Result<Finish, Refu
 where
     R: Threads + Wait + Clock + Sync,
 {
-    let mut gates = Vec::new(alloc);
-    for _ in 0..race.threads() {
-        gates
-            .push(SpinGate::new(TURNS))
-            .map_err(|_| Refusal::Memory)?;
-    }
-    let blanks = Blanks::new(gates.len() as u64);
-    run_over::<SpinGate, Brand, R>(rt, alloc, NewQueue { gates, blanks }, race.each)
+    let parts = NewQueue::spinning(alloc, race.threads() as usize, TURNS)?;
+    run_over::<SpinGate, Brand, R>(rt, alloc, parts, race.each)
 }

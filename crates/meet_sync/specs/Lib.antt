@@ -4,4 +4,5 @@ pub mod Drained
 pub mod Ending
 pub mod Faults
 pub mod Making
+pub mod Stopping
 pub mod Told

@@ -11,7 +11,7 @@ use std::fmt;
 use std::fmt::{Debug, Display, Formatter, Write};
 
 /// A request that a queue settles, or that waits.
-#[derive(Drop)]
+#[derive(Debug, Drop)]
 pub enum Request<T> {
     /// A give that a transfer queue never lets wait, since it keeps the item: `LinkedTransferQueue.put`. In a
     /// synchronous queue it waits: `SynchronousQueue.put`.
@@ -27,7 +27,7 @@ pub enum Request<T> {
 }
 
 /// The answer to a request that was settled at once.
-#[derive(Drop)]
+#[derive(Debug, Drop)]
 pub enum Answer<T> {
     /// The item went to the taker with this ticket.
     Gave(Ticket),
@@ -42,7 +42,7 @@ pub enum Answer<T> {
 }
 
 /// A request that was made.
-#[derive(Drop)]
+#[derive(Debug, Drop)]
 pub enum Asked<T, N: Ledgers> {
     /// It was settled at once.
     Settled(Seat<Deed, N>, Answer<T>),
@@ -92,7 +92,7 @@ impl<T: Drop, N: Ledgers> SeatRefused<T, N> {
 }
 
 /// The answer to a follow-up.
-#[derive(Drop)]
+#[derive(Debug, Drop)]
 pub enum FollowedUp<T, N: Ledgers> {
     /// The giver was met.
     Done(Seat<Deed, N>),
@@ -105,7 +105,7 @@ pub enum FollowedUp<T, N: Ledgers> {
 }
 
 /// The answer to a cancel or an expiry.
-#[derive(Drop)]
+#[derive(Debug, Drop)]
 pub enum Withdrawn<T, N: Ledgers> {
     /// The ticket left the line; a giver's item comes back.
     Back(Seat<Deed, N>, Option<T>),
@@ -114,7 +114,7 @@ pub enum Withdrawn<T, N: Ledgers> {
 }
 
 /// The answer to an interrupt.
-#[derive(Drop)]
+#[derive(Debug, Drop)]
 pub enum Struck<N: Ledgers> {
     /// This ticket of the target's was cut.
     Cut(Seat<Deed, N>, Ticket),
@@ -123,7 +123,7 @@ pub enum Struck<N: Ledgers> {
 }
 
 /// How a whole call ended.
-#[derive(Drop)]
+#[derive(Debug, Drop)]
 pub enum End<T> {
     /// The item went to the taker with this ticket.
     Gave(Ticket),
@@ -144,7 +144,7 @@ pub enum End<T> {
 }
 
 /// A seat, and how its call ended.
-#[derive(Drop)]
+#[derive(Debug, Drop)]
 pub struct Ended<T, N: Ledgers> {
     /// The seat, with the call's receipts.
     pub seat: Seat<Deed, N>,

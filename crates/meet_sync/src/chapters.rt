@@ -20,7 +20,7 @@ use std::sync::Wait;
 
 /// Records that followed one another, and what stands for all that came before them. Chapters that a queue handed out
 /// one behind another are one history: each ends as the next one's base says.
-#[derive(Drop)]
+#[derive(Debug, Drop)]
 pub struct Chapter {
     /// What stands for the records before these.
     pub base: Base,

@@ -18,7 +18,7 @@ use std::fmt;
 use std::fmt::{Debug, Display, Formatter, Write};
 
 /// What a queue leaves once it is closed.
-#[derive(Drop)]
+#[derive(Debug, Drop)]
 pub struct Chronicle<T> {
     /// What stands for the records that were folded away.
     pub base: Base,

@@ -44,7 +44,7 @@ fn items_of<T>(answers: Vec<QueueAnswer<T>>, empty: Vec<T>) -> Vec<T>
 }
 
 /// A seat, and the items that its drain took.
-#[derive(Drop)]
+#[derive(Debug, Drop)]
 pub struct DrainedItems<T, N: Ledgers> {
     /// The seat, with a receipt for each item.
     pub seat: Seat<Deed, N>,

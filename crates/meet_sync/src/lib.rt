@@ -1,5 +1,14 @@
 //! The queues of `java.util.concurrent` for threads: each is a queue of one thread under a lock, with a seat for each
-//! thread that calls it.
+//! thread that calls it. It knows how a call waits, and nothing of what the queue does.
+//!
+//! - A request is one step under the lock. Where it found its partner, that one's gate is woken once the lock is free.
+//! - Where it waits, its seat waits at its gate with the lock free, and follows its ticket up each time that it is
+//!   woken: a wake says nothing, only the queue does. A gate keeps one wake, so one that comes between the request and
+//!   the wait isn't lost; and a limit is looked at once more behind each.
+//! - An ending is one step too: the ticket is ended where it was met or cut, or taken back where its time ran out. Both
+//!   can't happen, since each is a step under the same lock: who comes too late is told so, and follows up.
+//! - A chapter, a drain and the end are those of the place; the end's promise is a contract (`close`), and a law of it
+//!   (`closed_queues_keep_their_promise`).
 #![tactic(auto)]
 
 mod asked;
@@ -14,6 +23,7 @@ mod making;
 mod probes;
 mod queue;
 mod requests;
+mod stopping;
 mod sync_queue;
 mod tally;
 mod transfer_queue;

@@ -13,6 +13,7 @@ ghost use Rattle.meet_sync.specs.Making.{making_refusal};
 use crate::queue::Queue;
 use meet_book::Book;
 use meet_calls::QueuePlace;
+use meet_cells::{ParkGate, SpinGate};
 use meet_place::{Blanks, Ledgers, NewPlace, Place, Seat};
 use meet_queues::ready_book;
 use meet_tickets::{Deed, MOST_RECORDS, MOST_SEATS, Refusal, Refused};
@@ -26,6 +27,44 @@ pub struct NewQueue<G> {
     pub gates: Vec<G>,
     /// Two ledgers with a part for each seat.
     pub blanks: Blanks,
+}
+
+impl<G> NewQueue<G> {
+    /// What a queue with these gates is made of: two ledgers with a part for each gate come to them.
+    pub fn of(gates: Vec<G>) -> Self
+        ensures gates { result.gates ≡ gates }
+        ensures records { result.blanks.records.parts ≡ vec_len gates }
+        ensures folds { result.blanks.folds.parts ≡ vec_len gates }
+    {
+        let blanks = Blanks::new(gates.len() as u64);
+        NewQueue { gates, blanks }
+    }
+}
+
+impl NewQueue<ParkGate> {
+    /// What a queue with so many seats is made of, whose threads park. The only refusal is Memory.
+    pub fn parked(alloc: Global, seats: usize) -> Result<Self, Refusal>
+        ensures gates { IfOk result (λ parts. vec_len parts.gates ≡ seats) }
+        ensures records { IfOk result (λ parts. parts.blanks.records.parts ≡ seats) }
+        ensures folds { IfOk result (λ parts. parts.blanks.folds.parts ≡ seats) }
+        ensures memory { IfErr result (λ why. why ≡ Memory) }
+    {
+        let gates = ParkGate::many(alloc, seats)?;
+        Ok(NewQueue::of(gates))
+    }
+}
+
+impl NewQueue<SpinGate> {
+    /// The same of one whose threads look for a wake so many turns before they park.
+    pub fn spinning(alloc: Global, seats: usize, turns: u64) -> Result<Self, Refusal>
+        ensures gates { IfOk result (λ parts. vec_len parts.gates ≡ seats) }
+        ensures records { IfOk result (λ parts. parts.blanks.records.parts ≡ seats) }
+        ensures folds { IfOk result (λ parts. parts.blanks.folds.parts ≡ seats) }
+        ensures memory { IfErr result (λ why. why ≡ Memory) }
+    {
+        let gates = SpinGate::many(alloc, seats, turns)?;
+        Ok(NewQueue::of(gates))
+    }
 }
 
 /// Whether so many gates and records are within the limits.

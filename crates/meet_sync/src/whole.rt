@@ -112,8 +112,10 @@ impl<O: QueuePlace, G: Gate, N: Ledgers> Queue<O, G, N> {
         unreachable!()
     }
 
-    /// A request, and the wait for its ending, for so many milliseconds where there is a limit.
-    pub(crate) fn ask<R: Wait + Clock>(
+    /// A whole call, of a queue of any kind: a request, and the wait for its ending, for so many milliseconds where
+    /// there is a limit. Put is `BlockingQueue.put`, Give `TransferQueue.transfer`, Offer `TransferQueue.tryTransfer`;
+    /// in a synchronous queue the first two are the same, and the last is its `offer`. Refuses as `request`.
+    pub fn ask<R: Wait + Clock>(
         &self,
         rt: &R,
         seat: Seat<Deed, N>,

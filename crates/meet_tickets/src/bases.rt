@@ -31,7 +31,7 @@ pub struct OpenCut {
 }
 
 /// What stands for the records that were folded away: where they left the place.
-#[derive(Drop)]
+#[derive(Debug, Drop)]
 pub struct Base {
     pub gone: u64,
     pub last: Ticket,

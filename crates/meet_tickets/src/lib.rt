@@ -1,4 +1,5 @@
-//! The names that every meeting place shares, and the rules of a legal history.
+//! The names that every meeting place shares, and the rules of a legal history. It knows neither queues nor books nor
+//! threads: all that stands here is of records.
 //!
 //! `specs/` has the rules: `Meeting` says whom a request meets, `ByLists` which histories are legal, `BySeat` the same
 //! as the code sees it, `Fates` what became of each ticket, `Placed` that this is what the place holds, `Asked` that it

@@ -6,7 +6,7 @@ use crate::names::{SeatNo, Ticket};
 use crate::places::Side;
 
 /// An unmatched ticket in the line. A giver presents an item, a taker none.
-#[derive(Clone, Drop)]
+#[derive(Clone, Debug, Drop)]
 pub struct Entry<T> {
     pub ticket: Ticket,
     pub seat: SeatNo,

@@ -3,14 +3,14 @@
 use meet_tickets::Ticket;
 
 /// A job, and the ticket by which it is known.
-#[derive(Clone, Drop)]
+#[derive(Clone, Debug, Drop)]
 pub struct Task<X> {
     pub ticket: Ticket,
     pub job: X,
 }
 
 /// What the worker of a number does.
-#[derive(Clone, Drop)]
+#[derive(Clone, Debug, Drop)]
 pub enum Stage<X> {
     /// No worker has this number.
     Absent,

@@ -342,17 +342,6 @@ where
     driving::<Brand, R>(rt, alloc, parts, each)
 }
 
-/// So many gates.
-fn gates_of(alloc: Global, count: u64) -> Result<Vec<ParkGate>, Refusal>
-    ensures { IfOk result (λ gates. vec_len gates ≡ count) }
-{
-    let mut gates = Vec::new(alloc);
-    for _ in 0..count {
-        gates.push(ParkGate::new()).map_err(|_| Refusal::Memory)?;
-    }
-    Ok(gates)
-}
-
 /// So many callers, each a thread, hand the jobs from 1 up to `each` in, one after another, to a pool of so many
 /// workers that keeps them; a job answers its own number. Then the pool is shut down, its end awaited, it is closed,
 /// and its records are checked.
@@ -376,7 +365,7 @@ where
         sizes: Sizes::fixed(callers, workers),
         queue: PoolQueue::Unbounded,
         policy: Policy::Abort,
-        gates: gates_of(alloc, workers)?,
+        gates: ParkGate::many(alloc, workers as usize)?,
         starter: ThreadStarter::new(),
         blanks: Blanks::new(callers + workers),
     };

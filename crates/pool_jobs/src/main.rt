@@ -65,9 +65,7 @@ fn main(rt: HostRuntime) -> Result<(), Refusal> {
         .map_err(|_| Refusal::Memory)?;
         jobs.push(Boxed::new(n, call)).map_err(|_| Refusal::Memory)?; // each is worth its tag
     }
-    let mut gates = Vec::new(alloc);
-    gates.push(ParkGate::new()).map_err(|_| Refusal::Memory)?; // a gate for each worker
-    gates.push(ParkGate::new()).map_err(|_| Refusal::Memory)?;
+    let gates = ParkGate::many(alloc, 2)?; // one for each worker
     let parts = NewPool {
         sizes: Sizes {
             core: 2,

@@ -1,7 +1,7 @@
 //! A round: a pool, callers that hand jobs in, each a thread, and its end. Then every job is looked for, or it is told
 //! how long all took.
 
-ghost use Rattle.std.specs.Prelude.{◌≡◌, ◌+◌, IfOk, vec_len};
+ghost use Rattle.std.specs.Prelude.{◌≡◌, ◌+◌, vec_len};
 ghost use Rattle.meet_place.specs.Ledgers.{AreOf};
 ghost use Rattle.meet_tickets.specs.Limits.{most_records};
 ghost use Rattle.pool_uses.specs.Parts.{IsOneEach};
@@ -242,17 +242,6 @@ where
     held::<Brand, R>(rt, alloc, parts, board, task)
 }
 
-/// So many gates.
-fn gates_of(alloc: Global, count: u64) -> Result<Vec<ParkGate>, &'static str>
-    ensures { IfOk result (λ gates. vec_len gates ≡ count) }
-{
-    let mut gates = Vec::new(alloc);
-    for _ in 0..count {
-        gates.push(ParkGate::new()).map_err(|_| "memory")?;
-    }
-    Ok(gates)
-}
-
 /// A round at a new pool with these settings, which refuses each start of a thread of this number; 0 for none.
 fn held_at<R>(
     rt: &R,
@@ -270,7 +259,7 @@ where
         queue,
         policy,
     } = settings;
-    let gates = gates_of(alloc, sizes.maximum)?;
+    let gates = ParkGate::many(alloc, sizes.maximum as usize).map_err(|_| "memory")?;
     let Some(parts) = sizes.callers.checked_add(sizes.maximum) else {
         return Err("too many seats");
     };

@@ -25,7 +25,7 @@ use std::sync::Wait;
 use std::sync::atomic::Ordering;
 
 /// Records of a pool that followed one another, and what stands for all that came before them.
-#[derive(Drop)]
+#[derive(Debug, Drop)]
 pub struct PoolChapter {
     /// What stands for the records before these.
     pub base: PoolBase,

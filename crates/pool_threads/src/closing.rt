@@ -40,7 +40,7 @@ use std::sync::{Arc, Mutex, Wait};
 use std::thread;
 
 /// What a pool leaves once it is closed.
-#[derive(Drop)]
+#[derive(Debug, Drop)]
 pub struct PoolChronicle<C> {
     /// What stands for the records that were folded away.
     pub base: PoolBase,

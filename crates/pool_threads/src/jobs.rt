@@ -3,6 +3,8 @@
 ghost use Rattle.std.specs.Prelude.{◌≡◌, ℕ, IfSome};
 
 use meet_tickets::Ticket;
+use std::fmt;
+use std::fmt::{Debug, Formatter, Write};
 
 /// What the jobs of a pool are worth, by their tags.
 pub trait Work {
@@ -29,6 +31,13 @@ pub trait Call<W: Work> {
 pub struct Job<C> {
     tag: u64,
     call: C,
+}
+
+/// Its tag alone: what it does need not be such as can be shown.
+impl<C> Debug for Job<C> {
+    fn fmt<W: Write>(&self, f: &mut Formatter<W>) -> fmt::Result {
+        write!(f, "Job({})", self.tag)
+    }
 }
 
 impl<C> Job<C> {
@@ -73,7 +82,7 @@ impl<C> Job<C> {
 }
 
 /// What became of a job that was handed in.
-#[derive(Drop)]
+#[derive(Debug, Drop)]
 pub enum Executed<C> {
     Handed(u64),
     Started(u64),

@@ -1,4 +1,5 @@
-//! A pool of workers, each a thread of its own, which run jobs that callers hand in.
+//! A pool of workers, each a thread of its own, which run jobs that callers hand in. It knows how a worker's thread
+//! lives, and nothing of where a job goes: that is `pool_core`, under a lock, with the jobs themselves beside it.
 #![tactic(auto)]
 
 mod chapters;

@@ -4,7 +4,7 @@ use crate::jobs::Job;
 use meet_tickets::Ticket;
 
 /// What became of a job that a pool was handed.
-#[derive(Drop)]
+#[derive(Debug, Drop)]
 pub enum Outcome<C> {
     /// It was handed to this worker, which waited.
     Handed(u64),

@@ -1,5 +1,5 @@
 use Rattle.std.proofs.Common.{◌≡◌, vec_len}
-use Rattle.pool_drive.proofs.whole.gates_of.Given as goal
+use Rattle.meet_cells.proofs.spinning.SpinGate.many.Given as goal
 
 abbrev pub invariant-loop : goal.invariant-loop
 invariant-loop l = record { count : vec_len l.gates ≡ l.counter }

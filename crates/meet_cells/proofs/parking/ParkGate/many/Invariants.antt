@@ -1,5 +1,5 @@
 use Rattle.std.proofs.Common.{◌≡◌, vec_len}
-use Rattle.pool_rounds.proofs.holding.gates_of.Given as goal
+use Rattle.meet_cells.proofs.parking.ParkGate.many.Given as goal
 
 abbrev pub invariant-loop : goal.invariant-loop
 invariant-loop l = record { count : vec_len l.gates ≡ l.counter }
