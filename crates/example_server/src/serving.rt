@@ -1,0 +1,141 @@
+//! What the listener and the workers do.
+
+use ibisbookcase::queues::{
+    Deed, Desk, End, FairLine, Ledgers, Marked, ParkGate, Refusal, Seat, SeatRefused, SyncQueue,
+};
+use std::sync::Wait;
+use std::sync::atomic::{AtomicBool, AtomicU64, Ordering};
+use std::time::Clock;
+
+/// How long somebody waits at the queue before it rises, in milliseconds.
+const PATIENCE: u64 = 20;
+
+/// A connection, known by its number. It is made up.
+#[derive(Drop)]
+pub struct Connection {
+    pub number: u64,
+}
+
+impl Marked for Connection {
+    ghost mark_of = { λ connection. connection.number };
+
+    fn mark(&self) -> u64 {
+        self.number
+    }
+}
+
+/// A synchronous queue in fair mode, over which connections are handed on.
+pub type Handover<N> = SyncQueue<Connection, FairLine<Connection>, ParkGate, N>;
+
+/// What the threads share.
+#[derive(Drop)]
+pub struct Server<N: Ledgers> {
+    pub queue: Handover<N>,
+    pub desk: Desk<Deed, N>,
+    /// Whether no connection comes any more.
+    pub closing: AtomicBool,
+    /// How many connections were served, and the sum of their numbers.
+    pub served: AtomicU64,
+    pub sum: AtomicU64,
+}
+
+/// Tends the history, and gives the seat back.
+fn rise<N: Ledgers, R: Wait>(
+    rt: &R,
+    server: &Server<N>,
+    seat: Seat<Deed, N>,
+) -> Result<(), Refusal> {
+    match server.queue.tend(rt, seat) {
+        Ok(seat) => {
+            server.desk.rise(rt, seat);
+            Ok(())
+        }
+        Err(refused) => {
+            let SeatRefused { why, seat, item: _ } = refused;
+            server.desk.rise(rt, seat);
+            Err(why)
+        }
+    }
+}
+
+/// Sits down, and hands a connection to a worker; it comes back where none took it in time.
+fn hand<N: Ledgers, R: Wait + Clock>(
+    rt: &R,
+    server: &Server<N>,
+    connection: Connection,
+) -> Result<Option<Connection>, Refusal> {
+    let seat = server.desk.wait_to_sit(rt);
+    match server.queue.offer_for(rt, seat, connection, PATIENCE) {
+        Ok(offered) => {
+            rise(rt, server, offered.seat)?;
+            match offered.end {
+                End::TimedOut(back) => Ok(back),
+                _ => Ok(None),
+            }
+        }
+        Err(refused) => {
+            let SeatRefused { why, seat, item: _ } = refused;
+            server.desk.rise(rt, seat);
+            Err(why)
+        }
+    }
+}
+
+/// Hands so many connections on.
+pub fn listen<N: Ledgers, R: Wait + Clock>(
+    rt: &R,
+    server: &Server<N>,
+    last: u64,
+) -> Result<(), Refusal> {
+    for number in 1..=last {
+        let mut waiting = Some(Connection { number });
+        for _ in rt.forever() {
+            match waiting {
+                None => break,
+                Some(connection) => waiting = hand(rt, server, connection)?,
+            }
+        }
+    }
+    Ok(())
+}
+
+/// Sits down, and takes a connection, where one comes in time.
+fn next<N: Ledgers, R: Wait + Clock>(
+    rt: &R,
+    server: &Server<N>,
+) -> Result<Option<Connection>, Refusal> {
+    let seat = server.desk.wait_to_sit(rt);
+    match server.queue.poll_for(rt, seat, PATIENCE) {
+        Ok(polled) => {
+            rise(rt, server, polled.seat)?;
+            match polled.end {
+                End::Got(_, connection) => Ok(Some(connection)),
+                _ => Ok(None),
+            }
+        }
+        Err(refused) => {
+            let SeatRefused { why, seat, item: _ } = refused;
+            server.desk.rise(rt, seat);
+            Err(why)
+        }
+    }
+}
+
+/// Serves connections until none comes any more.
+pub fn serve<N: Ledgers, R: Wait + Clock>(rt: &R, server: &Server<N>) -> Result<(), Refusal> {
+    for _ in rt.forever() {
+        let closing = server.closing.load(Ordering::SeqCst);
+        match next(rt, server)? {
+            Some(connection) => {
+                server.served.fetch_add(1, Ordering::SeqCst);
+                server.sum.fetch_add(connection.number, Ordering::SeqCst);
+            }
+            None => {
+                if closing {
+                    break;
+                }
+            }
+        }
+    }
+    Ok(())
+}

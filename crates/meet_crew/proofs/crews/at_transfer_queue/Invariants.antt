@@ -1,0 +1,9 @@
+use Rattle.meet_tickets.specs.Limits.{most_records}
+use Rattle.meet_crew.proofs.crews.at_transfer_queue.Given as goal
+
+-- the ledgers of the queue that is made
+abbrev pub ghosts-at_transfer-N-Ledger : goal.ghosts-at_transfer-N-Ledger
+ghosts-at_transfer-N-Ledger g a = record { name = a.parts.blanks.records.name; parts = a.parts.blanks.records.parts }
+
+abbrev pub ghosts-at_transfer-N-Ledgers : goal.ghosts-at_transfer-N-Ledgers
+ghosts-at_transfer-N-Ledgers g a = record { folds = a.parts.blanks.folds.name; cap = most_records }

@@ -1,0 +1,79 @@
+//! Calls of a chair that were refused.
+
+ghost use Rattle.std.specs.Prelude.{◌≡◌, Ok, IfOk, IfErr, IsErrAnd};
+
+use meet_sync::{End, Ended, Ledgers, Seat, SeatRefused};
+use meet_tickets::{Deed, Refusal};
+use std::fmt;
+use std::fmt::{Debug, Display, Formatter, Write};
+
+/// A call that was refused: nothing was written, and the item comes back. Its text is the name of the reason. It is no
+/// error type, and no `From` makes it a `Refusal`, since that would let the item go: a `?` hands it on whole or doesn't
+/// compile.
+#[derive(Drop)]
+pub struct CallRefused<T> {
+    /// Why.
+    pub why: Refusal,
+    /// The item that the call brought.
+    pub item: Option<T>,
+}
+
+impl<T: Drop> CallRefused<T> {
+    /// The reason alone. The item is let go: match the refusal to keep it.
+    pub fn into_why(self) -> Refusal
+        ensures { result ≡ self.why }
+    {
+        self.why
+    }
+}
+
+/// The name of the reason.
+impl<T> Display for CallRefused<T> {
+    ghost use Rattle.std.specs.Prelude.{Some};
+    ghost use Rattle.meet_tickets.specs.Refusals.{name_of};
+
+    ghost output = { λ refused. Some (name_of refused.why) };
+
+    fn fmt<W: Write>(&self, f: &mut Formatter<W>) -> fmt::Result {
+        f.write_str(self.why.name())
+    }
+}
+
+/// The reason alone: the item need not be one that can be shown.
+impl<T> Debug for CallRefused<T> {
+    fn fmt<W: Write>(&self, f: &mut Formatter<W>) -> fmt::Result {
+        write!(f, "CallRefused({})", self.why)
+    }
+}
+
+/// The seat that a refused call hands back, and what its caller is told.
+pub(crate) fn refused_apart<T, N: Ledgers>(
+    refused: SeatRefused<T, N>,
+) -> (Seat<Deed, N>, CallRefused<T>)
+    ensures seat { result.0 ≡ refused.seat }
+    ensures why { result.1.why ≡ refused.why }
+    ensures item { result.1.item ≡ refused.item }
+{
+    let SeatRefused { why, seat, item } = refused;
+    (seat, CallRefused { why, item })
+}
+
+/// The seat that a whole call hands back, and what its caller is told.
+pub(crate) fn ended_apart<T, N: Ledgers>(
+    called: Result<Ended<T, N>, SeatRefused<T, N>>,
+) -> (Seat<Deed, N>, Result<End<T>, CallRefused<T>>)
+    ensures ended { IfOk called (λ ended. (result.0 ≡ ended.seat) × (result.1 ≡ Ok ended.end)) }
+    ensures refused { IfErr called (λ refused. (result.0 ≡ refused.seat)
+        × IsErrAnd result.1 (λ told. (told.why ≡ refused.why) × (told.item ≡ refused.item))) }
+{
+    match called {
+        Ok(ended) => {
+            let Ended { seat, end } = ended;
+            (seat, Ok(end))
+        }
+        Err(refused) => {
+            let (seat, told) = refused_apart(refused);
+            (seat, Err(told))
+        }
+    }
+}
