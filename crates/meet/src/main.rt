@@ -78,6 +78,16 @@ impl Progress for Teller<'_> {
     }
 }
 
+/// Whether these words end with the name of a text, or with `-`, as of who wants it read from a file: texts are read from
+/// standard input alone.
+fn name_a_text(words: &[String]) -> bool {
+    let drives = words.iter().any(|word| word.as_str() == "drive");
+    match words.last() {
+        Some(word) => !drives && (word.as_str() == "-" || !word.as_str().starts_with('-')),
+        None => false,
+    }
+}
+
 /// Says on standard error how a run failed, if it did, and gives the exit status.
 fn finish(rt: &HostRuntime, outcome: &Result<bool, RunFault>) -> ExitCode
     ensures { exit_status result ≡ status_of outcome.now }
@@ -122,6 +132,11 @@ fn main(rt: HostRuntime) -> ExitCode {
         Err(error) if error.kind() == ErrorKind::OutOfMemory => finish(&rt, &Err(MEMORY)),
         Err(error) => {
             let _ = eprint!(rt; "{error}");
+            if error.kind() == ErrorKind::UnknownArgument && name_a_text(words.as_slice()) {
+                let _ = eprintln!(rt;
+                    "\n  tip: a text is read from standard input, as by 'meet run < FILE'"
+                );
+            }
             ExitCode::from(2)
         }
     }
