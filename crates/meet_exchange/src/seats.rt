@@ -119,13 +119,13 @@ pub(crate) struct Offer<T> {
 /// The seat's number, and the slot and the round of its offer.
 impl<T> Debug for Pending<T> {
     fn fmt<W: Write>(&self, f: &mut Formatter<W>) -> fmt::Result {
-        write!(
-            f,
-            "Pending({}, {}, {})",
-            self.seat.number.number(),
-            self.slot,
-            self.round
-        )
+        let Pending {
+            seat,
+            slot,
+            round,
+            ..
+        } = self;
+        write!(f, "Pending({}, {slot}, {round})", seat.number.number())
     }
 }
 

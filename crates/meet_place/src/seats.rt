@@ -207,12 +207,8 @@ impl<D: Copy, N: Ledgers> Model for Pending<D, N> {
 /// The seat's number and its open ticket.
 impl<D: Copy, N: Ledgers> Debug for Pending<D, N> {
     fn fmt<W: Write>(&self, f: &mut Formatter<W>) -> fmt::Result {
-        write!(
-            f,
-            "Pending({}, {})",
-            self.seat.number.number(),
-            self.ticket.number()
-        )
+        let Pending { seat, ticket, .. } = self;
+        write!(f, "Pending({}, {})", seat.number.number(), ticket.number())
     }
 }
 
