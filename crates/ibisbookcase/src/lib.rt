@@ -6,6 +6,7 @@
 pub mod crews;
 pub mod exchanger;
 pub mod one_thread;
+pub mod overlapping;
 pub mod pools;
 pub mod queues;
 pub mod records;

@@ -33,12 +33,16 @@ A drive of a pool is threads that hand jobs in, and workers that run them: how m
 many are done by the records, and what the pool counts.
   meet pool drive 4 100 2
 
+Calls that overlap have a line each: seat, begin, @ with a time by which the call was seen to wait, end (- where it
+never ended), what was called, and the answer. Where a history explains them, its trace is written.
+  printf 'calls 1 fair\\n0 10 @14 25 put 5 done\\n1 12 20 take got 5\\n' | meet judge
+
 Exit status:
   0  all is well
-  1  the trace isn't legal, or the traces don't follow one another
+  1  the trace isn't legal, the traces don't follow one another, or no history explains the calls
   2  a bad command line, or a request for help or the version
   3  a line that can't be read
-  4  no memory, or a drive or a pool that was refused
+  4  no memory, too many moves of a search, or a drive or a pool that was refused
   5  a failed read or write";
 
 /// What is done with a text on standard input.
@@ -54,6 +58,8 @@ pub enum Task {
     Erase,
     /// A chain of traces on standard input, what is found of it on standard output.
     Chain,
+    /// Calls that overlap on standard input, the trace of a history that explains them on standard output.
+    Judge,
     /// A pool's script on standard input, its replies on standard output.
     PoolRun,
     /// A pool's script on standard input, the trace of its records on standard output.
@@ -127,6 +133,15 @@ fn chain_command<'a>(alloc: Global) -> Command<'a> {
     Command::new(alloc, "chain")
         .about("Checks the traces on standard input, each on the base that those before it leave")
         .override_usage("cat TRACE.. | meet chain")
+}
+
+/// The command `judge`.
+fn judge_command<'a>(alloc: Global) -> Command<'a> {
+    Command::new(alloc, "judge")
+        .about(
+            "Judges the calls on standard input, which overlap: is there a history that explains them?",
+        )
+        .override_usage("meet judge < CALLS")
 }
 
 /// The command `drive`.
@@ -221,6 +236,7 @@ fn command<'a>(alloc: Global) -> Result<Command<'a>, AllocError> {
         .subcommand(run_command(alloc)?)?
         .subcommand(check_command(alloc)?)?
         .subcommand(chain_command(alloc))?
+        .subcommand(judge_command(alloc))?
         .subcommand(drive_command(alloc)?)?
         .subcommand(pool_command(alloc)?)
 }
@@ -253,6 +269,7 @@ fn wanted_by(matches: &ArgMatches<'_>) -> Wanted
         }
         Some((name, _)) if name == "check" => Wanted::Text(Task::Check),
         Some((name, _)) if name == "chain" => Wanted::Text(Task::Chain),
+        Some((name, _)) if name == "judge" => Wanted::Text(Task::Judge),
         Some((name, asked)) if name == "pool" => pool_wanted_by(asked),
         Some((name, asked)) if name == "drive" => {
             Wanted::Drive(given(asked, "N", MOST_GIVERS), given(asked, "M", MOST_EACH))
@@ -263,7 +280,7 @@ fn wanted_by(matches: &ArgMatches<'_>) -> Wanted
 }
 
 /// Reads the words of a command line, the program's name first: none, `run`, `run --trace`, `check`, `check --erase`,
-/// `chain`, `drive N M`, or behind `pool` `run`, `run --trace`, `check` or `drive N M W`. The error has the text to
+/// `chain`, `judge`, `drive N M`, or behind `pool` `run`, `run --trace`, `check` or `drive N M W`. The error has the text to
 /// show; a request for help or for the version is one.
 pub fn wanted_of(alloc: Global, words: &[String]) -> Result<Wanted, Error>
     ensures { IfOk result IsWithin }

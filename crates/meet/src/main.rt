@@ -1,5 +1,6 @@
 //! The program `meet`: a script of calls on standard input, their replies or their trace on standard output; or a
-//! trace on standard input, what is found of it on standard output; or threads at a queue, and what came of it.
+//! trace on standard input, what is found of it on standard output; or calls that overlap, and a history that explains
+//! them; or threads at a queue, and what came of it.
 #![tactic(auto)]
 
 ghost use Rattle.std.specs.Prelude.{◌≡◌, IfSome};
@@ -11,6 +12,7 @@ mod command_line;
 
 use clap::error::ErrorKind;
 use command_line::{Task, Wanted, wanted_of};
+use meet_judge::judge_calls;
 use meet_run::{
     Blocks, Progress, RunFault, check_chain, check_trace, erase_trace, report_of, run_drive,
     run_script, run_trace,
@@ -50,6 +52,7 @@ fn perform<R: Read, W: Write>(
         Task::Check => check_trace(alloc, reader, writer),
         Task::Erase => erase_trace(alloc, reader, writer),
         Task::Chain => check_chain(alloc, reader, writer),
+        Task::Judge => judge_calls(alloc, reader, writer),
         Task::PoolRun => run_pool(alloc, reader, writer),
         Task::PoolTrace => trace_pool(alloc, reader, writer),
         Task::PoolCheck => check_pool_trace(alloc, reader, writer),

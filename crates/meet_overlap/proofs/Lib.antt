@@ -1,0 +1,17 @@
+pub mod Answering
+pub mod Barren
+pub mod Complete
+pub mod Deeds
+pub mod Endings
+pub mod Paths
+pub mod PlaySteps
+pub mod Played
+pub mod Reduced
+pub mod Removals
+pub mod Renamed
+pub mod Settled
+pub mod Sound
+pub mod Tables
+pub mod Timed
+pub mod Ways
+pub mod Windows

@@ -1,0 +1,15 @@
+use Rattle.meet_overlap.specs.Known.{IsNoted}
+use Rattle.meet_overlap.specs.Places.{world_of}
+use Rattle.meet_overlap.specs.Search.{start}
+use Rattle.meet_overlap.proofs.Barren.{there_more, there_explains}
+use Rattle.meet_overlap.proofs.judging.written.Goals as goal
+
+pub loop-number-preserved : goal.loop-number-preserved
+loop-number-preserved c =
+    let noted : IsNoted c.args.kind c.args.calls.now (world_of c.loop-number.reached) (world_of c.in-Some.then) c.loop-number.history.items c.note.new.history.items = rw c.in-Some.is at c.in_ok-then.ensures in
+    there_more c.args.kind c.args.calls.now start (world_of c.loop-number.reached) (world_of c.in-Some.then) c.loop-number.history.items c.note.new.history.items c.loop-number.invariant noted
+
+pub returns-then-may_all_stop : goal.returns-then-may_all_stop
+returns-then-may_all_stop c =
+    there_explains c.args.kind c.args.calls.now c.loop-number.history.items (world_of c.loop-number.reached) c.loop-number.invariant
+    (c.may_all_stop.ensures.0 c.if-may_all_stop.true)

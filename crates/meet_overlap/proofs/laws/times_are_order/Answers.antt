@@ -1,0 +1,5 @@
+use Rattle.meet_overlap.proofs.Timed.{explained_orderly, orderly_explained}
+use Rattle.meet_overlap.proofs.laws.times_are_order.Goals as goal
+
+pub returns : goal.returns
+returns c = record { order = explained_orderly; times = orderly_explained }

@@ -1,0 +1,6 @@
+use Rattle.std.proofs.Common.{◌≡◌, take}
+use Rattle.meet_overlap.proofs.place.copied_holds.Given as goal
+
+-- so many are copied
+abbrev pub invariant-loop-hold : goal.invariant-loop-hold
+invariant-loop-hold l = l.copy.items ≡ take l.hold-index l.holds

@@ -1,0 +1,55 @@
+-- What explains calls that overlap: a legal history, each of whose records belongs to a call and has a time in it.
+use Rattle.std.specs.Prelude.{◌≡◌, ℕ, ◌≤◌, ◌==◌, List, [], ◌∷◌, Some, map, filter, slice_get}
+use Rattle.meet_tickets.specs.declared.places.Kind.{Kind}
+use Rattle.meet_tickets.specs.declared.records.Record.{Record}
+use Rattle.meet_tickets.specs.declared.records.Deed.{Deed}
+use Rattle.meet_tickets.specs.ByLists.{IsLegal}
+use Rattle.meet_overlap.specs.declared.calls.Call.{Call}
+use Rattle.meet_overlap.specs.declared.calls.Stage.TheVariants.{Ahead}
+use Rattle.meet_overlap.specs.Calls.{IsWithin, Remains}
+
+-- a record of the call of this number, at a time
+pub record Event : Type 0 where
+  pub call : ℕ
+  pub time : ℕ
+  pub entry : Record Deed
+
+-- the records of events
+abbrev pub records_of : List Event → List (Record Deed)
+records_of events = map (λ e. e.entry) events
+
+-- the records that are dealt to the call of this number
+abbrev pub dealt : (number : ℕ) → List Event → List (Record Deed)
+dealt number events = map (λ e. e.entry) (filter (λ e. e.call == number) events)
+
+-- the event is of a call that is there, by its seat, at a time that lies in the call
+pub record IsOf (calls : List Call) (e : Event) : Type 0 where
+  pub call : Call
+  pub known : slice_get calls e.call ≡ Some call
+  pub seat : e.entry.seat ≡ call.seat
+  pub within : IsWithin call e.time e.entry.deed
+
+-- each event is so
+abbrev pub AreOf : List Call → List Event → Type 0
+AreOf calls [] = Unit {0}
+AreOf calls (e ∷ events) = IsOf calls e × AreOf calls events
+
+-- no event comes before this time, nor before one that stands in front of it
+abbrev pub IsRising : (time : ℕ) → List Event → Type 0
+IsRising time [] = Unit {0}
+IsRising time (e ∷ events) = (time ≤ e.time) × IsRising e.time events
+
+-- these events explain the calls: their records are a legal history, times lie in the calls and don't go back, and the
+-- records that are dealt to a call are those that it makes, with its answer
+pub record IsExplained (k : Kind) (calls : List Call) (events : List Event) : Type 0 where
+  pub legal : IsLegal k (records_of events)
+  pub owned : AreOf calls events
+  pub rising : IsRising 0 events
+  pub formed : (number : ℕ) (call : Call) → slice_get calls number ≡ Some call
+      → Remains call Ahead (dealt number events)
+
+-- the history explains the calls: there is such a dealing of its records
+pub record Explains (k : Kind) (calls : List Call) (history : List (Record Deed)) : Type 0 where
+  pub events : List Event
+  pub records : records_of events ≡ history
+  pub explained : IsExplained k calls events

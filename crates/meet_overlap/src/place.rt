@@ -1,0 +1,183 @@
+//! A place as events leave it.
+
+ghost use Rattle.std.specs.Prelude.{◌≡◌, ◌==◌, find, is_some, set, length, ◌<◌, IfOk, OnOk};
+ghost use Rattle.meet_tickets.specs.Meeting.{end_of, partner};
+ghost use Rattle.meet_tickets.specs.BySeat.{put_at, without_first, unmet, moment_after};
+ghost use Rattle.meet_overlap.specs.Places.{hold_at, flag_at, scene};
+
+use meet_tickets::{Cause, Deed, End, Entry, Hold, Kind, Record, SeatNo, Side, Ticket};
+use std::alloc::{AllocError, Global};
+
+/// A place as events leave it.
+#[derive(Drop)]
+pub(crate) struct Place {
+    pub(crate) last: u64,
+    pub(crate) line: Vec<Entry<u64>>,
+    pub(crate) holds: Vec<Hold<u64>>,
+    pub(crate) flags: Vec<bool>,
+}
+
+/// The same entry once more.
+pub(crate) fn copied_entry(entry: &Entry<u64>) -> Entry<u64>
+    ensures { result ≡ entry.now }
+{
+    Entry {
+        ticket: entry.ticket,
+        seat: entry.seat,
+        item: entry.item,
+        waits: entry.waits,
+    }
+}
+
+/// What a seat holds, once more.
+fn copied_hold(hold: &Hold<u64>) -> Hold<u64>
+    ensures { result ≡ hold.now }
+{
+    match hold {
+        Hold::Free => Hold::Free,
+        Hold::Waiting(ticket) => Hold::Waiting(*ticket),
+        Hold::Handed(ticket, with, mark) => Hold::Handed(*ticket, *with, *mark),
+        Hold::Served(ticket, with, item) => Hold::Served(*ticket, *with, *item),
+        Hold::Cut(ticket, item) => Hold::Cut(*ticket, *item),
+    }
+}
+
+/// The same line once more. The only error is want of memory.
+fn copied_line(alloc: Global, line: &[Entry<u64>]) -> Result<Vec<Entry<u64>>, AllocError>
+    ensures { IfOk result (λ copy. copy.items ≡ line.now) }
+{
+    let mut copy = Vec::new(alloc);
+    for entry in line {
+        copy.push(copied_entry(entry))?;
+    }
+    Ok(copy)
+}
+
+/// The same table once more. The only error is want of memory.
+fn copied_holds(alloc: Global, holds: &[Hold<u64>]) -> Result<Vec<Hold<u64>>, AllocError>
+    ensures { IfOk result (λ copy. copy.items ≡ holds.now) }
+{
+    let mut copy = Vec::new(alloc);
+    for hold in holds {
+        copy.push(copied_hold(hold))?;
+    }
+    Ok(copy)
+}
+
+/// The same place once more. The only error is want of memory.
+pub(crate) fn copied(alloc: Global, place: &Place) -> Result<Place, AllocError>
+    ensures { IfOk result (λ copy. scene copy ≡ scene place.now) }
+{
+    let line = copied_line(alloc, &place.line)?;
+    let holds = copied_holds(alloc, &place.holds)?;
+    let flags = place.flags.as_slice().to_vec(alloc)?;
+    Ok(Place {
+        last: place.last,
+        line,
+        holds,
+        flags,
+    })
+}
+
+/// Puts what a seat holds in the place of what it held. The only error is want of memory.
+pub(crate) fn put_hold(
+    holds: &mut Vec<Hold<u64>>,
+    seat: SeatNo,
+    hold: Hold<u64>,
+) -> Result<(), AllocError>
+    ensures { OnOk result (hold_at holds.new.items ≡ put_at (hold_at holds.old.items) seat hold) }
+{
+    let index = seat.number() as usize;
+    while holds.len() <= index {
+        holds.push(Hold::Free)?;
+    }
+    holds[index] = hold;
+    Ok(())
+}
+
+/// Sets or clears a seat's flag. The only error is want of memory.
+pub(crate) fn put_flag(flags: &mut Vec<bool>, seat: SeatNo, flag: bool) -> Result<(), AllocError>
+    ensures { OnOk result (flag_at flags.new.items ≡ put_at (flag_at flags.old.items) seat flag) }
+{
+    let index = seat.number() as usize;
+    while flags.len() <= index {
+        flags.push(false)?;
+    }
+    flags[index] = flag;
+    Ok(())
+}
+
+/// The entry of this ticket leaves the line, if it is there.
+pub(crate) fn leave(line: &mut Vec<Entry<u64>>, ticket: Ticket)
+    ensures { line.new.items ≡ without_first (λ e. e.ticket == ticket) line.old.items }
+{
+    let found = line.iter().position(|entry| entry.ticket == ticket);
+    if let Some(index) = found {
+        let _left = line.remove(index);
+    }
+}
+
+/// The entry that is met leaves a line that isn't empty.
+pub(crate) fn leave_met(line: &mut Vec<Entry<u64>>, end: End)
+    requires { 0 < length line.old.items }
+    ensures { line.new.items ≡ unmet end line.old.items }
+{
+    match end {
+        End::Front => {
+            let _met = line.remove(0);
+        }
+        End::Back => {
+            let _met = line.pop();
+        }
+    }
+}
+
+/// The partner of a request of this side, if it has one.
+pub(crate) fn partner(kind: Kind, line: &[Entry<u64>], side: Side) -> Option<Entry<u64>>
+    ensures { result ≡ partner (end_of kind.order) line.now side }
+{
+    if line.is_empty() {
+        return None;
+    }
+    if line[0].is_on(side) {
+        return None;
+    }
+    match kind.order.end() {
+        End::Front => Some(copied_entry(&line[0])),
+        End::Back => Some(copied_entry(&line[line.len() - 1])),
+    }
+}
+
+/// The entry of this ticket, if it stands in the line.
+pub(crate) fn entry(line: &[Entry<u64>], ticket: Ticket) -> Option<Entry<u64>>
+    ensures { result ≡ find (λ e. e.ticket == ticket) line.now }
+{
+    match line.iter().find(|entry| entry.ticket == ticket) {
+        Some(entry) => Some(copied_entry(entry)),
+        None => None,
+    }
+}
+
+/// What this seat holds.
+pub(crate) fn hold(holds: &[Hold<u64>], seat: SeatNo) -> Hold<u64>
+    ensures { result ≡ hold_at holds.now seat }
+{
+    let index = seat.number() as usize;
+    if index < holds.len() {
+        copied_hold(&holds[index])
+    } else {
+        Hold::Free
+    }
+}
+
+/// Whether this seat is flagged.
+pub(crate) fn flag(flags: &[bool], seat: SeatNo) -> bool
+    ensures { result ≡ flag_at flags.now seat }
+{
+    let index = seat.number() as usize;
+    if index < flags.len() {
+        flags[index]
+    } else {
+        false
+    }
+}
