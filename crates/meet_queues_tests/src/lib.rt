@@ -5,8 +5,6 @@
 #[cfg(test)]
 mod answers;
 #[cfg(test)]
-mod bases;
-#[cfg(test)]
 mod books;
 #[cfg(test)]
 mod drains;

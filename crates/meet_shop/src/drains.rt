@@ -9,7 +9,10 @@ use std::sync::Wait;
 /// A seat, and the items of its drain, where it wasn't refused.
 type Drained<N> = (Back<Deed, N>, Option<Vec<u64>>);
 
-fn drained<N: Ledgers>(drained: Result<DrainedItems<u64, N>, SeatRefused<u64, N>>) -> Drained<N> {
+/// What came of a drain: the seat, and the items where it wasn't refused.
+pub fn drained<N: Ledgers>(
+    drained: Result<DrainedItems<u64, N>, SeatRefused<u64, N>>,
+) -> Drained<N> {
     match drained {
         Ok(drained) => {
             let DrainedItems { seat, items } = drained;
@@ -27,18 +30,18 @@ fn drained<N: Ledgers>(drained: Result<DrainedItems<u64, N>, SeatRefused<u64, N>
 }
 
 impl<G: Gate, N: Ledgers> Shop<G, N> {
-    /// A seat without a ticket drains up to so many items: the seat, and the items where the drain wasn't refused.
+    /// A seat without a ticket drains up to so many items.
     pub fn drain<R: Wait>(
         &self,
         rt: &R,
         alloc: Global,
         seat: Seat<Deed, N>,
         max: u64,
-    ) -> Drained<N> {
+    ) -> Result<DrainedItems<u64, N>, SeatRefused<u64, N>> {
         match self {
-            Shop::Fair(queue) => drained(queue.drain(rt, alloc, seat, max)),
-            Shop::Unfair(queue) => drained(queue.drain(rt, alloc, seat, max)),
-            Shop::Transfer(queue) => drained(queue.drain(rt, alloc, seat, max)),
+            Shop::Fair(queue) => queue.drain(rt, alloc, seat, max),
+            Shop::Unfair(queue) => queue.drain(rt, alloc, seat, max),
+            Shop::Transfer(queue) => queue.drain(rt, alloc, seat, max),
         }
     }
 }

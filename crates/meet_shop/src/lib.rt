@@ -9,13 +9,22 @@ mod checkpoints;
 mod drains;
 mod flags;
 mod numbers;
+mod obeys;
+mod plays;
 mod shops;
+mod steps;
 mod waiting;
 
 pub use answers::Came;
 pub use asks::{Ask, Row, Told};
 pub use calls::{Call, called};
+pub use drains::drained;
 pub use flags::{FlagGate, Flags};
-pub use numbers::Chance;
+pub use numbers::{Chance, ending, request};
+pub use plays::{
+    Found, NOTHING, Seats, Story, ask_all, ask_one, closed, ended, given, has, play, played,
+    seated, tells, told, two_backs, two_seats,
+};
 pub use shops::{Open, Shop, keep};
+pub use steps::{Probe, Step, drain_one, happens};
 pub use waiting::{Eager, Fresh, Idle, gates};

@@ -30,38 +30,52 @@ pub fn keep<X: Drop>(value: X) {
 
 /// Why a shop was not closed.
 #[derive(Drop)]
-pub enum Open<G, N: Ledgers> {
+pub enum Open<Q, N: Ledgers> {
     /// So many seats of so many were given back; all comes back.
-    Missing(usize, usize, Shop<G, N>, Vec<Back<Deed, N>>),
+    Missing(usize, usize, Q, Vec<Back<Deed, N>>),
+    /// There was no memory; all comes back.
+    Memory(Q, Vec<Back<Deed, N>>),
     /// Something else.
     Other(Refusal),
 }
 
-/// The numbers of a close with too few seats, with what came back; or another reason.
-fn missing<Q: Drop, B: Drop, N: Ledgers>(
-    fault: QueueFault<Q, B, N>,
-) -> Result<(usize, usize, Q, Vec<Back<Deed, N>>), Refusal> {
-    match fault {
-        QueueFault::SeatMissing {
-            have,
-            made,
-            queue,
-            seats,
-        } => Ok((have, made, queue, seats)),
-        QueueFault::Memory { queue, seats } => {
-            keep(queue);
-            keep(seats);
-            Err(Refusal::Memory)
+impl<Q, N: Ledgers> Open<Q, N> {
+    /// Why a queue was not closed.
+    fn of<B: Drop>(fault: QueueFault<Q, B, N>) -> Self {
+        match fault {
+            QueueFault::SeatMissing {
+                have,
+                made,
+                queue,
+                seats,
+            } => Open::Missing(have, made, queue, seats),
+            QueueFault::Memory { queue, seats } => Open::Memory(queue, seats),
+            QueueFault::Differs {
+                seat: _,
+                index: _,
+                book,
+                seats,
+            } => {
+                keep(book);
+                keep(seats);
+                Open::Other(Refusal::Differs)
+            }
         }
-        QueueFault::Differs {
-            seat: _,
-            index: _,
-            book,
-            seats,
-        } => {
-            keep(book);
-            keep(seats);
-            Err(Refusal::Differs)
+    }
+
+    /// The same, with what was not closed as something else.
+    fn map<P, F: FnOnce(Q) -> P>(self, wrap: F) -> Open<P, N>
+        requires ready { (queue : Q) → F.pre wrap queue }
+    {
+        match self {
+            Open::Missing(have, made, queue, seats) => Open::Missing(
+                have,
+                made,
+                wrap(queue),
+                seats,
+            ),
+            Open::Memory(queue, seats) => Open::Memory(wrap(queue), seats),
+            Open::Other(why) => Open::Other(why),
         }
     }
 }
@@ -110,34 +124,19 @@ impl<G: Gate + Drop, N: Ledgers> Shop<G, N> {
         self,
         alloc: Global,
         seats: Vec<Back<Deed, N>>,
-    ) -> Result<Chronicle<u64>, Open<G, N>> {
+    ) -> Result<Chronicle<u64>, Open<Self, N>> {
         match self {
             Shop::Fair(queue) => match queue.close(alloc, seats) {
                 Ok(chronicle) => Ok(chronicle),
-                Err(fault) => match missing(fault) {
-                    Ok((have, made, queue, seats)) => {
-                        Err(Open::Missing(have, made, Shop::Fair(queue), seats))
-                    }
-                    Err(why) => Err(Open::Other(why)),
-                },
+                Err(fault) => Err(Open::of(fault).map(|queue| Shop::Fair(queue))),
             },
             Shop::Unfair(queue) => match queue.close(alloc, seats) {
                 Ok(chronicle) => Ok(chronicle),
-                Err(fault) => match missing(fault) {
-                    Ok((have, made, queue, seats)) => {
-                        Err(Open::Missing(have, made, Shop::Unfair(queue), seats))
-                    }
-                    Err(why) => Err(Open::Other(why)),
-                },
+                Err(fault) => Err(Open::of(fault).map(|queue| Shop::Unfair(queue))),
             },
             Shop::Transfer(queue) => match queue.close(alloc, seats) {
                 Ok(chronicle) => Ok(chronicle),
-                Err(fault) => match missing(fault) {
-                    Ok((have, made, queue, seats)) => {
-                        Err(Open::Missing(have, made, Shop::Transfer(queue), seats))
-                    }
-                    Err(why) => Err(Open::Other(why)),
-                },
+                Err(fault) => Err(Open::of(fault).map(|queue| Shop::Transfer(queue))),
             },
         }
     }

@@ -2,7 +2,7 @@
 
 use crate::accounts::Account;
 use meet_cells::ParkGate;
-use meet_shop::{Ask, Call, Chance, Shop, Told, called};
+use meet_shop::{Ask, Call, Chance, Shop, Told, called, drained};
 use meet_stamps::{Stamped, Stamps};
 use meet_sync::{Back, Gate, Ledgers, Seat, SeatRefused};
 use meet_tickets::{Deed, Order};
@@ -118,7 +118,7 @@ fn drains<G: Gate, N: Ledgers, R: Wait>(
 ) -> Back<Deed, N> {
     match back {
         Back::Free(seat) => {
-            let (back, items) = shop.drain(rt, alloc, seat, max);
+            let (back, items) = drained(shop.drain(rt, alloc, seat, max));
             account.note_drain(items);
             back
         }

@@ -3,10 +3,8 @@
 ghost use Rattle.std.specs.Prelude.{◌≡◌, vec_len};
 ghost use Rattle.meet_place.specs.Ledgers.{AreOf};
 
-use crate::java_steps::drains;
-use crate::plays::{Seats, asks, closed, seated};
 use meet_history::Order;
-use meet_shop::{Ask, Idle, Shop, Told, gates, keep};
+use meet_shop::{Ask, Idle, Seats, Shop, Told, ask_one, closed, drain_one, gates, keep, seated};
 use meet_sync::{Back, Blanks, Chronicle, Ledgers, NewQueue, Seat};
 use meet_tickets::Deed;
 use std::alloc::Global;
@@ -34,10 +32,10 @@ fn works<N: Ledgers, R: Abort + Wait>(
     load: Load,
 ) {
     for item in 0..load.puts {
-        assert_eq!(rt; asks(rt, shop, seat, Ask::Put(item)), Told::Kept);
+        assert_eq!(rt; ask_one(rt, shop, seat, Ask::Put(item)), Told::Kept);
     }
     for _ in 0..load.polls {
-        assert_eq!(rt; asks(rt, shop, seat, Ask::Poll), Told::Failed(None));
+        assert_eq!(rt; ask_one(rt, shop, seat, Ask::Poll), Told::Failed(None));
     }
 }
 
@@ -49,7 +47,7 @@ fn draws<N: Ledgers, R: Abort + Wait>(
     seat: &mut Option<Back<Deed, N>>,
     load: Load,
 ) {
-    if let Some(items) = drains(rt, alloc, shop, seat, load.drained) {
+    if let Some(items) = drain_one(rt, alloc, shop, seat, load.drained) {
         assert_eq!(rt; items.len() as u64, load.drained);
         for (number, item) in items.iter().enumerate() {
             assert_eq!(rt; *item, number as u64);

@@ -3,12 +3,13 @@
 ghost use Rattle.std.specs.Prelude.{◌≡◌, vec_len};
 ghost use Rattle.meet_place.specs.Ledgers.{AreOf};
 
-use crate::plays::{two_backs, two_seats};
+use meet_book::Bases;
+use meet_calls::{QueueLeaves, QueuePlace};
 use meet_line::FairLine;
-use meet_shop::{Idle, gates};
+use meet_shop::{Idle, gates, two_backs, two_seats};
 use meet_sync::{
-    Asked, Back, Blanks, Chapter, Chronicle, FollowedUp, Ledgers, NewQueue, Pending, QueueFault,
-    Request, Seat, SyncQueue,
+    Asked, Back, Blanks, Chapter, Chronicle, FollowedUp, Ledgers, NewQueue, Pending, Queue,
+    QueueFault, Request, Seat, SyncQueue,
 };
 use meet_tickets::{Base, Deed, Record, SeatNo, Ticket};
 use std::alloc::Global;
@@ -17,8 +18,8 @@ use std::process::Abort;
 use std::sync::Wait;
 use std::test::*;
 
-/// A fair queue.
-type Queue<N> = SyncQueue<u64, FairLine<u64>, Idle, N>;
+/// A fair queue. Who makes it and closes it knows that it is one; all others, that numbers go through it.
+type Fair<N> = SyncQueue<u64, FairLine<u64>, Idle, N>;
 
 /// A seat, and the chapter that it was handed.
 type Handed<N> = (Seat<Deed, N>, Chapter);
@@ -53,9 +54,9 @@ fn holds(rt: &impl Abort, base: &Base, line: usize, pairs: usize) {
 }
 
 /// A seat asks, and its request ends at once.
-fn settles<N: Ledgers, R: Abort + Wait>(
+fn settles<O: QueuePlace<Item = u64>, N: Ledgers, R: Abort + Wait>(
     rt: &R,
-    queue: &Queue<N>,
+    queue: &Queue<O, Idle, N>,
     seat: Seat<Deed, N>,
     request: Request<u64>,
 ) -> Seat<Deed, N> {
@@ -66,9 +67,9 @@ fn settles<N: Ledgers, R: Abort + Wait>(
 }
 
 /// A seat takes, and waits.
-fn waits<N: Ledgers, R: Abort + Wait>(
+fn waits<O: QueuePlace<Item = u64>, N: Ledgers, R: Abort + Wait>(
     rt: &R,
-    queue: &Queue<N>,
+    queue: &Queue<O, Idle, N>,
     seat: Seat<Deed, N>,
 ) -> Pending<Deed, N> {
     match queue.request(rt, seat, Request::Take) {
@@ -78,9 +79,9 @@ fn waits<N: Ledgers, R: Abort + Wait>(
 }
 
 /// A take that waited has got 7.
-fn gets_7<N: Ledgers, R: Abort + Wait>(
+fn gets_7<O: QueuePlace<Item = u64>, N: Ledgers, R: Abort + Wait>(
     rt: &R,
-    queue: &Queue<N>,
+    queue: &Queue<O, Idle, N>,
     pending: Pending<Deed, N>,
 ) -> Seat<Deed, N> {
     match queue.follow_up(rt, pending) {
@@ -90,9 +91,9 @@ fn gets_7<N: Ledgers, R: Abort + Wait>(
 }
 
 /// A seat is handed out the records so far, in this list.
-fn rotates<N: Ledgers, R: Abort + Wait>(
+fn rotates<O: QueuePlace<Item = u64> + Bases, N: Ledgers, R: Abort + Wait>(
     rt: &R,
-    queue: &Queue<N>,
+    queue: &Queue<O, Idle, N>,
     seat: Seat<Deed, N>,
     list: Vec<Record<Deed>>,
 ) -> Handed<N> {
@@ -103,10 +104,10 @@ fn rotates<N: Ledgers, R: Abort + Wait>(
 }
 
 /// An offer of 5 that finds nobody, and what is handed out then: its record, and the base of no records.
-fn first_chapter<N: Ledgers, R: Abort + Wait>(
+fn first_chapter<O: QueuePlace<Item = u64> + Bases, N: Ledgers, R: Abort + Wait>(
     rt: &R,
     alloc: Global,
-    queue: &Queue<N>,
+    queue: &Queue<O, Idle, N>,
     seat: Seat<Deed, N>,
 ) -> Handed<N> {
     let seat = settles(rt, queue, seat, Request::Offer(5));
@@ -118,9 +119,9 @@ fn first_chapter<N: Ledgers, R: Abort + Wait>(
 
 /// What is handed out once seat 1 waits to take: the record of that, behind the first. The list of the chapter before is
 /// used again.
-fn second_chapter<N: Ledgers, R: Abort + Wait>(
+fn second_chapter<O: QueuePlace<Item = u64> + Bases, N: Ledgers, R: Abort + Wait>(
     rt: &R,
-    queue: &Queue<N>,
+    queue: &Queue<O, Idle, N>,
     handed: Handed<N>,
 ) -> Handed<N> {
     let (seat, before) = handed;
@@ -131,9 +132,9 @@ fn second_chapter<N: Ledgers, R: Abort + Wait>(
 }
 
 /// A give of 7 that meets seat 1, and what is handed out then: on a base in which that still waits.
-fn third_chapter<N: Ledgers, R: Abort + Wait>(
+fn third_chapter<O: QueuePlace<Item = u64> + Bases, N: Ledgers, R: Abort + Wait>(
     rt: &R,
-    queue: &Queue<N>,
+    queue: &Queue<O, Idle, N>,
     handed: Handed<N>,
 ) -> Seat<Deed, N> {
     let (seat, before) = handed;
@@ -146,7 +147,10 @@ fn third_chapter<N: Ledgers, R: Abort + Wait>(
 }
 
 /// A look at a queue.
-fn looks<N: Ledgers, R: Abort + Wait>(rt: &R, queue: &Queue<N>) -> Chapter {
+fn looks<O: QueuePlace<Item = u64> + Bases, N: Ledgers, R: Abort + Wait>(
+    rt: &R,
+    queue: &Queue<O, Idle, N>,
+) -> Chapter {
     match queue.history(rt) {
         Ok(chapter) => chapter,
         Err(_) => panic!(rt; "there is nothing to be looked at"),
@@ -154,17 +158,21 @@ fn looks<N: Ledgers, R: Abort + Wait>(rt: &R, queue: &Queue<N>) -> Chapter {
 }
 
 /// What a look shows: three records behind it, up to the third ticket, these since, and one ticket that was met.
-fn shows<N: Ledgers, R: Abort + Wait>(rt: &R, queue: &Queue<N>, records: &[Record<Deed>]) {
+fn shows<O: QueuePlace<Item = u64> + Bases, N: Ledgers, R: Abort + Wait>(
+    rt: &R,
+    queue: &Queue<O, Idle, N>,
+    records: &[Record<Deed>],
+) {
     let chapter = looks(rt, queue);
     has(rt, &chapter, 3, 3, records);
     holds(rt, &chapter.base, 0, 1);
 }
 
 /// Three chapters of two seats, and a look before and behind the follow-up of seat 1.
-fn in_chapters<N: Ledgers, R: Abort + Wait>(
+fn in_chapters<O: QueuePlace<Item = u64> + Bases, N: Ledgers, R: Abort + Wait>(
     rt: &R,
     alloc: Global,
-    queue: &Queue<N>,
+    queue: &Queue<O, Idle, N>,
     seats: (Seat<Deed, N>, Seat<Deed, N>),
 ) -> (Seat<Deed, N>, Seat<Deed, N>) {
     let (first, second) = seats;
@@ -184,22 +192,22 @@ fn made<N: Ledgers>(
     rt: &impl Abort,
     alloc: Global,
     parts: NewQueue<Idle>,
-) -> (Queue<N>, Vec<Seat<Deed, N>>)
+) -> (Fair<N>, Vec<Seat<Deed, N>>)
     requires ledgers { AreOf N.name N.folds N.parts parts.blanks }
     requires one_each { N.parts ≡ vec_len parts.gates }
     requires cap { N.cap ≡ 8 }
 {
-    match Queue::<N>::with_cap(alloc, parts, 8) {
+    match Fair::<N>::with_cap(alloc, parts, 8) {
         Ok(made) => made,
         Err(_) => panic!(rt; "no queue"),
     }
 }
 
 /// A queue is closed with all its seats.
-fn closed<N: Ledgers>(
+fn closed<O: QueueLeaves<Item = u64> + Drop, N: Ledgers>(
     rt: &impl Abort,
     alloc: Global,
-    queue: Queue<N>,
+    queue: Queue<O, Idle, N>,
     backs: Vec<Back<Deed, N>>,
 ) -> Chronicle<u64> {
     match queue.close(alloc, backs) {
@@ -225,7 +233,10 @@ fn of_two_seats<N: Ledgers, R: Abort + Wait>(
 }
 
 /// A look shows an offer of seat 1 that failed and a poll of seat 0 that did, and nothing behind them.
-fn shows_both<N: Ledgers, R: Abort + Wait>(rt: &R, queue: &Queue<N>) {
+fn shows_both<O: QueuePlace<Item = u64> + Bases, N: Ledgers, R: Abort + Wait>(
+    rt: &R,
+    queue: &Queue<O, Idle, N>,
+) {
     let chapter = looks(rt, queue);
     let offered = record(rt, 1, 1, Deed::GiveFails(5));
     let polled = record(rt, 0, 2, Deed::TakeFails);
@@ -233,10 +244,10 @@ fn shows_both<N: Ledgers, R: Abort + Wait>(rt: &R, queue: &Queue<N>) {
 }
 
 /// Seat 1 offers, and is lost. Seat 0 goes on, and a look shows both records: seat 0, to be given back.
-fn loses_seat_1<N: Ledgers, R: Abort + Wait>(
+fn loses_seat_1<O: QueuePlace<Item = u64> + Bases, N: Ledgers, R: Abort + Wait>(
     rt: &R,
     alloc: Global,
-    queue: &Queue<N>,
+    queue: &Queue<O, Idle, N>,
     seats: (Seat<Deed, N>, Seat<Deed, N>),
 ) -> Vec<Back<Deed, N>> {
     let (first, second) = seats;
@@ -249,10 +260,10 @@ fn loses_seat_1<N: Ledgers, R: Abort + Wait>(
 }
 
 /// A queue isn't closed without a seat: which are missing.
-fn missing<N: Ledgers>(
+fn missing<O: QueueLeaves<Item = u64> + Drop, N: Ledgers>(
     rt: &impl Abort,
     alloc: Global,
-    queue: Queue<N>,
+    queue: Queue<O, Idle, N>,
     backs: Vec<Back<Deed, N>>,
 ) -> Vec<SeatNo> {
     match queue.close(alloc, backs) {

@@ -4,13 +4,10 @@ ghost use Rattle.std.specs.Prelude.{◌≡◌, vec_len, IfOk};
 ghost use Rattle.meet_tickets.specs.Bases.{no_base};
 ghost use Rattle.meet_place.specs.Ledgers.{AreOf};
 
-use crate::plays::{Seats, ask_all, closed, seated};
 use meet_history::Order;
 use meet_line::FairLine;
-use meet_shop::{Ask, Idle, Shop, Told, gates, keep};
-use meet_sync::{
-    Asked, Back, Blanks, Chronicle, Ledgers, NewQueue, Pending, Request, Seat, SyncQueue,
-};
+use meet_shop::{Ask, Idle, Seats, Shop, Told, ask_all, closed, gates, keep, seated};
+use meet_sync::{Asked, Back, Blanks, Chronicle, Ledgers, NewQueue, Request, SyncQueue};
 use meet_tickets::{Deed, Refusal};
 use std::alloc::Global;
 use std::marker::Brand;
@@ -106,8 +103,24 @@ fn folding<N: Ledgers, R: Abort + Wait>(rt: &R, shop: &Shop<Idle, N>, seats: &mu
     ask_all(rt, shop, seats, &[(1, Ask::Follow, Told::NotYet)]);
 }
 
-/// A fair queue with room for five records, and what it came to.
-fn five_records<N: Ledgers, R: Abort + Wait>(rt: &R, alloc: Global, parts: NewQueue<Idle>) -> Came
+/// A checkpoint where nothing was recorded folds nothing away; then a giver waits.
+fn folding_nothing<N: Ledgers, R: Abort + Wait>(
+    rt: &R,
+    shop: &Shop<Idle, N>,
+    seats: &mut Seats<N>,
+) {
+    folds(rt, shop, seats, 0, (0, 0));
+    ask_all(rt, shop, seats, &[(0, Ask::Give(1), Told::Parks(1))]);
+}
+
+/// A fair queue with room for five records, and what it came to: where its first records are folded away, or where none
+/// is.
+fn five_records<N: Ledgers, R: Abort + Wait>(
+    rt: &R,
+    alloc: Global,
+    parts: NewQueue<Idle>,
+    early: bool,
+) -> Came
     requires ledgers { AreOf N.name N.folds N.parts parts.blanks }
     requires one_each { N.parts ≡ vec_len parts.gates }
     requires cap { N.cap ≡ 5 }
@@ -118,7 +131,11 @@ fn five_records<N: Ledgers, R: Abort + Wait>(rt: &R, alloc: Global, parts: NewQu
     };
     match seated(alloc, made) {
         Ok(mut seats) => {
-            folding(rt, &shop, &mut seats);
+            if early {
+                folding_nothing(rt, &shop, &mut seats);
+            } else {
+                folding(rt, &shop, &mut seats);
+            }
             closed(alloc, shop, seats)
         }
         Err(why) => {
@@ -126,65 +143,6 @@ fn five_records<N: Ledgers, R: Abort + Wait>(rt: &R, alloc: Global, parts: NewQu
             Err(why)
         }
     }
-}
-
-/// A seat makes a checkpoint where nothing was recorded, and folds nothing away.
-fn folds_nothing<N: Ledgers, R: Abort + Wait>(
-    rt: &R,
-    queue: &Queue<N>,
-    seat: Seat<Deed, N>,
-) -> Seat<Deed, N> {
-    match queue.checkpoint(rt, seat) {
-        Ok((seat, 0)) => seat,
-        _ => panic!(rt; "the checkpoint isn't of nothing"),
-    }
-}
-
-/// A seat gives, and waits.
-fn waits<N: Ledgers, R: Abort + Wait>(
-    rt: &R,
-    queue: &Queue<N>,
-    seat: Seat<Deed, N>,
-) -> Pending<Deed, N> {
-    match queue.request(rt, seat, Request::Give(1)) {
-        Ok(Asked::Parked(pending)) => pending,
-        _ => panic!(rt; "the give doesn't wait"),
-    }
-}
-
-/// A queue is closed with this seat, which waits.
-fn closed_with<N: Ledgers>(
-    rt: &impl Abort,
-    alloc: Global,
-    queue: Queue<N>,
-    pending: Pending<Deed, N>,
-) -> Chronicle<u64> {
-    let mut backs = Vec::new(alloc);
-    backs.push(Back::Held(pending)).expect(rt, "memory");
-    match queue.close(alloc, backs) {
-        Ok(chronicle) => chronicle,
-        Err(_) => panic!(rt; "it isn't closed"),
-    }
-}
-
-/// A checkpoint where nothing was recorded leaves the base of no records.
-fn untouched<N: Ledgers, R: Abort + Wait>(
-    rt: &R,
-    alloc: Global,
-    parts: NewQueue<Idle>,
-) -> Chronicle<u64>
-    requires ledgers { AreOf N.name N.folds N.parts parts.blanks }
-    requires one_each { N.parts ≡ vec_len parts.gates }
-    requires cap { N.cap ≡ 5 }
-{
-    let (queue, mut made) = match Queue::<N>::with_cap(alloc, parts, 5) {
-        Ok(made) => made,
-        Err(_) => panic!(rt; "no queue"),
-    };
-    let seat = made.pop().expect(rt, "no seat");
-    let seat = folds_nothing(rt, &queue, seat);
-    let pending = waits(rt, &queue, seat);
-    closed_with(rt, alloc, queue, pending)
 }
 
 /// Where no seat makes a checkpoint, nothing is folded away.
@@ -218,7 +176,7 @@ fn whole<N: Ledgers, R: Wait>(rt: &R, alloc: Global, parts: NewQueue<Idle>) -> C
 fn a_checkpoint_before_any_record(rt: HostRuntime) -> Result<(), Fail> {
     let gates = gates::<Idle>(rt.alloc(), 1)?;
     let blanks = Blanks::new(gates.len() as u64);
-    let chronicle = untouched::<Brand, _>(&rt, rt.alloc(), NewQueue { gates, blanks });
+    let chronicle = five_records::<Brand, _>(&rt, rt.alloc(), NewQueue { gates, blanks }, true)?;
     assert_eq!(&rt; chronicle.base.gone, 0);
     assert_eq!(&rt; chronicle.base.last.number(), 0);
     assert_eq!(&rt; chronicle.records.len(), 1);
@@ -240,7 +198,7 @@ fn without_a_checkpoint_all_is_there(rt: HostRuntime) -> Result<(), Fail> {
 fn a_queue_of_five_records_goes_on(rt: HostRuntime) -> Result<(), Fail> {
     let gates = gates::<Idle>(rt.alloc(), 5)?;
     let blanks = Blanks::new(gates.len() as u64);
-    let chronicle = five_records::<Brand, _>(&rt, rt.alloc(), NewQueue { gates, blanks })?;
+    let chronicle = five_records::<Brand, _>(&rt, rt.alloc(), NewQueue { gates, blanks }, false)?;
     assert_eq!(&rt; chronicle.base.gone, 3);
     assert_eq!(&rt; chronicle.base.last.number(), 3);
     assert_eq!(&rt; chronicle.base.line.len(), 3);

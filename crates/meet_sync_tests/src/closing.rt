@@ -3,9 +3,11 @@
 ghost use Rattle.std.specs.Prelude.{◌≡◌, vec_len};
 ghost use Rattle.meet_place.specs.Ledgers.{AreOf};
 
-use crate::plays::{Found, Seats, Story, ask_all, ended, given, play, seated, tells};
 use meet_history::{Order, Standing};
-use meet_shop::{Ask, Idle, Open, Row, Shop, Told, gates};
+use meet_shop::{
+    Ask, Found, Idle, Open, Row, Seats, Shop, Story, Told, ask_all, ended, gates, given, play,
+    seated, tells,
+};
 use meet_sync::{Back, Blanks, Chronicle, Ledgers, LeftStanding, NewQueue};
 use meet_tickets::Deed;
 use std::alloc::Global;
@@ -160,7 +162,7 @@ fn closed_late<N: Ledgers>(
                 made,
                 chronicle: closed_with(rt, alloc, shop, backs, last),
             },
-            Open::Other(_) => panic!(rt; "it isn't told how many are missing"),
+            _ => panic!(rt; "it isn't told how many are missing"),
         },
     }
 }

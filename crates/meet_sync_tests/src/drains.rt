@@ -4,8 +4,7 @@ ghost use Rattle.std.specs.Prelude.{◌≡◌, vec_len};
 ghost use Rattle.meet_place.specs.Ledgers.{AreOf};
 ghost use Rattle.meet_tickets.specs.Limits.{most_records};
 
-use crate::plays::{two_backs, two_seats};
-use meet_shop::{Idle, gates};
+use meet_shop::{Idle, gates, two_backs, two_seats};
 use meet_sync::{
     Asked, Back, Blanks, DrainedItems, End, Ledgers, NewQueue, Pending, Request, Seat, SeatRefused,
     TransferQueue,

@@ -3,9 +3,8 @@
 ghost use Rattle.std.specs.Prelude.{◌≡◌, vec_len};
 ghost use Rattle.meet_place.specs.Ledgers.{AreOf};
 
-use crate::plays::{Found, Seats, given, seated};
 use meet_line::Line;
-use meet_shop::{Ask, Idle, gates};
+use meet_shop::{Ask, Found, Idle, Seats, gates, given, seated};
 use meet_sync::{
     Answer, Asked, Back, Blanks, Chronicle, FairLine, FollowedUp, Ledgers, Left, LeftStanding,
     NewQueue, Pending, Request, Seat, SeatRefused, StackLine, Struck, SyncQueue,

@@ -1,33 +1,12 @@
 //! Split calls of one thread: what each seat is told, and what the queue's records leave.
 
-use crate::plays::{NOTHING, Story, play};
 use meet_history::Order;
-use meet_shop::{Ask, Row, Told};
+use meet_shop::{Ask, NOTHING, Row, Story, Told, play, told};
 use meet_tickets::Refusal;
 use std::alloc::Global;
 use std::process::Abort;
 use std::sync::Wait;
 use std::test::*;
-
-/// These seats ask a queue of this order, which has so many records then, and nothing is left.
-pub fn told<R: Abort + Wait>(
-    rt: &R,
-    alloc: Global,
-    order: Order,
-    rows: &[Row],
-    records: usize,
-) -> Result<(), Fail> {
-    let story = Story {
-        order,
-        seats: 4,
-        cap: 100,
-        rows,
-        standing: NOTHING,
-        left: &[],
-    };
-    assert_eq!(rt; play(rt, alloc, story)?, records);
-    Ok(())
-}
 
 /// A giver waits, and is met.
 const MET: [Row; 4] = [

@@ -3,10 +3,10 @@
 ghost use Rattle.std.specs.Prelude.{◌≡◌, vec_len};
 ghost use Rattle.meet_place.specs.Ledgers.{AreOf};
 
-use crate::chance::{ending, request};
-use crate::plays::{Seats, asks, closed, seated};
 use meet_history::Order;
-use meet_shop::{Chance, Idle, Shop, Told, gates, keep};
+use meet_shop::{
+    Chance, Idle, Seats, Shop, Told, ask_one, closed, ending, gates, keep, request, seated,
+};
 use meet_sync::{Back, Blanks, Chronicle, Ledgers, NewQueue};
 use meet_tickets::{Deed, Refusal};
 use std::alloc::Global;
@@ -57,7 +57,7 @@ fn finds_full<N: Ledgers, R: Abort + Wait>(
         Some(Back::Held(_)) => ending(chance, trial.seats),
         _ => request(chance, trial.seats, item),
     };
-    match asks(rt, shop, place, ask) {
+    match ask_one(rt, shop, place, ask) {
         Told::Refused(why, _) => {
             assert_eq!(rt; why, Refusal::HistoryFull);
             true

@@ -1,9 +1,10 @@
-//! A first use of the library: parcels go from seat to seat. What it prints is in `stdout`.
+//! A first use of the library by one thread: parcels go from seat to seat, by queues and by an exchanger. What it prints is in `stdout`.
 #![tactic(auto)]
 
 mod handoff;
 mod parcels;
 mod recorded;
+mod swapped;
 mod telling;
 mod transfers;
 
@@ -11,6 +12,7 @@ use anyhow::Result;
 use handoff::{hand_over, poll_twice};
 use meet_tickets::{Refusal, SeatNo};
 use recorded::keep_book;
+use swapped::swap_parcels;
 use transfers::leave_and_wait;
 
 fn main(rt: HostRuntime) -> Result<()> {
@@ -20,5 +22,6 @@ fn main(rt: HostRuntime) -> Result<()> {
     hand_over(&rt, seat_0, seat_1)?;
     poll_twice(&rt, seat_0, seat_1)?;
     leave_and_wait(&rt, seat_0, seat_1)?;
-    keep_book(&rt, seat_0, seat_1, seat_2)
+    keep_book(&rt, seat_0, seat_1, seat_2)?;
+    swap_parcels(&rt)
 }

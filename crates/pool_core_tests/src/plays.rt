@@ -17,7 +17,7 @@ use std::test::*;
 pub(crate) type Recorded = Book<PoolCore<u64>>;
 
 /// What is asked, by the caller or by a worker of this number.
-#[derive(Clone, Copy, PartialEq, Debug)]
+#[derive(Clone, Copy)]
 pub(crate) enum Ask {
     Execute(u64),
     ShutDown,

@@ -1,6 +1,0 @@
-use Rattle.std.proofs.Common.{◌≡◌}
-use Rattle.example_buffers.proofs.loops.fill_all.Given as goal
-
--- the seat is one of this arena
-abbrev pub invariant-loop : goal.invariant-loop
-invariant-loop g l = record { place : l.seat.arena ≡ l.fn.arena.id }

@@ -1,0 +1,6 @@
+use Rattle.std.proofs.Common.{◌≡◌}
+use Rattle.example_more.proofs.buffers.loops.empty_all.Given as goal
+
+-- the seat is one of this arena
+abbrev pub invariant-loop : goal.invariant-loop
+invariant-loop g l = record { place : l.seat.arena ≡ l.fn.arena.id }

@@ -1,9 +1,0 @@
-use Rattle.ibisbookcase.specs.Limits.{most_records}
-use Rattle.example_server.proofs.main.Given as goal
-
--- the ledgers of the queue that is made
-abbrev pub ghosts-open_server-N-Ledger : goal.ghosts-open_server-N-Ledger
-ghosts-open_server-N-Ledger g a = record { name = a.parts.blanks.records.name; parts = a.parts.blanks.records.parts }
-
-abbrev pub ghosts-open_server-N-Ledgers : goal.ghosts-open_server-N-Ledgers
-ghosts-open_server-N-Ledgers g a = record { folds = a.parts.blanks.folds.name; cap = most_records }

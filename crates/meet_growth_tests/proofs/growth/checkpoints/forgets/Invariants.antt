@@ -1,0 +1,7 @@
+use Rattle.meet_growth_tests.proofs.growth.checkpoints.forgets.Given as goal
+
+abbrev pub ghosts-cuts-N-Ledger : goal.ghosts-cuts-N-Ledger
+ghosts-cuts-N-Ledger a call = record { name = call.parts.blanks.records.name; parts = call.parts.blanks.records.parts }
+
+abbrev pub ghosts-cuts-N-Ledgers : goal.ghosts-cuts-N-Ledgers
+ghosts-cuts-N-Ledgers a call = record { folds = call.parts.blanks.folds.name; cap = call.day.cap }

@@ -1,0 +1,281 @@
+//! Seats ask a queue, one after another, and then it is closed: its records are checked once more, and what is left.
+
+ghost use Rattle.std.specs.Prelude.{◌≡◌, vec_len};
+ghost use Rattle.meet_place.specs.Ledgers.{AreOf};
+
+use crate::asks::{Ask, Row, Told};
+use crate::obeys::obeys;
+use crate::shops::{Open, Shop, keep};
+use crate::waiting::{Idle, gates};
+use meet_history::{Kind, Order, Standing, check};
+use meet_sync::{Back, Blanks, Chronicle, Gate, Ledgers, Left, LeftStanding, NewQueue, Seat};
+use meet_tickets::{Base, Deed};
+use std::alloc::Global;
+use std::marker::Brand;
+use std::process::Abort;
+use std::sync::Wait;
+use std::test::*;
+
+/// An item that is left: its giver's ticket, its number, and how it stood in the queue.
+pub type Found = (u64, u64, LeftStanding);
+
+/// The seats of a shop, in the order of their numbers.
+pub type Seats<N> = Vec<Option<Back<Deed, N>>>;
+
+/// What seats ask of a queue, and what it comes to.
+#[derive(Clone, Copy)]
+pub struct Story<'a> {
+    pub order: Order,
+    pub seats: u64,
+    pub cap: u64,
+    /// What is asked, and told.
+    pub rows: &'a [Row],
+    /// What the records leave.
+    pub standing: Standing,
+    /// What is left, by rising ticket.
+    pub left: &'a [Found],
+}
+
+/// Nothing stands there.
+pub const NOTHING: Standing = Standing {
+    waiting: 0,
+    uncollected: 0,
+    kept: 0,
+};
+
+/// The seats, each ready to ask.
+pub fn seated<N: Ledgers>(
+    alloc: Global,
+    made: Vec<Seat<Deed, N>>,
+) -> Result<Seats<N>, &'static str> {
+    let mut seats = Vec::new(alloc);
+    for seat in made {
+        seats.push(Some(Back::Free(seat))).map_err(|_| "memory")?;
+    }
+    Ok(seats)
+}
+
+/// All seats, to be given back, the last first.
+pub fn given<N: Ledgers>(alloc: Global, all: Seats<N>) -> Result<Vec<Back<Deed, N>>, &'static str> {
+    let mut seats = all;
+    let mut backs = Vec::new(alloc);
+    for _ in 0..seats.len() {
+        if let Some(Some(back)) = seats.pop() {
+            backs.push(back).map_err(|_| "memory")?;
+        }
+    }
+    Ok(backs)
+}
+
+/// The two seats of a queue, the first and the second.
+pub fn two_seats<N: Ledgers>(
+    rt: &impl Abort,
+    made: Vec<Seat<Deed, N>>,
+) -> (Seat<Deed, N>, Seat<Deed, N>) {
+    let mut seats = made;
+    match (seats.pop(), seats.pop()) {
+        (Some(second), Some(first)) => (first, second),
+        _ => panic!(rt; "there are no two seats"),
+    }
+}
+
+/// Two seats, to be given back, the second first.
+pub fn two_backs<N: Ledgers>(
+    rt: &impl Abort,
+    alloc: Global,
+    first: Back<Deed, N>,
+    second: Back<Deed, N>,
+) -> Vec<Back<Deed, N>> {
+    let mut backs = Vec::new(alloc);
+    backs.push(second).expect(rt, "memory");
+    backs.push(first).expect(rt, "memory");
+    backs
+}
+
+/// A seat asks: what it is told.
+pub fn ask_one<G: Gate + Drop, N: Ledgers, R: Wait>(
+    rt: &R,
+    shop: &Shop<G, N>,
+    seat: &mut Option<Back<Deed, N>>,
+    ask: Ask,
+) -> Told {
+    match seat.take() {
+        Some(back) => {
+            let (back, told) = shop.answer(rt, back, ask);
+            *seat = Some(back);
+            told
+        }
+        None => Told::Unasked,
+    }
+}
+
+/// Seats ask, one after another, and are told this.
+pub fn ask_all<G: Gate + Drop, N: Ledgers, R: Abort + Wait>(
+    rt: &R,
+    shop: &Shop<G, N>,
+    seats: &mut Seats<N>,
+    rows: &[Row],
+) {
+    for (number, ask, wanted) in rows {
+        let told = match seats.get_mut(*number as usize) {
+            Some(seat) => ask_one(rt, shop, seat, *ask),
+            None => Told::Unasked,
+        };
+        assert_eq!(rt; told, *wanted, "seat {number}");
+    }
+}
+
+/// The list has these items, in this order, and nothing else.
+pub fn has(rt: &impl Abort, list: Vec<Left<u64>>, wanted: &[Found]) {
+    assert_eq!(rt; list.len(), wanted.len());
+    for (left, found) in list.into_iter().zip(wanted) {
+        let seen = (left.ticket.number(), left.item, left.standing);
+        assert_eq!(rt; seen, *found);
+    }
+}
+
+/// Each list is of one seat, in the order of their numbers, and has the receipts of its records, one after another.
+fn are_of_seats(rt: &impl Abort, chronicle: &Chronicle<u64>) {
+    let mut receipts = 0usize;
+    for (number, list) in chronicle.lists.iter().enumerate() {
+        receipts = receipts.saturating_add(list.len());
+        for receipt in list.iter() {
+            let place = (receipt.place() as usize).saturating_sub(1);
+            assert_eq!(rt; receipt.entry().seat.number() as usize, number);
+            assert_eq!(rt;
+                chronicle.records.get(place).copied(),
+                Some(receipt.entry())
+            );
+        }
+    }
+    assert_eq!(rt; receipts, chronicle.records.len());
+}
+
+/// The records are legal and leave this, and these items are left: how many records there are.
+pub fn tells(rt: &impl Abort, alloc: Global, chronicle: Chronicle<u64>, story: Story<'_>) -> usize {
+    let kind = Kind {
+        order: story.order,
+        bound: None,
+    };
+    let found = check(
+        alloc,
+        kind,
+        &Base::empty(alloc),
+        chronicle.records.as_slice(),
+    );
+    assert_eq!(rt; found, Ok(story.standing));
+    assert_eq!(rt; chronicle.lists.len() as u64, story.seats);
+    are_of_seats(rt, &chronicle);
+    obeys(rt, alloc, &chronicle, kind);
+    let count = chronicle.records.len();
+    has(rt, chronicle.left, story.left);
+    count
+}
+
+/// A shop is closed with these seats: what it leaves.
+pub fn ended<G: Gate + Drop, N: Ledgers>(
+    alloc: Global,
+    shop: Shop<G, N>,
+    backs: Vec<Back<Deed, N>>,
+) -> Result<Chronicle<u64>, &'static str> {
+    match shop.close(alloc, backs) {
+        Ok(chronicle) => Ok(chronicle),
+        Err(open) => match open {
+            Open::Missing(_, _, shop, seats) => {
+                keep(shop);
+                keep(seats);
+                Err("a seat is missing")
+            }
+            Open::Memory(shop, seats) => {
+                keep(shop);
+                keep(seats);
+                Err("memory")
+            }
+            Open::Other(why) => Err(why.name()),
+        },
+    }
+}
+
+/// A shop is closed with all its seats.
+pub fn closed<G: Gate + Drop, N: Ledgers>(
+    alloc: Global,
+    shop: Shop<G, N>,
+    seats: Seats<N>,
+) -> Result<Chronicle<u64>, &'static str> {
+    match given(alloc, seats) {
+        Ok(backs) => ended(alloc, shop, backs),
+        Err(why) => {
+            keep(shop);
+            Err(why)
+        }
+    }
+}
+
+/// A shop is made, its seats ask, and it is closed.
+fn playing<N: Ledgers, R: Abort + Wait>(
+    rt: &R,
+    alloc: Global,
+    parts: NewQueue<Idle>,
+    story: Story<'_>,
+) -> Result<Chronicle<u64>, &'static str>
+    requires ledgers { AreOf N.name N.folds N.parts parts.blanks }
+    requires one_each { N.parts ≡ vec_len parts.gates }
+    requires cap { N.cap ≡ story.cap }
+{
+    let (shop, made) = match Shop::<Idle, N>::with_cap(alloc, story.order, parts, story.cap) {
+        Ok(made) => made,
+        Err(refused) => return Err(refused.why.name()),
+    };
+    match seated(alloc, made) {
+        Ok(mut seats) => {
+            ask_all(rt, &shop, &mut seats, story.rows);
+            closed(alloc, shop, seats)
+        }
+        Err(why) => {
+            keep(shop);
+            Err(why)
+        }
+    }
+}
+
+/// A story takes place: what it leaves.
+pub fn played<R: Abort + Wait>(
+    rt: &R,
+    alloc: Global,
+    story: Story<'_>,
+) -> Result<Chronicle<u64>, &'static str> {
+    let gates = gates::<Idle>(alloc, story.seats)?;
+    let blanks = Blanks::new(gates.len() as u64);
+    let parts = NewQueue { gates, blanks };
+    playing::<Brand, _>(rt, alloc, parts, story)
+}
+
+/// A story takes place: how many records it leaves.
+pub fn play<R: Abort + Wait>(
+    rt: &R,
+    alloc: Global,
+    story: Story<'_>,
+) -> Result<usize, &'static str> {
+    let chronicle = played(rt, alloc, story)?;
+    Ok(tells(rt, alloc, chronicle, story))
+}
+
+/// These seats ask a queue of this order, which has so many records then, and nothing is left.
+pub fn told<R: Abort + Wait>(
+    rt: &R,
+    alloc: Global,
+    order: Order,
+    rows: &[Row],
+    records: usize,
+) -> Result<(), Fail> {
+    let story = Story {
+        order,
+        seats: 4,
+        cap: 100,
+        rows,
+        standing: NOTHING,
+        left: &[],
+    };
+    assert_eq!(rt; play(rt, alloc, story)?, records);
+    Ok(())
+}

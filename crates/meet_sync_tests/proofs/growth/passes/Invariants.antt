@@ -1,7 +1,0 @@
-use Rattle.meet_sync_tests.proofs.growth.passes.Given as goal
-
-abbrev pub ghosts-lives-N-Ledger : goal.ghosts-lives-N-Ledger
-ghosts-lives-N-Ledger a call = record { name = call.parts.blanks.records.name; parts = call.parts.blanks.records.parts }
-
-abbrev pub ghosts-lives-N-Ledgers : goal.ghosts-lives-N-Ledgers
-ghosts-lives-N-Ledgers a call = record { folds = call.parts.blanks.folds.name; cap = call.day.cap }

@@ -1,7 +1,0 @@
-use Rattle.meet_sync_tests.proofs.whole.comes_of.Given as goal
-
-abbrev pub ghosts-dealing-N-Ledger : goal.ghosts-dealing-N-Ledger
-ghosts-dealing-N-Ledger a call = record { name = call.parts.blanks.records.name; parts = call.parts.blanks.records.parts }
-
-abbrev pub ghosts-dealing-N-Ledgers : goal.ghosts-dealing-N-Ledgers
-ghosts-dealing-N-Ledgers a call = record { folds = call.parts.blanks.folds.name; cap = 1048576 }

@@ -1,0 +1,7 @@
+use Rattle.meet_wakes_tests.proofs.chance.wanders.Given as goal
+
+abbrev pub ghosts-walking-N-Ledger : goal.ghosts-walking-N-Ledger
+ghosts-walking-N-Ledger a call = record { name = call.parts.blanks.records.name; parts = call.parts.blanks.records.parts }
+
+abbrev pub ghosts-walking-N-Ledgers : goal.ghosts-walking-N-Ledgers
+ghosts-walking-N-Ledgers a call = record { folds = call.parts.blanks.folds.name; cap = 1048576 }
