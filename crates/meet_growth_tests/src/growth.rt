@@ -248,7 +248,7 @@ fn tells(rt: &impl Abort, alloc: Global, chronicle: Chronicle<u64>, day: Day<'_>
     }
     assert_eq!(rt; chronicle.records.len() as u64, count);
     assert_eq!(rt; chronicle.lists.len(), day.turns.len() + 1);
-    has(rt, chronicle.left, day.left);
+    has(chronicle.left, day.left).expect(rt, "something else is left");
 }
 
 /// A queue has this day.

@@ -6,7 +6,7 @@ ghost use Rattle.meet_place.specs.Ledgers.{AreOf};
 use meet_cells::ParkGate;
 use meet_history::Order;
 use meet_shop::{
-    Ask, Call, Eager, Fresh, Idle, NOTHING, Shop, Story, Told, called, ended, gates, tells,
+    Ask, Call, Eager, Fresh, Idle, NOTHING, Shop, Story, Told, Unlike, called, ended, gates, tells,
     two_backs, two_seats,
 };
 use meet_sync::{Back, Blanks, Chronicle, Ledgers, NewQueue, Seat};
@@ -238,14 +238,14 @@ fn dealt_by<G: Fresh + Sync, N: Ledgers + Send + Sync, R: Abort + Threads + Wait
     made: Vec<Seat<Deed, N>>,
     dealt: Deal<'_>,
 ) -> Result<Came, &'static str> {
-    let (first, second) = two_seats(rt, made);
+    let (first, second) = two_seats(made).expect(rt, "no seats");
     let Both {
         first,
         second,
         given,
         taken,
     } = strike_deal(rt, &shop, Back::Free(first), Back::Free(second), dealt);
-    let backs = two_backs(rt, alloc, first, second);
+    let backs = two_backs(alloc, first, second).expect(rt, "memory");
     let chronicle = ended(alloc, shop, backs)?;
     Ok(Came {
         given,
@@ -291,7 +291,7 @@ pub fn trade<G: Fresh + Sync, R: Abort + Threads + Wait + Clock + Sync>(
     alloc: Global,
     order: Order,
     dealt: Deal<'_>,
-) -> Result<(u64, u64, usize), &'static str> {
+) -> Result<(u64, u64, usize), Unlike> {
     let Came {
         given,
         taken,
@@ -305,7 +305,7 @@ pub fn trade<G: Fresh + Sync, R: Abort + Threads + Wait + Clock + Sync>(
         standing: NOTHING,
         left: &[],
     };
-    Ok((given, taken, tells(rt, alloc, chronicle, story)))
+    Ok((given, taken, tells(alloc, chronicle, story)?))
 }
 
 /// Nobody is there: calls fail, or their time runs out.

@@ -13,6 +13,7 @@ mod obeys;
 mod plays;
 mod shops;
 mod steps;
+mod unlike;
 mod waiting;
 
 pub use answers::Came;
@@ -27,4 +28,5 @@ pub use plays::{
 };
 pub use shops::{Open, Shop, keep};
 pub use steps::{Probe, Step, drain_one, happens};
+pub use unlike::Unlike;
 pub use waiting::{Eager, Fresh, Idle, gates};

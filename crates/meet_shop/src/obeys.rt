@@ -1,11 +1,11 @@
 //! What a chronicle tells of its tickets: each give counts once, by its fate, and what is left once it is erased is
 //! legal.
 
+use crate::unlike::Unlike;
 use meet_history::{Kind, check};
 use meet_sync::{Chronicle, Tally};
 use meet_tickets::{Base, Deed, Fate, Side};
 use std::alloc::Global;
-use std::process::Abort;
 
 /// No give.
 const NONE: Tally = Tally {
@@ -72,12 +72,16 @@ fn counted(chronicle: &Chronicle<u64>) -> Tally {
 
 /// The tally of a chronicle is that of its gives' fates, where its records are few, and what is left once it is erased
 /// is legal, where there is memory for it.
-pub fn obeys(rt: &impl Abort, alloc: Global, chronicle: &Chronicle<u64>, kind: Kind) {
-    if chronicle.records.len() <= FEW {
-        assert_eq!(rt; chronicle.laws(), counted(chronicle));
+pub fn obeys(alloc: Global, chronicle: &Chronicle<u64>, kind: Kind) -> Result<(), Unlike> {
+    let tally = chronicle.laws();
+    if chronicle.records.len() <= FEW && tally != counted(chronicle) {
+        return Err(Unlike::Counted(tally));
     }
     if let Ok(left) = chronicle.erased(alloc) {
-        assert!(rt; left.len() <= chronicle.records.len());
-        assert!(rt; check(alloc, kind, &Base::empty(alloc), left.as_slice()).is_ok());
+        let is_legal = check(alloc, kind, &Base::empty(alloc), left.as_slice()).is_ok();
+        if left.len() > chronicle.records.len() || !is_legal {
+            return Err(Unlike::Erased(left.len()));
+        }
     }
+    Ok(())
 }

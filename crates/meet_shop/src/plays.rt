@@ -6,15 +6,16 @@ ghost use Rattle.meet_place.specs.Ledgers.{AreOf};
 use crate::asks::{Ask, Row, Told};
 use crate::obeys::obeys;
 use crate::shops::{Open, Shop, keep};
+use crate::unlike::Unlike;
 use crate::waiting::{Idle, gates};
+use meet_book::Receipt;
 use meet_history::{Kind, Order, Standing, check};
 use meet_sync::{Back, Blanks, Chronicle, Gate, Ledgers, Left, LeftStanding, NewQueue, Seat};
 use meet_tickets::{Base, Deed};
 use std::alloc::Global;
 use std::marker::Brand;
-use std::process::Abort;
 use std::sync::Wait;
-use std::test::*;
+use std::test::Fail;
 
 /// An item that is left: its giver's ticket, its number, and how it stood in the queue.
 pub type Found = (u64, u64, LeftStanding);
@@ -69,27 +70,25 @@ pub fn given<N: Ledgers>(alloc: Global, all: Seats<N>) -> Result<Vec<Back<Deed, 
 
 /// The two seats of a queue, the first and the second.
 pub fn two_seats<N: Ledgers>(
-    rt: &impl Abort,
     made: Vec<Seat<Deed, N>>,
-) -> (Seat<Deed, N>, Seat<Deed, N>) {
+) -> Result<(Seat<Deed, N>, Seat<Deed, N>), &'static str> {
     let mut seats = made;
     match (seats.pop(), seats.pop()) {
-        (Some(second), Some(first)) => (first, second),
-        _ => panic!(rt; "there are no two seats"),
+        (Some(second), Some(first)) => Ok((first, second)),
+        _ => Err("there are no two seats"),
     }
 }
 
 /// Two seats, to be given back, the second first.
 pub fn two_backs<N: Ledgers>(
-    rt: &impl Abort,
     alloc: Global,
     first: Back<Deed, N>,
     second: Back<Deed, N>,
-) -> Vec<Back<Deed, N>> {
+) -> Result<Vec<Back<Deed, N>>, &'static str> {
     let mut backs = Vec::new(alloc);
-    backs.push(second).expect(rt, "memory");
-    backs.push(first).expect(rt, "memory");
-    backs
+    backs.push(second).map_err(|_| "memory")?;
+    backs.push(first).map_err(|_| "memory")?;
+    Ok(backs)
 }
 
 /// A seat asks: what it is told.
@@ -110,49 +109,70 @@ pub fn ask_one<G: Gate + Drop, N: Ledgers, R: Wait>(
 }
 
 /// Seats ask, one after another, and are told this.
-pub fn ask_all<G: Gate + Drop, N: Ledgers, R: Abort + Wait>(
+pub fn ask_all<G: Gate + Drop, N: Ledgers, R: Wait>(
     rt: &R,
     shop: &Shop<G, N>,
     seats: &mut Seats<N>,
     rows: &[Row],
-) {
+) -> Result<(), Unlike> {
     for (number, ask, wanted) in rows {
         let told = match seats.get_mut(*number as usize) {
             Some(seat) => ask_one(rt, shop, seat, *ask),
             None => Told::Unasked,
         };
-        assert_eq!(rt; told, *wanted, "seat {number}");
+        if told != *wanted {
+            return Err(Unlike::Told(*number, told));
+        }
     }
+    Ok(())
 }
 
 /// The list has these items, in this order, and nothing else.
-pub fn has(rt: &impl Abort, list: Vec<Left<u64>>, wanted: &[Found]) {
-    assert_eq!(rt; list.len(), wanted.len());
+pub fn has(list: Vec<Left<u64>>, wanted: &[Found]) -> Result<(), Unlike> {
+    if list.len() != wanted.len() {
+        return Err(Unlike::Left(list.len()));
+    }
     for (left, found) in list.into_iter().zip(wanted) {
         let seen = (left.ticket.number(), left.item, left.standing);
-        assert_eq!(rt; seen, *found);
+        if seen != *found {
+            return Err(Unlike::Found(seen));
+        }
     }
+    Ok(())
+}
+
+/// The list of this seat has receipts of its records alone.
+fn is_of_seat(
+    chronicle: &Chronicle<u64>,
+    number: usize,
+    list: &[Receipt<Deed>],
+) -> Result<(), Unlike> {
+    for receipt in list.iter() {
+        let place = receipt.place() as usize;
+        let record = chronicle.records.get(place.saturating_sub(1)).copied();
+        let seat = receipt.entry().seat.number() as usize;
+        if seat != number || record != Some(receipt.entry()) {
+            return Err(Unlike::Receipt(number, place));
+        }
+    }
+    Ok(())
 }
 
 /// Each list is of one seat, in the order of their numbers, and has the receipts of its records, one after another.
-fn are_of_seats(rt: &impl Abort, chronicle: &Chronicle<u64>) {
+fn are_of_seats(chronicle: &Chronicle<u64>) -> Result<(), Unlike> {
     let mut receipts = 0usize;
     for (number, list) in chronicle.lists.iter().enumerate() {
         receipts = receipts.saturating_add(list.len());
-        for receipt in list.iter() {
-            let place = (receipt.place() as usize).saturating_sub(1);
-            assert_eq!(rt; receipt.entry().seat.number() as usize, number);
-            assert_eq!(rt;
-                chronicle.records.get(place).copied(),
-                Some(receipt.entry())
-            );
-        }
+        is_of_seat(chronicle, number, list.as_slice())?;
     }
-    assert_eq!(rt; receipts, chronicle.records.len());
+    if receipts != chronicle.records.len() {
+        return Err(Unlike::Receipts(receipts));
+    }
+    Ok(())
 }
 
 /// The records are legal and leave this, and these items are left: how many records there are.
-pub fn tells(rt: &impl Abort, alloc: Global, chronicle: Chronicle<u64>, story: Story<'_>) -> usize {
+pub fn tells(alloc: Global, chronicle: Chronicle<u64>, story: Story<'_>) -> Result<usize, Unlike> {
     let kind = Kind {
         order: story.order,
         bound: None,
@@ -163,13 +183,17 @@ pub fn tells(rt: &impl Abort, alloc: Global, chronicle: Chronicle<u64>, story: S
         &Base::empty(alloc),
         chronicle.records.as_slice(),
     );
-    assert_eq!(rt; found, Ok(story.standing));
-    assert_eq!(rt; chronicle.lists.len() as u64, story.seats);
-    are_of_seats(rt, &chronicle);
-    obeys(rt, alloc, &chronicle, kind);
+    if found != Ok(story.standing) {
+        return Err(Unlike::Checked(found));
+    }
+    if chronicle.lists.len() as u64 != story.seats {
+        return Err(Unlike::Lists(chronicle.lists.len()));
+    }
+    are_of_seats(&chronicle)?;
+    obeys(alloc, &chronicle, kind)?;
     let count = chronicle.records.len();
-    has(rt, chronicle.left, story.left);
-    count
+    has(chronicle.left, story.left)?;
+    Ok(count)
 }
 
 /// A shop is closed with these seats: what it leaves.
@@ -212,38 +236,36 @@ pub fn closed<G: Gate + Drop, N: Ledgers>(
 }
 
 /// A shop is made, its seats ask, and it is closed.
-fn playing<N: Ledgers, R: Abort + Wait>(
+fn playing<N: Ledgers, R: Wait>(
     rt: &R,
     alloc: Global,
     parts: NewQueue<Idle>,
     story: Story<'_>,
-) -> Result<Chronicle<u64>, &'static str>
+) -> Result<Chronicle<u64>, Unlike>
     requires ledgers { AreOf N.name N.folds N.parts parts.blanks }
     requires one_each { N.parts ≡ vec_len parts.gates }
     requires cap { N.cap ≡ story.cap }
 {
     let (shop, made) = match Shop::<Idle, N>::with_cap(alloc, story.order, parts, story.cap) {
         Ok(made) => made,
-        Err(refused) => return Err(refused.why.name()),
+        Err(refused) => return Err(Unlike::Why(refused.why.name())),
     };
     match seated(alloc, made) {
         Ok(mut seats) => {
-            ask_all(rt, &shop, &mut seats, story.rows);
-            closed(alloc, shop, seats)
+            let told = ask_all(rt, &shop, &mut seats, story.rows);
+            let chronicle = closed(alloc, shop, seats)?;
+            told?;
+            Ok(chronicle)
         }
         Err(why) => {
             keep(shop);
-            Err(why)
+            Err(Unlike::Why(why))
         }
     }
 }
 
 /// A story takes place: what it leaves.
-pub fn played<R: Abort + Wait>(
-    rt: &R,
-    alloc: Global,
-    story: Story<'_>,
-) -> Result<Chronicle<u64>, &'static str> {
+pub fn played<R: Wait>(rt: &R, alloc: Global, story: Story<'_>) -> Result<Chronicle<u64>, Unlike> {
     let gates = gates::<Idle>(alloc, story.seats)?;
     let blanks = Blanks::new(gates.len() as u64);
     let parts = NewQueue { gates, blanks };
@@ -251,17 +273,13 @@ pub fn played<R: Abort + Wait>(
 }
 
 /// A story takes place: how many records it leaves.
-pub fn play<R: Abort + Wait>(
-    rt: &R,
-    alloc: Global,
-    story: Story<'_>,
-) -> Result<usize, &'static str> {
+pub fn play<R: Wait>(rt: &R, alloc: Global, story: Story<'_>) -> Result<usize, Unlike> {
     let chronicle = played(rt, alloc, story)?;
-    Ok(tells(rt, alloc, chronicle, story))
+    tells(alloc, chronicle, story)
 }
 
 /// These seats ask a queue of this order, which has so many records then, and nothing is left.
-pub fn told<R: Abort + Wait>(
+pub fn told<R: Wait>(
     rt: &R,
     alloc: Global,
     order: Order,
@@ -276,6 +294,9 @@ pub fn told<R: Abort + Wait>(
         standing: NOTHING,
         left: &[],
     };
-    assert_eq!(rt; play(rt, alloc, story)?, records);
+    let count = play(rt, alloc, story)?;
+    if count != records {
+        return Err(Unlike::Records(count).into());
+    }
     Ok(())
 }

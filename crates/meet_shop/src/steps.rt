@@ -8,6 +8,7 @@ use crate::calls::{Call, called};
 use crate::drains::drained;
 use crate::plays::{NOTHING, Seats, Story, ask_all, closed, seated, tells};
 use crate::shops::{Shop, keep};
+use crate::unlike::Unlike;
 use crate::waiting::{Idle, gates};
 use meet_history::Order;
 use meet_line::Line;
@@ -15,9 +16,8 @@ use meet_sync::{Back, Blanks, Chronicle, Gate, Ledgers, NewQueue, Seat, SyncQueu
 use meet_tickets::Deed;
 use std::alloc::Global;
 use std::marker::Brand;
-use std::process::Abort;
 use std::sync::Wait;
-use std::test::*;
+use std::test::Fail;
 use std::time::Clock;
 
 /// What a queue is asked to show, with its answer.
@@ -127,80 +127,128 @@ fn calls<G: Gate, N: Ledgers, R: Wait + Clock>(
     }
 }
 
+/// A seat makes a whole call, and is told this.
+fn calls_so<G: Gate + Drop, N: Ledgers, R: Wait + Clock>(
+    rt: &R,
+    shop: &Shop<G, N>,
+    seats: &mut Seats<N>,
+    number: u64,
+    call: Call,
+    wanted: Told,
+) -> Result<(), Unlike> {
+    let told = match seats.get_mut(number as usize) {
+        Some(place) => calls(rt, shop, place, call),
+        None => Told::Unasked,
+    };
+    if told == wanted {
+        Ok(())
+    } else {
+        Err(Unlike::Told(number, told))
+    }
+}
+
+/// A seat drains up to so many items, and takes these.
+fn drains_so<G: Gate + Drop, N: Ledgers, R: Wait>(
+    rt: &R,
+    alloc: Global,
+    shop: &Shop<G, N>,
+    seats: &mut Seats<N>,
+    number: u64,
+    max: u64,
+    wanted: &[u64],
+) -> Result<(), Unlike> {
+    let items = match seats.get_mut(number as usize) {
+        Some(place) => drain_one(rt, alloc, shop, place, max),
+        None => None,
+    };
+    match items {
+        Some(items) => {
+            if items.as_slice() == wanted {
+                Ok(())
+            } else {
+                Err(Unlike::Drained(number, Some(items.len())))
+            }
+        }
+        None => Err(Unlike::Drained(number, None)),
+    }
+}
+
+/// A queue shows this.
+fn shows_so<G, N: Ledgers, R: Wait>(
+    rt: &R,
+    shop: &Shop<G, N>,
+    wanted: Probe,
+) -> Result<(), Unlike> {
+    let probe = shown(rt, shop, wanted);
+    if probe == wanted {
+        Ok(())
+    } else {
+        Err(Unlike::Shown(probe))
+    }
+}
+
 /// One step is made, and comes to what it should.
-fn step_once<G: Gate + Drop, N: Ledgers, R: Abort + Wait + Clock>(
+fn step_once<G: Gate + Drop, N: Ledgers, R: Wait + Clock>(
     rt: &R,
     alloc: Global,
     shop: &Shop<G, N>,
     seats: &mut Seats<N>,
     step: Step<'_>,
-) {
+) -> Result<(), Unlike> {
     match step {
         Step::Asks(number, ask, wanted) => ask_all(rt, shop, seats, &[(number, ask, wanted)]),
-        Step::Calls(number, call, wanted) => {
-            let told = match seats.get_mut(number as usize) {
-                Some(place) => calls(rt, shop, place, call),
-                None => Told::Unasked,
-            };
-            assert_eq!(rt; told, wanted);
-        }
-        Step::Drains(number, max, wanted) => {
-            let items = match seats.get_mut(number as usize) {
-                Some(place) => drain_one(rt, alloc, shop, place, max),
-                None => None,
-            };
-            assert!(rt; items.is_some());
-            if let Some(items) = items {
-                assert_eq!(rt; items.as_slice(), wanted);
-            }
-        }
-        Step::Shows(wanted) => assert_eq!(rt; shown(rt, shop, wanted), wanted),
+        Step::Calls(number, call, wanted) => calls_so(rt, shop, seats, number, call, wanted),
+        Step::Drains(number, max, wanted) => drains_so(rt, alloc, shop, seats, number, max, wanted),
+        Step::Shows(wanted) => shows_so(rt, shop, wanted),
     }
 }
 
 /// Steps are made, one after another.
-fn step_all<G: Gate + Drop, N: Ledgers, R: Abort + Wait + Clock>(
+fn step_all<G: Gate + Drop, N: Ledgers, R: Wait + Clock>(
     rt: &R,
     alloc: Global,
     shop: &Shop<G, N>,
     seats: &mut Seats<N>,
     steps: &[Step<'_>],
-) {
+) -> Result<(), Unlike> {
     for step in steps {
-        step_once(rt, alloc, shop, seats, *step);
+        step_once(rt, alloc, shop, seats, *step)?;
     }
+    Ok(())
 }
 
 /// A shop is made, steps are made there, and it is closed.
-fn stepping<N: Ledgers, R: Abort + Wait + Clock>(
+fn stepping<N: Ledgers, R: Wait + Clock>(
     rt: &R,
     alloc: Global,
     order: Order,
     parts: NewQueue<Idle>,
     steps: &[Step<'_>],
-) -> Result<Chronicle<u64>, &'static str>
+) -> Result<Chronicle<u64>, Unlike>
     requires ledgers { AreOf N.name N.folds N.parts parts.blanks }
     requires one_each { N.parts ≡ vec_len parts.gates }
     requires cap { N.cap ≡ 100 }
 {
     let (shop, made) = match Shop::<Idle, N>::with_cap(alloc, order, parts, 100) {
         Ok(made) => made,
-        Err(refused) => return Err(refused.why.name()),
+        Err(refused) => return Err(Unlike::Why(refused.why.name())),
     };
     match seated(alloc, made) {
         Ok(mut seats) => {
-            step_all(rt, alloc, &shop, &mut seats, steps);
-            closed(alloc, shop, seats)
+            let made = step_all(rt, alloc, &shop, &mut seats, steps);
+            let chronicle = closed(alloc, shop, seats)?;
+            made?;
+            Ok(chronicle)
         }
         Err(why) => {
             keep(shop);
-            Err(why)
+            Err(Unlike::Why(why))
         }
     }
 }
 
 /// These steps are made at a queue of this order by four seats; then nobody waits, and nothing is left.
-pub fn happens<R: Abort + Wait + Clock>(
+pub fn happens<R: Wait + Clock>(
     rt: &R,
     alloc: Global,
     order: Order,
@@ -218,6 +266,6 @@ pub fn happens<R: Abort + Wait + Clock>(
         standing: NOTHING,
         left: &[],
     };
-    tells(rt, alloc, chronicle, story);
+    tells(alloc, chronicle, story)?;
     Ok(())
 }

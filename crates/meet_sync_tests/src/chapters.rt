@@ -227,8 +227,9 @@ fn of_two_seats<N: Ledgers, R: Abort + Wait>(
     requires cap { N.cap ≡ 8 }
 {
     let (queue, seats) = made::<N>(rt, alloc, parts);
-    let (first, second) = in_chapters(rt, alloc, &queue, two_seats(rt, seats));
-    let backs = two_backs(rt, alloc, Back::Free(first), Back::Free(second));
+    let seats = two_seats(seats).expect(rt, "no seats");
+    let (first, second) = in_chapters(rt, alloc, &queue, seats);
+    let backs = two_backs(alloc, Back::Free(first), Back::Free(second)).expect(rt, "memory");
     closed(rt, alloc, queue, backs)
 }
 
@@ -286,7 +287,8 @@ fn without_seat_1<N: Ledgers, R: Abort + Wait>(
     requires cap { N.cap ≡ 8 }
 {
     let (queue, seats) = made::<N>(rt, alloc, parts);
-    let backs = loses_seat_1(rt, alloc, &queue, two_seats(rt, seats));
+    let seats = two_seats(seats).expect(rt, "no seats");
+    let backs = loses_seat_1(rt, alloc, &queue, seats);
     missing(rt, alloc, queue, backs)
 }
 

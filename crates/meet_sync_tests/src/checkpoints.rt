@@ -6,7 +6,7 @@ ghost use Rattle.meet_place.specs.Ledgers.{AreOf};
 
 use meet_history::Order;
 use meet_line::FairLine;
-use meet_shop::{Ask, Idle, Seats, Shop, Told, ask_all, closed, gates, keep, seated};
+use meet_shop::{Ask, Idle, Seats, Shop, Told, Unlike, ask_all, closed, gates, keep, seated};
 use meet_sync::{Asked, Back, Blanks, Chronicle, Ledgers, NewQueue, Request, SyncQueue};
 use meet_tickets::{Deed, Refusal};
 use std::alloc::Global;
@@ -17,9 +17,6 @@ use std::test::*;
 
 /// A fair queue.
 type Queue<N> = SyncQueue<u64, FairLine<u64>, Idle, N>;
-
-/// What a queue with room for five records came to.
-type Came = Result<Chronicle<u64>, &'static str>;
 
 /// A free seat makes a checkpoint: so many records are folded away by then, and so many of them count for the seat.
 fn folds<N: Ledgers, R: Abort + Wait>(
@@ -70,7 +67,11 @@ fn trims<N: Ledgers, R: Abort + Wait>(
 /// Two givers wait, the records are folded away, a third waits, and a taker has no room until they are folded away
 /// again; then it meets the first, who follows up and lets go of the receipt that was folded away. The second lets go
 /// of its only one, and still waits.
-fn folding<N: Ledgers, R: Abort + Wait>(rt: &R, shop: &Shop<Idle, N>, seats: &mut Seats<N>) {
+fn folding<N: Ledgers, R: Abort + Wait>(
+    rt: &R,
+    shop: &Shop<Idle, N>,
+    seats: &mut Seats<N>,
+) -> Result<(), Unlike> {
     let full = Told::Refused(Refusal::HistoryFull, None);
     ask_all(
         rt,
@@ -80,14 +81,14 @@ fn folding<N: Ledgers, R: Abort + Wait>(rt: &R, shop: &Shop<Idle, N>, seats: &mu
             (0, Ask::Give(1), Told::Parks(1)),
             (1, Ask::Give(2), Told::Parks(2)),
         ],
-    );
+    )?;
     folds(rt, shop, seats, 2, (2, 2));
     ask_all(
         rt,
         shop,
         seats,
         &[(2, Ask::Give(3), Told::Parks(3)), (3, Ask::Take, full)],
-    );
+    )?;
     folds(rt, shop, seats, 4, (3, 1));
     ask_all(
         rt,
@@ -97,10 +98,10 @@ fn folding<N: Ledgers, R: Abort + Wait>(rt: &R, shop: &Shop<Idle, N>, seats: &mu
             (3, Ask::Take, Told::Got(1, 1)),
             (0, Ask::Follow, Told::Done),
         ],
-    );
+    )?;
     trims(rt, shop, seats, 0, 2, 1);
     trims(rt, shop, seats, 1, 1, 0);
-    ask_all(rt, shop, seats, &[(1, Ask::Follow, Told::NotYet)]);
+    ask_all(rt, shop, seats, &[(1, Ask::Follow, Told::NotYet)])
 }
 
 /// A checkpoint where nothing was recorded folds nothing away; then a giver waits.
@@ -108,9 +109,9 @@ fn folding_nothing<N: Ledgers, R: Abort + Wait>(
     rt: &R,
     shop: &Shop<Idle, N>,
     seats: &mut Seats<N>,
-) {
+) -> Result<(), Unlike> {
     folds(rt, shop, seats, 0, (0, 0));
-    ask_all(rt, shop, seats, &[(0, Ask::Give(1), Told::Parks(1))]);
+    ask_all(rt, shop, seats, &[(0, Ask::Give(1), Told::Parks(1))])
 }
 
 /// A fair queue with room for five records, and what it came to: where its first records are folded away, or where none
@@ -120,33 +121,39 @@ fn five_records<N: Ledgers, R: Abort + Wait>(
     alloc: Global,
     parts: NewQueue<Idle>,
     early: bool,
-) -> Came
+) -> Result<Chronicle<u64>, Unlike>
     requires ledgers { AreOf N.name N.folds N.parts parts.blanks }
     requires one_each { N.parts ≡ vec_len parts.gates }
     requires cap { N.cap ≡ 5 }
 {
     let (shop, made) = match Shop::<Idle, N>::with_cap(alloc, Order::Fair, parts, 5) {
         Ok(made) => made,
-        Err(refused) => return Err(refused.why.name()),
+        Err(refused) => return Err(Unlike::Why(refused.why.name())),
     };
     match seated(alloc, made) {
         Ok(mut seats) => {
-            if early {
-                folding_nothing(rt, &shop, &mut seats);
+            let told = if early {
+                folding_nothing(rt, &shop, &mut seats)
             } else {
-                folding(rt, &shop, &mut seats);
-            }
-            closed(alloc, shop, seats)
+                folding(rt, &shop, &mut seats)
+            };
+            let chronicle = closed(alloc, shop, seats)?;
+            told?;
+            Ok(chronicle)
         }
         Err(why) => {
             keep(shop);
-            Err(why)
+            Err(Unlike::Why(why))
         }
     }
 }
 
 /// Where no seat makes a checkpoint, nothing is folded away.
-fn whole<N: Ledgers, R: Wait>(rt: &R, alloc: Global, parts: NewQueue<Idle>) -> Came
+fn whole<N: Ledgers, R: Wait>(
+    rt: &R,
+    alloc: Global,
+    parts: NewQueue<Idle>,
+) -> Result<Chronicle<u64>, &'static str>
     requires ledgers { AreOf N.name N.folds N.parts parts.blanks }
     requires one_each { N.parts ≡ vec_len parts.gates }
     requires cap { N.cap ≡ 5 }

@@ -200,7 +200,7 @@ fn falls_short<N: Ledgers, R: Abort + Wait>(
         Err(_) => panic!(rt; "it isn't made"),
     };
     let mut seats = seated(alloc, made).expect(rt, "memory");
-    ask_all(rt, &shop, &mut seats, story.rows);
+    ask_all(rt, &shop, &mut seats, story.rows).expect(rt, "they are told otherwise");
     last_is_late(rt, alloc, shop, seats)
 }
 
@@ -226,7 +226,7 @@ fn seat_is_missing<R: Abort + Wait>(rt: &R, alloc: Global, order: Order) -> Resu
         chronicle,
     } = falls_short::<Brand, _>(rt, alloc, parts, story);
     assert_eq!(rt; (have, made), (1, 2));
-    assert_eq!(rt; tells(rt, alloc, chronicle, story), 2);
+    assert_eq!(rt; tells(alloc, chronicle, story)?, 2);
     Ok(())
 }
 

@@ -160,12 +160,13 @@ fn a_day<N: Ledgers, R: Abort + Wait>(
         Ok(made) => made,
         Err(_) => panic!(rt; "it isn't made"),
     };
-    let (giver, taker) = two_seats(rt, seats);
+    let (giver, taker) = two_seats(seats).expect(rt, "no seats");
     let (mut day, giver, taker) = match gives {
         true => trade(rt, alloc, &store, giver, taker),
         false => wait_there(rt, alloc, &store, giver, taker),
     };
-    day.records = closed(rt, alloc, store, two_backs(rt, alloc, giver, taker));
+    let backs = two_backs(alloc, giver, taker).expect(rt, "memory");
+    day.records = closed(rt, alloc, store, backs);
     day
 }
 
@@ -240,12 +241,10 @@ fn in_vain<N: Ledgers, R: Abort + Wait>(
         Ok(made) => made,
         Err(_) => panic!(rt; "it isn't made"),
     };
-    let (giver, taker) = two_seats(rt, seats);
+    let (giver, taker) = two_seats(seats).expect(rt, "no seats");
     let (whys, giver, taker) = drain_in_vain(rt, alloc, &store, giver, taker);
-    assert_eq!(rt;
-        closed(rt, alloc, store, two_backs(rt, alloc, giver, taker)),
-        1
-    );
+    let backs = two_backs(alloc, giver, taker).expect(rt, "memory");
+    assert_eq!(rt; closed(rt, alloc, store, backs), 1);
     whys
 }
 

@@ -19,7 +19,7 @@ fn counts<R: Abort + Wait>(
 ) -> Result<(), Fail> {
     let chronicle = played(rt, alloc, story)?;
     assert_eq!(rt; chronicle.laws(), wanted);
-    tells(rt, alloc, chronicle, story);
+    tells(alloc, chronicle, story)?;
     Ok(())
 }
 
@@ -120,7 +120,7 @@ fn what_is_left_of_a_take_that_was_cut(rt: HostRuntime) -> Result<(), Fail> {
         assert_eq!(rt; (entry.seat.number(), entry.ticket.number()), (2, 2));
         assert_eq!(rt; entry.deed, Deed::GiveFails(4));
     }
-    assert_eq!(rt; tells(&rt, rt.alloc(), chronicle, story), 4);
+    assert_eq!(rt; tells(rt.alloc(), chronicle, story)?, 4);
     Ok(())
 }
 

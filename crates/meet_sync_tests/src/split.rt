@@ -1,7 +1,7 @@
 //! Split calls of one thread: what each seat is told, and what the queue's records leave.
 
 use meet_history::Order;
-use meet_shop::{Ask, NOTHING, Row, Story, Told, play, told};
+use meet_shop::{Ask, NOTHING, Row, Story, Told, Unlike, play, told};
 use meet_tickets::Refusal;
 use std::alloc::Global;
 use std::process::Abort;
@@ -246,7 +246,7 @@ fn refusal(
     order: Order,
     seats: u64,
     cap: u64,
-) -> Option<&'static str> {
+) -> Option<Unlike> {
     let story = Story {
         order,
         seats,
@@ -260,7 +260,7 @@ fn refusal(
 
 /// The sizes that a queue of this order has.
 fn sizes(rt: &(impl Abort + Wait), alloc: Global, order: Order) {
-    let bad = Some("BadSizes");
+    let bad = Some(Unlike::Why("BadSizes"));
     assert_eq!(rt; refusal(rt, alloc, order, 0, 1), bad);
     assert_eq!(rt; refusal(rt, alloc, order, 65_537, 1), bad);
     assert_eq!(rt; refusal(rt, alloc, order, 1, 0), bad);

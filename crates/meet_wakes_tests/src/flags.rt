@@ -58,7 +58,7 @@ fn dealt<N: Ledgers + Send + Sync, R: Abort + Threads + Wait + Clock + Sync>(
     flags: &Flags,
     timed: Timed,
 ) -> Result<Chronicle<u64>, &'static str> {
-    let (first, second) = two_seats(rt, made);
+    let (first, second) = two_seats(made).expect(rt, "no seats");
     let (one, two) = pair(
         rt,
         &shop,
@@ -71,7 +71,8 @@ fn dealt<N: Ledgers + Send + Sync, R: Abort + Threads + Wait + Clock + Sync>(
     let (second, other_told) = two;
     assert_eq!(rt; told, timed.told);
     assert_eq!(rt; other_told, timed.other_told);
-    ended(alloc, shop, two_backs(rt, alloc, first, second))
+    let backs = two_backs(alloc, first, second).expect(rt, "memory");
+    ended(alloc, shop, backs)
 }
 
 /// A shop of this order is made, and two seats make their calls.
@@ -117,7 +118,7 @@ fn meets<R: Abort + Threads + Wait + Clock + Sync>(
         standing: NOTHING,
         left: &[],
     };
-    assert_eq!(rt; tells(rt, alloc, chronicle, story), 3);
+    assert_eq!(rt; tells(alloc, chronicle, story)?, 3);
     Ok(())
 }
 

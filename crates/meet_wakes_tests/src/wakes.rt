@@ -34,7 +34,7 @@ fn dealt<N: Ledgers, R: Abort + Wait>(
 ) -> Result<Chronicle<u64>, &'static str> {
     match seated(alloc, made) {
         Ok(mut seats) => {
-            ask_all(rt, &shop, &mut seats, day.rows);
+            ask_all(rt, &shop, &mut seats, day.rows).expect(rt, "they are told otherwise");
             if let Some(place) = seats.get_mut(3) {
                 if let Some(items) = drain_one(rt, alloc, &shop, place, day.drained) {
                     assert_eq!(rt; items.len() as u64, day.drained);
