@@ -29,14 +29,14 @@ use std::io::{Read, Write};
 
 /// A whole trace that was read.
 #[derive(Drop)]
-pub(crate) struct ReadTrace {
-    pub(crate) kind: Kind,
+pub struct ReadTrace {
+    pub kind: Kind,
     /// What it stands on: the empty base where it names none.
-    pub(crate) base: Base,
+    pub base: Base,
     /// The checker that has seen its records.
-    pub(crate) checker: Checker,
+    pub checker: Checker,
     /// How many records there are from the first, those of the base included.
-    pub(crate) count: u64,
+    pub count: u64,
 }
 
 /// Reads the records behind a trace's first line, and pushes each on the checker. The answer is how many they are.
@@ -143,12 +143,9 @@ fn read_plain<R: Read>(
     }
 }
 
-/// Reads a whole trace, of either format.
-pub(crate) fn read_trace<R: Read>(
-    alloc: Global,
-    reader: &mut R,
-    turns: u64,
-) -> Result<ReadTrace, RunFault>
+/// Reads a whole trace, of either format, by at most so many reads; it refuses BadTrace with the line that can't be read,
+/// ReadFault and Memory.
+pub fn read_trace<R: Read>(alloc: Global, reader: &mut R, turns: u64) -> Result<ReadTrace, RunFault>
     ensures read { IfOk result (λ trace. IfSome (R.remaining reader.old) (λ input. IsRead (lines_of input) trace)) }
     ensures bad { IfErr result (λ fault. IfSome (R.remaining reader.old) (λ input.
         NamesLine fault (trace_fault_in (lines_of input)))) }
@@ -179,8 +176,8 @@ pub(crate) fn read_trace<R: Read>(
     }
 }
 
-/// Reads a whole trace, and says what is found of it, and the line that says so.
-fn find_trace<R: Read>(
+/// Reads a whole trace, and says what is found of it, and the line that says so; it refuses as `read_trace`.
+pub fn find_trace<R: Read>(
     alloc: Global,
     reader: &mut R,
     turns: u64,

@@ -190,7 +190,7 @@ fn read_any_record(line: &[u8]) -> Option<Record<Deed>>
 
 /// The record of a line of a trace, or none where the line is at fault.
 #[tactic(auto, unfolding(crate::specs::TraceGrammar::record_of))]
-pub(crate) fn read_record(line: &[u8]) -> Option<Record<Deed>>
+pub fn read_record(line: &[u8]) -> Option<Record<Deed>>
     ensures read { result ≡ record_of line.now }
     ensures fits { IfSome result FitsRecord }
 {

@@ -98,7 +98,7 @@ fn push_deed(out: &mut Vec<u8>, deed: Deed) -> Result<(), AllocError>
 
 /// Appends a record's line.
 #[tactic(auto, unfolding(crate::specs::TraceWording::record_line))]
-pub(crate) fn push_record(out: &mut Vec<u8>, entry: Record<Deed>) -> Result<(), AllocError>
+pub fn push_record(out: &mut Vec<u8>, entry: Record<Deed>) -> Result<(), AllocError>
     ensures { OnOk result (out.new.items ≡ out.old.items ++ record_line entry) }
 {
     push_pair(out, b"", entry.seat.number(), b" ", entry.ticket.number())?;
