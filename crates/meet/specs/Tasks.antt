@@ -1,6 +1,7 @@
 -- What comes of a task.
 use Rattle.std.specs.Prelude.{ℕ, ⊤, Bool, Option, List, Result}
 use Rattle.meet_drive.specs.Driven.{IsSized}
+use Rattle.meet_explain.specs.Explained.{ExplainEnds}
 use Rattle.meet_judge.specs.Judging.{JudgeEnds}
 use Rattle.meet_run.specs.declared.faults.RunFault.{RunFault}
 use Rattle.meet_run.specs.Chains.{ChainEnds}
@@ -13,13 +14,13 @@ use Rattle.pool_drive.specs.Driven.{IsPoolSized}
 use Rattle.pool_run.specs.Checks.{PoolCheckEnds}
 use Rattle.pool_run.specs.Scripts.{ScriptEnds, TraceEnds}
 use Rattle.meet.specs.declared.command_line.Task.{Task}
-use Rattle.meet.specs.declared.command_line.Task.TheVariants.{Run, Trace, Check, Erase, Chain, Judge}
+use Rattle.meet.specs.declared.command_line.Task.TheVariants.{Run, Trace, Check, Erase, Chain, Explain, Judge}
 use Rattle.meet.specs.declared.command_line.Task.TheVariants.{PoolRun, PoolTrace, PoolCheck}
 use Rattle.meet.specs.declared.command_line.Wanted.{Wanted}
 use Rattle.meet.specs.declared.command_line.Wanted.TheVariants.{Text, Drive, PoolDrive}
 
--- what came of a task with this input: of a script its replies, or its trace; of a trace what is found of it, or
--- what is left of it once erased; of a chain of them what is found of it; of calls that overlap a history that explains
+-- what came of a task with this input: of a script its replies, or its trace; of a trace what is found of it, with what
+-- explains it or without, or what is left of it once erased; of a chain of them what is found of it; of calls that overlap a history that explains
 -- them, or that there is none. So it is with scripts and traces of pools
 abbrev pub Performs : Task → (input : List ℕ) → Result Bool RunFault → (old new : Option (List ℕ)) → Type 0
 Performs Run input result old new = RunEnds (fault_of input) (text_before input) (output_of input) result old new
@@ -27,6 +28,7 @@ Performs Trace input result old new = TracesAll input result old new
 Performs Check input result old new = CheckEnds (lines_of input) result old new
 Performs Erase input result old new = EraseEnds (lines_of input) result old new
 Performs Chain input result old new = ChainEnds (lines_of input) result old new
+Performs Explain input result old new = ExplainEnds (lines_of input) result old new
 Performs Judge input result old new = JudgeEnds input result old new
 Performs PoolRun input result old new = ScriptEnds (lines_of input) result old new
 Performs PoolTrace input result old new = TraceEnds (lines_of input) result old new

@@ -15,6 +15,7 @@ const VERSION: &str = "0.1.0";
 const REST_OF_HELP: &str = "\
 A script is a place and then calls, a line each, by the seat that makes them. A trace is the record of their steps.
   printf 'fair\\n0 put 5\\n1 take\\n0 follow\\n' | meet run
+Where a record of a trace can't stand, explain says which may in its place, and who waits there.
 
 Places: fair, unfair, transfer
 Verbs: put N, offer N, take, poll, follow, cancel, expire, interrupt SEAT, drain N, size, room, peek, checkpoint;
@@ -58,6 +59,8 @@ pub enum Task {
     Erase,
     /// A chain of traces on standard input, what is found of it on standard output.
     Chain,
+    /// A trace on standard input, what is found of it on standard output, and what would have been legal.
+    Explain,
     /// Calls that overlap on standard input, the trace of a history that explains them on standard output.
     Judge,
     /// A pool's script on standard input, its replies on standard output.
@@ -133,6 +136,13 @@ fn chain_command<'a>(alloc: Global) -> Command<'a> {
     Command::new(alloc, "chain")
         .about("Checks the traces on standard input, each on the base that those before it leave")
         .override_usage("cat TRACE.. | meet chain")
+}
+
+/// The command `explain`.
+fn explain_command<'a>(alloc: Global) -> Command<'a> {
+    Command::new(alloc, "explain")
+        .about("Checks the trace on standard input, and says what may stand where a record can't")
+        .override_usage("meet explain < TRACE")
 }
 
 /// The command `judge`.
@@ -236,6 +246,7 @@ fn command<'a>(alloc: Global) -> Result<Command<'a>, AllocError> {
         .subcommand(run_command(alloc)?)?
         .subcommand(check_command(alloc)?)?
         .subcommand(chain_command(alloc))?
+        .subcommand(explain_command(alloc))?
         .subcommand(judge_command(alloc))?
         .subcommand(drive_command(alloc)?)?
         .subcommand(pool_command(alloc)?)
@@ -269,6 +280,7 @@ fn wanted_by(matches: &ArgMatches<'_>) -> Wanted
         }
         Some((name, _)) if name == "check" => Wanted::Text(Task::Check),
         Some((name, _)) if name == "chain" => Wanted::Text(Task::Chain),
+        Some((name, _)) if name == "explain" => Wanted::Text(Task::Explain),
         Some((name, _)) if name == "judge" => Wanted::Text(Task::Judge),
         Some((name, asked)) if name == "pool" => pool_wanted_by(asked),
         Some((name, asked)) if name == "drive" => {
@@ -280,7 +292,7 @@ fn wanted_by(matches: &ArgMatches<'_>) -> Wanted
 }
 
 /// Reads the words of a command line, the program's name first: none, `run`, `run --trace`, `check`, `check --erase`,
-/// `chain`, `judge`, `drive N M`, or behind `pool` `run`, `run --trace`, `check` or `drive N M W`. The error has the text to
+/// `chain`, `explain`, `judge`, `drive N M`, or behind `pool` `run`, `run --trace`, `check` or `drive N M W`. The error has the text to
 /// show; a request for help or for the version is one.
 pub fn wanted_of(alloc: Global, words: &[String]) -> Result<Wanted, Error>
     ensures { IfOk result IsWithin }

@@ -12,6 +12,7 @@ mod command_line;
 
 use clap::error::ErrorKind;
 use command_line::{Task, Wanted, wanted_of};
+use meet_explain::explain_trace;
 use meet_judge::judge_calls;
 use meet_run::{
     Blocks, Progress, RunFault, check_chain, check_trace, erase_trace, report_of, run_drive,
@@ -52,6 +53,7 @@ fn perform<R: Read, W: Write>(
         Task::Check => check_trace(alloc, reader, writer),
         Task::Erase => erase_trace(alloc, reader, writer),
         Task::Chain => check_chain(alloc, reader, writer),
+        Task::Explain => explain_trace(alloc, reader, writer),
         Task::Judge => judge_calls(alloc, reader, writer),
         Task::PoolRun => run_pool(alloc, reader, writer),
         Task::PoolTrace => trace_pool(alloc, reader, writer),

@@ -1,0 +1,7 @@
+use Rattle.std.proofs.Common.{take}
+use Rattle.meet_answers.specs.Answers.{AreChosen, MayCome}
+use Rattle.meet_answers.proofs.answering.chosen.Given as goal
+
+-- those of the deeds so far
+abbrev pub invariant-loop-deed : goal.invariant-loop-deed
+invariant-loop-deed l = AreChosen (MayCome l.kind l.base l.seat l.ticket) (take l.deed-index l.deeds) l.list.items

@@ -1,0 +1,11 @@
+use Rattle.std.proofs.Common.{sym, ap, ◌∙◌}
+use Rattle.std.specs.Option.{option_map_or}
+use Rattle.meet_answers.specs.Holding.{waiting_of}
+use Rattle.meet_answers.proofs.Lookups.{cut_told}
+use Rattle.meet_answers.proofs.holding.cut_by.Goals as goal
+
+pub returns : goal.returns
+returns c =
+    c.number_waiting.ensures
+    ∙ (ap (λ line. option_map_or (λ e. e.ticket) (waiting_of line c.args.target) 0) (c.as_slice.ensures.value ∙ ap (λ b. b.line) c.base.view_is)
+    ∙ sym (cut_told c.args.base.now c.args.target))

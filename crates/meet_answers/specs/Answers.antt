@@ -1,0 +1,75 @@
+-- What may come next behind a base, of what a seat tries.
+use Rattle.std.specs.Prelude.{◌≡◌, ◌⊎◌, ℕ, true, ⊤, List, All, Contains}
+use Rattle.meet_tickets.specs.declared.places.Kind.{Kind}
+use Rattle.meet_tickets.specs.declared.places.Side.TheVariants.{Giver, Taker}
+use Rattle.meet_tickets.specs.declared.records.Deed.{Deed}
+use Rattle.meet_tickets.specs.declared.records.Record.{Record}
+use Rattle.meet_tickets.specs.declared.records.Deed.TheVariants.{GiveWaits, GiveMeets, GiveFails, GiveKept, TakeWaits}
+use Rattle.meet_tickets.specs.declared.records.Deed.TheVariants.{TakeMeets, TakeFails, EntryInterrupted, Done, Got}
+use Rattle.meet_tickets.specs.declared.records.Deed.TheVariants.{Withdrawn, Interrupt}
+use Rattle.meet_tickets.specs.Bases.{Based, moment_of_base}
+use Rattle.meet_tickets.specs.BySeat.{is_open, Fits}
+use Rattle.meet_answers.specs.declared.replacing.Instead.{Instead}
+use Rattle.meet_answers.specs.declared.attempts.Attempt.{Attempt}
+use Rattle.meet_answers.specs.declared.attempts.Attempt.TheVariants.{Give, Take, End, Interrupt as Strike}
+
+-- the deeds of requests to give an item with this mark; one that was interrupted at its entry tells no mark
+abbrev pub OfGiver : (mark : ℕ) → Deed → Type 0
+OfGiver m (GiveWaits n) = n ≡ m
+OfGiver m (GiveMeets n u) = n ≡ m
+OfGiver m (GiveFails n) = n ≡ m
+OfGiver m (GiveKept n) = n ≡ m
+OfGiver m (EntryInterrupted side) = side ≡ Giver
+OfGiver m deed = ⊥
+
+-- the deeds of requests to take
+abbrev pub OfTaker : Deed → Type 0
+OfTaker TakeWaits = ⊤
+OfTaker (TakeMeets n u) = ⊤
+OfTaker TakeFails = ⊤
+OfTaker (EntryInterrupted side) = side ≡ Taker
+OfTaker deed = ⊥
+
+-- the deeds that end a ticket
+abbrev pub OfEnding : Deed → Type 0
+OfEnding Done = ⊤
+OfEnding (Got n u) = ⊤
+OfEnding (Withdrawn cause) = ⊤
+OfEnding deed = ⊥
+
+-- the deed of an interrupt of this seat
+abbrev pub OfInterrupt : (target : ℕ) → Deed → Type 0
+OfInterrupt j (Interrupt i) = i ≡ j
+OfInterrupt j deed = ⊥
+
+-- a deed is an answer to what a seat tries
+abbrev pub Answers : Attempt → Deed → Type 0
+Answers (Give m) deed = OfGiver m deed
+Answers Take deed = OfTaker deed
+Answers End deed = OfEnding deed
+Answers (Strike j) deed = OfInterrupt j deed
+
+-- a record of this seat with this ticket and deed may come next behind a base
+abbrev pub MayCome : Kind → Based → (seat ticket : ℕ) → Deed → Type 0
+MayCome k base i t deed = Fits k (moment_of_base base) (record { seat = i; ticket = t; deed = deed })
+
+-- a list has each answer of which this is true, and no other deed
+pub record AreAll (P : Deed → Type 0) (attempt : Attempt) (list : List Deed) : Type 0 where
+  pub sound : All (λ deed. Answers attempt deed × P deed) list
+  pub whole : (deed : Deed) → Answers attempt deed → P deed → Contains list deed
+
+-- a list has each answer of this seat with this ticket that may come next behind a base, and no other deed
+abbrev pub AreAnswers : Kind → Based → (seat ticket : ℕ) → Attempt → List Deed → Type 0
+AreAnswers k base i t attempt list = AreAll (MayCome k base i t) attempt list
+
+-- of these deeds a list has those of which this is true, and no others
+pub record AreChosen (P : Deed → Type 0) (deeds list : List Deed) : Type 0 where
+  pub sound : All (λ deed. Contains deeds deed × P deed) list
+  pub whole : (deed : Deed) → Contains deeds deed → P deed → Contains list deed
+
+-- what may come in the place of a record: each answer to what its seat tried, or, where its ticket is open, each ending
+-- of that
+pub record IsInstead (k : Kind) (base : Based) (r : Record Deed) (it : Instead) : Type 0 where
+  pub attempt : Attempt
+  pub tried : Answers attempt r.deed ⊎ ((attempt ≡ End) × (is_open ((moment_of_base base).seats.holds r.seat) ≡ true))
+  pub answers : AreAnswers k base r.seat it.ticket attempt it.deeds.items

@@ -1,0 +1,52 @@
+//! What a seat tries, as far as a record tells.
+
+ghost use Rattle.meet_tickets.specs.declared.records.Deed.TheVariants.{EntryInterrupted};
+ghost use Rattle.meet_answers.specs.Answers.{Answers};
+
+use meet_tickets::{Deed, SeatNo, Side};
+
+/// What a seat tries.
+#[derive(Clone, Copy, PartialEq, Eq, Debug)]
+pub enum Attempt {
+    /// It gives an item with this mark, and waits for a taker or doesn't.
+    Give(u64),
+    /// It takes, and waits for a giver or doesn't.
+    Take,
+    /// It ends its open ticket, by a follow-up, a cancel or because its time ran out.
+    End,
+    /// It interrupts this seat.
+    Interrupt(SeatNo),
+}
+
+/// What a seat of this side tried that was interrupted at its entry.
+fn at_entry(side: Side) -> Attempt
+    ensures { Answers result (EntryInterrupted side) }
+{
+    match side {
+        Side::Giver => Attempt::Give(0),
+        Side::Taker => Attempt::Take,
+    }
+}
+
+impl Attempt {
+    /// What a seat tried whose record has this deed. A record of a giver that was interrupted at its entry tells no mark:
+    /// there it is 0.
+    pub fn of(deed: Deed) -> Attempt
+        ensures { Answers result deed }
+    {
+        match deed {
+            Deed::GiveWaits(mark) => Attempt::Give(mark),
+            Deed::GiveMeets(mark, _) => Attempt::Give(mark),
+            Deed::GiveFails(mark) => Attempt::Give(mark),
+            Deed::GiveKept(mark) => Attempt::Give(mark),
+            Deed::TakeWaits => Attempt::Take,
+            Deed::TakeMeets(_, _) => Attempt::Take,
+            Deed::TakeFails => Attempt::Take,
+            Deed::EntryInterrupted(side) => at_entry(side),
+            Deed::Done => Attempt::End,
+            Deed::Got(_, _) => Attempt::End,
+            Deed::Withdrawn(_) => Attempt::End,
+            Deed::Interrupt(target) => Attempt::Interrupt(target),
+        }
+    }
+}

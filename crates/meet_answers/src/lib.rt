@@ -1,0 +1,19 @@
+//! What may come next in a history: of what a seat tries, each answer that the rules give behind a base, and no other.
+//! So whoever reads a trace that isn't legal can be told what would have stood in the place of the record that can't.
+//!
+//! It knows the rules and a base, and neither the records before it nor any text.
+#![tactic(auto)]
+
+mod answering;
+mod attempts;
+mod holding;
+mod laws;
+mod may;
+mod replacing;
+
+pub use answering::answers;
+pub use attempts::Attempt;
+pub use holding::{cut_by, hold};
+pub use laws::comers_are_legal;
+pub use may::may_come;
+pub use replacing::{Instead, comes_instead};

@@ -1,0 +1,142 @@
+//! What is said of a trace.
+
+ghost use Rattle.std.specs.Prelude.{IfOk, IfSome};
+ghost use Rattle.meet_run.specs.Reading.{lines_of};
+ghost use Rattle.meet_explain.specs.Explained.{IsTold, IsExplained, ExplainEnds};
+
+use crate::lines::{before, count_lines, line_at};
+use crate::wording::{push_instead, push_line, push_moment};
+use meet_answers::comes_instead;
+use meet_history::CheckFault;
+use meet_run::check::{ReadTrace, find_trace, read_trace};
+use meet_run::faults::cut_short;
+use meet_run::output::write_whole;
+use meet_run::trace_grammar::read_record;
+use meet_run::{MOST_READS, RunFault};
+use meet_tickets::{Base, Deed, Kind, Record, Refusal};
+use std::alloc::{AllocError, Global};
+use std::io::{ErrorKind, Read, Write};
+
+/// Reads these bytes as a trace; none where they are none, or there is no memory.
+fn trace_in(alloc: Global, text: &[u8]) -> Option<ReadTrace> {
+    let mut reader = text;
+    match read_trace(alloc, &mut reader, MOST_READS) {
+        Ok(trace) => Some(trace),
+        Err(_) => None,
+    }
+}
+
+/// The base that these bytes leave, which are a legal trace; none where they are none, or there is no memory.
+fn base_behind(alloc: Global, text: &[u8]) -> Option<Base> {
+    let trace = trace_in(alloc, text)?;
+    match trace.checker.base(alloc) {
+        Ok(base) => Some(base),
+        Err(_) => None,
+    }
+}
+
+/// The number of the line of the record that can't stand, where one can't.
+fn faulty_line(text: &[u8], trace: &ReadTrace) -> Option<u64> {
+    match trace.checker.standing() {
+        Err(CheckFault::Illegal { place, why: _ }) => {
+            // Behind it stand as many lines as records.
+            let behind = trace.count.saturating_sub(place);
+            Some(count_lines(text).saturating_sub(behind))
+        }
+        _ => None,
+    }
+}
+
+/// Appends what is said of a record that can't stand, which stands in this line: what may come in its place, and where
+/// the place stands.
+fn push_all(
+    alloc: Global,
+    out: &mut Vec<u8>,
+    number: u64,
+    entry: &Record<Deed>,
+    kind: Kind,
+    base: &Base,
+) -> Result<(), AllocError> {
+    let instead = comes_instead(alloc, kind, base, *entry)?;
+    push_line(out, number, *entry)?;
+    push_instead(out, entry.seat, &instead)?;
+    push_moment(out, base)
+}
+
+/// What is said of a trace that isn't legal. The only error is want of memory.
+fn explanation(alloc: Global, text: &[u8]) -> Result<Vec<u8>, AllocError> {
+    let mut out = Vec::new(alloc);
+    let Some(trace) = trace_in(alloc, text) else {
+        return Err(AllocError);
+    };
+    let Some(number) = faulty_line(text, &trace) else {
+        return Ok(out);
+    };
+    let Some(entry) = read_record(line_at(text, number)) else {
+        return Ok(out);
+    };
+    let Some(base) = base_behind(alloc, before(text, number)) else {
+        return Err(AllocError);
+    };
+    push_all(alloc, &mut out, number, &entry, trace.kind, &base)?;
+    Ok(out)
+}
+
+/// What is said of these bytes: what the checker finds, and behind it what explains it.
+fn told(alloc: Global, text: &[u8]) -> Result<(bool, Vec<u8>), RunFault>
+    ensures { IfOk result (λ told. IsTold (lines_of text.now) told.0 told.1.items) }
+{
+    let mut reader = text;
+    let (legal, line) = match find_trace(alloc, &mut reader, MOST_READS) {
+        Ok(found) => found,
+        Err(fault) => return Err(fault),
+    };
+    if legal {
+        return Ok((true, line));
+    }
+    let mut out = line;
+    let more = match explanation(alloc, text) {
+        Ok(more) => more,
+        Err(_) => return Err(cut_short(Refusal::Memory)),
+    };
+    match out.extend_from_slice(more.as_slice()) {
+        Ok(()) => Ok((false, out)),
+        Err(_) => Err(cut_short(Refusal::Memory)),
+    }
+}
+
+/// Explains these bytes.
+fn explain_text<W: Write>(alloc: Global, text: &[u8], writer: &mut W) -> Result<bool, RunFault>
+    ensures { IfOk result (λ legal. IsExplained (lines_of text.now) legal (W.contents writer.old)
+        (W.contents writer.new)) }
+{
+    let (legal, out) = match told(alloc, text) {
+        Ok(told) => told,
+        Err(fault) => return Err(fault),
+    };
+    match write_whole(writer, out.as_slice()) {
+        Ok(()) => Ok(legal),
+        Err(why) => Err(cut_short(why)),
+    }
+}
+
+/// Reads a trace, of either format, and writes the line that `check` finds. Where the trace is legal that is all, and the
+/// answer is true. Else the answer is false, and behind that line stand the record that can't stand, with the number of
+/// its line; each record that may come in its place; and where the place stands there: its line from the front, the open
+/// tickets that were met or cut, and the flagged seats. It refuses BadTrace with the line that can't be read, ReadFault,
+/// WriteFault and Memory.
+pub fn explain_trace<R: Read, W: Write>(
+    alloc: Global,
+    reader: &mut R,
+    writer: &mut W,
+) -> Result<bool, RunFault>
+    ensures { IfSome (R.remaining reader.old) (λ input.
+        ExplainEnds (lines_of input) result (W.contents writer.old) (W.contents writer.new)) }
+{
+    let mut text = Vec::new(alloc);
+    match reader.read_to_end(&mut text) {
+        Ok(_) => explain_text(alloc, text.as_slice(), writer),
+        Err(error) if error.kind() == ErrorKind::OutOfMemory => Err(cut_short(Refusal::Memory)),
+        Err(_) => Err(cut_short(Refusal::ReadFault)),
+    }
+}
