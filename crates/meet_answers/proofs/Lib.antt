@@ -1,3 +1,4 @@
 pub mod Choosing
 pub mod Covering
 pub mod Lookups
+pub mod Tickets

@@ -1,5 +1,5 @@
 -- What may come next behind a base, of what a seat tries.
-use Rattle.std.specs.Prelude.{◌≡◌, ◌⊎◌, ℕ, true, ⊤, List, All, Contains}
+use Rattle.std.specs.Prelude.{◌≡◌, ◌⊎◌, ℕ, ◌≤◌, true, ⊤, List, All, Contains}
 use Rattle.meet_tickets.specs.declared.places.Kind.{Kind}
 use Rattle.meet_tickets.specs.declared.places.Side.TheVariants.{Giver, Taker}
 use Rattle.meet_tickets.specs.declared.records.Deed.{Deed}
@@ -8,7 +8,8 @@ use Rattle.meet_tickets.specs.declared.records.Deed.TheVariants.{GiveWaits, Give
 use Rattle.meet_tickets.specs.declared.records.Deed.TheVariants.{TakeMeets, TakeFails, EntryInterrupted, Done, Got}
 use Rattle.meet_tickets.specs.declared.records.Deed.TheVariants.{Withdrawn, Interrupt}
 use Rattle.meet_tickets.specs.Bases.{Based, moment_of_base}
-use Rattle.meet_tickets.specs.BySeat.{is_open, Fits}
+use Rattle.meet_tickets.specs.BySeat.{is_open, is_request, Fits}
+use Rattle.meet_tickets.specs.Limits.{last_ticket}
 use Rattle.meet_answers.specs.declared.replacing.Instead.{Instead}
 use Rattle.meet_answers.specs.declared.attempts.Attempt.{Attempt}
 use Rattle.meet_answers.specs.declared.attempts.Attempt.TheVariants.{Give, Take, End, Interrupt as Strike}
@@ -67,9 +68,16 @@ pub record AreChosen (P : Deed → Type 0) (deeds list : List Deed) : Type 0 whe
   pub sound : All (λ deed. Contains deeds deed × P deed) list
   pub whole : (deed : Deed) → Contains deeds deed → P deed → Contains list deed
 
--- what may come in the place of a record: each answer to what its seat tried, or, where its ticket is open, each ending
--- of that
+-- an answer that may come with any ticket may come with this one
+abbrev pub IsBest : Kind → Based → (seat : ℕ) → Attempt → (ticket : ℕ) → Type 0
+IsBest k base i attempt best = (t : ℕ) (deed : Deed) → t ≤ last_ticket → Answers attempt deed → MayCome k base i t deed
+    → MayCome k base i best deed
+
+-- what may come in the place of a record: each answer to what its seat tried; or, of a request whose seat has an open
+-- ticket, each ending of that; with a ticket with which each may come that may with any
 pub record IsInstead (k : Kind) (base : Based) (r : Record Deed) (it : Instead) : Type 0 where
   pub attempt : Attempt
   pub tried : Answers attempt r.deed ⊎ ((attempt ≡ End) × (is_open ((moment_of_base base).seats.holds r.seat) ≡ true))
+  pub ends : is_open ((moment_of_base base).seats.holds r.seat) ≡ true → is_request r.deed ≡ true → attempt ≡ End
+  pub best : IsBest k base r.seat attempt it.ticket
   pub answers : AreAnswers k base r.seat it.ticket attempt it.deeds.items

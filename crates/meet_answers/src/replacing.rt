@@ -1,9 +1,11 @@
 //! What may come in the place of a record that can't.
 
-ghost use Rattle.std.specs.Prelude.{◌≡◌, ℕ, ◌⊎◌, true, IfOk};
-ghost use Rattle.meet_tickets.specs.Bases.{IsWellFormed, moment_of_base};
-ghost use Rattle.meet_tickets.specs.BySeat.{is_open};
-ghost use Rattle.meet_answers.specs.Answers.{IsInstead};
+ghost use Rattle.std.specs.Prelude.{◌≡◌, ℕ, ◌<◌, ◌≤◌, ◌⊎◌, true, IfOk, IfSome};
+ghost use Rattle.meet_tickets.specs.Bases.{moment_of_base};
+ghost use Rattle.meet_tickets.specs.BySeat.{cut_ticket, is_open, is_request, open_ticket};
+ghost use Rattle.meet_tickets.specs.Limits.{last_ticket};
+ghost use Rattle.meet_tickets.specs.declared.places.Kind.{Kind};
+ghost use Rattle.meet_answers.specs.Answers.{Answers, IsBest, IsInstead};
 ghost use Rattle.meet_answers.specs.declared.attempts.Attempt.TheVariants.{End};
 
 use crate::answering::answers;
@@ -19,8 +21,10 @@ pub struct Instead {
     pub deeds: Vec<Deed>,
 }
 
-/// The next ticket behind a base, where there is one; else this.
-fn next_ticket(base: &Base, ticket: Ticket) -> Ticket {
+/// A ticket that is new behind a base, this one where it is; this one too where there is none.
+fn new_ticket(base: &Base, ticket: Ticket) -> Ticket
+    ensures { (t : ℕ) → t ≤ last_ticket → base.now.last < t → base.now.last < result }
+{
     if base.last.number() < ticket.number() {
         return ticket;
     }
@@ -30,30 +34,52 @@ fn next_ticket(base: &Base, ticket: Ticket) -> Ticket {
     }
 }
 
-/// The ticket by this number, if it is one; else this.
-fn ticket_of(number: u64, ticket: Ticket) -> Ticket {
-    Ticket::new(number).unwrap_or(ticket)
+/// The ticket that an interrupt of a seat cuts behind a base, or 0.
+fn cut_ticket(base: &Base, target: SeatNo, ticket: Ticket) -> Ticket
+    ensures { cut_ticket (moment_of_base base.now).seats target ≤ last_ticket
+        → result ≡ cut_ticket (moment_of_base base.now).seats target }
+{
+    Ticket::new(cut_by(base, target)).unwrap_or(ticket)
+}
+
+/// The ticket that a seat has open behind a base; this one where it has none.
+fn open_ticket(base: &Base, seat: SeatNo, ticket: Ticket) -> Ticket
+    ensures { IfSome (open_ticket ((moment_of_base base.now).seats.holds seat)) (λ own. result ≡ own) }
+{
+    hold(base, seat).open_ticket().unwrap_or(ticket)
 }
 
 /// The ticket with which a seat may answer what it tries: its open one; that which an interrupt cuts, or 0; or a new one.
-fn ticket_for(base: &Base, attempt: &Attempt, open: Option<Ticket>, ticket: Ticket) -> Ticket {
+fn ticket_for(base: &Base, seat: SeatNo, attempt: &Attempt, ticket: Ticket) -> Ticket
+    ensures { (k : Kind) → IsBest k base.now seat attempt.now result }
+{
     match attempt {
-        Attempt::Give(_) => next_ticket(base, ticket),
-        Attempt::Take => next_ticket(base, ticket),
-        Attempt::End => open.unwrap_or(ticket),
-        Attempt::Interrupt(target) => ticket_of(cut_by(base, *target), ticket),
+        Attempt::Give(_) => new_ticket(base, ticket),
+        Attempt::Take => new_ticket(base, ticket),
+        Attempt::End => open_ticket(base, seat, ticket),
+        Attempt::Interrupt(target) => cut_ticket(base, *target, ticket),
     }
 }
 
-/// What a seat may try in the place of this: a request is none for a seat whose ticket is open, and which may end it.
-fn attempt_for(attempt: Attempt, is_open: bool) -> Attempt
-    ensures { (result ≡ attempt) ⊎ ((result ≡ End) × (is_open ≡ true)) }
+/// Whether a deed is a request's.
+fn is_request(deed: &Deed) -> bool
+    ensures { result ≡ is_request deed.now }
 {
-    match attempt {
-        Attempt::Give(_) if is_open => Attempt::End,
-        Attempt::Take if is_open => Attempt::End,
-        other => other,
+    !matches!(
+        deed,
+        Deed::Done | Deed::Got(_, _) | Deed::Withdrawn(_) | Deed::Interrupt(_)
+    )
+}
+
+/// What a seat may try in the place of this deed: a seat whose ticket is open may make no request, and may end it.
+fn attempt_for(deed: &Deed, is_open: bool) -> Attempt
+    ensures tried { Answers result deed.now ⊎ ((result ≡ End) × (is_open ≡ true)) }
+    ensures ends { is_open ≡ true → is_request deed.now ≡ true → result ≡ End }
+{
+    if is_open && is_request(deed) {
+        return Attempt::End;
     }
+    Attempt::of(*deed)
 }
 
 /// What may come in the place of a record that can't, behind a base: each answer to what its seat
@@ -68,9 +94,8 @@ pub fn comes_instead(
     ensures { IfOk result (λ instead. IsInstead kind base.now entry instead) }
 {
     let Record { seat, ticket, deed } = entry;
-    let open = hold(base, seat).open_ticket();
-    let attempt = attempt_for(Attempt::of(deed), open.is_some());
-    let ticket = ticket_for(base, &attempt, open, ticket);
+    let attempt = attempt_for(&deed, hold(base, seat).is_open());
+    let ticket = ticket_for(base, seat, &attempt, ticket);
     let deeds = answers(alloc, kind, base, seat, ticket, attempt)?;
     Ok(Instead { ticket, deeds })
 }
