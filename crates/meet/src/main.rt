@@ -69,6 +69,15 @@ fn perform_here(rt: &HostRuntime, task: Task) -> Result<bool, RunFault> {
     perform(rt.alloc(), &mut reader, &mut rt.stdout(), task)
 }
 
+/// The same; where a trace isn't legal, and standard error is a terminal, it says there that it can be explained.
+fn perform_told(rt: &HostRuntime, task: Task) -> Result<bool, RunFault> {
+    let outcome = perform_here(rt, task);
+    if matches!(task, Task::Check) && matches!(outcome, Ok(false)) && rt.stderr().is_terminal() {
+        let _ = eprintln!(rt; "meet: 'meet explain' says which records may stand there");
+    }
+    outcome
+}
+
 /// Tells on standard error how far a drive is, where that is a terminal.
 #[derive(Drop)]
 struct Teller<'a> {
@@ -114,7 +123,7 @@ fn main(rt: HostRuntime) -> ExitCode {
         }
     };
     match wanted_of(rt.alloc(), words.as_slice()) {
-        Ok(Wanted::Text(task)) => finish(&rt, &perform_here(&rt, task)),
+        Ok(Wanted::Text(task)) => finish(&rt, &perform_told(&rt, task)),
         Ok(Wanted::Drive(givers, each)) => {
             finish(
                 &rt,
