@@ -1,12 +1,9 @@
 //! Each answer to what a seat tries, and no other.
 
 ghost use Rattle.std.specs.Prelude.{◌≡◌, ℕ, ◌++◌, ◌∷◌, [], Option, IfOk, IfSome, OnOk, if◌then◌else◌};
-ghost use Rattle.meet_tickets.specs.Bases.{Based, IsWellFormed, moment_of_base};
-ghost use Rattle.meet_tickets.specs.BySeat.{Allows};
+ghost use Rattle.meet_tickets.specs.Bases.{moment_of_base};
 ghost use Rattle.meet_tickets.specs.Meeting.{Finds};
 ghost use Rattle.meet_tickets.specs.declared.lines.Hold.TheVariants.{Served};
-ghost use Rattle.meet_tickets.specs.declared.places.Kind.{Kind};
-ghost use Rattle.meet_tickets.specs.declared.records.Deed.{Deed};
 ghost use Rattle.meet_answers.specs.Answers.{AreAnswers, AreChosen, MayCome};
 ghost use Rattle.meet_answers.specs.declared.attempts.Attempt.TheVariants.{Give, Take, End, Interrupt};
 

@@ -1,9 +1,7 @@
 //! What a base says of a seat, and whom a request would meet there.
 
-ghost use Rattle.std.specs.Prelude.{◌≡◌, ◌==◌, ◌&&◌, ℕ, find, option_map, is_some};
-ghost use Rattle.std.specs.List.{list_any};
+ghost use Rattle.std.specs.Prelude.{◌≡◌, option_map};
 ghost use Rattle.std.specs.Option.{option_map_or};
-ghost use Rattle.meet_tickets.specs.Meeting.{end_of, partner};
 ghost use Rattle.meet_tickets.specs.Bases.{hold_met, moment_of_base};
 ghost use Rattle.meet_tickets.specs.BySeat.{cut_ticket};
 ghost use Rattle.meet_tickets.specs.declared.lines.Hold.TheVariants.{Cut};

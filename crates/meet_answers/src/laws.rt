@@ -1,6 +1,6 @@
 //! A law: that what may come next is legal, told by lists. It is the contract of a function that does nothing.
 
-ghost use Rattle.std.specs.Prelude.{ℕ, ◌∷◌, [], ◌↔◌};
+ghost use Rattle.std.specs.Prelude.{◌∷◌, [], ◌↔◌};
 ghost use Rattle.meet_tickets.specs.Bases.{Based, IsWellFormed, IsLegalOn};
 ghost use Rattle.meet_tickets.specs.declared.places.Kind.{Kind};
 ghost use Rattle.meet_tickets.specs.declared.records.Record.{Record};

@@ -8,7 +8,6 @@ ghost use Rattle.meet_tickets.specs.declared.lines.Hold.TheVariants.{Waiting, Ha
 ghost use Rattle.meet_tickets.specs.declared.places.Side.TheVariants.{Giver};
 ghost use Rattle.meet_tickets.specs.declared.records.Deed.TheVariants.{Withdrawn};
 ghost use Rattle.meet_answers.specs.Answers.{MayCome};
-ghost use Rattle.meet_answers.specs.Holding.{whom};
 
 use crate::holding::{cut_by, hold, is_flagged, whom};
 use meet_tickets::{Base, Cause, Deed, Entry, Hold, Kind, SeatNo, Side, Ticket};

@@ -82,9 +82,9 @@ fn attempt_for(deed: &Deed, is_open: bool) -> Attempt
     Attempt::of(*deed)
 }
 
-/// What may come in the place of a record that can't, behind a base: each answer to what its seat
-/// tried, with the ticket that it may have; or, where the seat asks while its ticket is open, each ending of that. There
-/// is none where a seat ends a ticket that has none open. The only error is want of memory.
+/// What may come in the place of a record that can't, behind a base: each answer to what its seat tried, with the ticket
+/// that it may have; or, where the seat asks while its ticket is open, each ending of that. There is none where a seat
+/// that has none open ends a ticket. The only error is want of memory.
 pub fn comes_instead(
     alloc: Global,
     kind: Kind,
