@@ -7,7 +7,7 @@ ghost use Rattle.meet_tickets.specs.BySeat.{cut_ticket};
 ghost use Rattle.meet_tickets.specs.declared.lines.Hold.TheVariants.{Cut};
 ghost use Rattle.meet_answers.specs.Holding.{waiting_of, paired_of, cut_of, hold_of, whom};
 
-use meet_tickets::{Base, End, Entry, Hold, Kind, OpenCut, OpenPair, SeatNo, Side, Ticket};
+use meet_tickets::{Base, Entry, Hold, Kind, OpenCut, OpenPair, SeatNo, Side, Ticket};
 
 /// The ticket with which a seat stands in a line.
 fn waiting(line: &[Entry<u64>], seat: SeatNo) -> Option<Ticket>
@@ -100,13 +100,8 @@ pub(crate) fn is_flagged(base: &Base, seat: SeatNo) -> bool
 pub(crate) fn whom(kind: Kind, base: &Base, side: Side) -> Option<(Ticket, Option<u64>)>
     ensures { result ≡ whom kind base.now.line side }
 {
-    let line = base.line.as_slice();
-    if line.is_empty() || line[0].is_on(side) {
-        return None;
+    match kind.partner(base.line.as_slice(), side) {
+        Some(met) => Some((met.ticket, met.item)),
+        None => None,
     }
-    let met = match kind.order.end() {
-        End::Front => &line[0],
-        End::Back => &line[line.len() - 1],
-    };
-    Some((met.ticket, met.item))
 }

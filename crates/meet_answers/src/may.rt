@@ -3,14 +3,14 @@
 ghost use Rattle.std.specs.Prelude.{◌≡◌, ℕ, ◌<◌, ◌↔◌, Option, true, false, IsTrue, IsSome};
 ghost use Rattle.meet_tickets.specs.Bases.{moment_of_base};
 ghost use Rattle.meet_tickets.specs.BySeat.{Allows, IsFree, entry_of, is_request};
-ghost use Rattle.meet_tickets.specs.Meeting.{Alone, Finds, MayKeep, kept_count};
+ghost use Rattle.meet_tickets.specs.Meeting.{Alone, Finds, MayKeep};
 ghost use Rattle.meet_tickets.specs.declared.lines.Hold.TheVariants.{Waiting, Handed, Served, Cut};
 ghost use Rattle.meet_tickets.specs.declared.places.Side.TheVariants.{Giver};
 ghost use Rattle.meet_tickets.specs.declared.records.Deed.TheVariants.{Withdrawn};
 ghost use Rattle.meet_answers.specs.Answers.{MayCome};
 
 use crate::holding::{cut_by, hold, is_flagged, whom};
-use meet_tickets::{Base, Cause, Deed, Entry, Hold, Kind, SeatNo, Side, Ticket};
+use meet_tickets::{Base, Cause, Deed, Hold, Kind, SeatNo, Side, Ticket};
 
 /// Whether a request of this side finds nobody.
 fn is_alone(kind: Kind, base: &Base, side: Side) -> bool
@@ -26,26 +26,6 @@ fn finds(kind: Kind, base: &Base, side: Side, ticket: Ticket, item: Option<u64>)
     match whom(kind, base, side) {
         Some((met, presented)) => met == ticket && presented == item,
         None => false,
-    }
-}
-
-/// How many items are kept in a line.
-fn kept(line: &[Entry<u64>]) -> u64
-    ensures { result ≡ kept_count line.now }
-{
-    line.iter().filter(|entry| !entry.waits).count() as u64
-}
-
-/// Whether an item may be kept.
-fn may_keep(kind: Kind, base: &Base) -> bool
-    ensures { IsTrue result ↔ MayKeep kind base.now.line }
-{
-    if !kind.order.keeps() {
-        return false;
-    }
-    match kind.bound {
-        None => true,
-        Some(most) => kept(base.line.as_slice()) < most,
     }
 }
 
@@ -77,7 +57,7 @@ fn may_stop(kind: Kind, base: &Base, seat: SeatNo, side: Side) -> bool
 fn may_be_kept(kind: Kind, base: &Base) -> bool
     ensures { IsTrue result ↔ (Alone kind base.now.line Giver × MayKeep kind base.now.line) }
 {
-    is_alone(kind, base, Side::Giver) && may_keep(kind, base)
+    is_alone(kind, base, Side::Giver) && kind.may_keep(base.line.as_slice())
 }
 
 /// Whether this is a request's deed, and the rules allow it to a seat that has nothing open.

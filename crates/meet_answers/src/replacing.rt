@@ -61,22 +61,12 @@ fn ticket_for(base: &Base, seat: SeatNo, attempt: &Attempt, ticket: Ticket) -> T
     }
 }
 
-/// Whether a deed is a request's.
-fn is_request(deed: &Deed) -> bool
-    ensures { result ≡ is_request deed.now }
-{
-    !matches!(
-        deed,
-        Deed::Done | Deed::Got(_, _) | Deed::Withdrawn(_) | Deed::Interrupt(_)
-    )
-}
-
 /// What a seat may try in the place of this deed: a seat whose ticket is open may make no request, and may end it.
 fn attempt_for(deed: &Deed, is_open: bool) -> Attempt
     ensures tried { Answers result deed.now ⊎ ((result ≡ End) × (is_open ≡ true)) }
     ensures ends { is_open ≡ true → is_request deed.now ≡ true → result ≡ End }
 {
-    if is_open && is_request(deed) {
+    if is_open && deed.is_request() {
         return Attempt::End;
     }
     Attempt::of(*deed)

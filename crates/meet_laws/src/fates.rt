@@ -33,16 +33,6 @@ struct Told {
     cut: bool,
 }
 
-/// Whether a deed is a request's.
-fn is_request(deed: &Deed) -> bool
-    ensures { result ≡ is_request deed.now }
-{
-    !matches!(
-        deed,
-        Deed::Done | Deed::Got(_, _) | Deed::Withdrawn(_) | Deed::Interrupt(_)
-    )
-}
-
 /// The ticket that a request names as its partner.
 fn named_by(deed: &Deed) -> Option<Ticket>
     ensures { result ≡ named_by deed.now }
@@ -130,7 +120,7 @@ fn hear(told: Told, ticket: Ticket, entry: Record<Deed>) -> Told
         → result ≡ told_in (history ++ entry ∷ []) ticket }
 {
     let own = is_of(&entry, ticket);
-    let asks = is_request(&entry.deed) & own;
+    let asks = entry.deed.is_request() & own;
     let tells = tells_of_meeting(&entry.deed) & own;
     let meets = meets_it(&entry, ticket);
     Told {

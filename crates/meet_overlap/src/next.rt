@@ -6,31 +6,17 @@ ghost use Rattle.meet_tickets.specs.BySeat.{open_ticket};
 ghost use Rattle.meet_overlap.specs.Calls.{Tells, IsWithin, told_by};
 ghost use Rattle.meet_overlap.specs.Places.{scene};
 ghost use Rattle.meet_overlap.specs.Search.{may_keep, giving, taking, giving_alone, taking_alone, request_of, expiry, giver_ending, taker_ending, ending_of, is_held, deed_of, request_ticket, ticket_of};
-ghost use Rattle.meet_tickets.specs.Meeting.{kept_count};
 
 use crate::calls::{Answer, Call, Patience, Stage, Verb};
 use crate::making::entry_held;
 use crate::place::{Place, entry, flag, hold, partner};
 use meet_tickets::{Cause, Deed, Entry, Hold, Kind, Side, Ticket};
 
-/// How many items are kept in a line.
-fn kept(line: &[Entry<u64>]) -> u64
-    ensures { result ≡ kept_count line.now }
-{
-    line.iter().filter(|entry| !entry.waits).count() as u64
-}
-
 /// Whether an item may be kept.
 fn keeps(kind: Kind, line: &[Entry<u64>]) -> bool
     ensures { result ≡ may_keep kind line.now }
 {
-    if !kind.order.keeps() {
-        return false;
-    }
-    match kind.bound {
-        None => true,
-        Some(most) => kept(line) < most,
-    }
+    kind.may_keep(line)
 }
 
 /// A giver of this mark meets this entry, if that is a taker.

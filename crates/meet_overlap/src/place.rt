@@ -136,15 +136,9 @@ pub(crate) fn leave_met(line: &mut Vec<Entry<u64>>, end: End)
 pub(crate) fn partner(kind: Kind, line: &[Entry<u64>], side: Side) -> Option<Entry<u64>>
     ensures { result ≡ partner (end_of kind.order) line.now side }
 {
-    if line.is_empty() {
-        return None;
-    }
-    if line[0].is_on(side) {
-        return None;
-    }
-    match kind.order.end() {
-        End::Front => Some(copied_entry(&line[0])),
-        End::Back => Some(copied_entry(&line[line.len() - 1])),
+    match kind.partner(line, side) {
+        Some(met) => Some(copied_entry(met)),
+        None => None,
     }
 }
 

@@ -12,6 +12,7 @@ pub mod items;
 pub mod laws;
 pub mod limits;
 pub mod lines;
+pub mod meeting;
 pub mod names;
 pub mod places;
 pub mod records;

@@ -1,5 +1,7 @@
 //! The records that a place keeps of its steps.
 
+ghost use Rattle.std.specs.Prelude.{◌≡◌};
+
 use crate::names::{SeatNo, Ticket};
 use crate::places::Side;
 
@@ -38,6 +40,20 @@ pub enum Deed {
     Withdrawn(Cause),
     /// This seat is interrupted: its ticket is cut, or the seat is flagged.
     Interrupt(SeatNo),
+}
+
+impl Deed {
+    ghost use Rattle.meet_tickets.specs.BySeat.{is_request};
+
+    /// Whether this is a request's deed: it enters a ticket, where the others end one, or interrupt.
+    pub fn is_request(&self) -> bool
+        ensures { result ≡ is_request self.now }
+    {
+        !matches!(
+            self,
+            Deed::Done | Deed::Got(_, _) | Deed::Withdrawn(_) | Deed::Interrupt(_)
+        )
+    }
 }
 
 /// One step of a place: by which seat, of which ticket, and what it did.
