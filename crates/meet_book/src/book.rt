@@ -24,11 +24,11 @@ use std::marker::Model;
 /// need.
 #[derive(Drop)]
 pub struct Book<O: Object> {
-    alloc: Global,
     object: O,
-    base: O::Base,
     records: Vec<Record<O::Deed>>,
     cap: u64,
+    alloc: Global,
+    base: O::Base,
 }
 
 impl<O: Object> Model for Book<O> {

@@ -43,7 +43,7 @@ pub struct Place<O: Object, G, N: Ledgers> {
     pub(crate) gates: Vec<CachePadded<G>>,
     /// How many records there are at most at a time.
     pub(crate) cap: u64,
-    shared: Mutex<Shared<O, N>>,
+    shared: CachePadded<Mutex<Shared<O, N>>>,
 }
 
 impl<O: Object, G, N: Ledgers> Model for Place<O, G, N> {
@@ -139,7 +139,7 @@ impl<O: Object, G: Drop, N: Ledgers> Place<O, G, N> {
         let place = Place {
             gates: padded,
             cap: book.cap(),
-            shared: Mutex::new(Shared::new(book, total, rest)),
+            shared: CachePadded::new(Mutex::new(Shared::new(book, total, rest))),
         };
         (place, seats)
     }
@@ -193,7 +193,7 @@ impl<O: Object, G, N: Ledgers> Place<O, G, N> {
         ensures gates { (vec_len result.0 ≡ self) × (self ≡ N.parts) × (self ≤ most_seats) }
     {
         let Place { gates, shared, .. } = self;
-        (gates, shared.into_inner())
+        (gates, shared.into_inner().into_inner())
     }
 
     /// The place of these parts.
@@ -204,7 +204,7 @@ impl<O: Object, G, N: Ledgers> Place<O, G, N> {
         Place {
             gates,
             cap: shared.cap(),
-            shared: Mutex::new(shared),
+            shared: CachePadded::new(Mutex::new(shared)),
         }
     }
 }

@@ -17,8 +17,13 @@ use std::marker::Model;
 /// A book beside two ledgers: the total of the one is the number of the book's records, those that were folded away
 /// included, that of the other the number of these. Where none were, the base is that of no records. The book's object
 /// has as many seats as the ledgers have parts, and the book the cap that they tell. A contract sees it as the book.
+///
+/// It begins with a line of the processor's that nobody reads, in the order that is written here: the word of the lock
+/// stands before it, and threads that look whether the lock is free don't take the book's line from who holds it.
 #[derive(Drop)]
+#[repr(C)]
 pub struct Shared<O: Object, N: Ledgers> {
+    apart: [u64; 8],
     pub(crate) book: Book<O>,
     pub(crate) total: Totals<N>,
     rest: Stake<N>,
@@ -52,7 +57,12 @@ impl<O: Object, N: Ledgers> Shared<O, N> {
         requires cap { book.cap ≡ N.cap }
         ensures { result ≡ book }
     {
-        Shared { book, total, rest }
+        Shared {
+            apart: [0; 8],
+            book,
+            total,
+            rest,
+        }
     }
 
     /// The object itself, to be looked at.
@@ -86,7 +96,12 @@ impl<O: Object, N: Ledgers> Shared<O, N> {
         ensures rest { (result.2.parts ≡ 0) × (result.2.amount ≡ 0) × (result.2.folds ≡ 0) }
         ensures place { IsBookOf O.seat_count_of N.parts N.cap result.0 }
     {
-        let Shared { book, total, rest } = self;
+        let Shared {
+            book,
+            total,
+            rest,
+            ..
+        } = self;
         (book, total, rest)
     }
 

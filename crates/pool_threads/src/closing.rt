@@ -29,6 +29,7 @@ use crate::refusals::{PoolFault, SeatRefused};
 use crate::rooms::EndRoom;
 use crate::shared::PoolShared;
 use crate::worth::WorkerSeat;
+use crossbeam_utils::CachePadded;
 use meet_book::Receipt;
 use meet_cells::Gate;
 use meet_place::{Back, Ledgers, Seat, Settled, Unsettled, hold, settle};
@@ -317,7 +318,7 @@ impl<W: Work, C: Drop, G: Gate + Drop, S: Drop, N: PoolLedgers> Pool<W, C, G, S,
             keep_alive,
             folded,
         } = alone(rt, home);
-        let inside = lock.into_inner();
+        let inside = lock.into_inner().into_inner();
         let lying = inside.seats_here();
         // What was counted stays as it is; that it does isn't known here.
         if have > made
@@ -326,7 +327,7 @@ impl<W: Work, C: Drop, G: Gate + Drop, S: Drop, N: PoolLedgers> Pool<W, C, G, S,
             || inside.kept.len() > room.pairs.capacity()
         {
             let home = Home {
-                shared: Mutex::new(inside),
+                shared: CachePadded::new(Mutex::new(inside)),
                 gates,
                 moved,
                 made: count,

@@ -24,7 +24,7 @@ use std::time::Clock;
 /// at it at a time, in milliseconds.
 #[derive(Drop)]
 pub struct Home<W: Work, C, G, N: PoolLedgers> {
-    pub(crate) shared: Mutex<PoolShared<W, C, N>>,
+    pub(crate) shared: CachePadded<Mutex<PoolShared<W, C, N>>>,
     pub(crate) gates: Vec<CachePadded<G>>,
     pub(crate) moved: Condvar,
     pub(crate) made: Made<N>,

@@ -136,7 +136,7 @@ impl<W: Work, C: Drop, G: Drop, S: Drop, N: PoolLedgers> Pool<W, C, G, S, N> {
             seats: workers_of(others, workers),
         };
         let home = Home {
-            shared: Mutex::new(shared),
+            shared: CachePadded::new(Mutex::new(shared)),
             gates,
             moved: Condvar::new(),
             made: Made::new(callers + maximum),
