@@ -2,6 +2,7 @@
 use Rattle.std.proofs.Common.{◌≡◌, ℕ, zero, suc, Bool, true, false, inl, inr, ◌⊎◌, ◌≤◌, ◌+◌, refl, sym, ap, ◌∙◌, subst, Option, Some, None, List, [], ◌∷◌, map, min, length, ◌<◌, arith}
 use Rattle.std.specs.List.{range_with_len}
 use Rattle.std.proofs.lemmas.List.{length-map}
+use Rattle.std.proofs.Math.Nat.{min_comm, min-eq_left, min-le_left}
 use Rattle.std.specs.Prelude.{IsSome, nat_le, nat_lt, if◌then◌else◌}
 use Rattle.meet_tickets.specs.declared.places.Side.TheVariants.{Giver}
 use Rattle.meet_tickets.specs.declared.places.Kind.{Kind}
@@ -138,15 +139,20 @@ module _ {O T : Type 0} (mark : T → ℕ) (i : ℕ) (steps : O → QueueAnswer 
       )
 
   -- as many as the least of what was there when it looked, of `max`, and of what is there
-  pub least_of : (count_of : O → ℕ) (seats max : ℕ) (look : O) (looked there : ℕ) (old new : List (Received Deed))
-      (answers : List (QueueAnswer T)) (items : List T) → count_of look ≡ seats → looked ≡ available_of look → there ≡ min looked max
+  pub least_of : (count_of : O → ℕ) (seats max there : ℕ) (old new : List (Received Deed))
+      (answers : List (QueueAnswer T)) (items : List T)
+      → (there ≡ max) ⊎ ((look : O) × (count_of look ≡ seats) × (there ≡ min (available_of look) max))
       → Drains count_of seats there old new answers → AreItemsOf answers items
       → (before : O) × (held : O) × (count_of before ≡ seats) × (count_of held ≡ seats)
       × (length items ≡ min (min (available_of before) max) (available_of held))
-  least_of count_of seats max look looked there old new answers items both seen is
-      (before, after, last, all, count, rest) are =
+  least_of count_of seats max there old new answers items (inl is) (before, after, last, all, count, rest) are =
       let same = sym (length-map items (λ item. Some item)) ∙ sym (ap length are) ∙ length-map answers item_told in
-      (look, before, both, all, same ∙ count ∙ ap (λ n. min n (available_of before)) (is ∙ ap (λ n. min n max) seen))
+      let there = available_of before in
+      let least : min max there ≡ min (min there max) there = min_comm max there ∙ sym (min-eq_left (min-le_left there max)) in
+      (before, before, all, all, same ∙ count ∙ ap (λ n. min n there) is ∙ least)
+  least_of count_of seats max there old new answers items (inr (look, both, is)) (before, after, last, all, count, rest) are =
+      let same = sym (length-map items (λ item. Some item)) ∙ sym (ap length are) ∙ length-map answers item_told in
+      (look, before, both, all, same ∙ count ∙ ap (λ n. min n (available_of before)) is)
 
 -- why a drain of a queue may be refused
 last_why : (spent full : Bool) (why : Refusal)

@@ -1,6 +1,6 @@
 //! The drain of a queue for threads.
 
-ghost use Rattle.std.specs.Prelude.{◌≡◌, Some, None, [], ◌≤◌, length, vec_len, IfOk, IfErr, IsSome};
+ghost use Rattle.std.specs.Prelude.{◌≡◌, ◌⊎◌, Some, None, [], ◌≤◌, length, min, vec_len, IfOk, IfErr, IsSome};
 ghost use Rattle.std.specs.Vec.{vec_capacity};
 ghost use Rattle.meet_sync.specs.Drained.{DrainedTo, IsLeastFor, AllBring, AreItemsOf, item_told};
 ghost use Rattle.meet_sync.specs.Asking.{RefusedAs};
@@ -52,7 +52,22 @@ pub struct DrainedItems<T, N: Ledgers> {
     pub items: Vec<T>,
 }
 
+/// A drain of no more items makes room for as many as were asked for, and takes the lock once. Above that it looks first
+/// how many there are, and asks for no more room than is of use. Our choice.
+const FEW: u64 = 64;
+
 impl<O: QueueDrains, G: Gate, N: Ledgers> Queue<O, G, N> {
+    /// For how many items a drain of up to `max` makes room: `max` where that is few, else as many of it as are there.
+    fn room_for<R: Wait>(&self, rt: &R, max: u64) -> u64
+        ensures { (result ≡ max) ⊎ ((look : O) × (O.seat_count_of look ≡ N.parts)
+            × (result ≡ min (O.available_of look) max)) }
+    {
+        if max <= FEW {
+            return max;
+        }
+        self.place.available(rt).min(max)
+    }
+
     /// Takes the items, one poll after another under one hold. It refuses Memory where the list of the items or the
     /// seat's can't grow; else what the book does, before anything is taken.
     fn take_all<R: Wait>(
@@ -69,7 +84,7 @@ impl<O: QueueDrains, G: Gate, N: Ledgers> Queue<O, G, N> {
         ensures why { IfErr result IsRequestWhy }
         ensures same { IfErr result (λ _. seat.new.list ≡ seat.old.list) }
     {
-        let there = self.place.available(rt).min(max);
+        let there = self.room_for(rt, max);
         let Ok(empty) = Vec::with_capacity(alloc, there as usize) else {
             return Err(Refusal::Memory);
         };
@@ -83,8 +98,8 @@ impl<O: QueueDrains, G: Gate, N: Ledgers> Queue<O, G, N> {
     }
 
     /// `BlockingQueue.drainTo`: takes up to `max` items that givers in the line brought, in the order in which polls
-    /// would, all under one hold of the lock, each by a recorded poll: as many as were there when it looked, and still
-    /// are. It refuses Memory where a list can't grow, else SeatOpen, TicketsSpent, HistoryFull or Memory, the first
+    /// would, all under one hold of the lock, each by a recorded poll. Where `max` is above 64 it looks first how many
+    /// there are, and takes no more. It refuses Memory where a list can't grow, else SeatOpen, TicketsSpent, HistoryFull or Memory, the first
     /// that applies; then nothing was taken.
     pub fn drain<R: Wait>(
         &self,

@@ -13,7 +13,7 @@ items_of-requires-clause-items g c =
     (λ o. g.O.Object.refusal_of o i poll) g.O.Drains.available_of g.O.Drains.left_of g.O.Object.owed_of
     (place_takes g.O.QueuePlace.kind mark g.O.QueuePlace.queue_of i g.O.Object.steps g.O.Object.record_of
     g.O.Drains.available_of poll laws.is_step laws.is_record g.met.O.QueueDrains.is_available g.met.O.QueueDrains.is_poll)
-    g.O.Object.seat_count_of g.N.Ledger.parts c.min-there.result c.args.seat.now.list c.locked_drain.new.seat.list
+    g.O.Object.seat_count_of g.N.Ledger.parts c.room_for-there.result c.args.seat.now.list c.locked_drain.new.seat.list
     c.in-Ok-locked_drain.answers.items c.in-Ok-locked_drain.ensures.polls
 
 pub returns-in-Ok-locked_drain-clause-drained : goal.returns-in-Ok-locked_drain-clause-drained
@@ -26,7 +26,7 @@ returns-in-Ok-locked_drain-clause-drained g c =
     (λ o. g.O.Object.refusal_of o i poll) g.O.Drains.available_of g.O.Drains.left_of g.O.Object.owed_of
     (place_takes g.O.QueuePlace.kind mark g.O.QueuePlace.queue_of i g.O.Object.steps g.O.Object.record_of
     g.O.Drains.available_of poll laws.is_step laws.is_record g.met.O.QueueDrains.is_available g.met.O.QueueDrains.is_poll)
-    g.O.Object.seat_count_of g.N.Ledger.parts c.min-there.result c.args.seat.now c.locked_drain.new.seat
+    g.O.Object.seat_count_of g.N.Ledger.parts c.room_for-there.result c.args.seat.now c.locked_drain.new.seat
     c.in-Ok-locked_drain.answers.items c.items_of.result.items refl c.in-Ok-locked_drain.ensures.polls
     c.items_of.ensures.items
 
@@ -36,14 +36,13 @@ returns-in-Ok-locked_drain-clause-count g c =
     let mark = g.O.Item.Marked.mark_of in
     let i = c.args.seat.now.number in
     let poll = g.O.Drains.poll in
-    let look = c.available.ensures in
     let least = least_of mark i (λ old a new. g.O.Object.steps old i poll a new) (g.O.Object.record_of i poll)
     (λ o. g.O.Object.refusal_of o i poll) g.O.Drains.available_of g.O.Drains.left_of g.O.Object.owed_of
     (place_takes g.O.QueuePlace.kind mark g.O.QueuePlace.queue_of i g.O.Object.steps g.O.Object.record_of
     g.O.Drains.available_of poll laws.is_step laws.is_record g.met.O.QueueDrains.is_available g.met.O.QueueDrains.is_poll)
-    g.O.Object.seat_count_of g.N.Ledger.parts c.args.max look.0 c.available.result c.min-there.result
+    g.O.Object.seat_count_of g.N.Ledger.parts c.args.max c.room_for-there.result
     c.args.seat.now.list c.locked_drain.new.seat.list c.in-Ok-locked_drain.answers.items c.items_of.result.items
-    look.1 look.2 c.min-there.ensures c.in-Ok-locked_drain.ensures.polls c.items_of.ensures.items in (
+    c.room_for-there.ensures c.in-Ok-locked_drain.ensures.polls c.items_of.ensures.items in (
       g.O.QueuePlace.queue_of least.0,
       g.O.QueuePlace.queue_of least.1,
       sym (laws.is_count least.0) ∙ least.2,
@@ -56,5 +55,5 @@ returns-in-Err-clause-why g c =
     let laws = g.met.O.QueuePlace in
     let i = c.args.seat.now.number in
     drain_why g.O.QueuePlace.queue_of g.O.Object.seat_count_of g.O.Drains.left_of g.O.Object.owed_of
-    (λ o. g.O.Object.refusal_of o i g.O.Drains.poll) g.N.Ledger.parts g.N.Ledgers.cap i c.min-there.result c.in-Err.why
+    (λ o. g.O.Object.refusal_of o i g.O.Drains.poll) g.N.Ledger.parts g.N.Ledgers.cap i c.room_for-there.result c.in-Err.why
     laws.is_count (λ o. ap (g.O.Object.refusal_of o i) g.met.O.QueueDrains.is_poll ∙ laws.is_refusal o i Poll) c.in-Err.ensures.why
