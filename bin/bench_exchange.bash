@@ -34,7 +34,7 @@ rate_of() {
 
 echo "exchanges a second, $exchanges in all, the median of $rounds rounds: $(nproc) processors, $(date -u +%F)"
 printf '%7s %5s %10s %10s %10s\n' threads slots arena lock arena/lock
-for threads in 2 4 8; do
+for threads in 2 4 8 16; do
     for slots in 1 4; do
         arena=$(rate_of arena "$threads" "$slots")
         lock=$(rate_of lock "$threads" "$slots")

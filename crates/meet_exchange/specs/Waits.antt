@@ -1,7 +1,9 @@
 -- An exchange that waits: how it stands from turn to turn, and how it ends (our choice).
 use Rattle.std.specs.Prelude.{◌≡◌, ℕ, ◌+◌, ◌-◌, ◌<◌, ◌⊎◌, List, [], ◌∷◌, Option, Some, None}
 use Rattle.atomic_table.specs.Seated.{TableId}
-use Rattle.meet_exchange.specs.declared.records.SlotDeed.TheVariants.{Posted}
+use Rattle.meet_exchange.specs.declared.records.SlotDeed.TheVariants.{Posted, Collected}
+use Rattle.meet_exchange.specs.declared.endings.Gathered.{Gathered}
+use Rattle.meet_exchange.specs.declared.endings.Gathered.TheVariants.{Got, NotYet}
 use Rattle.meet_exchange.specs.declared.waiting.Going.{Going}
 use Rattle.meet_exchange.specs.declared.waiting.Going.TheVariants.{Tries, Waits, Stays}
 use Rattle.meet_exchange.specs.declared.waiting.Exchanged.{Exchanged}
@@ -9,7 +11,8 @@ use Rattle.meet_exchange.specs.declared.waiting.Exchanged.TheVariants.{Swapped, 
 use Rattle.meet_exchange.specs.declared.waiting.Next.{Next}
 use Rattle.meet_exchange.specs.declared.waiting.Next.TheVariants.{Goes, Ends}
 use Rattle.meet_exchange.specs.Rounds.{part}
-use Rattle.meet_exchange.specs.Seats.{SeatView, PendingView}
+use Rattle.meet_exchange.specs.Calls.{StandsAt}
+use Rattle.meet_exchange.specs.Seats.{SeatView, PendingView, Went}
 use Rattle.meet_exchange.specs.Ways.{IsWithin, MayStand, IsOver, SawFree, SawTaken, HasCome}
 use Rattle.meet_exchange.specs.Ways.{HasSwapped, HasCollected, HasTimedOut, HasWorn, HasNoRoom}
 
@@ -27,6 +30,13 @@ seat_after (Swapped s x) = s
 seat_after (TimedOut s x) = s
 seat_after (Worn s x) = s
 seat_after (Memory s x) = s
+
+-- of a look for the answer to an offer of the seat v, in the slot k and the round r and with the mark a: the answer, or
+-- a word of the slot more
+module _ {T : Type 0} (mark : T → ℕ) (v : SeatView) (k r a : ℕ) where
+  abbrev pub Gathers : Gathered T → Type 0
+  Gathers (Got s x) = Went v s (part k r (Collected (mark x)) ∷ []) []
+  Gathers (NotYet p) = StandsAt k r a p × (w : ℕ) × Went v p.seat [] ((k, w) ∷ [])
 
 -- ## From turn to turn
 

@@ -1,12 +1,13 @@
 //! What ends an offer that stands: the other seat's item is collected, or its own is taken back.
 
-ghost use Rattle.std.specs.Prelude.{◌≡◌, ◌<◌};
-ghost use Rattle.meet_exchange.specs.Calls.{Collects, Withdraws};
+ghost use Rattle.std.specs.Prelude.{ℕ, ◌≡◌, ◌<◌, [], ◌∷◌};
+ghost use Rattle.meet_exchange.specs.Calls.{Collects, StandsAt, Withdraws};
+ghost use Rattle.meet_exchange.specs.Seats.{Went};
 
 use crate::arena::Arena;
 use crate::records::{Part, SlotDeed};
 use crate::seats::{Offer, Pending, Seat};
-use crate::steps::{collect, withdraw};
+use crate::steps::{collect, look, withdraw};
 use meet_tickets::Marked;
 
 /// What a collecting came to.
@@ -55,6 +56,28 @@ impl<T: Marked> Arena<T> {
                 mark,
             })),
         }
+    }
+
+    /// Looks at the slot of an offer once more, and changes nothing there.
+    pub(crate) fn look_on(&self, pending: Pending<T>) -> Pending<T>
+        requires place { pending.seat.arena ≡ self.now.id }
+        requires slot { pending.slot < self.now.slots }
+        ensures stands { StandsAt pending.slot pending.round pending.mark result }
+        ensures seen { (w : ℕ) × Went pending.seat result.seat [] ((pending.slot, w) ∷ []) }
+    {
+        let Offer {
+            inner: mut seat,
+            slot,
+            round,
+            mark,
+        } = pending.open();
+        look(&self.table.shared, &mut seat.token, slot);
+        Pending::new(Offer {
+            inner: seat,
+            slot,
+            round,
+            mark,
+        })
     }
 
     /// Takes this seat's item back, unless another seat has taken it. One step, and no memory.

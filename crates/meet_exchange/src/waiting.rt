@@ -2,7 +2,7 @@
 
 ghost use Rattle.std.specs.Prelude.{◌≡◌, ◌≢◌, ◌<◌, ◌≤◌, ◌↔◌, ◌+◌, ◌%◌, ℕ, IsTrue, Option};
 ghost use Rattle.meet_exchange.specs.Waits.{IsIn, StaysIn, IsGoing, IsTrying, IsWaiting, HasStayed, EndsAs, GoesOn};
-ghost use Rattle.meet_exchange.specs.Waits.{left_after, seat_after};
+ghost use Rattle.meet_exchange.specs.Waits.{Gathers, left_after, seat_after};
 ghost use Rattle.meet_exchange.specs.Ways.{patience};
 ghost use Rattle.meet_exchange.specs.Seats.{SeatView};
 
@@ -10,8 +10,10 @@ use crate::arena::Arena;
 use crate::endings::{Gathered, Returned};
 use crate::offers::Offered;
 use crate::seats::{Pending, Seat};
+use crate::words::{ANSWERED, FREE, POSTED, code};
 use meet_tickets::Marked;
 use std::sync::Wait;
+use std::{hint, thread};
 
 /// How an exchange ended.
 #[derive(Debug, Drop)]
@@ -45,6 +47,33 @@ enum Next<T> {
 /// So many turns an offer stands in a slot above 0.
 const PATIENCE: u64 = 1_000;
 
+/// So many looks at a slot in which others are at work, before an offer is tried there all the same.
+const LOOKS: u64 = 128;
+
+/// So many looks at a slot that became free are left to who was at work there: it comes back and posts, and the offer
+/// meets it. Where both claimed the slot at once, one would find it contended, and go on to a slot where nobody comes.
+const CALM: u64 = 8;
+
+/// Behind so many looks in a row a thread pauses, and from then on lets another one run: a pause takes some 15
+/// nanoseconds, and the other seat some 100 where it runs; to let another thread run takes 250, and helps where it
+/// doesn't.
+const PAUSES: u64 = 64;
+
+/// Passes the time behind the look of this number.
+fn pass(look: u64) {
+    if look < PAUSES {
+        hint::spin_loop();
+    } else {
+        thread::yield_now();
+    }
+}
+
+/// Passes a turn of an offer that stands in this slot. Above 0 it lets another thread run at each 65th alone: it stands
+/// there for a number of turns, and if nobody comes these are over soon.
+fn pass_turn(slot: usize, turn: u64) {
+    pass(if slot == 0 { turn } else { turn % (PAUSES + 1) });
+}
+
 /// One turn less, where there is a limit.
 fn less(left: Option<u64>) -> Option<u64>
     ensures { result ≡ left_after left 1 }
@@ -71,6 +100,10 @@ impl<T: Marked> Arena<T> {
     /// takes it back after 1,000 turns, and tries the slot of half the number. Its limit is in turns, a turn being one
     /// look for the answer, or one Contended. At a limit of 0 it tries one slot, and doesn't wait. Where the limit is
     /// reached it takes the item back; where another seat has taken that, it stays until it has the other's.
+    ///
+    /// It spins, and never parks: a turn is a pause of the processor, or lets other threads run (`Thread.onSpinWait`,
+    /// `Thread.yield`), and its time isn't bounded. Before it tries a slot in which others are at work it looks there
+    /// some times more, with any other limit than 0; these looks are no turns.
     pub fn exchange<R: Wait>(
         &self,
         rt: &R,
@@ -107,10 +140,43 @@ impl<T: Marked> Arena<T> {
             → GoesOn T.mark_of v a self.now.slots first limit result }
     {
         match going {
-            Going::Tries(seat, item, slot) => self.try_slot(seat, item, slot, left),
+            Going::Tries(seat, item, slot) => {
+                self.await_others(slot, left);
+                self.try_slot(seat, item, slot, left)
+            }
             Going::Waits(pending, turns) => self.wait_on(pending, turns, left),
             Going::Stays(pending) => self.stay(pending, left),
         }
+    }
+
+    /// Looks at a slot in which others are at work until they are done and one of them may have come back, or so many
+    /// times: their exchange is over soon. At a limit of 0 it doesn't look.
+    fn await_others(&self, slot: usize, left: Option<u64>)
+        requires { slot < self.now.slots }
+    {
+        if is_reached(left) {
+            return;
+        }
+        let mut calm = CALM;
+        for look in 0..LOOKS {
+            let seen = code(self.word(slot));
+            if seen == POSTED || calm >= CALM && seen == FREE {
+                return;
+            }
+            calm = if seen == FREE {
+                calm.saturating_add(1)
+            } else {
+                0
+            };
+            pass(look);
+        }
+    }
+
+    /// Whether an offer in this slot was answered, at a glance.
+    fn is_answered(&self, slot: usize) -> bool
+        requires { slot < self.now.slots }
+    {
+        code(self.word(slot)) == ANSWERED
     }
 
     /// Offers the item in the slot.
@@ -146,6 +212,21 @@ impl<T: Marked> Arena<T> {
         if slot < self.slots - 1 { slot + 1 } else { 0 }
     }
 
+    /// Collects the answer to an offer, if there is one, and else passes this turn. A look that finds none takes the
+    /// slot's line from no other thread, as a step that tries to collect would.
+    fn gather(&self, pending: Pending<T>, turn: u64) -> Gathered<T>
+        requires place { pending.seat.arena ≡ self.now.id }
+        requires slot { pending.slot < self.now.slots }
+        ensures { Gathers T.mark_of pending.seat pending.slot pending.round pending.mark result }
+    {
+        if self.is_answered(pending.slot()) {
+            return self.collect(pending);
+        }
+        let pending = self.look_on(pending);
+        pass_turn(pending.slot(), turn);
+        Gathered::NotYet(pending)
+    }
+
     /// Looks for an answer, unless the offer has stood for long enough.
     fn wait_on(&self, pending: Pending<T>, turns: u64, left: Option<u64>) -> Next<T>
         requires place { pending.seat.arena ≡ self.now.id }
@@ -161,7 +242,7 @@ impl<T: Marked> Arena<T> {
         if pending.slot() > 0 && turns >= PATIENCE {
             return self.move_on(pending, left);
         }
-        match self.collect(pending) {
+        match self.gather(pending, turns) {
             Gathered::Got(seat, other) => Next::Ends(Exchanged::Swapped(seat, other)),
             Gathered::NotYet(pending) => {
                 Next::Goes(Going::Waits(pending, turns.saturating_add(1)), less(left))
@@ -212,7 +293,8 @@ impl<T: Marked> Arena<T> {
             → HasStayed v a self.now.slots first limit pending
             → GoesOn T.mark_of v a self.now.slots first limit result }
     {
-        match self.collect(pending) {
+        // Who took the item answers it at once, or doesn't run.
+        match self.gather(pending, PAUSES) {
             Gathered::Got(seat, other) => Next::Ends(Exchanged::Swapped(seat, other)),
             Gathered::NotYet(pending) => Next::Goes(Going::Stays(pending), left),
         }

@@ -6,4 +6,4 @@ pub returns-in-Got-clause-goes : goal.returns-in-Got-clause-goes
 returns-in-Got-clause-goes g c = λ v a first limit t. inr (stayed_got v a c.args.self.now.slots first limit c.args.pending c.in-Got.seat (g.T.Marked.mark_of c.in-Got.other) t c.in-Got.ensures)
 
 pub returns-in-NotYet-clause-goes : goal.returns-in-NotYet-clause-goes
-returns-in-NotYet-clause-goes g c = λ v a first limit t. let yet = c.in-NotYet.ensures in stayed_still v a c.args.self.now.slots first limit c.args.pending c.in-NotYet.pending yet.1 t yet.0 yet.3
+returns-in-NotYet-clause-goes g c = λ v a first limit t. let yet = c.in-NotYet.ensures in stayed_still v a c.args.self.now.slots first limit c.args.pending c.in-NotYet.pending yet.1 t yet.0 yet.2

@@ -29,5 +29,5 @@ returns-in-NotYet-clause-goes g c = λ v a first limit t. let p = c.args.pending
       t.1 + 1,
       c.less.ensures ∙ (ap (λ l. left_after l 1) t.2 ∙ (left_step limit (t.0 + t.1) ∙ ap (left_after limit) e)),
       (λ above. let here : 0 < p.slot = subst (λ k. 0 < k) yet.0.0 above in let same : c.args.turns ≡ t.1 = t.3 here in let low : t.1 < patience = few here in omega (arith, c.saturating_add.ensures)),
-      posted_still v a n first limit p c.in-NotYet.pending t.0 t.1 yet.1 t.4 may yet.0 yet.3,
+      posted_still v a n first limit p c.in-NotYet.pending t.0 t.1 yet.1 t.4 may yet.0 yet.2,
     )
