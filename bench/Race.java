@@ -1,16 +1,22 @@
+import com.sun.management.OperatingSystemMXBean;
+import java.lang.management.ManagementFactory;
+import java.util.Arrays;
 import java.util.concurrent.LinkedTransferQueue;
 import java.util.concurrent.SynchronousQueue;
 
 /**
  * How long it takes Java's threads to hand items on: the work of the program meet_race, over the queues of java.util.concurrent.
  *
- * <pre>java bench/Race.java fair|unfair|transfer PAIRS EACH ROUNDS</pre>
+ * <pre>java bench/Race.java fair|unfair|transfer PAIRS EACH ROUNDS [tails]</pre>
  *
  * So many pairs of platform threads, one of which puts the numbers from 1 to EACH and one takes as many, do so as many rounds as are
  * asked for, each over a new queue, after one round that isn't told. A line a round on standard output tells how many items were taken
- * and their sum; one on standard error how many nanoseconds it took, from before the first thread is started until all have ended.
+ * and their sum; two on standard error how many nanoseconds it took, from before the first thread is started until all have ended, and
+ * how many of the processor's. With <code>tails</code> each put is timed by itself, and one line more tells the median of a round's, and
+ * what 99 in 100 and 999 in 1,000 didn't exceed.
  */
 public final class Race {
+    private static final String USAGE = "usage: java bench/Race.java fair|unfair|transfer PAIRS EACH ROUNDS [tails]";
     private static final int MOST_PAIRS = 64;
     private static final int MOST_EACH = 100_000;
     /** The cap on the records of the queue that this one is compared with, which keeps three for an item. */
@@ -24,7 +30,10 @@ public final class Race {
     }
 
     /** The end of a round. */
-    private record Finish(long items, long sum, long nanoseconds) {}
+    private record Finish(long items, long sum, long nanoseconds, long processor, long[] puts) {}
+
+    private static final OperatingSystemMXBean SYSTEM =
+            (OperatingSystemMXBean) ManagementFactory.getOperatingSystemMXBean();
 
     /** A thread that takes items, and what it counted, to be read once it has ended. */
     private static final class Taker extends Thread {
@@ -93,11 +102,18 @@ public final class Race {
         };
     }
 
-    private static Thread giver(Passing queue, int each) {
+    /** Puts the numbers from 1. Each put is timed where there is room for its time, from this place on. */
+    private static Thread giver(Passing queue, int each, long[] puts, int from) {
         return new Thread(() -> {
             try {
-                for (long item = 1; item <= each; item++) {
-                    queue.put(item);
+                for (int item = 1; item <= each; item++) {
+                    if (puts.length == 0) {
+                        queue.put((long) item);
+                        continue;
+                    }
+                    long start = System.nanoTime();
+                    queue.put((long) item);
+                    puts[from + item - 1] = System.nanoTime() - start;
                 }
             } catch (InterruptedException stopped) {
                 // Nobody interrupts a thread of this program.
@@ -106,13 +122,15 @@ public final class Race {
     }
 
     /** Runs a round over this queue. */
-    private static Finish run(Passing queue, int pairs, int each) throws InterruptedException {
+    private static Finish run(Passing queue, int pairs, int each, boolean tails) throws InterruptedException {
+        long[] puts = new long[tails ? pairs * each : 0];
         Thread[] givers = new Thread[pairs];
         Taker[] takers = new Taker[pairs];
         for (int pair = 0; pair < pairs; pair++) {
-            givers[pair] = giver(queue, each);
+            givers[pair] = giver(queue, each, puts, pair * each);
             takers[pair] = new Taker(queue, each);
         }
+        long busy = SYSTEM.getProcessCpuTime();
         long start = System.nanoTime();
         for (Thread giver : givers) {
             giver.start();
@@ -127,13 +145,19 @@ public final class Race {
             taker.join();
         }
         long nanoseconds = System.nanoTime() - start;
+        long processor = SYSTEM.getProcessCpuTime() - busy;
         long items = 0;
         long sum = 0;
         for (Taker taker : takers) {
             items += taker.items;
             sum += taker.sum;
         }
-        return new Finish(items, sum, nanoseconds);
+        return new Finish(items, sum, nanoseconds, processor, puts);
+    }
+
+    /** What all but one in so many of these times, which are in rising order, don't exceed. */
+    private static long allButOneIn(int many, long[] times) {
+        return times[times.length - times.length / many - 1];
     }
 
     private static void fail(String line) {
@@ -142,8 +166,9 @@ public final class Race {
     }
 
     public static void main(String[] words) throws InterruptedException {
-        if (words.length != 4 || queueOf(words[0]) == null) {
-            fail("usage: java bench/Race.java fair|unfair|transfer PAIRS EACH ROUNDS");
+        boolean tails = words.length == 5 && words[4].equals("tails");
+        if (words.length != 4 && !tails || queueOf(words[0]) == null) {
+            fail(USAGE);
         }
         int pairs = 0;
         int each = 0;
@@ -153,17 +178,24 @@ public final class Race {
             each = Integer.parseInt(words[2]);
             rounds = Long.parseLong(words[3]);
         } catch (NumberFormatException unread) {
-            fail("usage: java bench/Race.java fair|unfair|transfer PAIRS EACH ROUNDS");
+            fail(USAGE);
         }
         boolean within = 1 <= pairs && pairs <= MOST_PAIRS && 1 <= each && each <= MOST_EACH;
         if (!within || 3L * pairs * each > MOST_RECORDS) {
             fail("Race: PAIRS is 1 to 64, EACH 1 to 100000, and 3 * PAIRS * EACH at most 1048576");
         }
-        run(queueOf(words[0]), pairs, each);
+        run(queueOf(words[0]), pairs, each, tails);
         for (long round = 0; round < rounds; round++) {
-            Finish finish = run(queueOf(words[0]), pairs, each);
+            Finish finish = run(queueOf(words[0]), pairs, each, tails);
             System.out.println("items " + finish.items() + " sum " + finish.sum());
             System.err.println("nanoseconds " + finish.nanoseconds());
+            System.err.println("processor " + finish.processor());
+            if (tails) {
+                long[] puts = finish.puts();
+                Arrays.sort(puts);
+                System.err.println("put median " + puts[puts.length / 2] + " p99 " + allButOneIn(100, puts) + " p999 "
+                        + allButOneIn(1_000, puts));
+            }
         }
     }
 }

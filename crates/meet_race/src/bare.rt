@@ -148,18 +148,26 @@ where
 {
     let mut slots = Vec::new(alloc);
     for seat in 0..race.threads() as usize {
-        let slot = Slot {
-            seat: Some(seat),
-            count: NOTHING,
+        let timed = if seat < race.pairs as usize {
+            race.timed()
+        } else {
+            0
         };
+        let slot = Slot::new(alloc, seat, timed);
         slots.push(Mutex::new(slot)).map_err(|_| Refusal::Memory)?;
     }
     let bare = Bare::new(alloc, slots.len()).map_err(|_| Refusal::Memory)?;
-    let nanoseconds = run_timed(rt, &bare, slots.as_slice(), race.each)?;
+    let nanoseconds = run_timed(rt, alloc, &bare, slots.as_slice(), race.each)?;
     let mut counted = NOTHING;
+    let mut puts = Vec::new(alloc);
     for slot in slots {
-        let Slot { seat: _, count } = slot.into_inner();
+        let Slot {
+            seat: _,
+            count,
+            mut times,
+        } = slot.into_inner();
         counted = counted.with(count);
+        let _ = puts.append(&mut times);
     }
-    Finish::of(counted, nanoseconds)
+    Finish::of(counted, nanoseconds, puts)
 }

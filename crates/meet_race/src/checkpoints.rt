@@ -311,10 +311,10 @@ where
         Ok(made) => made,
         Err(refused) => return Err(refused.into_why()), // the gates and the ledgers are let go
     };
-    let slots = slots_of::<N>(seats, slots);
+    let slots = slots_of::<N>(alloc, seats, slots, 0);
     let mut times = Times::new(alloc);
     work(rt, &queue, slots.as_slice(), folding, &mut times);
-    let (backs, counted) = seats_of(slots, backs);
+    let (backs, counted, _) = seats_of(alloc, slots, backs);
     match queue.close(alloc, backs) {
         Ok(chronicle) => told(counted, chronicle, times),
         Err(fault) => {

@@ -3,7 +3,7 @@
 ghost use Rattle.std.specs.Prelude.{◌+◌, ◌*◌, ◌≤◌, IsTrue, IfOk};
 ghost use Rattle.meet_tickets.specs.Limits.{most_records, most_seats};
 
-use meet_tickets::MOST_SEATS;
+use meet_tickets::{MOST_RECORDS, MOST_SEATS};
 
 /// How many threads put at most, and how many take.
 const MOST_PAIRS: u64 = 64;
@@ -15,15 +15,19 @@ const MOST_EACH: u64 = 100_000_000;
 /// those of all rounds before the first checkpoint.
 const MOST_KEPT: u64 = 1_000_000;
 
+/// How many items each thread puts or takes at most where each put is timed by itself.
+const MOST_TIMED: u64 = 1_000_000;
+
 /// How many checkpoints are measured at most.
 const MOST_CHECKPOINTS: u64 = 20_000;
 
 /// What is said of words that can't be read.
 pub const USAGE: &str =
-    "usage: meet_race park|spin|bare PAIRS EACH ROUNDS, or meet_race checkpoint SEATS KEPT ROUNDS";
+    "usage: meet_race park|spin|bare PAIRS EACH ROUNDS [tails [CAP]], or meet_race checkpoint SEATS KEPT ROUNDS";
 
 /// What is said of numbers of a race that are out of their limits.
-pub const LIMITS: &str = "meet_race: PAIRS is 1 to 64, and EACH 1 to 100000000";
+pub const LIMITS: &str =
+    "meet_race: PAIRS is 1 to 64, EACH 1 to 100000000, with tails at most 1000000, and CAP 1 to 1048576";
 
 /// What is said of numbers of checkpoints that are out of their limits.
 pub const CHECKPOINT_LIMITS: &str =
@@ -60,10 +64,22 @@ pub struct Folding {
     pub rounds: u64,
 }
 
+/// How the time of a race is taken.
+#[derive(Clone, Copy, PartialEq, Eq, Debug)]
+pub enum Timing {
+    /// As a whole, of each round.
+    Whole,
+    /// Of each put by itself.
+    Tails,
+}
+
 /// Threads that hand items on.
 #[derive(Clone, Copy, PartialEq, Eq, Debug)]
 pub struct Race {
     pub queue: Queue,
+    pub timing: Timing,
+    /// How many records the queue has at most; a bare one has none.
+    pub cap: u64,
     /// How many threads put, and how many take.
     pub pairs: u64,
     /// How many items each of them puts or takes.
@@ -75,7 +91,7 @@ pub struct Race {
 /// Why a command line isn't one.
 #[derive(Clone, Copy, PartialEq, Eq, Debug)]
 pub enum Wrong {
-    /// It hasn't four words after the program's name, or one of them can't be read.
+    /// It hasn't so many words after the program's name, or one of them can't be read.
     Words,
     /// A number of a race is out of its limits.
     Sizes,
@@ -156,21 +172,56 @@ impl Folding {
 impl Race {
     /// Reads the words of a command line, the program's name first.
     pub fn of_words(words: &[String]) -> Result<Race, Wrong>
-        ensures { IfOk result (λ race. (race.pairs ≤ 64) × (race.each ≤ 100000000)) }
+        ensures sizes { IfOk result (λ race. (race.pairs ≤ 64) × (race.each ≤ 100000000)) }
+        ensures cap { IfOk result (λ race. race.cap ≤ most_records) }
     {
-        let [_, queue, pairs, each, rounds] = words else {
-            return Err(Wrong::Words);
+        let (race, more) = match words {
+            [_, queue, pairs, each, rounds, more @ ..] => (
+                Race::whole(
+                    queue.as_str(),
+                    pairs.as_str(),
+                    each.as_str(),
+                    rounds.as_str(),
+                )?,
+                more,
+            ),
+            _ => return Err(Wrong::Words),
         };
-        let race = Race {
-            queue: queue_of(queue.as_str())?,
-            pairs: number_of(pairs.as_str())?,
-            each: number_of(each.as_str())?,
-            rounds: number_of(rounds.as_str())?,
-        };
+        let race = race.timed_as(more)?;
         if race.is_within_limits() {
             Ok(race)
         } else {
             Err(Wrong::Sizes)
+        }
+    }
+
+    /// A race that is timed as a whole, of these words.
+    fn whole(queue: &str, pairs: &str, each: &str, rounds: &str) -> Result<Race, Wrong> {
+        Ok(Race {
+            queue: queue_of(queue)?,
+            timing: Timing::Whole,
+            cap: MOST_RECORDS,
+            pairs: number_of(pairs)?,
+            each: number_of(each)?,
+            rounds: number_of(rounds)?,
+        })
+    }
+
+    /// The same, timed as the words behind it say.
+    fn timed_as(self, words: &[String]) -> Result<Race, Wrong> {
+        let cap = match words {
+            [] => return Ok(self),
+            [_] => MOST_RECORDS,
+            [_, cap] => number_of(cap.as_str())?,
+            _ => return Err(Wrong::Words),
+        };
+        match words.first() {
+            Some(word) if word.as_str() == "tails" => Ok(Race {
+                timing: Timing::Tails,
+                cap,
+                ..self
+            }),
+            _ => Err(Wrong::Words),
         }
     }
 
@@ -179,11 +230,24 @@ impl Race {
         self.pairs.saturating_mul(2)
     }
 
+    /// How many puts of each thread are timed by themselves.
+    pub fn timed(&self) -> usize {
+        match self.timing {
+            Timing::Whole => 0,
+            Timing::Tails => self.each as usize,
+        }
+    }
+
     /// Whether its numbers are within their limits.
     fn is_within_limits(&self) -> bool
-        ensures { IsTrue result → (self.now.pairs ≤ 64) × (self.now.each ≤ 100000000) }
+        ensures sizes { IsTrue result → (self.now.pairs ≤ 64) × (self.now.each ≤ 100000000) }
+        ensures cap { IsTrue result → self.now.cap ≤ most_records }
     {
-        let is_some = self.pairs != 0 && self.each != 0;
-        is_some && self.pairs <= MOST_PAIRS && self.each <= MOST_EACH
+        let is_some = self.pairs != 0 && self.each != 0 && self.cap != 0;
+        let most = match self.timing {
+            Timing::Whole => MOST_EACH,
+            Timing::Tails => MOST_TIMED,
+        };
+        is_some && self.pairs <= MOST_PAIRS && self.each <= most && self.cap <= MOST_RECORDS
     }
 }

@@ -1,12 +1,15 @@
 //! The program `meet_race`: how long it takes threads to hand items on, through a queue for threads or a bare one, and
 //! how long a checkpoint takes.
 //!
-//!     meet_race park|spin|bare PAIRS EACH ROUNDS
+//!     meet_race park|spin|bare PAIRS EACH ROUNDS [tails [CAP]]
 //!     meet_race checkpoint SEATS KEPT ROUNDS
 //!
 //! So many pairs of threads, one of which puts the numbers from 1 to EACH and one takes as many, do so ROUNDS times,
 //! each time over a new queue. A line a round on standard output tells how many items were taken and their sum,
-//! whatever the threads' order; one on standard error how many nanoseconds it took.
+//! whatever the threads' order; one on standard error how many nanoseconds it took. With `tails` each put is timed by
+//! itself, and one line more tells the median of a round's, and what 99 in 100 and 999 in 1,000 didn't exceed. CAP is
+//! how many records the queue may have at a time: each seat tends it behind each call, and makes a checkpoint where more
+//! than half of them are there.
 //!
 //! What a `checkpoint` does and prints is said in `checkpoints`.
 #![tactic(auto)]
@@ -21,7 +24,7 @@ mod times;
 
 use bare::run_bare;
 use checkpoints::{Folded, run_checkpoints};
-use command_line::{Folding, Measure, Queue, Race};
+use command_line::{Folding, Measure, Queue, Race, Timing};
 use meet_tickets::Refusal;
 use round::Finish;
 use seated::{run_parked, run_spinning};
@@ -31,7 +34,7 @@ use std::sync::Wait;
 use std::thread::Threads;
 use std::time::Clock;
 use std::{env, io};
-use times::Medians;
+use times::{Medians, Tails};
 
 /// The words of the command line, the program's name first.
 fn words(rt: &HostRuntime) -> io::Result<Vec<String>> {
@@ -52,9 +55,23 @@ where
 }
 
 /// Writes what came of a round.
-fn tell<R: Print + Eprint>(rt: &R, finish: Finish) -> io::Result<()> {
+fn tell<R: Print + Eprint>(rt: &R, timing: Timing, finish: Finish) -> io::Result<()> {
     println!(rt; "items {} sum {}", finish.items, finish.sum)?;
-    eprintln!(rt; "nanoseconds {}", finish.nanoseconds)
+    eprintln!(rt; "nanoseconds {}", finish.nanoseconds)?;
+    match timing {
+        Timing::Whole => Ok(()),
+        Timing::Tails => tell_tails(rt, Tails::of(finish.puts)),
+    }
+}
+
+/// Writes how long the puts of a round took.
+fn tell_tails<R: Eprint>(rt: &R, tails: Tails) -> io::Result<()> {
+    let Tails {
+        median,
+        hundredth,
+        thousandth,
+    } = tails;
+    eprintln!(rt; "put median {median} p99 {hundredth} p999 {thousandth}")
 }
 
 /// Runs all rounds, and writes what came of each.
@@ -64,7 +81,7 @@ where
 {
     for _ in 0..race.rounds {
         let finish = run_round(rt, alloc, race)?;
-        tell(rt, finish).map_err(|_| Refusal::WriteFault)?;
+        tell(rt, race.timing, finish).map_err(|_| Refusal::WriteFault)?;
     }
     Ok(())
 }

@@ -3,7 +3,6 @@
 ghost use Rattle.std.specs.Prelude.{◌≡◌, ◌≤◌, [], vec_len};
 ghost use Rattle.meet_place.specs.Ledgers.{AreOf};
 ghost use Rattle.std.specs.Vec.{vec_capacity};
-ghost use Rattle.meet_tickets.specs.Limits.{most_records};
 
 use crate::command_line::Race;
 use crate::round::Finish;
@@ -81,44 +80,53 @@ impl<G: Gate, N: Ledgers> Track<Seat<Deed, N>> for Fair<G, N> {
     }
 }
 
-/// Slots with these seats, in their order. The empty list has room for them.
+/// Slots with these seats, in their order. The empty list has room for them. Of each in the first half so many calls are
+/// timed by themselves.
 pub fn slots_of<N: Ledgers>(
+    alloc: Global,
     seats: Vec<Seat<Deed, N>>,
     empty: Vec<Mutex<Slot<Seat<Deed, N>>>>,
+    timed: usize,
 ) -> Vec<Mutex<Slot<Seat<Deed, N>>>>
     requires empty { empty.items ≡ [] }
     requires room { vec_len seats ≤ vec_capacity empty }
     ensures count { vec_len result ≡ vec_len seats }
 {
+    let half = seats.len() / 2;
     let mut slots = empty;
     for seat in seats {
-        slots.push_reserved(Mutex::new(Slot {
-            seat: Some(seat),
-            count: NOTHING,
-        }));
+        let times = if slots.len() < half { timed } else { 0 };
+        slots.push_reserved(Mutex::new(Slot::new(alloc, seat, times)));
     }
     slots
 }
 
-/// The seats of these slots, to be given back, and what their threads counted together. The empty list has room for
-/// them.
+/// The seats of these slots, to be given back, what their threads counted together, and the times of their calls. The
+/// empty list has room for the seats.
 pub fn seats_of<N: Ledgers>(
+    alloc: Global,
     slots: Vec<Mutex<Slot<Seat<Deed, N>>>>,
     empty: Vec<Back<Deed, N>>,
-) -> (Vec<Back<Deed, N>>, Count)
+) -> (Vec<Back<Deed, N>>, Count, Vec<u128>)
     requires empty { empty.items ≡ [] }
     requires room { vec_len slots ≤ vec_capacity empty }
 {
     let mut backs = empty;
     let mut counted = NOTHING;
+    let mut all = Vec::new(alloc);
     for slot in slots {
-        let Slot { seat, count } = slot.into_inner();
+        let Slot {
+            seat,
+            count,
+            mut times,
+        } = slot.into_inner();
         counted = counted.with(count);
+        let _ = all.append(&mut times);
         if let Some(seat) = seat {
             backs.push_reserved(Back::Free(seat));
         }
     }
-    (backs, counted)
+    (backs, counted, all)
 }
 
 /// Runs a round over a queue of these parts, which has a seat for each thread, and closes the queue.
@@ -126,7 +134,7 @@ fn run_over<G, N, R>(
     rt: &R,
     alloc: Global,
     parts: NewQueue<G>,
-    each: u64,
+    race: Race,
 ) -> Result<Finish, Refusal>
 where
     G: Gate + Drop + Send + Sync,
@@ -134,7 +142,7 @@ where
     R: Threads + Wait + Clock + Sync,
     requires ledgers { AreOf N.name N.folds N.parts parts.blanks }
     requires one_each { N.parts ≡ vec_len parts.gates }
-    requires cap { N.cap ≡ most_records }
+    requires cap { N.cap ≡ race.cap }
 {
     let count = parts.gates.len();
     let Ok(slots) = Vec::with_capacity(alloc, count) else {
@@ -143,19 +151,19 @@ where
     let Ok(backs) = Vec::with_capacity(alloc, count) else {
         return Err(Refusal::Memory);
     };
-    let (queue, seats) = match Fair::<G, N>::new(alloc, parts) {
+    let (queue, seats) = match Fair::<G, N>::with_cap(alloc, parts, race.cap) {
         Ok(made) => made,
         Err(refused) => return Err(refused.into_why()), // the gates and the ledgers are let go
     };
-    let slots = slots_of::<N>(seats, slots);
-    let timed = run_timed(rt, &queue, slots.as_slice(), each);
-    let (backs, counted) = seats_of(slots, backs);
+    let slots = slots_of::<N>(alloc, seats, slots, race.timed());
+    let timed = run_timed(rt, alloc, &queue, slots.as_slice(), race.each);
+    let (backs, counted, puts) = seats_of(alloc, slots, backs);
     if let Err(fault) = queue.close(alloc, backs) {
         let why = fault.why();
         let _kept = ManuallyDrop::new(fault);
         return Err(why);
     }
-    Finish::of(counted, timed?)
+    Finish::of(counted, timed?, puts)
 }
 
 /// Runs a round over a queue whose threads park. It refuses what one of its calls was refused, NoThread where a thread
@@ -165,7 +173,7 @@ where
     R: Threads + Wait + Clock + Sync,
 {
     let parts = NewQueue::parked(alloc, race.threads() as usize)?;
-    run_over::<ParkGate, Brand, R>(rt, alloc, parts, race.each)
+    run_over::<ParkGate, Brand, R>(rt, alloc, parts, race)
 }
 
 /// The same over a queue whose threads spin before they park.
@@ -174,5 +182,5 @@ where
     R: Threads + Wait + Clock + Sync,
 {
     let parts = NewQueue::spinning(alloc, race.threads() as usize, TURNS)?;
-    run_over::<SpinGate, Brand, R>(rt, alloc, parts, race.each)
+    run_over::<SpinGate, Brand, R>(rt, alloc, parts, race)
 }

@@ -2,10 +2,11 @@
 //! a seat comes back whatever happens, also where its thread can't be started.
 
 use meet_tickets::Refusal;
+use std::alloc::Global;
 use std::sync::{Mutex, Wait};
-use std::thread;
 use std::thread::Threads;
 use std::time::{Clock, Instant};
+use std::{mem, thread};
 
 /// A call of a queue.
 #[derive(Clone, Copy)]
@@ -62,11 +63,36 @@ pub const NOTHING: Count = Count {
     why: None,
 };
 
-/// Where a seat lies before its thread starts and after it ended, and what the thread counted.
+/// Where a seat lies before its thread starts and after it ended, what the thread counted, and how long its calls took.
 #[derive(Drop)]
 pub struct Slot<S> {
     pub seat: Option<S>,
     pub count: Count,
+    /// As many calls are timed, each by itself, as this list has room for: the first ones.
+    pub times: Vec<u128>,
+}
+
+impl<S> Slot<S> {
+    /// A slot with this seat, whose first calls are timed by themselves, up to so many; none where memory is short.
+    pub fn new(alloc: Global, seat: S, timed: usize) -> Slot<S> {
+        let times = match Vec::with_capacity(alloc, timed) {
+            Ok(times) => times,
+            Err(_) => Vec::new(alloc),
+        };
+        Slot {
+            seat: Some(seat),
+            count: NOTHING,
+            times,
+        }
+    }
+}
+
+/// A thread's seat, what it counted, and how long its calls took.
+#[derive(Drop)]
+struct Worked<S> {
+    seat: S,
+    count: Count,
+    times: Vec<u128>,
 }
 
 impl Count {
@@ -121,12 +147,39 @@ impl Task {
     }
 }
 
+/// Makes a call, and writes down how long it took where the list has room for that.
+fn pass<S, T: Track<S>, R: Wait + Clock>(
+    rt: &R,
+    track: &T,
+    seat: S,
+    call: Call,
+    times: &mut Vec<u128>,
+) -> (S, Passed) {
+    if times.len() >= times.capacity() {
+        return track.pass(rt, seat, call);
+    }
+    let start = Instant::now(rt);
+    let (seat, passed) = track.pass(rt, seat, call);
+    if let Ok(start) = start {
+        if let Ok(took) = start.elapsed(rt) {
+            let _ = times.push(took.as_nanos());
+        }
+    }
+    (seat, passed)
+}
+
 /// Does a task with a seat, until it is done, or all are to stop, or a call is refused; then all are stopped.
-fn perform<S, T: Track<S>, R: Wait + Clock>(rt: &R, track: &T, first: S, task: Task) -> (S, Count) {
+fn perform<S, T: Track<S>, R: Wait + Clock>(
+    rt: &R,
+    track: &T,
+    first: S,
+    task: Task,
+    mut times: Vec<u128>,
+) -> Worked<S> {
     let mut seat = first;
     let mut count = NOTHING;
     for number in 1..=task.calls() {
-        let (after, passed) = track.pass(rt, seat, task.call(number));
+        let (after, passed) = pass(rt, track, seat, task.call(number), &mut times);
         let (counted, goes_on) = count.after(passed);
         seat = after;
         count = counted;
@@ -135,7 +188,7 @@ fn perform<S, T: Track<S>, R: Wait + Clock>(rt: &R, track: &T, first: S, task: T
             break;
         }
     }
-    (seat, count)
+    Worked { seat, count, times }
 }
 
 /// Puts a seat back into its slot, with what its thread counted.
@@ -145,17 +198,30 @@ pub fn put_back<S: Drop, R: Wait>(rt: &R, slot: &Mutex<Slot<S>>, seat: S, count:
     slot.seat = Some(seat);
 }
 
+/// What lies in a slot: its seat, if it is there, and the list of its times.
+fn take_out<S: Drop, R: Wait>(
+    rt: &R,
+    alloc: Global,
+    slot: &Mutex<Slot<S>>,
+) -> (Option<S>, Vec<u128>) {
+    let mut slot = slot.lock(rt);
+    let times = mem::replace(&mut slot.times, Vec::new(alloc));
+    (slot.seat.take(), times)
+}
+
 /// Does a task with the seat of this slot.
 fn work<S: Drop, T: Track<S>, R: Wait + Clock>(
     rt: &R,
+    alloc: Global,
     track: &T,
     slot: &Mutex<Slot<S>>,
     task: Task,
 ) {
-    let taken = slot.lock(rt).seat.take();
+    let (taken, times) = take_out(rt, alloc, slot);
     if let Some(seat) = taken {
-        let (seat, count) = perform(rt, track, seat, task);
+        let Worked { seat, count, times } = perform(rt, track, seat, task, times);
         put_back(rt, slot, seat, count);
+        slot.lock(rt).times = times;
     }
 }
 
@@ -174,7 +240,7 @@ fn give_up<S: Drop, T: Track<S>, R: Wait>(rt: &R, track: &T, slot: &Mutex<Slot<S
 
 /// Each of the first half of the slots puts so many items, each of the others takes as many, all at once. It returns
 /// once all threads have ended.
-fn run_all<S, T, R>(rt: &R, track: &T, slots: &[Mutex<Slot<S>>], each: u64)
+fn run_all<S, T, R>(rt: &R, alloc: Global, track: &T, slots: &[Mutex<Slot<S>>], each: u64)
 where
     S: Drop + Send,
     T: Track<S> + Sync,
@@ -188,7 +254,10 @@ where
             } else {
                 Task::Take(each)
             };
-            if scope.spawn(move || work(rt, track, slot, task)).is_err() {
+            if scope
+                .spawn(move || work(rt, alloc, track, slot, task))
+                .is_err()
+            {
                 give_up(rt, track, slot);
                 break;
             }
@@ -200,6 +269,7 @@ where
 /// ReadFault where the clock can't be read.
 pub fn run_timed<S, T, R>(
     rt: &R,
+    alloc: Global,
     track: &T,
     slots: &[Mutex<Slot<S>>],
     each: u64,
@@ -212,7 +282,7 @@ where
     let Ok(start) = Instant::now(rt) else {
         return Err(Refusal::ReadFault);
     };
-    run_all(rt, track, slots, each);
+    run_all(rt, alloc, track, slots, each);
     match start.elapsed(rt) {
         Ok(passed) => Ok(passed.as_nanos()),
         Err(_) => Err(Refusal::ReadFault),

@@ -1,5 +1,7 @@
 //! How long calls took, in nanoseconds.
 
+ghost use Rattle.std.specs.Prelude.{◌<◌};
+
 use std::alloc::Global;
 
 /// How long each put and each take took.
@@ -58,11 +60,37 @@ fn median(times: &mut Vec<u128>) -> u128 {
     nth(times.as_slice(), times.len() / 2)
 }
 
-/// What 99 in 100 of these times don't exceed. They are in rising order.
-fn longest(times: &[u128]) -> u128 {
-    let hundredth = times.len() / 100;
-    let number = times.len().saturating_sub(hundredth).saturating_sub(1);
+/// What all but one in so many of these times don't exceed. They are in rising order.
+fn all_but_one_in(many: usize, times: &[u128]) -> u128
+    requires { 0 < many }
+{
+    let number = times
+        .len()
+        .saturating_sub(times.len() / many)
+        .saturating_sub(1);
     nth(times, number)
+}
+
+/// What is told of many times of one call.
+#[derive(Clone, Copy, PartialEq, Eq, Debug)]
+pub struct Tails {
+    pub median: u128,
+    /// What 99 in 100 didn't exceed.
+    pub hundredth: u128,
+    /// What 999 in 1,000 didn't exceed.
+    pub thousandth: u128,
+}
+
+impl Tails {
+    /// What is told of these times.
+    pub fn of(mut times: Vec<u128>) -> Tails {
+        let median = median(&mut times);
+        Tails {
+            median,
+            hundredth: all_but_one_in(100, times.as_slice()),
+            thousandth: all_but_one_in(1_000, times.as_slice()),
+        }
+    }
 }
 
 impl Pairs {
@@ -97,7 +125,7 @@ impl Times {
         let hold = median(&mut holds);
         Spread {
             hold,
-            longest: longest(holds.as_slice()),
+            longest: all_but_one_in(100, holds.as_slice()),
             puts: Medians {
                 before: median(&mut before.puts),
                 first: median(&mut first.puts),
