@@ -15,7 +15,8 @@ const VERSION: &str = "0.1.0";
 const REST_OF_HELP: &str = "\
 A script is a place and then calls, a line each, by the seat that makes them. A trace is the record of their steps.
   printf 'fair\\n0 put 5\\n1 take\\n0 follow\\n' | meet run
-Where a record of a trace can't stand, explain says which may in its place, and who waits there.
+Where a record of a trace can't stand, explain says which may in its place, and who waits there. Where a line of a trace
+or a script can't be read, it says what was found there, and what can stand.
 
 Places: fair, unfair, transfer
 Verbs: put N, offer N, take, poll, follow, cancel, expire, interrupt SEAT, drain N, size, room, peek, checkpoint;

@@ -69,11 +69,20 @@ fn perform_here(rt: &HostRuntime, task: Task) -> Result<bool, RunFault> {
     perform(rt.alloc(), &mut reader, &mut rt.stdout(), task)
 }
 
-/// The same; where a trace isn't legal, and standard error is a terminal, it says there that it can be explained.
+/// Whether `meet explain` has more to say of a text: of a trace that isn't legal, and of a queue's text in which a line
+/// can't be read.
+fn can_be_explained(task: Task, outcome: &Result<bool, RunFault>) -> bool {
+    match outcome {
+        Ok(legal) => matches!(task, Task::Check) && !*legal,
+        Err(fault) => fault.line.is_some() && matches!(task, Task::Check | Task::Run | Task::Trace),
+    }
+}
+
+/// The same; where a text can be explained, and standard error is a terminal, it says so there.
 fn perform_told(rt: &HostRuntime, task: Task) -> Result<bool, RunFault> {
     let outcome = perform_here(rt, task);
-    if matches!(task, Task::Check) && matches!(outcome, Ok(false)) && rt.stderr().is_terminal() {
-        let _ = eprintln!(rt; "meet: 'meet explain' says which records may stand there");
+    if can_be_explained(task, &outcome) && rt.stderr().is_terminal() {
+        let _ = eprintln!(rt; "meet: 'meet explain' says what may stand there");
     }
     outcome
 }

@@ -4,6 +4,7 @@ ghost use Rattle.std.specs.Prelude.{IfOk, IfSome};
 ghost use Rattle.meet_run.specs.Reading.{lines_of};
 ghost use Rattle.meet_explain.specs.Explained.{IsTold, IsExplained, ExplainEnds};
 
+use crate::faulty::push_faulty;
 use crate::lines::{before, count_lines, line_at};
 use crate::wording::{push_instead, push_line, push_moment};
 use meet_answers::comes_instead;
@@ -105,6 +106,17 @@ fn told(alloc: Global, text: &[u8]) -> Result<(bool, Vec<u8>), RunFault>
     }
 }
 
+/// Writes what explains the fault of a line, if it is one; that it can't be written is told by nothing, as the fault is
+/// told in any case.
+fn write_fault<W: Write>(alloc: Global, text: &[u8], writer: &mut W, fault: RunFault) {
+    if let Some(number) = fault.line {
+        let mut out = Vec::new(alloc);
+        if push_faulty(alloc, &mut out, text, number).is_ok() {
+            let _ = write_whole(writer, out.as_slice());
+        }
+    }
+}
+
 /// Explains these bytes.
 fn explain_text<W: Write>(alloc: Global, text: &[u8], writer: &mut W) -> Result<bool, RunFault>
     ensures { IfOk result (λ legal. IsExplained (lines_of text.now) legal (W.contents writer.old)
@@ -112,7 +124,10 @@ fn explain_text<W: Write>(alloc: Global, text: &[u8], writer: &mut W) -> Result<
 {
     let (legal, out) = match told(alloc, text) {
         Ok(told) => told,
-        Err(fault) => return Err(fault),
+        Err(fault) => {
+            write_fault(alloc, text, writer, fault);
+            return Err(fault);
+        }
     };
     match write_whole(writer, out.as_slice()) {
         Ok(()) => Ok(legal),

@@ -6,7 +6,10 @@
 #![tactic(auto)]
 
 mod explaining;
+mod faulty;
+mod flaws;
 mod lines;
 mod wording;
+mod words;
 
 pub use explaining::explain_trace;

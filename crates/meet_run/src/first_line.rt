@@ -127,7 +127,7 @@ fn read_long_setup(line: &[u8]) -> Option<Setup>
 
 /// The place of a script's first line, or none where the line is at fault.
 #[tactic(auto, unfolding(crate::specs::Grammar::setup_of))]
-pub(crate) fn read_setup(line: &[u8]) -> Option<Setup>
+pub fn read_setup(line: &[u8]) -> Option<Setup>
     ensures read { result ≡ setup_of line.now }
     ensures fits { IfSome result IsInLimits }
 {

@@ -123,7 +123,7 @@ pub(crate) fn read_any_call(line: &[u8]) -> Option<Call>
 
 /// The call of a line of a script about a place of this order, or none where the line is at fault.
 #[tactic(auto, unfolding(crate::specs::Grammar::call_of, crate::specs::Grammar::served_call))]
-pub(crate) fn read_call(order: Order, line: &[u8]) -> Option<Call>
+pub fn read_call(order: Order, line: &[u8]) -> Option<Call>
     ensures read { result ≡ call_of order line.now }
     ensures fits { IfSome result (FitsCall order) }
 {

@@ -213,7 +213,7 @@ fn finish_kind(order: Order, bound: Option<u64>, rest: &[u8]) -> Option<Kind>
 
 /// A kind of place: its word, and its bound where it is spelled out.
 #[tactic(auto, unfolding(crate::specs::TraceGrammar::kind_in))]
-pub(crate) fn read_kind(text: &[u8]) -> Option<Kind>
+pub fn read_kind(text: &[u8]) -> Option<Kind>
     ensures { result ≡ kind_in text.now }
 {
     let (word, rest) = split_word(text);
