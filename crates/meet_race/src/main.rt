@@ -6,12 +6,9 @@
 //!
 //! So many pairs of threads, one of which puts the numbers from 1 to EACH and one takes as many, do so ROUNDS times,
 //! each time over a new queue. A line a round on standard output tells how many items were taken and their sum,
-//! whatever the threads' order; one on standard error how many nanoseconds it took. With `tails` each put is timed by
-//! itself, and one line more tells the median of a round's, and what 99 in 100 and 999 in 1,000 didn't exceed. CAP is
-//! how many records the queue may have at a time: each seat tends it behind each call, and makes a checkpoint where more
-//! than half of them are there.
+//! whatever the threads' order; one on standard error how many nanoseconds it took.
 //!
-//! What a `checkpoint` does and prints is said in `checkpoints`.
+//! What `tails` tells is said in `times`, and what a `checkpoint` does and prints in `checkpoints`.
 #![tactic(auto)]
 
 mod bare;

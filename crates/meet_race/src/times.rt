@@ -1,4 +1,8 @@
 //! How long calls took, in nanoseconds.
+//!
+//! With `tails` each put of a race is timed by itself, and a line on standard error more tells the median of a round's,
+//! and what 99 in 100 and 999 in 1,000 didn't exceed. CAP is how many records the queue may have at a time: each seat
+//! tends it behind each call, and makes a checkpoint where more than half of them are there.
 
 ghost use Rattle.std.specs.Prelude.{◌<◌};
 
