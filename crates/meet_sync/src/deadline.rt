@@ -4,6 +4,14 @@ ghost use Rattle.std.specs.Prelude.{◌≡◌, None, IfNone};
 
 use std::time::{Clock, Instant};
 
+/// When a limit begins, which is now; none where there is no limit, whose call looks at no clock, or no clock.
+pub(crate) fn begun<R: Clock>(rt: &R, limit: Option<u64>) -> Option<Instant> {
+    match limit {
+        None => None,
+        Some(_) => Instant::now(rt).ok(),
+    }
+}
+
 /// How many milliseconds passed since this start; none where there is no clock.
 fn passed<R: Clock>(rt: &R, start: Option<Instant>) -> Option<u64> {
     let passed = start?.elapsed(rt).ok()?.as_millis();

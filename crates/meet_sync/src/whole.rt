@@ -7,13 +7,13 @@ ghost use Rattle.meet_sync.specs.Told.{IsRequestWhy};
 ghost use Rattle.meet_sync.specs.declared.asked.Request.TheVariants.{Give, Offer, Take, Poll};
 
 use crate::asked::{Asked, End, Ended, FollowedUp, Request, SeatRefused, Withdrawn};
-use crate::deadline::left_of;
+use crate::deadline::{begun, left_of};
 use crate::queue::Queue;
 use meet_calls::QueuePlace;
 use meet_place::{Gate, Ledgers, Pending, Seat, Turn};
 use meet_tickets::Deed;
 use std::sync::Wait;
-use std::time::{Clock, Instant};
+use std::time::Clock;
 
 impl<O: QueuePlace, G: Gate, N: Ledgers> Queue<O, G, N> {
     /// Follows an open ticket up: how it ended, or the ticket as it was.
@@ -99,7 +99,7 @@ impl<O: QueuePlace, G: Gate, N: Ledgers> Queue<O, G, N> {
         ensures outcome { OutcomeOf O.Item.mark_of first result }
         ensures untimed { IfNone limit (NotExpired result.end) }
     {
-        let start = Instant::now(rt).ok();
+        let start = begun(rt, limit);
         let mut left = limit;
         let mut pending = first;
         for _ in rt.forever() {
