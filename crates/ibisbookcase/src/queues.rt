@@ -1,10 +1,11 @@
 //! The queues for threads, for who holds seats, gates and ledgers in a hand of his own, and a desk for their seats.
 
 pub use meet_cells::{ParkGate, SpinGate};
+pub use meet_chosen::{ChosenBook, ChosenQueue};
 pub use meet_desk::Desk;
 pub use meet_sync::{
     Answer, Asked, Back, Blanks, Chapter, Chronicle, DrainedItems, End, Ended, FairLine,
     FollowedUp, Gate, Ledgers, Left, LeftStanding, NewQueue, Pending, Queue, QueueFault, Request,
     Seat, SeatRefused, StackLine, Struck, SyncQueue, Tally, TransferQueue, Turn, Withdrawn,
 };
-pub use meet_tickets::{Deed, Marked, Record, Refusal, Refused, SeatNo, Ticket};
+pub use meet_tickets::{Deed, Marked, Order, Record, Refusal, Refused, SeatNo, Ticket};

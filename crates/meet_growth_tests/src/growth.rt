@@ -11,7 +11,7 @@ mod fresh;
 
 use meet_cells::ParkGate;
 use meet_history::{Kind, Order, check};
-use meet_shop::{Ask, Came, Found, Open, Shop, Told, ended, gates, has};
+use meet_shop::{Ask, Came, Found, Shop, Told, answer, ended, gates, has};
 use meet_sync::{
     Back, Blanks, Chronicle, DrainedItems, Ledgers, LeftStanding, NewQueue, QueueFault, Seat,
     SeatRefused,
@@ -80,12 +80,12 @@ fn bears<N: Ledgers, R: Abort + Wait>(
     ask: Ask,
 ) -> Came<N> {
     let before = (seat.number().number(), seat.receipts().len());
-    let (back, told) = shop.answer(rt, seat, ask);
+    let (back, told) = answer(rt, shop, seat, ask);
     if told != Told::Refused(Refusal::Memory, brought(ask)) {
         return (back, told);
     }
     assert_eq!(rt; (back.number().number(), back.receipts().len()), before);
-    shop.answer(rt, back, ask)
+    answer(rt, shop, back, ask)
 }
 
 /// A seat has its turn.
@@ -185,9 +185,9 @@ fn ends<N: Ledgers>(
     let before = (seats.len(), receipts_of(rt, seats.as_slice()));
     match shop.close(alloc, seats) {
         Ok(chronicle) => chronicle,
-        Err(Open::Memory(shop, seats)) => {
+        Err(QueueFault::Memory { queue, seats }) => {
             assert_eq!(rt; (seats.len(), receipts_of(rt, seats.as_slice())), before);
-            ended(alloc, shop, seats).expect(rt, "it isn't closed")
+            ended(alloc, queue, seats).expect(rt, "it isn't closed")
         }
         Err(_) => panic!(rt; "something else than memory was wanted"),
     }

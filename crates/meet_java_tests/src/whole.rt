@@ -6,8 +6,8 @@ ghost use Rattle.meet_place.specs.Ledgers.{AreOf};
 use meet_cells::ParkGate;
 use meet_history::Order;
 use meet_shop::{
-    Ask, Call, Eager, Fresh, Idle, NOTHING, Shop, Story, Told, Unlike, called, ended, gates, tells,
-    two_backs, two_seats,
+    Ask, Call, Eager, Fresh, Idle, NOTHING, Shop, Story, Told, Unlike, answer, called, ended,
+    gates, tells, two_backs, two_seats,
 };
 use meet_sync::{Back, Blanks, Chronicle, Ledgers, NewQueue, Seat};
 use meet_tickets::{Cause, Deed};
@@ -178,7 +178,7 @@ fn cut<G: Fresh + Sync, N: Ledgers + Send + Sync, R: Threads + Wait + Clock + Sy
     let (came, struck) = thread::join(
         rt,
         move || called(rt, shop, caller, call),
-        move || shop.answer(rt, other, Ask::Interrupt(0)),
+        move || answer(rt, shop, other, Ask::Interrupt(0)),
     );
     let (first, told) = came;
     let (second, why) = struck;

@@ -2,8 +2,8 @@
 
 use crate::answers::{Came, asked, followed, struck, withdrawn};
 use crate::asks::{Ask, Told};
-use meet_calls::QueuePlace;
-use meet_sync::{Back, Gate, Ledgers, Pending, Queue, Request, Seat};
+use crate::shops::Shop;
+use meet_sync::{Back, Gate, Ledgers, Pending, Request, Seat};
 use meet_tickets::{Deed, SeatNo, Ticket};
 use std::sync::Wait;
 
@@ -22,20 +22,20 @@ fn reopened<N: Ledgers>(
 }
 
 /// A seat without a ticket asks.
-fn answer_free<O: QueuePlace<Item = u64>, G: Gate, N: Ledgers, R: Wait>(
+fn answer_free<G: Gate, N: Ledgers, R: Wait>(
     rt: &R,
-    queue: &Queue<O, G, N>,
+    shop: &Shop<G, N>,
     seat: Seat<Deed, N>,
     ask: Ask,
 ) -> Came<N> {
     match ask {
-        Ask::Put(item) => asked(queue.request(rt, seat, Request::Put(item))),
-        Ask::Give(item) => asked(queue.request(rt, seat, Request::Give(item))),
-        Ask::Offer(item) => asked(queue.request(rt, seat, Request::Offer(item))),
-        Ask::Take => asked(queue.request(rt, seat, Request::Take)),
-        Ask::Poll => asked(queue.request(rt, seat, Request::Poll)),
+        Ask::Put(item) => asked(shop.request(rt, seat, Request::Put(item))),
+        Ask::Give(item) => asked(shop.request(rt, seat, Request::Give(item))),
+        Ask::Offer(item) => asked(shop.request(rt, seat, Request::Offer(item))),
+        Ask::Take => asked(shop.request(rt, seat, Request::Take)),
+        Ask::Poll => asked(shop.request(rt, seat, Request::Poll)),
         Ask::Interrupt(target) => match SeatNo::new(target) {
-            Some(target) => struck(queue.interrupt(rt, seat, target)),
+            Some(target) => struck(shop.interrupt(rt, seat, target)),
             None => (Back::Free(seat), Told::Unasked),
         },
         Ask::Follow => (Back::Free(seat), Told::Unasked),
@@ -45,14 +45,14 @@ fn answer_free<O: QueuePlace<Item = u64>, G: Gate, N: Ledgers, R: Wait>(
 }
 
 /// A seat whose ticket is open asks for something else than its end.
-fn answer_parted<O: QueuePlace<Item = u64>, G: Gate, N: Ledgers, R: Wait>(
+fn answer_parted<G: Gate, N: Ledgers, R: Wait>(
     rt: &R,
-    queue: &Queue<O, G, N>,
+    shop: &Shop<G, N>,
     pending: Pending<Deed, N>,
     ask: Ask,
 ) -> Came<N> {
     let (seat, ticket, mark) = pending.into_parts();
-    let (back, told) = answer_free(rt, queue, seat, ask);
+    let (back, told) = answer_free(rt, shop, seat, ask);
     match back {
         Back::Free(seat) => reopened(seat, ticket, mark, told),
         Back::Held(pending) => (Back::Held(pending), told),
@@ -60,19 +60,19 @@ fn answer_parted<O: QueuePlace<Item = u64>, G: Gate, N: Ledgers, R: Wait>(
 }
 
 /// A seat asks: the seat, and what it is told.
-pub fn answer<O: QueuePlace<Item = u64>, G: Gate, N: Ledgers, R: Wait>(
+pub fn answer<G: Gate, N: Ledgers, R: Wait>(
     rt: &R,
-    queue: &Queue<O, G, N>,
+    shop: &Shop<G, N>,
     back: Back<Deed, N>,
     ask: Ask,
 ) -> Came<N> {
     match back {
-        Back::Free(seat) => answer_free(rt, queue, seat, ask),
+        Back::Free(seat) => answer_free(rt, shop, seat, ask),
         Back::Held(pending) => match ask {
-            Ask::Follow => followed(queue.follow_up(rt, pending)),
-            Ask::Cancel => withdrawn(queue.cancel(rt, pending)),
-            Ask::Expire => withdrawn(queue.expire(rt, pending)),
-            _ => answer_parted(rt, queue, pending, ask),
+            Ask::Follow => followed(shop.follow_up(rt, pending)),
+            Ask::Cancel => withdrawn(shop.cancel(rt, pending)),
+            Ask::Expire => withdrawn(shop.expire(rt, pending)),
+            _ => answer_parted(rt, shop, pending, ask),
         },
     }
 }

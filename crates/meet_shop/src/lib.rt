@@ -1,4 +1,5 @@
-//! The queues for threads as one, through which numbers go: what tests and soaks of them have in common.
+//! What tests and soaks of queues for threads have in common: numbers go through a queue whose order each of them chooses,
+//! and stories tell what seats ask of it.
 #![tactic(auto)]
 
 mod answers;
@@ -17,8 +18,10 @@ mod unlike;
 mod waiting;
 
 pub use answers::Came;
+pub use asking::answer;
 pub use asks::{Ask, Row, Told};
 pub use calls::{Call, called};
+pub use checkpoints::trimmed;
 pub use drains::drained;
 pub use flags::{FlagGate, Flags};
 pub use numbers::{Chance, ending, request};
@@ -26,7 +29,7 @@ pub use plays::{
     Found, NOTHING, Seats, Story, ask_all, ask_one, closed, ended, given, has, play, played,
     seated, tells, told, two_backs, two_seats,
 };
-pub use shops::{Open, Shop, keep};
+pub use shops::{Shop, keep};
 pub use steps::{Probe, Step, drain_one, happens};
 pub use unlike::Unlike;
 pub use waiting::{Eager, Fresh, Idle, gates};

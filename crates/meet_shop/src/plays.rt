@@ -3,9 +3,10 @@
 ghost use Rattle.std.specs.Prelude.{◌≡◌, vec_len};
 ghost use Rattle.meet_place.specs.Ledgers.{AreOf};
 
+use crate::asking::answer;
 use crate::asks::{Ask, Row, Told};
 use crate::obeys::obeys;
-use crate::shops::{Open, Shop, keep};
+use crate::shops::{Shop, keep};
 use crate::unlike::Unlike;
 use crate::waiting::{Idle, gates};
 use meet_book::Receipt;
@@ -100,7 +101,7 @@ pub fn ask_one<G: Gate + Drop, N: Ledgers, R: Wait>(
 ) -> Told {
     match seat.take() {
         Some(back) => {
-            let (back, told) = shop.answer(rt, back, ask);
+            let (back, told) = answer(rt, shop, back, ask);
             *seat = Some(back);
             told
         }
@@ -204,19 +205,11 @@ pub fn ended<G: Gate + Drop, N: Ledgers>(
 ) -> Result<Chronicle<u64>, &'static str> {
     match shop.close(alloc, backs) {
         Ok(chronicle) => Ok(chronicle),
-        Err(open) => match open {
-            Open::Missing(_, _, shop, seats) => {
-                keep(shop);
-                keep(seats);
-                Err("a seat is missing")
-            }
-            Open::Memory(shop, seats) => {
-                keep(shop);
-                keep(seats);
-                Err("memory")
-            }
-            Open::Other(why) => Err(why.name()),
-        },
+        Err(fault) => {
+            let why = fault.why();
+            keep(fault);
+            Err(why.name())
+        }
     }
 }
 

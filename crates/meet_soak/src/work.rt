@@ -2,7 +2,7 @@
 
 use crate::accounts::Account;
 use meet_cells::ParkGate;
-use meet_shop::{Ask, Call, Chance, Shop, Told, called, drained};
+use meet_shop::{Ask, Call, Chance, Shop, Told, answer, called, drained, trimmed};
 use meet_stamps::{Stamped, Stamps};
 use meet_sync::{Back, Gate, Ledgers, Seat, SeatRefused};
 use meet_tickets::{Deed, Order};
@@ -182,13 +182,13 @@ fn does<G: Gate + Drop, N: Ledgers, R: Wait + Clock>(
             back
         }
         Act::Part(ask) => {
-            let (back, told) = shop.answer(rt, back, ask);
+            let (back, told) = answer(rt, shop, back, ask);
             account.note(given_by_part(ask), told);
             back
         }
         Act::Drain(max) => drains(rt, alloc, shop, back, account, max),
         Act::Fold => folds(rt, shop, back, account),
-        Act::Trim => shop.trim(rt, back),
+        Act::Trim => trimmed(rt, shop, back),
     }
 }
 

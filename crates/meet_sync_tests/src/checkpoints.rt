@@ -6,7 +6,9 @@ ghost use Rattle.meet_place.specs.Ledgers.{AreOf};
 
 use meet_history::Order;
 use meet_line::FairLine;
-use meet_shop::{Ask, Idle, Seats, Shop, Told, Unlike, ask_all, closed, gates, keep, seated};
+use meet_shop::{
+    Ask, Idle, Seats, Shop, Told, Unlike, ask_all, closed, gates, keep, seated, trimmed,
+};
 use meet_sync::{Asked, Back, Blanks, Chronicle, Ledgers, NewQueue, Request, SyncQueue};
 use meet_tickets::{Deed, Refusal};
 use std::alloc::Global;
@@ -56,7 +58,7 @@ fn trims<N: Ledgers, R: Abort + Wait>(
     match place.take() {
         Some(back) => {
             assert_eq!(rt; back.receipts().len(), before);
-            let back = shop.trim(rt, back);
+            let back = trimmed(rt, shop, back);
             assert_eq!(rt; back.receipts().len(), left);
             *place = Some(back);
         }

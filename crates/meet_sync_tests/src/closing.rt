@@ -5,10 +5,10 @@ ghost use Rattle.meet_place.specs.Ledgers.{AreOf};
 
 use meet_history::{Order, Standing};
 use meet_shop::{
-    Ask, Found, Idle, Open, Row, Seats, Shop, Story, Told, ask_all, ended, gates, given, play,
-    seated, tells,
+    Ask, Found, Idle, Row, Seats, Shop, Story, Told, ask_all, ended, gates, given, play, seated,
+    tells,
 };
-use meet_sync::{Back, Blanks, Chronicle, Ledgers, LeftStanding, NewQueue};
+use meet_sync::{Back, Blanks, Chronicle, Ledgers, LeftStanding, NewQueue, QueueFault};
 use meet_tickets::Deed;
 use std::alloc::Global;
 use std::marker::Brand;
@@ -156,11 +156,16 @@ fn closed_late<N: Ledgers>(
 ) -> Late {
     match shop.close(alloc, backs) {
         Ok(_) => panic!(rt; "it is closed without a seat"),
-        Err(open) => match open {
-            Open::Missing(have, made, shop, backs) => Late {
+        Err(fault) => match fault {
+            QueueFault::SeatMissing {
                 have,
                 made,
-                chronicle: closed_with(rt, alloc, shop, backs, last),
+                queue,
+                seats,
+            } => Late {
+                have,
+                made,
+                chronicle: closed_with(rt, alloc, queue, seats, last),
             },
             _ => panic!(rt; "it isn't told how many are missing"),
         },

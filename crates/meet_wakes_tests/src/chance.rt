@@ -5,7 +5,7 @@ ghost use Rattle.std.specs.Prelude.{◌≡◌, vec_len};
 ghost use Rattle.meet_place.specs.Ledgers.{AreOf};
 
 use meet_history::{Kind, Order, check};
-use meet_shop::{Ask, Chance, Idle, Shop, Told, ended, ending, gates, keep, request};
+use meet_shop::{Ask, Chance, Idle, Shop, Told, answer, ended, ending, gates, keep, request};
 use meet_sync::{Back, Blanks, Chronicle, Ledgers, NewQueue};
 use meet_tickets::{Base, Deed};
 use std::alloc::Global;
@@ -38,7 +38,7 @@ fn walk<N: Ledgers, R: Wait>(
             Back::Free(_) => request(&mut chance, seats, item),
             Back::Held(_) => ending(&mut chance, seats),
         };
-        let (again, told) = shop.answer(rt, back, ask);
+        let (again, told) = answer(rt, shop, back, ask);
         if told.is_recorded() {
             recorded.fetch_add(1, Ordering::SeqCst);
         }

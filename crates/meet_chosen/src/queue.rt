@@ -1,0 +1,303 @@
+//! A queue of the order that was chosen: its beginning and its end. What lies between is written for all three orders at
+//! once (`whichever`).
+
+ghost use Rattle.std.specs.Prelude.{◌≡◌, ℕ, ◌+◌, ◌<◌, ◌≤◌, ◌^◌, None, List, length, map, vec_len, IfOk, IfErr};
+ghost use Rattle.meet_tickets.specs.Limits.{most_records, most_seats};
+ghost use Rattle.meet_tickets.specs.Refusals.{IsWhy};
+ghost use Rattle.meet_place.specs.Backs.{list_of, AreOrdered, shares_in, folded_in};
+ghost use Rattle.meet_place.specs.Ledgers.{AreOf};
+ghost use Rattle.meet_place.specs.Seats.{AreFresh};
+ghost use Rattle.meet_place.specs.declared.seats.Back.{Back};
+ghost use Rattle.meet_sync.specs.Chronicles.{IsChronicle};
+ghost use Rattle.meet_sync.specs.Faults.{QueueFaultFits};
+ghost use Rattle.meet_sync.specs.Making.{making_refusal};
+ghost use Rattle.meet_chosen.specs.Chosen.{order_of, kind_of, seats_in, ChosenFaultFits};
+ghost use Rattle.meet_chosen.specs.declared.queue.ChosenQueue.TheVariants.{Fair as FairOne, Unfair as UnfairOne};
+ghost use Rattle.meet_chosen.specs.declared.queue.ChosenQueue.TheVariants.{Transfer as TransferOne};
+
+use meet_book::Book;
+use meet_place::{Back, Gate, Ledgers, Pending, Seat, Turn};
+use meet_queues::{Dual, Unbounded};
+use meet_sync::{Chronicle, FairLine, NewQueue, QueueFault, StackLine, SyncQueue, TransferQueue};
+use meet_tickets::{Deed, MOST_RECORDS, Marked, Order, Refused, SeatNo};
+use std::alloc::Global;
+use std::sync::Wait;
+use std::time::Clock;
+
+/// What the queue answers, whichever of the three it is: the call is written once.
+macro_rules! whichever {
+    ($chosen:expr, $queue:ident => $call:expr) => {
+        match $chosen {
+            ChosenQueue::Fair($queue) => $call,
+            ChosenQueue::Unfair($queue) => $call,
+            ChosenQueue::Transfer($queue) => $call,
+        }
+    };
+}
+
+pub(crate) use whichever;
+
+/// A queue for threads of the order that was chosen. What only some orders have, as `transfer`, the queue of that order
+/// has.
+#[derive(Drop)]
+pub enum ChosenQueue<T: Marked, G, N: Ledgers> {
+    /// `new SynchronousQueue(true)`.
+    Fair(SyncQueue<T, FairLine<T>, G, N>),
+    /// `new SynchronousQueue(false)`.
+    Unfair(SyncQueue<T, StackLine<T>, G, N>),
+    /// `new LinkedTransferQueue()`.
+    Transfer(TransferQueue<T, G, N>),
+}
+
+/// The book of a queue of the order that was chosen, out of its lock.
+#[derive(Drop)]
+pub enum ChosenBook<T: Marked> {
+    Fair(Book<Dual<T, FairLine<T>>>),
+    Unfair(Book<Dual<T, StackLine<T>>>),
+    Transfer(Book<Unbounded<T>>),
+}
+
+impl<T: Marked, G, N: Ledgers> ChosenQueue<T, G, N> {
+    /// Its order.
+    pub fn order(&self) -> Order
+        ensures { result ≡ order_of self.now }
+    {
+        match self {
+            ChosenQueue::Fair(_) => Order::Fair,
+            ChosenQueue::Unfair(_) => Order::Unfair,
+            ChosenQueue::Transfer(_) => Order::Transfer,
+        }
+    }
+
+    /// How many seats there are.
+    pub fn seats(&self) -> usize
+        ensures count { result ≡ seats_in self.now }
+        ensures parts { result ≡ N.parts }
+        ensures limit { result ≤ most_seats }
+    {
+        whichever!(self, queue => queue.seats())
+    }
+}
+
+impl<T: Marked, G: Drop, N: Ledgers> ChosenQueue<T, G, N> {
+    /// A queue of this order with a seat for each gate, numbered from 0, and at most so many records. It refuses
+    /// BadSizes where there is no gate or more than 65,536, or the records are none or more than 1,048,576; then Memory.
+    /// All comes back.
+    pub fn with_cap(
+        alloc: Global,
+        order: Order,
+        parts: NewQueue<G>,
+        cap: u64,
+    ) -> Result<(Self, Vec<Seat<Deed, N>>), Refused<NewQueue<G>>>
+        requires ledgers { AreOf N.name N.folds N.parts parts.blanks }
+        requires one_each { N.parts ≡ vec_len parts.gates }
+        requires cap { N.cap ≡ cap }
+        ensures order { IfOk result (λ made. order_of made.0 ≡ order) }
+        ensures count { IfOk result (λ made. seats_in made.0 ≡ vec_len parts.gates) }
+        ensures seats { IfOk result (λ made. vec_len made.1 ≡ vec_len parts.gates) }
+        ensures numbers { IfOk result (λ made. AreFresh made.1.items) }
+        ensures sizes { IfOk result (λ _. making_refusal (vec_len parts.gates) cap ≡ None) }
+        ensures why { IfErr result (λ refused. IsWhy (making_refusal (vec_len parts.gates) cap) refused.why) }
+        ensures back { IfErr result (λ refused. refused.back ≡ parts) }
+    {
+        match order {
+            Order::Fair => match SyncQueue::with_cap(alloc, parts, cap) {
+                Ok((queue, seats)) => Ok((ChosenQueue::Fair(queue), seats)),
+                Err(refused) => Err(refused),
+            },
+            Order::Unfair => match SyncQueue::with_cap(alloc, parts, cap) {
+                Ok((queue, seats)) => Ok((ChosenQueue::Unfair(queue), seats)),
+                Err(refused) => Err(refused),
+            },
+            Order::Transfer => match TransferQueue::with_cap(alloc, parts, cap) {
+                Ok((queue, seats)) => Ok((ChosenQueue::Transfer(queue), seats)),
+                Err(refused) => Err(refused),
+            },
+        }
+    }
+
+    /// The same with at most 1,048,576 records: `new SynchronousQueue(fair)`, or `new LinkedTransferQueue()`.
+    pub fn new(
+        alloc: Global,
+        order: Order,
+        parts: NewQueue<G>,
+    ) -> Result<(Self, Vec<Seat<Deed, N>>), Refused<NewQueue<G>>>
+        requires ledgers { AreOf N.name N.folds N.parts parts.blanks }
+        requires one_each { N.parts ≡ vec_len parts.gates }
+        requires cap { N.cap ≡ most_records }
+        ensures order { IfOk result (λ made. order_of made.0 ≡ order) }
+        ensures count { IfOk result (λ made. seats_in made.0 ≡ vec_len parts.gates) }
+        ensures seats { IfOk result (λ made. vec_len made.1 ≡ vec_len parts.gates) }
+        ensures numbers { IfOk result (λ made. AreFresh made.1.items) }
+        ensures sizes { IfOk result (λ _. making_refusal (vec_len parts.gates) most_records ≡ None) }
+        ensures why { IfErr result (λ refused. IsWhy (making_refusal (vec_len parts.gates) most_records) refused.why) }
+        ensures back { IfErr result (λ refused. refused.back ≡ parts) }
+    {
+        Self::with_cap(alloc, order, parts, MOST_RECORDS)
+    }
+}
+
+impl<T: Marked, G: Gate, N: Ledgers> ChosenQueue<T, G, N> {
+    /// Waits at the gate of this seat, for this many milliseconds where there is a limit, as `Queue::wait`.
+    pub fn wait<R: Wait + Clock>(
+        &self,
+        rt: &R,
+        pending: &Pending<Deed, N>,
+        limit: Option<u64>,
+    ) -> Turn {
+        whichever!(self, queue => queue.wait(rt, pending, limit))
+    }
+
+    /// Wakes who waits at the gate of this seat, or else the next that comes to wait, as `Queue::wake`.
+    pub fn wake(&self, seat: SeatNo) {
+        whichever!(self, queue => queue.wake(seat))
+    }
+}
+
+/// Why a queue in fair mode was not closed, as one of the order that was chosen.
+fn fair_fault<T: Marked, G, N: Ledgers>(
+    fault: QueueFault<SyncQueue<T, FairLine<T>, G, N>, Book<Dual<T, FairLine<T>>>, N>,
+) -> QueueFault<ChosenQueue<T, G, N>, ChosenBook<T>, N>
+    ensures { (count : ℕ) (seats : List (Back Deed N)) → QueueFaultFits count seats fault
+        → ChosenFaultFits (FairOne count) seats result }
+{
+    match fault {
+        QueueFault::SeatMissing {
+            have,
+            made,
+            queue,
+            seats,
+        } => QueueFault::SeatMissing {
+            have,
+            made,
+            queue: ChosenQueue::Fair(queue),
+            seats,
+        },
+        QueueFault::Memory { queue, seats } => QueueFault::Memory {
+            queue: ChosenQueue::Fair(queue),
+            seats,
+        },
+        QueueFault::Differs {
+            seat,
+            index,
+            book,
+            seats,
+        } => QueueFault::Differs {
+            seat,
+            index,
+            book: ChosenBook::Fair(book),
+            seats,
+        },
+    }
+}
+
+/// Why a queue in the default mode was not closed, as one of the order that was chosen.
+fn unfair_fault<T: Marked, G, N: Ledgers>(
+    fault: QueueFault<SyncQueue<T, StackLine<T>, G, N>, Book<Dual<T, StackLine<T>>>, N>,
+) -> QueueFault<ChosenQueue<T, G, N>, ChosenBook<T>, N>
+    ensures { (count : ℕ) (seats : List (Back Deed N)) → QueueFaultFits count seats fault
+        → ChosenFaultFits (UnfairOne count) seats result }
+{
+    match fault {
+        QueueFault::SeatMissing {
+            have,
+            made,
+            queue,
+            seats,
+        } => QueueFault::SeatMissing {
+            have,
+            made,
+            queue: ChosenQueue::Unfair(queue),
+            seats,
+        },
+        QueueFault::Memory { queue, seats } => QueueFault::Memory {
+            queue: ChosenQueue::Unfair(queue),
+            seats,
+        },
+        QueueFault::Differs {
+            seat,
+            index,
+            book,
+            seats,
+        } => QueueFault::Differs {
+            seat,
+            index,
+            book: ChosenBook::Unfair(book),
+            seats,
+        },
+    }
+}
+
+/// Why a queue that keeps its items was not closed, as one of the order that was chosen.
+fn transfer_fault<T: Marked, G, N: Ledgers>(
+    fault: QueueFault<TransferQueue<T, G, N>, Book<Unbounded<T>>, N>,
+) -> QueueFault<ChosenQueue<T, G, N>, ChosenBook<T>, N>
+    ensures { (count : ℕ) (seats : List (Back Deed N)) → QueueFaultFits count seats fault
+        → ChosenFaultFits (TransferOne count) seats result }
+{
+    match fault {
+        QueueFault::SeatMissing {
+            have,
+            made,
+            queue,
+            seats,
+        } => QueueFault::SeatMissing {
+            have,
+            made,
+            queue: ChosenQueue::Transfer(queue),
+            seats,
+        },
+        QueueFault::Memory { queue, seats } => QueueFault::Memory {
+            queue: ChosenQueue::Transfer(queue),
+            seats,
+        },
+        QueueFault::Differs {
+            seat,
+            index,
+            book,
+            seats,
+        } => QueueFault::Differs {
+            seat,
+            index,
+            book: ChosenBook::Transfer(book),
+            seats,
+        },
+    }
+}
+
+impl<T: Marked, G: Drop, N: Ledgers> ChosenQueue<T, G, N> {
+    /// Ends the queue, as `Queue::close`: takes all seats back, free or with an open ticket, in whatever order, compares
+    /// the records with the seats' receipts, and takes out what is left. It refuses SeatMissing exactly where fewer seats
+    /// are given back than were made, then Memory, then Differs, at the least seat whose receipts aren't its records.
+    pub fn close(
+        self,
+        alloc: Global,
+        seats: Vec<Back<Deed, N>>,
+    ) -> Result<Chronicle<T>, QueueFault<Self, ChosenBook<T>, N>>
+        ensures history { IfOk result (λ c. IsChronicle T.mark_of (kind_of self) c.base c.records.items
+            (map (λ list. list.items) c.lists.items) c.left.items) }
+        ensures lists { IfOk result (λ c. (ordered : List (Back Deed N)) × AreOrdered seats.items ordered
+            × (map (λ list. list.items) c.lists.items ≡ map list_of ordered)) }
+        ensures count { IfOk result (λ c. vec_len c.lists ≡ seats_in self) }
+        ensures shares { IfOk result (λ c. c.base.gone + length c.records.items ≡ shares_in seats.items) }
+        ensures folded { IfOk result (λ c. c.base.gone ≡ folded_in seats.items) }
+        ensures few { IfOk result (λ c. c.base.gone + length c.records.items < 2 ^ 64) }
+        ensures cap { IfOk result (λ c. length c.records.items ≤ N.cap) }
+        ensures fault { IfErr result (λ fault. ChosenFaultFits self seats.items fault) }
+    {
+        match self {
+            ChosenQueue::Fair(queue) => match queue.close(alloc, seats) {
+                Ok(chronicle) => Ok(chronicle),
+                Err(fault) => Err(fair_fault(fault)),
+            },
+            ChosenQueue::Unfair(queue) => match queue.close(alloc, seats) {
+                Ok(chronicle) => Ok(chronicle),
+                Err(fault) => Err(unfair_fault(fault)),
+            },
+            ChosenQueue::Transfer(queue) => match queue.close(alloc, seats) {
+                Ok(chronicle) => Ok(chronicle),
+                Err(fault) => Err(transfer_fault(fault)),
+            },
+        }
+    }
+}
