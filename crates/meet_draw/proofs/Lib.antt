@@ -1,0 +1,8 @@
+pub mod Changes
+pub mod DrawnTickets
+pub mod Lines
+pub mod Repeats
+pub mod Rowing
+pub mod Showing
+pub mod TrueColumns
+pub mod Truths

@@ -1,0 +1,5 @@
+use Rattle.meet_draw.proofs.Rowing.{IsLongest}
+use Rattle.meet_draw.proofs.rows.longest_line.Given as goal
+
+abbrev pub invariant-loop-shown : goal.invariant-loop-shown
+invariant-loop-shown l = IsLongest l.rows l.shown-index l.long
