@@ -1,0 +1,7 @@
+use Rattle.std.proofs.Common.{◌≡◌, take}
+use Rattle.meet_sum.specs.Deeds.{deeds_in}
+use Rattle.meet_sum.proofs.deeds.count_deeds.Given as goal
+
+-- the numbers of the records so far
+abbrev pub invariant-loop-entry : goal.invariant-loop-entry
+invariant-loop-entry l = l.counts ≡ deeds_in (take l.entry-index l.records)

@@ -1,0 +1,9 @@
+pub mod Deeds
+pub mod FatesCounted
+pub mod Lines
+pub mod Seats
+pub mod Stories
+pub mod SumTexts
+pub mod Summing
+pub mod Sums
+pub mod Waits

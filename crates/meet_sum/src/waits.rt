@@ -1,0 +1,94 @@
+//! How long tickets stood in the line.
+
+ghost use Rattle.std.specs.Prelude.{◌≡◌, ℕ, ◌∷◌, ◌++◌, [], List, None, Some, MatchOption};
+ghost use Rattle.indexmap.specs.IndexMap.{values};
+ghost use Rattle.meet_sum.specs.declared.stories.Story.{Story};
+ghost use Rattle.meet_sum.specs.Waits.{joins, stay_told, IsStay, IsLongest};
+
+use crate::stories::Story;
+use crate::table::Stories;
+use meet_tickets::{Deed, SeatNo, Ticket};
+
+/// How long a ticket stood in the line.
+#[derive(Clone, Copy, PartialEq, Eq, Debug)]
+pub struct Wait {
+    pub ticket: Ticket,
+    pub seat: SeatNo,
+    /// From the number of its request's record to that of the record that took it out.
+    pub records: u64,
+}
+
+/// Whether the ticket of a request stands in the line, at first.
+fn joins(deed: &Deed) -> bool
+    ensures { result ≡ joins deed.now }
+{
+    matches!(
+        deed,
+        Deed::GiveWaits(_) | Deed::GiveKept(_) | Deed::TakeWaits
+    )
+}
+
+/// How long the ticket of a story stood in the line, if it did.
+pub(crate) fn stay(story: &Story, opened: u64, all: u64) -> Option<u64>
+    ensures { result ≡ stay_told opened all story.now }
+{
+    match story.asked {
+        None => None,
+        Some(entry) => {
+            if !joins(&entry.deed) {
+                return None;
+            }
+            let came = story.came.unwrap_or(0).saturating_sub(opened);
+            let left = story.left.unwrap_or(all).saturating_sub(opened);
+            Some(left.saturating_sub(came))
+        }
+    }
+}
+
+/// How long the ticket of a story stood in the line, with its seat, if it did.
+fn wait_of(story: &Story, opened: u64, all: u64) -> Option<Wait>
+    ensures { MatchOption result (stay_told opened all story.now ≡ None) (IsStay opened all story.now) }
+{
+    match story.asked {
+        None => None,
+        Some(entry) => match stay(story, opened, all) {
+            None => None,
+            Some(records) => Some(Wait {
+                ticket: entry.ticket,
+                seat: entry.seat,
+                records,
+            }),
+        },
+    }
+}
+
+/// The longer of what was found so far and one more.
+fn longer(best: Option<Wait>, here: Wait) -> Wait
+    ensures { (opened all : ℕ) (done : List Story) (s : Story) → IsStay opened all s here
+        → IsLongest opened all done best → IsLongest opened all (done ++ s ∷ []) (Some result) }
+{
+    match best {
+        None => here,
+        Some(old) => {
+            if old.records < here.records {
+                here
+            } else {
+                old
+            }
+        }
+    }
+}
+
+/// Which of these tickets stood longest in the line, the first such.
+pub(crate) fn longest_of(stories: &Stories, opened: u64, all: u64) -> Option<Wait>
+    ensures { IsLongest opened all (values stories.now) result }
+{
+    let mut best = None;
+    for story in stories.values() {
+        match wait_of(story, opened, all) {
+            None => {}
+            Some(here) => best = Some(longer(best, here)),
+        }
+    }
+    best
+}
