@@ -4,6 +4,7 @@ ghost use Rattle.std.specs.Prelude.{◌<◌, ◌≤◌, IfOk};
 ghost use Rattle.meet.specs.Tasks.{IsWithin};
 
 use clap::{Arg, ArgAction, ArgMatches, Command, Error, value_parser};
+use meet_draw::{LEAST_WIDTH, MOST_WIDTH, Style, USUAL_WIDTH, Width};
 use meet_run::{MOST_EACH, MOST_GIVERS};
 use pool_run::{MOST_CALLERS, MOST_JOBS, MOST_WORKERS};
 use std::alloc::{AllocError, Global};
@@ -16,7 +17,8 @@ const REST_OF_HELP: &str = "\
 A script is a place and then calls, a line each, by the seat that makes them. A trace is the record of their steps.
   printf 'fair\\n0 put 5\\n1 take\\n0 follow\\n' | meet run
 Where a record of a trace can't stand, explain says which may in its place, and who waits there. Where a line of a trace
-or a script can't be read, it says what was found there, and what can stand.
+or a script can't be read, it says what was found there, and what can stand. Draw shows a trace as a picture, a row a
+record and a column a seat; sum counts its records, its tickets by what became of them, and its longest waits.
 
 Places: fair, unfair, transfer
 Verbs: put N, offer N, take, poll, follow, cancel, expire, interrupt SEAT, drain N, size, room, peek, checkpoint;
@@ -62,6 +64,10 @@ pub enum Task {
     Chain,
     /// A trace on standard input, what is found of it on standard output, and what would have been legal.
     Explain,
+    /// A trace on standard input, a picture of it on standard output, with these signs and rows so wide.
+    Draw(Style, Width),
+    /// A trace on standard input, its sums on standard output.
+    Sum,
     /// Calls that overlap on standard input, the trace of a history that explains them on standard output.
     Judge,
     /// A pool's script on standard input, its replies on standard output.
@@ -144,6 +150,31 @@ fn explain_command<'a>(alloc: Global) -> Command<'a> {
     Command::new(alloc, "explain")
         .about("Checks the trace on standard input, and says what may stand where a record can't")
         .override_usage("meet explain < TRACE")
+}
+
+/// The command `draw`.
+fn draw_command<'a>(alloc: Global) -> Result<Command<'a>, AllocError> {
+    let unicode = Arg::new(alloc, "unicode")
+        .long("unicode")
+        .help("Draws with the signs of Unicode, instead of plain ones")
+        .action(ArgAction::SetTrue);
+    let width = Arg::new(alloc, "width")
+        .long("width")
+        .value_name("COLUMNS")
+        .help("How wide a row is at most: 20 to 1000, 100 where it isn't said")
+        .value_parser(value_parser!(u64).range(LEAST_WIDTH as i64..=MOST_WIDTH as i64));
+    Command::new(alloc, "draw")
+        .about("Draws the trace on standard input: a row a record, a column a seat")
+        .override_usage("meet draw [--unicode] [--width COLUMNS] < TRACE")
+        .arg(unicode)?
+        .arg(width)
+}
+
+/// The command `sum`.
+fn sum_command<'a>(alloc: Global) -> Command<'a> {
+    Command::new(alloc, "sum")
+        .about("Sums the trace on standard input up: records, tickets, the longest line and waits")
+        .override_usage("meet sum < TRACE")
 }
 
 /// The command `judge`.
@@ -248,9 +279,23 @@ fn command<'a>(alloc: Global) -> Result<Command<'a>, AllocError> {
         .subcommand(check_command(alloc)?)?
         .subcommand(chain_command(alloc))?
         .subcommand(explain_command(alloc))?
+        .subcommand(draw_command(alloc)?)?
+        .subcommand(sum_command(alloc))?
         .subcommand(judge_command(alloc))?
         .subcommand(drive_command(alloc)?)?
         .subcommand(pool_command(alloc)?)
+}
+
+/// The picture that the words behind `draw` ask for.
+fn drawn_by(asked: &ArgMatches<'_>) -> Task {
+    let style = if asked.get_flag("unicode") {
+        Style::Unicode
+    } else {
+        Style::Plain
+    };
+    let columns = asked.get_one::<u64>("width").unwrap_or(USUAL_WIDTH);
+    // The parser let no other through.
+    Task::Draw(style, Width::new(columns).unwrap_or(Width::usual()))
 }
 
 /// What the words behind `pool` ask for.
@@ -282,6 +327,8 @@ fn wanted_by(matches: &ArgMatches<'_>) -> Wanted
         Some((name, _)) if name == "check" => Wanted::Text(Task::Check),
         Some((name, _)) if name == "chain" => Wanted::Text(Task::Chain),
         Some((name, _)) if name == "explain" => Wanted::Text(Task::Explain),
+        Some((name, asked)) if name == "draw" => Wanted::Text(drawn_by(asked)),
+        Some((name, _)) if name == "sum" => Wanted::Text(Task::Sum),
         Some((name, _)) if name == "judge" => Wanted::Text(Task::Judge),
         Some((name, asked)) if name == "pool" => pool_wanted_by(asked),
         Some((name, asked)) if name == "drive" => {
@@ -293,8 +340,9 @@ fn wanted_by(matches: &ArgMatches<'_>) -> Wanted
 }
 
 /// Reads the words of a command line, the program's name first: none, `run`, `run --trace`, `check`, `check --erase`,
-/// `chain`, `explain`, `judge`, `drive N M`, or behind `pool` `run`, `run --trace`, `check` or `drive N M W`. The error has the text to
-/// show; a request for help or for the version is one.
+/// `chain`, `explain`, `draw`, with `--unicode` and `--width COLUMNS` or without, `sum`, `judge`, `drive N M`, or behind
+/// `pool` `run`, `run --trace`, `check` or `drive N M W`. The error has the text to show; a request for help or for the
+/// version is one.
 pub fn wanted_of(alloc: Global, words: &[String]) -> Result<Wanted, Error>
     ensures { IfOk result IsWithin }
 {

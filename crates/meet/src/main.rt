@@ -1,5 +1,5 @@
 //! The program `meet`: a script of calls on standard input, their replies or their trace on standard output; or a
-//! trace on standard input, what is found of it on standard output; or calls that overlap, and a history that explains
+//! trace on standard input, what is found of it on standard output, as text or drawn; or calls that overlap, and a history that explains
 //! them; or threads at a queue, and what came of it.
 #![tactic(auto)]
 
@@ -12,12 +12,14 @@ mod command_line;
 
 use clap::error::ErrorKind;
 use command_line::{Task, Wanted, wanted_of};
+use meet_draw::draw_trace;
 use meet_explain::explain_trace;
 use meet_judge::judge_calls;
 use meet_run::{
     Blocks, Progress, RunFault, check_chain, check_trace, erase_trace, report_of, run_drive,
     run_script, run_trace,
 };
+use meet_sum::sum_trace;
 use meet_tickets::Refusal;
 use pool_run::{check_pool_trace, run_pool, run_pool_drive, trace_pool};
 use std::alloc::{AllocError, Global};
@@ -42,10 +44,10 @@ fn perform<R: Read, W: Write>(
     alloc: Global,
     reader: &mut R,
     writer: &mut W,
-    task: Task,
+    task: &Task,
 ) -> Result<bool, RunFault>
     ensures { IfSome (R.remaining reader.old) (λ input.
-        Performs task input result (W.contents writer.old) (W.contents writer.new)) }
+        Performs task.now input result (W.contents writer.old) (W.contents writer.new)) }
 {
     match task {
         Task::Run => run_script(alloc, reader, writer),
@@ -54,6 +56,8 @@ fn perform<R: Read, W: Write>(
         Task::Erase => erase_trace(alloc, reader, writer),
         Task::Chain => check_chain(alloc, reader, writer),
         Task::Explain => explain_trace(alloc, reader, writer),
+        Task::Draw(style, width) => draw_trace(alloc, reader, writer, *style, *width),
+        Task::Sum => sum_trace(alloc, reader, writer),
         Task::Judge => judge_calls(alloc, reader, writer),
         Task::PoolRun => run_pool(alloc, reader, writer),
         Task::PoolTrace => trace_pool(alloc, reader, writer),
@@ -62,7 +66,7 @@ fn perform<R: Read, W: Write>(
 }
 
 /// Does what is asked with standard input and standard output.
-fn perform_here(rt: &HostRuntime, task: Task) -> Result<bool, RunFault> {
+fn perform_here(rt: &HostRuntime, task: &Task) -> Result<bool, RunFault> {
     let Ok(mut reader) = Blocks::new(rt.alloc(), rt.stdin()) else {
         return Err(MEMORY);
     };
@@ -71,7 +75,7 @@ fn perform_here(rt: &HostRuntime, task: Task) -> Result<bool, RunFault> {
 
 /// Whether `meet explain` has more to say of a text: of a trace that isn't legal, and of a queue's text in which a line
 /// can't be read.
-fn can_be_explained(task: Task, outcome: &Result<bool, RunFault>) -> bool {
+fn can_be_explained(task: &Task, outcome: &Result<bool, RunFault>) -> bool {
     match outcome {
         Ok(legal) => matches!(task, Task::Check) && !*legal,
         Err(fault) => fault.line.is_some() && matches!(task, Task::Check | Task::Run | Task::Trace),
@@ -79,7 +83,7 @@ fn can_be_explained(task: Task, outcome: &Result<bool, RunFault>) -> bool {
 }
 
 /// The same; where a text can be explained, and standard error is a terminal, it says so there.
-fn perform_told(rt: &HostRuntime, task: Task) -> Result<bool, RunFault> {
+fn perform_told(rt: &HostRuntime, task: &Task) -> Result<bool, RunFault> {
     let outcome = perform_here(rt, task);
     if can_be_explained(task, &outcome) && rt.stderr().is_terminal() {
         let _ = eprintln!(rt; "meet: 'meet explain' says what may stand there");
@@ -132,7 +136,7 @@ fn main(rt: HostRuntime) -> ExitCode {
         }
     };
     match wanted_of(rt.alloc(), words.as_slice()) {
-        Ok(Wanted::Text(task)) => finish(&rt, &perform_told(&rt, task)),
+        Ok(Wanted::Text(task)) => finish(&rt, &perform_told(&rt, &task)),
         Ok(Wanted::Drive(givers, each)) => {
             finish(
                 &rt,
