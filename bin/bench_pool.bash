@@ -6,8 +6,9 @@
 # A row is so many callers that hand 100,000 jobs in, all together, to a pool as those of `Executors.newFixedThreadPool`, with as many
 # workers as there are processors, or of `newCachedThreadPool`, here of at most 1,024 callers and workers. A job is empty, or works for 10 microseconds.
 # A time is that of the clock from before the first call until the pool has ended, by the job, in nanoseconds: the median of nine rounds,
-# each over a new pool. The last columns are the ratio to Java's, and how many jobs in a hundred their callers ran here, since there were
-# as many workers as there may be.
+# each over a new pool, behind two that aren't told. The last columns are the ratio to Java's, and how many jobs in a hundred their callers
+# ran here, since there were as many workers as there may be. Memory that one round gave back the next one finds in the process, as it does
+# in Java's heap: the C library is told so by its settings.
 #
 # `bin/bench pool life` hands 1,000,000 and 10,000,000 empty jobs to a pool of one worker that is tended and keeps at most 1,024 jobs,
 # of which its caller runs those that find no room, and prints the most memory that each took: they may differ by 4 MiB. With more workers
@@ -16,7 +17,10 @@ set -euo pipefail
 . "$(dirname "$0")/built.bash"
 jobs=100000
 rounds=9
+untold=2
 workers=$(nproc)
+# What was given back stays in the process, however much it is, and for whichever thread comes next.
+keeps=(env MALLOC_ARENA_MAX=1 MALLOC_TRIM_THRESHOLD_=4294967296 MALLOC_MMAP_THRESHOLD_=4294967296 MALLOC_TOP_PAD_=67108864)
 [ "${1:-}" = quick ] && jobs=$((jobs / 10))
 
 build pool_rounds 2
@@ -39,30 +43,31 @@ if [ "${1:-}" = life ]; then
     exit 0
 fi
 
-# Runs this program with a pool of this name, so many callers and jobs that last so long, and prints the nanoseconds a job, the median
-# of the rounds.
+# Runs this command with a pool of this name, so many callers and jobs that last so long, and prints the nanoseconds a job, the median
+# of the rounds. The first number says how many rounds the command is to hold, of which the last ones count.
 cost_of() {
-    local pool=$1 callers=$2 lasts=$3 each round
-    shift 3
+    local held=$1 pool=$2 callers=$3 lasts=$4 each round
+    shift 4
     each=$((jobs / callers))
-    for ((round = 0; round < rounds; round++)); do
+    for ((round = 0; round < held; round++)); do
         echo "jobs $((callers * each)) of $((callers * each))"
     done >"$work/expected"
-    if ! "$@" "$pool" "$workers" "$callers" "$each" "$lasts" "$rounds" \
+    if ! "$@" "$pool" "$workers" "$callers" "$each" "$lasts" "$held" \
         >"$work/told" 2>"$work/times" || ! cmp -s "$work/expected" "$work/told"; then
         echo "bin/bench pool: $* $pool with $callers callers says something else" >&2
         diff "$work/expected" "$work/told" >&2 || true
         cat "$work/times" >&2
         return 1
     fi
-    awk '{ here += $4 } END { print here + 0 }' "$work/times" >"$work/here"
-    sed -n 's/^nanoseconds \([0-9]*\).*/\1/p' "$work/times" | sort -n | sed -n "$((rounds / 2 + 1))p" |
+    tail -n "$rounds" "$work/times" | awk '{ here += $4 } END { print here + 0 }' >"$work/here"
+    tail -n "$rounds" "$work/times" | sed -n 's/^nanoseconds \([0-9]*\).*/\1/p' | sort -n | sed -n "$((rounds / 2 + 1))p" |
         awk -v jobs=$((callers * each)) '{ printf "%.0f", $1 / jobs }'
 }
 
+# Java's program holds two rounds of its own before the first.
 cost_in_java() {
     command -v java >/dev/null || { printf -- '-'; return; }
-    cost_of "$1" "$2" "$3" java "$top/bench/PoolRace.java"
+    cost_of "$rounds" "$1" "$2" "$3" java "$top/bench/PoolRace.java"
 }
 
 # One cost by another, where both were measured.
@@ -78,7 +83,7 @@ printf '%8s %8s %6s %8s %8s %8s %12s\n' work pool callers here Java ratio 'by ca
 for lasts in 0 10000; do
     for pool in fixed cached; do
         for callers in 1 2 4 16; do
-            here=$(cost_of "$pool" "$callers" "$lasts" "$program" race)
+            here=$(cost_of $((rounds + untold)) "$pool" "$callers" "$lasts" "${keeps[@]}" "$program" race)
             own=$(awk -v all=$((rounds * (jobs / callers) * callers)) '{ printf "%.1f", 100 * $1 / all }' "$work/here")
             java=$(cost_in_java "$pool" "$callers" "$lasts")
             printf '%8s %8s %6d %8s %8s %8s %12s\n' "$lasts" "$pool" "$callers" "$here" "$java" "$(ratio "$here" "$java")" "$own"
