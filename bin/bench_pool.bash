@@ -19,8 +19,8 @@ jobs=100000
 rounds=9
 untold=2
 workers=$(nproc)
-# What was given back stays in the process, however much it is, and for whichever thread comes next.
-keeps=(env MALLOC_ARENA_MAX=1 MALLOC_TRIM_THRESHOLD_=4294967296 MALLOC_MMAP_THRESHOLD_=4294967296 MALLOC_TOP_PAD_=67108864)
+# What was given back stays in the process, however much it is.
+keeps=(env MALLOC_TRIM_THRESHOLD_=4294967296 MALLOC_MMAP_THRESHOLD_=4294967296 MALLOC_TOP_PAD_=67108864)
 [ "${1:-}" = quick ] && jobs=$((jobs / 10))
 
 build pool_rounds 2
