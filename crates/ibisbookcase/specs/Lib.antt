@@ -4,7 +4,7 @@ pub use Rattle.meet_tickets.specs.Refusals
 pub use Rattle.meet_place.specs.Backs
 pub use Rattle.meet_place.specs.Ledgers
 pub use Rattle.meet_place.specs.Seats
-pub use Rattle.meet_calls.specs.QueueSteps
+pub use Rattle.meet_core.specs.QueueSteps
 pub use Rattle.meet_sync.specs.Asking
 pub use Rattle.meet_sync.specs.Chronicles
 pub use Rattle.meet_sync.specs.Drained

@@ -1,0 +1,17 @@
+pub mod Awaits
+pub mod BaseOfQueue
+pub mod Counts
+pub mod Effects
+pub mod Following
+pub mod Gathered
+pub mod Handed
+pub mod Leading
+pub mod Leaving
+pub mod Leavings
+pub mod LeftThere
+pub mod LeftTold
+pub mod Marking
+pub mod Moves
+pub mod Owed
+pub mod Polling
+pub mod Written

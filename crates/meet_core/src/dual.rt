@@ -7,9 +7,11 @@ ghost use Rattle.meet_tickets.specs.declared.places.Side.TheVariants.{Giver};
 ghost use Rattle.meet_tickets.specs.Bases.{IsBaseOf};
 ghost use Rattle.meet_tickets.specs.Limits.{most_seats, last_ticket};
 ghost use Rattle.meet_tickets.specs.Refusals.{IsWhy};
-ghost use Rattle.meet_line.specs.Seen.{moment_of_queue};
+ghost use Rattle.meet_core.specs.Seen.{moment_of_queue};
 
-use meet_line::{Gave, Line, Meetings, Offered, Polled, Took};
+use crate::answers::{Gave, Offered, Polled, Took};
+use crate::meetings::Meetings;
+use meet_line::Line;
 use meet_tickets::{Base, Marked, Refusal, Refused, SeatNo, Ticket};
 use std::alloc::Global;
 use std::marker::Model;
@@ -28,7 +30,7 @@ pub struct Dual<T: Marked, L: Line<T>> {
 impl<T: Marked, L: Line<T>> Model for Dual<T, L> {
     ghost use Rattle.std.specs.Prelude.{◌≡◌};
     ghost use Rattle.meet_tickets.specs.Meeting.{kept_count};
-    ghost use Rattle.meet_line.specs.Queue.{Queue};
+    ghost use Rattle.meet_core.specs.Queue.{Queue};
 
     ghost Value = { Queue T };
 
@@ -38,9 +40,10 @@ impl<T: Marked, L: Line<T>> Model for Dual<T, L> {
 }
 
 impl<T: Marked, L: Line<T>> Dual<T, L> {
-    ghost use Rattle.meet_line.specs.Awaits.{AwaitsAs};
-    ghost use Rattle.meet_line.specs.Queue.{seats_of, count_of, places_of, admit_refusal, IsSound};
-    ghost use Rattle.meet_line.specs.Steps.{GiveStep, TakeStep, OfferStep, PollStep};
+    ghost use Rattle.meet_core.specs.Awaits.{AwaitsAs};
+    ghost use Rattle.meet_line.specs.Sound.{IsSound};
+    ghost use Rattle.meet_core.specs.Queue.{seats_of, count_of, places_of, admit_refusal};
+    ghost use Rattle.meet_core.specs.Steps.{GiveStep, TakeStep, OfferStep, PollStep};
     ghost use Rattle.meet_tickets.specs.declared.refusals.Refusal.TheVariants.{Memory, TicketsSpent};
 
     /// A queue with no room yet, with this many seats, at most 65,536, and this first ticket, 1 to 2^63 - 1. The only

@@ -9,8 +9,8 @@ ghost use Rattle.meet_crew.specs.Chairs.{CalledAs, Keeps, StrikesAs, StrikesOthe
 use crate::chair::Chair;
 use crate::refused::{CallRefused, ended_apart, refused_apart};
 use meet_book::Bases;
-use meet_calls::QueuePlace;
 use meet_cells::ParkGate;
+use meet_core::QueuePlace;
 use meet_sync::{End, Ledgers, Queue, Request, Seat};
 use meet_tickets::{Deed, Marked, Refusal, SeatNo};
 use std::sync::Wait;

@@ -2,7 +2,7 @@
 
 ghost use Rattle.std.specs.Prelude.{◌≡◌, ◌≤◌, None, map, IfOk, vec_len};
 ghost use Rattle.std.specs.Vec.{vec_capacity};
-ghost use Rattle.meet_calls.specs.QueueSteps.{kind_of, bounded_kind};
+ghost use Rattle.meet_core.specs.QueueSteps.{kind_of, bounded_kind};
 ghost use Rattle.meet_tickets.specs.declared.places.End.TheVariants.{Front, Back as AtBack};
 ghost use Rattle.meet_place.specs.Ledgers.{AreOf};
 ghost use Rattle.meet_sync.specs.Chronicles.{IsChronicle};
@@ -12,9 +12,8 @@ use crate::chair::Chair;
 use crate::seating::{seated_fair, seated_transfer, seated_unfair};
 use crate::slots::{EndRoom, Slot, seats_of, slots_of};
 use crate::start::Start;
-use meet_calls::QueueLeaves;
 use meet_cells::ParkGate;
-use meet_core::Dual;
+use meet_core::{Dual, QueueLeaves};
 use meet_sync::{Chronicle, FairLine, Ledgers, NewQueue, Queue, QueueFault, StackLine};
 use meet_tickets::{Marked, Refusal};
 use meet_transfer::Unbounded;

@@ -7,12 +7,12 @@ use Rattle.meet_tickets.specs.declared.refusals.Refusal.TheVariants.{Memory}
 use Rattle.meet_tickets.specs.BySeat.{owed_of}
 use Rattle.meet_tickets.specs.Refusals.{number_of, refusal_of, absent_refusal, IsWhy}
 use Rattle.meet_tickets.proofs.Refusing.{request-own, interrupt-own}
-use Rattle.meet_line.specs.Queue.{Queue, seats_of, count_of}
+use Rattle.meet_core.specs.Queue.{Queue, seats_of, count_of}
 use Rattle.meet_history.specs.declared.one_thread.setup.Setup.{Setup}
-use Rattle.meet_calls.specs.declared.queue_calls.QueueCall.{QueueCall}
-use Rattle.meet_calls.specs.declared.queue_calls.QueueCall.TheVariants.{Put, Give, Offer, Take, Poll, FollowUp, Cancel, Expire, Interrupt}
+use Rattle.meet_core.specs.declared.calls.queue_calls.QueueCall.{QueueCall}
+use Rattle.meet_core.specs.declared.calls.queue_calls.QueueCall.TheVariants.{Put, Give, Offer, Take, Poll, FollowUp, Cancel, Expire, Interrupt}
 use Rattle.meet_book.specs.Booking.{call_refusal}
-use Rattle.meet_calls.specs.QueueSteps.{queue_refusal, queue_need, queue_room, queue_owed}
+use Rattle.meet_core.specs.QueueSteps.{queue_refusal, queue_need, queue_room, queue_owed}
 use Rattle.meet_history.specs.declared.one_thread.replies.Reply.{Reply}
 use Rattle.meet_history.specs.Stepping.{refusal_at}
 

@@ -9,22 +9,22 @@ use Rattle.meet_tickets.specs.declared.refusals.Refusal.TheVariants.{Memory, His
 use Rattle.meet_tickets.specs.BySeat.{owed_of}
 use Rattle.meet_tickets.specs.Limits.{last_ticket}
 use Rattle.meet_tickets.specs.Refusals.{refusal_of}
-use Rattle.meet_line.specs.Queue.{Queue, seats_of, count_of}
+use Rattle.meet_core.specs.Queue.{Queue, seats_of, count_of}
 use Rattle.meet_history.specs.declared.one_thread.setup.Setup.{Setup}
-use Rattle.meet_calls.specs.declared.queue_calls.QueueCall.TheVariants.{Poll}
-use Rattle.meet_calls.specs.declared.queue_calls.QueueAnswer.TheVariants.{Polled as ToPoll}
-use Rattle.meet_calls.specs.declared.queue_calls.QueueAnswer.{QueueAnswer}
+use Rattle.meet_core.specs.declared.calls.queue_calls.QueueCall.TheVariants.{Poll}
+use Rattle.meet_core.specs.declared.calls.queue_calls.QueueAnswer.TheVariants.{Polled as ToPoll}
+use Rattle.meet_core.specs.declared.calls.queue_calls.QueueAnswer.{QueueAnswer}
 use Rattle.meet_history.specs.declared.one_thread.replies.Outcome.TheVariants.{Drained}
 use Rattle.meet_book.specs.Booking.{call_refusal}
 use Rattle.meet_book.specs.Received.{Received}
 use Rattle.meet_queues.specs.Queues.{QueueOfKind}
 use Rattle.meet_book.specs.Draining.{seat_refusal, drain_refusal_by, TakingStep, Polls, AreNumbered}
-use Rattle.meet_calls.specs.QueueRecords.{queue_record}
-use Rattle.meet_calls.specs.QueueSteps.{QueueStep, queue_refusal, queue_owed, queue_available, queue_left}
-use Rattle.meet_calls.specs.SeatCounts.{queue-count}
+use Rattle.meet_core.specs.QueueRecords.{queue_record}
+use Rattle.meet_core.specs.QueueSteps.{QueueStep, queue_refusal, queue_owed, queue_available, queue_left}
+use Rattle.meet_core.specs.SeatCounts.{queue-count}
 use Rattle.meet_history.specs.OneThread.{Place, Turn, joined, immediate, refused, request_refusal, take, told, polls, drain, drain_refusal, silent}
 use Rattle.meet_history.specs.Stepping.{reply_of, back_of}
-use Rattle.meet_calls.proofs.Polling.{not-spent}
+use Rattle.meet_core.proofs.Polling.{not-spent}
 use Rattle.meet_history.proofs.Telling.{IsTold, poll-told}
 
 module _ (setup : Setup) (seat gone : ℕ) (cut : Bool) where

@@ -12,10 +12,11 @@ use Rattle.meet_tickets.specs.Bases.{Based, moment_of_base, IsBaseOf, IsWellForm
 use Rattle.meet_tickets.specs.BySeat.{Moment, moment_of}
 use Rattle.meet_tickets.proofs.Folded.{folds}
 use Rattle.meet_tickets.proofs.Unique.{same_base}
-use Rattle.meet_line.specs.Queue.{Queue}
-use Rattle.meet_line.specs.Seen.{marked_entry, marked_hold, moment_of_queue}
-use Rattle.meet_line.specs.Opened.{pair_at, cut_at, flagged_at, gathered}
-use Rattle.meet_line.proofs.BaseOfQueue.{stands_so}
+use Rattle.meet_core.specs.Queue.{Queue}
+use Rattle.meet_line.specs.Seen.{marked_entry}
+use Rattle.meet_core.specs.Seen.{marked_hold, moment_of_queue}
+use Rattle.meet_core.specs.Opened.{pair_at, cut_at, flagged_at, gathered}
+use Rattle.meet_core.proofs.BaseOfQueue.{stands_so}
 use Rattle.meet_history.specs.Checking.{Checked, moment_at}
 use Rattle.meet_history.specs.Pushing.{Progress, HasTaken, SeenWith, TellsEnd}
 

@@ -20,32 +20,32 @@ use Rattle.meet_tickets.specs.Bases.{Based}
 use Rattle.meet_tickets.specs.Meeting.{end_of, keeps, partner, kept_count}
 use Rattle.meet_tickets.specs.BySeat.{Seats, paired, meets, entry_of, cut_off, flagged, cut_ticket, open_ticket, is_request, seats_after}
 use Rattle.meet_tickets.specs.Refusals.{refusal_unless}
-use Rattle.meet_line.specs.Queue.{Queue, seats_of}
-use Rattle.meet_line.specs.Steps.{Uses, GiveStep, PutStep, OfferStep, TakeStep, PollStep, FollowStep, WithdrawStep, InterruptStep}
-use Rattle.meet_line.specs.declared.answers.Gave.{Gave}
-use Rattle.meet_line.specs.declared.answers.Gave.TheVariants.{Waits as GiverWaits, Meets as GiverMeets, EntryInterrupted as GiverInterrupted}
-use Rattle.meet_line.specs.declared.answers.Put.{Put as PutAnswer}
-use Rattle.meet_line.specs.declared.answers.Put.TheVariants.{Kept as PutKept, Meets as PutMeets, Fails as PutFails}
-use Rattle.meet_line.specs.declared.answers.Took.{Took}
-use Rattle.meet_line.specs.declared.answers.Took.TheVariants.{Waits as TakerWaits, Meets as TakerMeets, EntryInterrupted as TakerInterrupted}
-use Rattle.meet_line.specs.declared.answers.Offered.{Offered}
-use Rattle.meet_line.specs.declared.answers.Offered.TheVariants.{Meets as OfferMeets, Fails as OfferFails}
-use Rattle.meet_line.specs.declared.answers.Polled.{Polled}
-use Rattle.meet_line.specs.declared.answers.Polled.TheVariants.{Meets as PollMeets, Fails as PollFails}
-use Rattle.meet_line.specs.declared.answers.Followed.{Followed}
-use Rattle.meet_line.specs.declared.answers.Followed.TheVariants.{Done as WasMet, Got as HasGot, Interrupted as WasCut, NotYet}
-use Rattle.meet_line.specs.declared.answers.TakenBack.{TakenBack}
-use Rattle.meet_line.specs.declared.answers.TakenBack.TheVariants.{Back, Late as TooLate}
-use Rattle.meet_line.specs.declared.answers.Interrupted.{Interrupted as Struck}
-use Rattle.meet_line.specs.declared.answers.Interrupted.TheVariants.{Cut as CutOff, Flagged}
+use Rattle.meet_core.specs.Queue.{Queue, seats_of}
+use Rattle.meet_core.specs.Steps.{Uses, GiveStep, PutStep, OfferStep, TakeStep, PollStep, FollowStep, WithdrawStep, InterruptStep}
+use Rattle.meet_core.specs.declared.answers.Gave.{Gave}
+use Rattle.meet_core.specs.declared.answers.Gave.TheVariants.{Waits as GiverWaits, Meets as GiverMeets, EntryInterrupted as GiverInterrupted}
+use Rattle.meet_core.specs.declared.answers.Put.{Put as PutAnswer}
+use Rattle.meet_core.specs.declared.answers.Put.TheVariants.{Kept as PutKept, Meets as PutMeets, Fails as PutFails}
+use Rattle.meet_core.specs.declared.answers.Took.{Took}
+use Rattle.meet_core.specs.declared.answers.Took.TheVariants.{Waits as TakerWaits, Meets as TakerMeets, EntryInterrupted as TakerInterrupted}
+use Rattle.meet_core.specs.declared.answers.Offered.{Offered}
+use Rattle.meet_core.specs.declared.answers.Offered.TheVariants.{Meets as OfferMeets, Fails as OfferFails}
+use Rattle.meet_core.specs.declared.answers.Polled.{Polled}
+use Rattle.meet_core.specs.declared.answers.Polled.TheVariants.{Meets as PollMeets, Fails as PollFails}
+use Rattle.meet_core.specs.declared.answers.Followed.{Followed}
+use Rattle.meet_core.specs.declared.answers.Followed.TheVariants.{Done as WasMet, Got as HasGot, Interrupted as WasCut, NotYet}
+use Rattle.meet_core.specs.declared.answers.TakenBack.{TakenBack}
+use Rattle.meet_core.specs.declared.answers.TakenBack.TheVariants.{Back, Late as TooLate}
+use Rattle.meet_core.specs.declared.answers.Interrupted.{Interrupted as Struck}
+use Rattle.meet_core.specs.declared.answers.Interrupted.TheVariants.{Cut as CutOff, Flagged}
 use Rattle.meet_book.specs.Booking.{record_of_receipt}
 use Rattle.meet_book.specs.Received.{Received}
-use Rattle.meet_calls.specs.declared.queue_calls.QueueCall.{QueueCall}
-use Rattle.meet_calls.specs.declared.queue_calls.QueueCall.TheVariants.{Put, Give, Offer, Take, Poll, FollowUp, Cancel, Expire, Interrupt}
-use Rattle.meet_calls.specs.declared.queue_calls.QueueAnswer.{QueueAnswer}
-use Rattle.meet_calls.specs.declared.queue_calls.QueueAnswer.TheVariants.{Put as ToPut, Gave as ToGive, Offered as ToOffer, Took as ToTake, Polled as ToPoll, Followed as ToFollowUp, TakenBack as ToWithdrawal, Interrupted as ToInterrupt}
-use Rattle.meet_calls.specs.QueueRecords.{made, queue_record}
-use Rattle.meet_calls.specs.QueueSteps.{QueueStep, queue_refusal}
+use Rattle.meet_core.specs.declared.calls.queue_calls.QueueCall.{QueueCall}
+use Rattle.meet_core.specs.declared.calls.queue_calls.QueueCall.TheVariants.{Put, Give, Offer, Take, Poll, FollowUp, Cancel, Expire, Interrupt}
+use Rattle.meet_core.specs.declared.calls.queue_calls.QueueAnswer.{QueueAnswer}
+use Rattle.meet_core.specs.declared.calls.queue_calls.QueueAnswer.TheVariants.{Put as ToPut, Gave as ToGive, Offered as ToOffer, Took as ToTake, Polled as ToPoll, Followed as ToFollowUp, TakenBack as ToWithdrawal, Interrupted as ToInterrupt}
+use Rattle.meet_core.specs.QueueRecords.{made, queue_record}
+use Rattle.meet_core.specs.QueueSteps.{QueueStep, queue_refusal}
 use Rattle.meet_history.specs.declared.one_thread.setup.Setup.{Setup}
 use Rattle.meet_history.specs.declared.one_thread.replies.Reply.{Reply}
 use Rattle.meet_history.specs.declared.one_thread.replies.Outcome.TheVariants.{Late, Refused}

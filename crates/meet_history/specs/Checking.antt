@@ -7,7 +7,7 @@ use Rattle.meet_tickets.specs.declared.records.Deed.{Deed}
 use Rattle.meet_tickets.specs.declared.records.Deed.TheVariants.{Done, Got, Withdrawn, Interrupt}
 use Rattle.meet_tickets.specs.Bases.{Based, moment_of_base, IsLegalOn}
 use Rattle.meet_tickets.specs.BySeat.{Moment, moment_of, open_ticket, is_open, IsFree, is_request, Allows}
-use Rattle.meet_line.specs.Table.{Table, hold_at, flag_at}
+use Rattle.meet_core.specs.Table.{Table, hold_at, flag_at}
 use Rattle.meet_history.specs.declared.checker.Why.{Why}
 use Rattle.meet_history.specs.declared.checker.Why.TheVariants.{SeatOpen, TicketOrder, NotOpen, WrongReply}
 use Rattle.meet_history.specs.declared.checker.CheckFault.{CheckFault}

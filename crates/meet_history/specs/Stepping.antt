@@ -5,22 +5,22 @@ use Rattle.meet_tickets.specs.declared.records.Deed.{Deed}
 use Rattle.meet_tickets.specs.declared.records.Cause.TheVariants.{Cancelled, Expired}
 use Rattle.meet_tickets.specs.declared.refusals.Refusal.{Refusal}
 use Rattle.meet_tickets.specs.declared.refusals.Refusal.TheVariants.{Memory}
-use Rattle.meet_line.specs.Queue.{Queue, seats_of, count_of}
-use Rattle.meet_line.specs.declared.answers.Gave.TheVariants.{EntryInterrupted}
-use Rattle.meet_line.specs.declared.answers.Put.TheVariants.{Fails as PutFails}
-use Rattle.meet_line.specs.declared.answers.Offered.TheVariants.{Fails}
-use Rattle.meet_line.specs.declared.answers.Followed.TheVariants.{Interrupted}
-use Rattle.meet_line.specs.declared.answers.TakenBack.TheVariants.{Back}
+use Rattle.meet_core.specs.Queue.{Queue, seats_of, count_of}
+use Rattle.meet_core.specs.declared.answers.Gave.TheVariants.{EntryInterrupted}
+use Rattle.meet_core.specs.declared.answers.Put.TheVariants.{Fails as PutFails}
+use Rattle.meet_core.specs.declared.answers.Offered.TheVariants.{Fails}
+use Rattle.meet_core.specs.declared.answers.Followed.TheVariants.{Interrupted}
+use Rattle.meet_core.specs.declared.answers.TakenBack.TheVariants.{Back}
 use Rattle.meet_book.specs.Received.{Received}
 use Rattle.meet_tickets.specs.Bases.{Based}
 use Rattle.meet_tickets.specs.BySeat.{owed_of}
-use Rattle.meet_calls.specs.declared.queue_calls.QueueCall.{QueueCall}
-use Rattle.meet_calls.specs.declared.queue_calls.QueueCall.TheVariants.{Put, Give, Offer, Take, Poll, FollowUp}
-use Rattle.meet_calls.specs.declared.queue_calls.QueueCall.TheVariants.{Cancel, Expire, Interrupt}
-use Rattle.meet_calls.specs.declared.queue_calls.QueueAnswer.{QueueAnswer}
-use Rattle.meet_calls.specs.declared.queue_calls.QueueAnswer.TheVariants.{Put as ToPut, Gave as ToGive}
-use Rattle.meet_calls.specs.declared.queue_calls.QueueAnswer.TheVariants.{Offered as ToOffer, Followed as ToFollowUp}
-use Rattle.meet_calls.specs.declared.queue_calls.QueueAnswer.TheVariants.{TakenBack as ToWithdrawal}
+use Rattle.meet_core.specs.declared.calls.queue_calls.QueueCall.{QueueCall}
+use Rattle.meet_core.specs.declared.calls.queue_calls.QueueCall.TheVariants.{Put, Give, Offer, Take, Poll, FollowUp}
+use Rattle.meet_core.specs.declared.calls.queue_calls.QueueCall.TheVariants.{Cancel, Expire, Interrupt}
+use Rattle.meet_core.specs.declared.calls.queue_calls.QueueAnswer.{QueueAnswer}
+use Rattle.meet_core.specs.declared.calls.queue_calls.QueueAnswer.TheVariants.{Put as ToPut, Gave as ToGive}
+use Rattle.meet_core.specs.declared.calls.queue_calls.QueueAnswer.TheVariants.{Offered as ToOffer, Followed as ToFollowUp}
+use Rattle.meet_core.specs.declared.calls.queue_calls.QueueAnswer.TheVariants.{TakenBack as ToWithdrawal}
 use Rattle.meet_history.specs.declared.one_thread.setup.Setup.{Setup}
 use Rattle.meet_history.specs.declared.one_thread.replies.Reply.{Reply}
 use Rattle.meet_history.specs.declared.one_thread.replies.Outcome.{Outcome}

@@ -19,9 +19,9 @@ use Rattle.meet_tickets.proofs.Fated.{Joining, Gives, Keeps, Takes, deed_of, wai
 use Rattle.meet_tickets.proofs.Lookups.{AreKeyed, keyed_from, map_keyed, keyed_filter, Contains-mapped, Contains-map}
 use Rattle.meet_tickets.proofs.Members.{Contains-first, Contains-rest, Contains-cases, Contains-nil, Contains-filter, Contains-unfiltered, filtered_passes}
 use Rattle.meet_tickets.proofs.Said.{Said, said, fate_of, fate_is}
-use Rattle.meet_line.specs.declared.left.LeftStanding.{LeftStanding}
-use Rattle.meet_line.specs.declared.left.LeftStanding.TheVariants.{Offered, Kept, Ready}
-use Rattle.meet_line.specs.LeftTold.{Leaving, standing_waited, standing_kept, standing_met, left_asked, left_told, AreLeft}
+use Rattle.meet_core.specs.declared.left.LeftStanding.{LeftStanding}
+use Rattle.meet_core.specs.declared.left.LeftStanding.TheVariants.{Offered, Kept, Ready}
+use Rattle.meet_core.specs.LeftTold.{Leaving, standing_waited, standing_kept, standing_met, left_asked, left_told, AreLeft}
 use Rattle.meet_laws.specs.Tally.{gives, is_offered, stands_kept}
 use Rattle.meet_laws.proofs.Speaking.{Meets, given, taken, fetched, Speaks}
 use Rattle.meet_laws.proofs.Told.{Course, unasked, has_asked, has_met, has_learned, has_left, was_cut, has_returned, course_of, IsMetBy, met_asked}

@@ -21,9 +21,9 @@ use Rattle.meet_tickets.specs.Fates.{opening, tickets_of, named_by, withdrawn_by
 use Rattle.meet_tickets.proofs.Changed.{one, count-cons, count-none}
 use Rattle.meet_tickets.proofs.Fated.{Joining, Gives, Keeps, Takes, deed_of, waits_of, only_asked, only_met, only_cut}
 use Rattle.meet_tickets.proofs.Said.{Said, said, fate_of}
-use Rattle.meet_line.specs.LeftTold.{Leaving, AreLeft, leaving_of}
-use Rattle.meet_line.specs.declared.left.Left.{Left}
-use Rattle.meet_line.specs.declared.left.LeftStanding.{LeftStanding}
+use Rattle.meet_core.specs.LeftTold.{Leaving, AreLeft, leaving_of}
+use Rattle.meet_core.specs.declared.left.Left.{Left}
+use Rattle.meet_core.specs.declared.left.LeftStanding.{LeftStanding}
 use Rattle.meet_laws.specs.declared.tally.Tally.{Tally}
 use Rattle.meet_laws.specs.Rows.{fails, is_refused}
 use Rattle.meet_laws.specs.Tally.{gives, meets as meets_somebody, is_give_meets, is_got, is_taker, stands_kept, is_delivered, is_returned, is_offered, given_in, tally_in, met_on as met_by, gave_on, takers_met_on}

@@ -12,8 +12,8 @@ use Rattle.meet_tickets.specs.declared.records.Deed.TheVariants.{GiveWaits, Give
 use Rattle.meet_tickets.specs.declared.records.Deed.TheVariants.{EntryInterrupted, Got}
 use Rattle.meet_tickets.specs.Bases.{Based}
 use Rattle.meet_tickets.specs.Fates.{fate, request_of, tickets_of, named_by, is_kept, opening}
-use Rattle.meet_line.specs.declared.left.LeftStanding.{LeftStanding}
-use Rattle.meet_line.specs.declared.left.LeftStanding.TheVariants.{Kept}
+use Rattle.meet_core.specs.declared.left.LeftStanding.{LeftStanding}
+use Rattle.meet_core.specs.declared.left.LeftStanding.TheVariants.{Kept}
 use Rattle.meet_laws.specs.declared.tally.Tally.{Tally}
 
 -- whether a request gives

@@ -4,11 +4,11 @@ ghost use Rattle.std.specs.Prelude.{◌≡◌, ℕ, ◌++◌, ◌+◌, ◌<◌, 
 ghost use Rattle.meet_tickets.specs.Bases.{IsWellFormed, IsLegalOn};
 ghost use Rattle.meet_tickets.specs.Fates.{opening};
 ghost use Rattle.meet_tickets.specs.declared.places.Kind.{Kind};
-ghost use Rattle.meet_line.specs.LeftTold.{AreLeftOn};
+ghost use Rattle.meet_core.specs.LeftTold.{AreLeftOn};
 ghost use Rattle.meet_laws.specs.Tally.{gives, meets, is_give_meets, is_got, is_taker, stands_kept, tally_in};
 ghost use Rattle.meet_laws.specs.Tally.{met_on, gave_on, takers_met_on};
 
-use meet_line::{Left, LeftStanding};
+use meet_core::{Left, LeftStanding};
 use meet_tickets::{Base, Deed, Entry, OpenCut, OpenPair, Record, Side};
 
 /// Where the items are that were given, by number.

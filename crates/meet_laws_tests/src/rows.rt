@@ -1,8 +1,8 @@
 //! Worked histories: what became of their tickets, where the items are, and what is left once the tickets that were cut
 //! or taken back are erased.
 
+use meet_core::{Left, LeftStanding};
 use meet_laws::{Tally, erase, fate, reckon};
-use meet_line::{Left, LeftStanding};
 use meet_tickets::{Base, Cause, Deed, Fate, Record, SeatNo, Side, Ticket};
 use std::alloc::Global;
 use std::process::Abort;

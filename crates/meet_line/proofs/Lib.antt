@@ -1,17 +1,8 @@
-pub mod Awaits
-pub mod BaseOfQueue
 pub mod Buckets
 pub mod Chaining
-pub mod Counts
-pub mod Following
-pub mod Gathered
-pub mod Leaving
-pub mod LeftThere
-pub mod LeftTold
 pub mod Looking
 pub mod Marks
 pub mod Moved
-pub mod Moves
 pub mod Occurs
 pub mod Places
 pub mod Rechained
@@ -23,5 +14,5 @@ pub mod Runs
 pub mod Sound
 pub mod Standing
 pub mod Stored
+pub mod Taken
 pub mod Unlinking
-pub mod Written

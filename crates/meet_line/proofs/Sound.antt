@@ -1,5 +1,5 @@
--- A queue stays sound.
-use Rattle.std.proofs.Common.{◌≤◌, ◌≡◌, ◌≢◌, ℕ, zero, suc, ◌+◌, ◌<◌, ◌==◌, refl, sym, ◌∙◌, ap, subst, List, [], ◌∷◌, ◌++◌, length, get_or, find, arith, Option, Some, None, Bool, true, false, is_some, is_none, cond, IsSome}
+-- A line stays sound, beside what seats hold.
+use Rattle.std.proofs.Common.{◌≤◌, ◌≡◌, ◌≢◌, ℕ, zero, suc, ◌+◌, ◌<◌, ◌==◌, refl, sym, ◌∙◌, ap, subst, List, [], ◌∷◌, ◌++◌, get_or, find, arith, Option, Some, None, Bool, true, false, is_some, is_none, cond, IsSome}
 use Rattle.std.specs.Prelude.{All, AllPairs}
 use Rattle.std.proofs.lemmas.Bool.{cond_both, ne_eqb, eq-eqb}
 use Rattle.std.proofs.lemmas.List.Elements.{All-append, All-weaker}
@@ -16,8 +16,7 @@ use Rattle.meet_tickets.specs.Limits.{last_ticket}
 use Rattle.meet_tickets.proofs.Keeping.{partner-waits}
 use Rattle.meet_tickets.proofs.Partners.{none-from}
 use Rattle.meet_tickets.proofs.Sides.{HasOneSide, All-unmet, All-without_first, AllPairs-unmet, AllPairs-without_first, partner-met, partner-there, partner-other, alone-same, met-apart, found-ticket, found-there, found-apart}
-use Rattle.meet_line.specs.Table.{hold_at}
-use Rattle.meet_line.specs.Queue.{Stands, AreFellows, IsSound}
+use Rattle.meet_line.specs.Sound.{Stands, AreFellows, IsSound}
 
 -- what two entries are to one another they are both ways
 turned : {T : Type 0} (e f : Entry T) → AreFellows e f → AreFellows f e
@@ -25,14 +24,6 @@ turned e f fellows = record {
   tickets = λ same. fellows.tickets (sym same);
   side = sym fellows.side;
 }
-
--- a seat that waits is there
-pub there-waiting : {T : Type 0} (holds : List (Hold T)) (seat ticket : ℕ) → hold_at holds seat ≡ Waiting ticket → seat < length holds
-there-waiting [] seat ticket e = cc
-there-waiting (h ∷ holds) zero ticket e = omega arith
-there-waiting (h ∷ holds) (suc seat) ticket e =
-    let below : seat < length holds = there-waiting holds seat ticket e in
-    omega arith
 
 -- a sound line has one side
 pub HasOneSide-sound : {T : Type 0} {line : List (Entry T)} {holds : ℕ → Hold T} {next : ℕ} → IsSound line holds next → HasOneSide line

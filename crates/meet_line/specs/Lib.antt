@@ -1,14 +1,7 @@
-pub mod Answers
-pub mod Awaits
-pub mod Left
-pub mod LeftTold
 pub mod Lined
 pub mod Nodes
-pub mod Opened
-pub mod Queue
 pub mod Rolled
 pub mod Runs
 pub mod Seen
-pub mod Steps
+pub mod Sound
 pub mod Stored
-pub mod Table

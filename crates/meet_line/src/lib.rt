@@ -1,36 +1,28 @@
-//! What the queues of one thread are made of: the line of unmatched tickets, the table of the seats, and the meetings
-//! of one line at one table. It knows neither books nor threads.
+//! Lines of unmatched tickets: givers or takers that wait, and items that are kept, each with its ticket and its seat.
+//! They know neither queues nor pools, neither books nor threads.
 //!
-//! A line holds givers or takers, never both (the dual queue and the dual stack of Scherer and Scott, DISC 2004): a
-//! request of the other side takes the entry at the end that is met, the first or the last, and else joins the line
-//! itself. A seat whose entry was taken keeps what came of it in the table, until it follows its ticket up.
+//! A line holds givers or takers, never both (the dual queue and the dual stack of Scherer and Scott, DISC 2004), in
+//! order of arrival. It is met at one of its ends, the first entry or the last; an entry is found by its ticket, and
+//! leaves from wherever it stands. What is true of a line beside what seats hold is said here too (`specs/Sound`), for
+//! queues and pools alike.
 #![tactic(auto)]
 
-mod answers;
 mod bucket_table;
 mod fair;
 mod itemless;
-mod left;
 mod line;
 mod linked;
 mod list_fair;
 mod list_stack;
 mod meeting;
-mod meetings;
 mod nodes;
-mod opened;
 mod roll;
 mod stack;
-mod table;
 
-pub use answers::{Followed, Gave, Interrupted, Offered, Polled, Put, TakenBack, Took};
 pub use fair::FairLine;
-pub use left::{Left, LeftStanding};
+pub use itemless::let_go_none;
 pub use line::Line;
 pub use list_fair::ListFair;
 pub use list_stack::ListStack;
 pub use meeting::{is_alone, meet};
-pub use meetings::Meetings;
-pub use opened::{Opened, open_tickets};
 pub use stack::StackLine;
-pub use table::SeatTable;

@@ -5,7 +5,8 @@ ghost use Rattle.std.specs.Prelude.{◌≡◌, ◌≤◌};
 ghost use Rattle.meet_tickets.specs.Limits.{most_seats};
 
 use crate::parcels::{Parcel, first_serial, join, meets_in_order, seat, ticket};
-use meet_line::{FairLine, Line, ListFair, ListStack, SeatTable, StackLine};
+use meet_core::SeatTable;
+use meet_line::{FairLine, Line, ListFair, ListStack, StackLine};
 use meet_tickets::Refusal;
 use std::alloc::Global;
 use std::process::Abort;

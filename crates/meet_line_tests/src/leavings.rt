@@ -2,9 +2,8 @@
 
 ghost use Rattle.std.specs.Prelude.{◌≡◌};
 
-use meet_line::{
-    FairLine, Followed, Gave, Left, LeftStanding, Line, Meetings, Put, StackLine, Took,
-};
+use meet_core::{Followed, Gave, Left, LeftStanding, Meetings, Put, Took};
+use meet_line::{FairLine, Line, StackLine};
 use meet_tickets::{Marked, Refused, SeatNo, Ticket};
 use std::alloc::Global;
 use std::process::Abort;

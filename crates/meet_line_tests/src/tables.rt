@@ -3,7 +3,7 @@
 ghost use Rattle.std.specs.Prelude.{◌≡◌, ◌<◌, length};
 
 use crate::parcels::{Parcel, seat, ticket};
-use meet_line::SeatTable;
+use meet_core::SeatTable;
 use meet_tickets::Hold;
 use std::alloc::Global;
 use std::process::Abort;

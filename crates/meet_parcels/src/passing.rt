@@ -3,7 +3,7 @@
 ghost use Rattle.std.specs.Prelude.{◌≡◌, None, IfOk, vec_len};
 ghost use Rattle.meet_place.specs.Ledgers.{AreOf};
 ghost use Rattle.meet_tickets.specs.Bases.{IsLegalOn};
-ghost use Rattle.meet_calls.specs.QueueSteps.{bounded_kind};
+ghost use Rattle.meet_core.specs.QueueSteps.{bounded_kind};
 
 use meet_cells::ParkGate;
 use meet_sync::{Back, Chronicle, End, Ledgers, NewQueue, Seat, SeatRefused, TransferQueue};

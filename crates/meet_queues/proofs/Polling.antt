@@ -4,12 +4,12 @@ use Rattle.meet_tickets.specs.declared.places.End.{End}
 use Rattle.meet_tickets.specs.declared.places.End.TheVariants.{Front}
 use Rattle.meet_tickets.specs.declared.places.Kind.{Kind}
 use Rattle.meet_tickets.specs.Meeting.{end_of}
-use Rattle.meet_line.specs.Queue.{Queue}
+use Rattle.meet_core.specs.Queue.{Queue}
 use Rattle.meet_book.specs.Draining.{TakesOne}
-use Rattle.meet_calls.specs.declared.queue_calls.QueueCall.TheVariants.{Poll}
-use Rattle.meet_calls.specs.declared.queue_calls.QueueAnswer.{QueueAnswer}
-use Rattle.meet_calls.specs.QueueRecords.{queue_record}
-use Rattle.meet_calls.specs.QueueSteps.{DualStep, QueueStep, queue_refusal, queue_owed, queue_available, queue_left}
+use Rattle.meet_core.specs.declared.calls.queue_calls.QueueCall.TheVariants.{Poll}
+use Rattle.meet_core.specs.declared.calls.queue_calls.QueueAnswer.{QueueAnswer}
+use Rattle.meet_core.specs.QueueRecords.{queue_record}
+use Rattle.meet_core.specs.QueueSteps.{DualStep, QueueStep, queue_refusal, queue_owed, queue_available, queue_left}
 use Rattle.meet_transfer.specs.Bounded.{Bounded, BoundedStep}
 use Rattle.meet_queues.specs.Queues.{QueueOfKind}
 

@@ -2,9 +2,9 @@
 use Rattle.std.specs.Prelude.{ℕ}
 use Rattle.meet_tickets.specs.declared.places.End.TheVariants.{Front, Back}
 use Rattle.meet_tickets.specs.declared.places.Kind.{Kind}
-use Rattle.meet_line.specs.Queue.{Queue}
-use Rattle.meet_calls.specs.QueueSteps.{kind_of}
-use Rattle.meet_calls.specs.QueueSteps.{bounded_kind}
+use Rattle.meet_core.specs.Queue.{Queue}
+use Rattle.meet_core.specs.QueueSteps.{kind_of}
+use Rattle.meet_core.specs.QueueSteps.{bounded_kind}
 use Rattle.meet_queues.specs.declared.any_queue.ByKind.{ByKind}
 use Rattle.meet_queues.specs.declared.any_queue.ByKind.TheVariants.{Fair, Unfair, Transfer}
 

@@ -5,7 +5,7 @@ ghost use Rattle.meet_tickets.specs.BySeat.{nobody};
 ghost use Rattle.meet_tickets.specs.Limits.{most_seats, most_records, last_ticket};
 ghost use Rattle.meet_tickets.specs.Bases.{no_base};
 ghost use Rattle.meet_tickets.specs.declared.refusals.Refusal.TheVariants.{Memory};
-ghost use Rattle.meet_line.specs.Queue.{seats_of, count_of};
+ghost use Rattle.meet_core.specs.Queue.{seats_of, count_of};
 
 use meet_book::Book;
 use meet_core::Dual;

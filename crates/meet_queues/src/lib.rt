@@ -7,7 +7,6 @@ mod ready;
 
 pub use any_queue::AnyQueue;
 pub use books::{queue_book, transfer_book};
-pub use meet_calls::{QueueAnswer, QueueCall};
-pub use meet_core::Dual;
+pub use meet_core::{Dual, QueueAnswer, QueueCall};
 pub use meet_transfer::{Transfer, Unbounded};
 pub use ready::{READY_RECORDS, ready_book};

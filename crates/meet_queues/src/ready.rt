@@ -4,11 +4,11 @@ ghost use Rattle.std.specs.Prelude.{◌≡◌, ◌<◌, ◌≤◌, [], IfOk, IfE
 ghost use Rattle.meet_tickets.specs.BySeat.{nobody};
 ghost use Rattle.meet_tickets.specs.Limits.{most_seats, most_records};
 ghost use Rattle.meet_tickets.specs.declared.refusals.Refusal.TheVariants.{Memory};
-ghost use Rattle.meet_line.specs.Queue.{seats_of, count_of};
+ghost use Rattle.meet_core.specs.Queue.{seats_of, count_of};
 ghost use Rattle.meet_queues.specs.Ready.{ready_room};
 
 use meet_book::Book;
-use meet_calls::QueuePlace;
+use meet_core::QueuePlace;
 use meet_tickets::{Marked, Refusal};
 use std::alloc::Global;
 

@@ -1,7 +1,7 @@
 //! What an answer tells.
 
 use crate::parcels::{Parcel, Told};
-use meet_line::{Followed, Gave, Interrupted, Offered, Polled, Put, TakenBack, Took};
+use meet_core::{Followed, Gave, Interrupted, Offered, Polled, Put, TakenBack, Took};
 use meet_queues::QueueAnswer;
 use meet_tickets::{Refusal, Refused};
 

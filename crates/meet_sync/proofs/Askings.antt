@@ -8,20 +8,20 @@ use Rattle.meet_tickets.specs.declared.records.Deed.TheVariants.{GiveWaits, Give
 use Rattle.meet_tickets.specs.declared.records.Deed.TheVariants.{TakeWaits, TakeMeets, TakeFails}
 use Rattle.meet_tickets.specs.declared.records.Deed.TheVariants.{EntryInterrupted as RefusedAtEntry}
 use Rattle.meet_tickets.specs.declared.refusals.Refusal.{Refusal}
-use Rattle.meet_line.specs.Queue.{Queue}
-use Rattle.meet_line.specs.declared.answers.Put.TheVariants.{Kept as PutKept, Meets as PutMeets, Fails as PutFails}
-use Rattle.meet_line.specs.declared.answers.Gave.TheVariants.{Waits as GiverWaits, Meets as GiverMeets}
-use Rattle.meet_line.specs.declared.answers.Gave.TheVariants.{EntryInterrupted as GiverInterrupted}
-use Rattle.meet_line.specs.declared.answers.Offered.TheVariants.{Meets as OfferMeets, Fails as OfferFails}
-use Rattle.meet_line.specs.declared.answers.Took.TheVariants.{Waits as TakerWaits, Meets as TakerMeets}
-use Rattle.meet_line.specs.declared.answers.Took.TheVariants.{EntryInterrupted as TakerInterrupted}
-use Rattle.meet_line.specs.declared.answers.Polled.TheVariants.{Meets as PollMeets, Fails as PollFails}
-use Rattle.meet_calls.specs.declared.queue_calls.QueueAnswer.{QueueAnswer}
-use Rattle.meet_calls.specs.declared.queue_calls.QueueAnswer.TheVariants.{Put as ToPut, Gave as ToGive}
-use Rattle.meet_calls.specs.declared.queue_calls.QueueAnswer.TheVariants.{Offered as ToOffer, Took as ToTake}
-use Rattle.meet_calls.specs.declared.queue_calls.QueueAnswer.TheVariants.{Polled as ToPoll}
-use Rattle.meet_calls.specs.QueueRecords.{made, queue_record}
-use Rattle.meet_calls.specs.QueueSteps.{QueueStep, item_in}
+use Rattle.meet_core.specs.Queue.{Queue}
+use Rattle.meet_core.specs.declared.answers.Put.TheVariants.{Kept as PutKept, Meets as PutMeets, Fails as PutFails}
+use Rattle.meet_core.specs.declared.answers.Gave.TheVariants.{Waits as GiverWaits, Meets as GiverMeets}
+use Rattle.meet_core.specs.declared.answers.Gave.TheVariants.{EntryInterrupted as GiverInterrupted}
+use Rattle.meet_core.specs.declared.answers.Offered.TheVariants.{Meets as OfferMeets, Fails as OfferFails}
+use Rattle.meet_core.specs.declared.answers.Took.TheVariants.{Waits as TakerWaits, Meets as TakerMeets}
+use Rattle.meet_core.specs.declared.answers.Took.TheVariants.{EntryInterrupted as TakerInterrupted}
+use Rattle.meet_core.specs.declared.answers.Polled.TheVariants.{Meets as PollMeets, Fails as PollFails}
+use Rattle.meet_core.specs.declared.calls.queue_calls.QueueAnswer.{QueueAnswer}
+use Rattle.meet_core.specs.declared.calls.queue_calls.QueueAnswer.TheVariants.{Put as ToPut, Gave as ToGive}
+use Rattle.meet_core.specs.declared.calls.queue_calls.QueueAnswer.TheVariants.{Offered as ToOffer, Took as ToTake}
+use Rattle.meet_core.specs.declared.calls.queue_calls.QueueAnswer.TheVariants.{Polled as ToPoll}
+use Rattle.meet_core.specs.QueueRecords.{made, queue_record}
+use Rattle.meet_core.specs.QueueSteps.{QueueStep, item_in}
 use Rattle.meet_place.specs.Seats.{SeatView, PendingView, Adds}
 use Rattle.meet_sync.specs.Asking.{item_of, brought, call_of, settled_deed, waiting_deed, HandsBack, IsToRequest, told}
 use Rattle.meet_sync.specs.Asking.{waiting_ticket, AnsweredBy, AskedAs}

@@ -4,9 +4,9 @@ use Rattle.std.proofs.lemmas.Bool.{eq-eqb}
 use Rattle.std.specs.Prelude.{if◌then◌else◌}
 use Rattle.meet_tickets.specs.Refusals.{refusal_unless}
 use Rattle.meet_tickets.specs.declared.refusals.Refusal.TheVariants.{NotOpen}
-use Rattle.meet_line.specs.Awaits.{AwaitsAs}
-use Rattle.meet_line.specs.Queue.{Queue, seats_of}
-use Rattle.meet_calls.specs.QueueSteps.{queue_need, queue_refusal}
+use Rattle.meet_core.specs.Awaits.{AwaitsAs}
+use Rattle.meet_core.specs.Queue.{Queue, seats_of}
+use Rattle.meet_core.specs.QueueSteps.{queue_need, queue_refusal}
 use Rattle.meet_sync.specs.Told.{ending_call}
 use Rattle.meet_sync.specs.declared.queue.Ending.{Ending}
 use Rattle.meet_sync.specs.declared.queue.Ending.TheVariants.{FollowUp, Cancel, Expire}

@@ -4,8 +4,8 @@ use Rattle.meet_tickets.specs.declared.places.Kind.{Kind}
 use Rattle.meet_tickets.specs.declared.records.Record.{Record}
 use Rattle.meet_tickets.specs.declared.records.Deed.{Deed}
 use Rattle.meet_tickets.specs.Bases.{Based, no_base}
-use Rattle.meet_line.specs.Queue.{Queue}
-use Rattle.meet_calls.specs.QueueSteps.{LeadsTo}
+use Rattle.meet_core.specs.Queue.{Queue}
+use Rattle.meet_core.specs.QueueSteps.{LeadsTo}
 use Rattle.meet_sync.specs.Chronicles.{IsChapter}
 
 pub chapter_of : {T O : Type 0} (mark : T → ℕ) (k : Kind) (queue_of : O → Queue T) (gone_of : Based → ℕ)

@@ -9,7 +9,7 @@ use Rattle.meet_tickets.specs.declared.refusals.Refusal.{Refusal}
 use Rattle.meet_tickets.specs.declared.refusals.Refusal.TheVariants.{NoSuchSeat, SeatOpen, TicketsSpent, HistoryFull}
 use Rattle.meet_book.specs.Booked.{Booked}
 use Rattle.meet_book.specs.Booking.{call_refusal, cut_refusal}
-use Rattle.meet_line.specs.Queue.{Queue, seats_of, count_of, admit_refusal}
+use Rattle.meet_core.specs.Queue.{Queue, seats_of, count_of, admit_refusal}
 use Rattle.meet_sync.specs.Told.{IsRequestWhy, IsInterruptWhy, IsCutWhy}
 
 -- a seat that is there isn't missing

@@ -19,14 +19,14 @@ use Rattle.meet_book.specs.Draining.{TakingPolls, AreNumbered, drain_refusal_by,
 use Rattle.meet_book.specs.Booked.{Booked}
 use Rattle.meet_book.specs.Booking.{is_book_full}
 use Rattle.meet_book.specs.Received.{Received}
-use Rattle.meet_line.specs.Queue.{Queue, count_of, seats_of}
-use Rattle.meet_line.specs.declared.answers.Polled.TheVariants.{Meets, Fails}
-use Rattle.meet_calls.specs.QueueRecords.{queue_record}
-use Rattle.meet_calls.specs.QueueSteps.{QueueStep, queue_available, queue_refusal}
-use Rattle.meet_calls.specs.declared.queue_calls.QueueCall.{QueueCall}
-use Rattle.meet_calls.specs.declared.queue_calls.QueueCall.TheVariants.{Poll}
-use Rattle.meet_calls.specs.declared.queue_calls.QueueAnswer.{QueueAnswer}
-use Rattle.meet_calls.specs.declared.queue_calls.QueueAnswer.TheVariants.{Polled}
+use Rattle.meet_core.specs.Queue.{Queue, count_of, seats_of}
+use Rattle.meet_core.specs.declared.answers.Polled.TheVariants.{Meets, Fails}
+use Rattle.meet_core.specs.QueueRecords.{queue_record}
+use Rattle.meet_core.specs.QueueSteps.{QueueStep, queue_available, queue_refusal}
+use Rattle.meet_core.specs.declared.calls.queue_calls.QueueCall.{QueueCall}
+use Rattle.meet_core.specs.declared.calls.queue_calls.QueueCall.TheVariants.{Poll}
+use Rattle.meet_core.specs.declared.calls.queue_calls.QueueAnswer.{QueueAnswer}
+use Rattle.meet_core.specs.declared.calls.queue_calls.QueueAnswer.TheVariants.{Polled}
 use Rattle.meet_place.specs.Holds.{IsBookOf}
 use Rattle.meet_place.specs.Seats.{SeatView, DrainedAs}
 use Rattle.meet_sync.proofs.Reasons.{is_there}

@@ -7,7 +7,7 @@ use Rattle.meet_tickets.specs.declared.places.Kind.{Kind}
 use Rattle.meet_tickets.specs.declared.records.Record.{Record}
 use Rattle.meet_tickets.specs.declared.records.Deed.{Deed}
 use Rattle.meet_book.specs.Received.{Received}
-use Rattle.meet_calls.specs.QueueRecords.{made}
+use Rattle.meet_core.specs.QueueRecords.{made}
 use Rattle.meet_place.specs.Seats.{SeatView, PendingView, Adds, entries}
 use Rattle.meet_sync.specs.Asking.{AskedAs, waiting_deed, brought}
 use Rattle.meet_sync.specs.Ending.{MayRunOut, EndedAs, EndsAs, WaitedAs, OutcomeOf, NotExpired, MarksBack, last_deed}

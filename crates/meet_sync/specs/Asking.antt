@@ -13,22 +13,22 @@ use Rattle.meet_tickets.specs.declared.records.Deed.TheVariants.{TakeFails, Entr
 use Rattle.meet_tickets.specs.declared.records.Deed.TheVariants.{Done as DoneDeed, Got as GotDeed}
 use Rattle.meet_tickets.specs.declared.records.Deed.TheVariants.{Withdrawn as WithdrawnDeed, Interrupt}
 use Rattle.meet_tickets.specs.declared.refusals.Refusal.{Refusal}
-use Rattle.meet_line.specs.declared.answers.Put.TheVariants.{Kept as PutKept, Meets as PutMeets, Fails as PutFails}
-use Rattle.meet_line.specs.declared.answers.Gave.TheVariants.{Waits as GiverWaits, Meets as GiverMeets}
-use Rattle.meet_line.specs.declared.answers.Gave.TheVariants.{EntryInterrupted as GiverInterrupted}
-use Rattle.meet_line.specs.declared.answers.Offered.TheVariants.{Meets as OfferMeets, Fails as OfferFails}
-use Rattle.meet_line.specs.declared.answers.Took.TheVariants.{Waits as TakerWaits, Meets as TakerMeets}
-use Rattle.meet_line.specs.declared.answers.Took.TheVariants.{EntryInterrupted as TakerInterrupted}
-use Rattle.meet_line.specs.declared.answers.Polled.TheVariants.{Meets as PollMeets, Fails as PollFails}
-use Rattle.meet_calls.specs.declared.queue_calls.QueueCall.{QueueCall}
-use Rattle.meet_calls.specs.declared.queue_calls.QueueCall.TheVariants.{Put as PutCall, Give as GiveCall}
-use Rattle.meet_calls.specs.declared.queue_calls.QueueCall.TheVariants.{Offer as OfferCall, Take as TakeCall}
-use Rattle.meet_calls.specs.declared.queue_calls.QueueCall.TheVariants.{Poll as PollCall}
-use Rattle.meet_calls.specs.declared.queue_calls.QueueAnswer.{QueueAnswer}
-use Rattle.meet_calls.specs.declared.queue_calls.QueueAnswer.TheVariants.{Put as ToPut, Gave as ToGive}
-use Rattle.meet_calls.specs.declared.queue_calls.QueueAnswer.TheVariants.{Offered as ToOffer, Took as ToTake}
-use Rattle.meet_calls.specs.declared.queue_calls.QueueAnswer.TheVariants.{Polled as ToPoll}
-use Rattle.meet_calls.specs.QueueRecords.{made}
+use Rattle.meet_core.specs.declared.answers.Put.TheVariants.{Kept as PutKept, Meets as PutMeets, Fails as PutFails}
+use Rattle.meet_core.specs.declared.answers.Gave.TheVariants.{Waits as GiverWaits, Meets as GiverMeets}
+use Rattle.meet_core.specs.declared.answers.Gave.TheVariants.{EntryInterrupted as GiverInterrupted}
+use Rattle.meet_core.specs.declared.answers.Offered.TheVariants.{Meets as OfferMeets, Fails as OfferFails}
+use Rattle.meet_core.specs.declared.answers.Took.TheVariants.{Waits as TakerWaits, Meets as TakerMeets}
+use Rattle.meet_core.specs.declared.answers.Took.TheVariants.{EntryInterrupted as TakerInterrupted}
+use Rattle.meet_core.specs.declared.answers.Polled.TheVariants.{Meets as PollMeets, Fails as PollFails}
+use Rattle.meet_core.specs.declared.calls.queue_calls.QueueCall.{QueueCall}
+use Rattle.meet_core.specs.declared.calls.queue_calls.QueueCall.TheVariants.{Put as PutCall, Give as GiveCall}
+use Rattle.meet_core.specs.declared.calls.queue_calls.QueueCall.TheVariants.{Offer as OfferCall, Take as TakeCall}
+use Rattle.meet_core.specs.declared.calls.queue_calls.QueueCall.TheVariants.{Poll as PollCall}
+use Rattle.meet_core.specs.declared.calls.queue_calls.QueueAnswer.{QueueAnswer}
+use Rattle.meet_core.specs.declared.calls.queue_calls.QueueAnswer.TheVariants.{Put as ToPut, Gave as ToGive}
+use Rattle.meet_core.specs.declared.calls.queue_calls.QueueAnswer.TheVariants.{Offered as ToOffer, Took as ToTake}
+use Rattle.meet_core.specs.declared.calls.queue_calls.QueueAnswer.TheVariants.{Polled as ToPoll}
+use Rattle.meet_core.specs.QueueRecords.{made}
 use Rattle.meet_place.specs.Seats.{SeatView, PendingView, Adds, SameSeat, ParksSeat, FreesSeat}
 use Rattle.meet_sync.specs.declared.queue.Ending.{Ending}
 use Rattle.meet_sync.specs.declared.queue.Ending.TheVariants.{FollowUp as ToFollow, Cancel as ToCancel}

@@ -7,8 +7,8 @@ use Rattle.meet_tickets.specs.declared.records.Deed.{Deed}
 use Rattle.meet_tickets.specs.declared.refusals.Refusal.{Refusal}
 use Rattle.meet_tickets.specs.declared.refusals.Refusal.TheVariants.{HasBase}
 use Rattle.meet_tickets.specs.Bases.{Based, no_base, IsWellFormed, IsLegalOn}
-use Rattle.meet_line.specs.declared.left.Left.{Left}
-use Rattle.meet_line.specs.LeftTold.{AreLeftOn}
+use Rattle.meet_core.specs.declared.left.Left.{Left}
+use Rattle.meet_core.specs.LeftTold.{AreLeftOn}
 use Rattle.meet_book.specs.Listed.{AreListed}
 use Rattle.meet_book.specs.Received.{Received}
 

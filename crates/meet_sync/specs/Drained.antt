@@ -3,12 +3,12 @@ use Rattle.std.specs.Prelude.{◌≡◌, ℕ, ⊤, Option, Some, None, IsSome, L
 use Rattle.meet_tickets.specs.declared.records.Record.{Record}
 use Rattle.meet_tickets.specs.declared.records.Deed.{Deed}
 use Rattle.meet_tickets.specs.declared.records.Deed.TheVariants.{TakeMeets}
-use Rattle.meet_line.specs.declared.answers.Polled.TheVariants.{Meets}
-use Rattle.meet_calls.specs.declared.queue_calls.QueueAnswer.{QueueAnswer}
-use Rattle.meet_calls.specs.declared.queue_calls.QueueAnswer.TheVariants.{Polled}
-use Rattle.meet_calls.specs.QueueRecords.{made}
-use Rattle.meet_calls.specs.QueueSteps.{queue_available}
-use Rattle.meet_line.specs.Queue.{Queue, count_of}
+use Rattle.meet_core.specs.declared.answers.Polled.TheVariants.{Meets}
+use Rattle.meet_core.specs.declared.calls.queue_calls.QueueAnswer.{QueueAnswer}
+use Rattle.meet_core.specs.declared.calls.queue_calls.QueueAnswer.TheVariants.{Polled}
+use Rattle.meet_core.specs.QueueRecords.{made}
+use Rattle.meet_core.specs.QueueSteps.{queue_available}
+use Rattle.meet_core.specs.Queue.{Queue, count_of}
 use Rattle.meet_place.specs.Seats.{SeatView, AddsFrom}
 
 -- an item that was taken: by the poll of this ticket, from this giver

@@ -6,7 +6,7 @@ use Rattle.meet_tickets.specs.declared.records.Cause.TheVariants.{Interrupted as
 use Rattle.meet_tickets.specs.declared.records.Deed.{Deed}
 use Rattle.meet_tickets.specs.declared.records.Deed.TheVariants.{Done as DoneDeed, Got as GotDeed}
 use Rattle.meet_tickets.specs.declared.records.Deed.TheVariants.{Withdrawn as WithdrawnDeed}
-use Rattle.meet_calls.specs.QueueRecords.{made}
+use Rattle.meet_core.specs.QueueRecords.{made}
 use Rattle.meet_place.specs.Seats.{SeatView, PendingView, Adds, SameSeat, FreesSeat}
 use Rattle.meet_sync.specs.Asking.{waiting_deed, brought, SettledAs}
 use Rattle.meet_sync.specs.declared.asked.Request.{Request}

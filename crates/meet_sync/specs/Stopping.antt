@@ -4,7 +4,7 @@ use Rattle.std.specs.List.{range_with_len}
 use Rattle.meet_tickets.specs.declared.records.Record.{Record}
 use Rattle.meet_tickets.specs.declared.records.Deed.{Deed}
 use Rattle.meet_tickets.specs.declared.records.Deed.TheVariants.{Interrupt}
-use Rattle.meet_calls.specs.QueueRecords.{made}
+use Rattle.meet_core.specs.QueueRecords.{made}
 use Rattle.meet_place.specs.Seats.{SeatView, Adds, SameSeat}
 use Rattle.meet_sync.specs.declared.asked.Struck.{Struck}
 use Rattle.meet_sync.specs.declared.asked.Struck.TheVariants.{Cut, Flagged}

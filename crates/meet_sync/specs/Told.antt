@@ -6,12 +6,12 @@ use Rattle.meet_tickets.specs.declared.refusals.Refusal.TheVariants.{Memory, His
 use Rattle.meet_tickets.specs.declared.refusals.Refusal.TheVariants.{NoSuchSeat}
 use Rattle.meet_tickets.specs.Refusals.{IsWhy}
 use Rattle.meet_book.specs.Booking.{call_refusal}
-use Rattle.meet_line.specs.Queue.{Queue, seats_of, count_of}
-use Rattle.meet_line.specs.Awaits.{AwaitsAs}
-use Rattle.meet_calls.specs.declared.queue_calls.QueueCall.{QueueCall}
-use Rattle.meet_calls.specs.declared.queue_calls.QueueCall.TheVariants.{FollowUp, Cancel, Expire}
-use Rattle.meet_calls.specs.declared.queue_calls.QueueAnswer.{QueueAnswer}
-use Rattle.meet_calls.specs.QueueSteps.{QueueStep, queue_refusal}
+use Rattle.meet_core.specs.Queue.{Queue, seats_of, count_of}
+use Rattle.meet_core.specs.Awaits.{AwaitsAs}
+use Rattle.meet_core.specs.declared.calls.queue_calls.QueueCall.{QueueCall}
+use Rattle.meet_core.specs.declared.calls.queue_calls.QueueCall.TheVariants.{FollowUp, Cancel, Expire}
+use Rattle.meet_core.specs.declared.calls.queue_calls.QueueAnswer.{QueueAnswer}
+use Rattle.meet_core.specs.QueueSteps.{QueueStep, queue_refusal}
 use Rattle.meet_sync.specs.declared.queue.Ending.{Ending}
 use Rattle.meet_sync.specs.declared.queue.Ending.TheVariants.{FollowUp as ToFollow, Cancel as ToCancel}
 use Rattle.meet_sync.specs.declared.queue.Ending.TheVariants.{Expire as ToExpire}

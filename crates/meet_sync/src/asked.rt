@@ -4,7 +4,7 @@ ghost use Rattle.std.specs.Prelude.{◌≡◌};
 ghost use Rattle.meet_sync.specs.Asking.{item_of, call_of, brought};
 ghost use Rattle.meet_sync.specs.Ending.{end_of};
 
-use meet_calls::QueueCall;
+use meet_core::QueueCall;
 use meet_place::{Ledgers, Pending, Seat};
 use meet_tickets::{Deed, Marked, Refusal, Ticket};
 use std::fmt;

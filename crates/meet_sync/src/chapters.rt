@@ -11,9 +11,9 @@ ghost use Rattle.meet_sync.specs.Told.{IsCutWhy};
 
 use crate::asked::SeatRefused;
 use crate::queue::Queue;
-use meet_book as book;
+use ::meet_book as book;
 use meet_book::Bases;
-use meet_calls::QueuePlace;
+use meet_core::QueuePlace;
 use meet_place::{Ledgers, Place, Seat};
 use meet_tickets::{Base, Deed, Marked, Record, Refusal};
 use std::sync::Wait;

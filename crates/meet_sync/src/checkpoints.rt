@@ -9,7 +9,7 @@ ghost use Rattle.meet_sync.specs.Told.{IsCutWhy};
 use crate::asked::SeatRefused;
 use crate::queue::Queue;
 use meet_book::Bases;
-use meet_calls::QueuePlace;
+use meet_core::QueuePlace;
 use meet_place::{Ledgers, Pending, Place, Seat};
 use meet_tickets::{Deed, Marked, Refusal};
 use std::sync::Wait;

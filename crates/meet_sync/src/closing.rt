@@ -9,8 +9,7 @@ ghost use Rattle.meet_tickets.specs.declared.refusals.Refusal.TheVariants.{Memor
 
 use crate::queue::Queue;
 use meet_book::{Book, Receipt};
-use meet_calls::QueueLeaves;
-use meet_line::Left;
+use meet_core::{Left, QueueLeaves};
 use meet_place::{Back, CloseFault, Closed, Ledgers, missing_seats};
 use meet_tickets::{Base, Deed, Record, Refusal, SeatNo};
 use std::alloc::Global;

@@ -8,8 +8,7 @@ ghost use Rattle.meet_sync.specs.Told.{IsRequestWhy};
 
 use crate::asked::SeatRefused;
 use crate::queue::Queue;
-use meet_calls::{QueueAnswer, QueueDrains};
-use meet_line::Polled;
+use meet_core::{Polled, QueueAnswer, QueueDrains};
 use meet_place::{Gate, Ledgers, Seat};
 use meet_tickets::{Deed, Refusal};
 use std::alloc::Global;

@@ -7,8 +7,7 @@ ghost use Rattle.meet_sync.specs.Told.{IsWithdrawal};
 
 use crate::asked::{FollowedUp, Withdrawn};
 use crate::queue::{Ending, Queue};
-use meet_calls::{QueueAnswer, QueuePlace};
-use meet_line::{Followed, TakenBack};
+use meet_core::{Followed, QueueAnswer, QueuePlace, TakenBack};
 use meet_place::{Gate, Ledgers, Pending};
 use meet_tickets::Deed;
 use std::sync::Wait;

@@ -5,7 +5,7 @@ ghost use Rattle.meet_tickets.specs.declared.places.Kind.{Kind};
 ghost use Rattle.meet_tickets.specs.declared.records.Record.{Record};
 ghost use Rattle.meet_tickets.specs.declared.records.Deed.{Deed};
 ghost use Rattle.meet_tickets.specs.Bases.{Based};
-ghost use Rattle.meet_line.specs.declared.left.Left.{Left};
+ghost use Rattle.meet_core.specs.declared.left.Left.{Left};
 ghost use Rattle.meet_book.specs.Received.{Received};
 ghost use Rattle.meet_laws.specs.Promise.{KeepsPromise};
 ghost use Rattle.meet_sync.specs.Chronicles.{IsChronicle};

@@ -2,7 +2,7 @@
 
 ghost use Rattle.std.specs.Prelude.{◌≡◌, Some, None, [], vec_len, IfOk, IfErr, if◌then◌else◌};
 ghost use Rattle.meet_tickets.specs.declared.refusals.Refusal.TheVariants.{BadSizes, Memory};
-ghost use Rattle.meet_line.specs.Queue.{seats_of, count_of};
+ghost use Rattle.meet_core.specs.Queue.{seats_of, count_of};
 ghost use Rattle.meet_tickets.specs.BySeat.{nobody};
 ghost use Rattle.meet_tickets.specs.Limits.{most_records, most_seats};
 ghost use Rattle.meet_tickets.specs.Refusals.{IsWhy};
@@ -12,8 +12,8 @@ ghost use Rattle.meet_sync.specs.Making.{making_refusal};
 
 use crate::queue::Queue;
 use meet_book::Book;
-use meet_calls::QueuePlace;
 use meet_cells::{ParkGate, SpinGate};
+use meet_core::QueuePlace;
 use meet_place::{Blanks, Ledgers, NewPlace, Place, Seat};
 use meet_queues::ready_book;
 use meet_tickets::{Deed, MOST_RECORDS, MOST_SEATS, Refusal, Refused};

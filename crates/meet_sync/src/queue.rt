@@ -2,12 +2,12 @@
 //! should wake is woken once the lock is free.
 
 ghost use Rattle.std.specs.Prelude.{◌≡◌, ◌+◌, ◌<◌, ◌≤◌, length, option_to_list, IfOk, IfErr, IfSome, IfNone};
-ghost use Rattle.meet_calls.specs.QueueRecords.{queue_record};
+ghost use Rattle.meet_core.specs.QueueRecords.{queue_record};
 ghost use Rattle.meet_place.specs.Seats.{Adds};
 ghost use Rattle.meet_sync.specs.Told.{IsAnswer, IsEnding, IsRefusalOf, ending_call};
 ghost use Rattle.meet_tickets.specs.Limits.{most_seats};
 
-use meet_calls::{QueueAnswer, QueueCall, QueuePlace};
+use meet_core::{QueueAnswer, QueueCall, QueuePlace};
 use meet_place::{Gate, Ledgers, Pending, Place, Seat, Turn};
 use meet_tickets::{Deed, Refused, SeatNo, Ticket};
 use std::marker::Model;

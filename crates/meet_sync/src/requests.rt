@@ -1,14 +1,15 @@
 //! The split requests of a queue.
 
 ghost use Rattle.std.specs.Prelude.{◌≡◌, ◌<◌, ◌≤◌, None, IfOk, IfErr};
-ghost use Rattle.meet_calls.specs.QueueSteps.{item_in};
+ghost use Rattle.meet_core.specs.QueueSteps.{item_in};
 ghost use Rattle.meet_sync.specs.Asking.{item_of, RefusedAs, AskedAs, StruckAs, AnsweredBy, IsToRequest};
 ghost use Rattle.meet_sync.specs.Told.{IsRequestWhy, IsInterruptWhy};
 
 use crate::asked::{Answer, Asked, Request, SeatRefused, Struck};
 use crate::queue::Queue;
-use meet_calls::{QueueAnswer, QueueCall, QueuePlace};
-use meet_line::{Gave, Interrupted, Offered, Polled, Put, Took};
+use meet_core::{
+    Gave, Interrupted, Offered, Polled, Put, QueueAnswer, QueueCall, QueuePlace, Took,
+};
 use meet_place::{Gate, Ledgers, Pending, Seat};
 use meet_tickets::{Deed, Refusal, Refused, SeatNo};
 use std::sync::Wait;

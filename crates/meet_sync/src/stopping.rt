@@ -7,7 +7,7 @@ ghost use Rattle.meet_sync.specs.Told.{IsCutWhy};
 
 use crate::asked::{SeatRefused, Struck};
 use crate::queue::Queue;
-use meet_calls::QueuePlace;
+use meet_core::QueuePlace;
 use meet_place::{Gate, Ledgers, Seat};
 use meet_tickets::{Deed, SeatNo};
 use std::sync::Wait;

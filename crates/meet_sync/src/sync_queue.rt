@@ -1,7 +1,7 @@
 //! The synchronous queue for threads.
 
 ghost use Rattle.std.specs.Prelude.{◌≡◌, ◌<◌, ⊤, IfOk, IfErr};
-ghost use Rattle.meet_calls.specs.QueueSteps.{kind_of};
+ghost use Rattle.meet_core.specs.QueueSteps.{kind_of};
 ghost use Rattle.meet_sync.specs.Asking.{item_of, RefusedAs};
 ghost use Rattle.meet_sync.specs.Ending.{EndedAs};
 ghost use Rattle.meet_sync.specs.Told.{IsRequestWhy};

@@ -9,7 +9,7 @@ ghost use Rattle.meet_sync.specs.declared.asked.Request.TheVariants.{Give, Offer
 use crate::asked::{Asked, End, Ended, FollowedUp, Request, SeatRefused, Withdrawn};
 use crate::deadline::{begun, left_of};
 use crate::queue::Queue;
-use meet_calls::QueuePlace;
+use meet_core::QueuePlace;
 use meet_place::{Gate, Ledgers, Pending, Seat, Turn};
 use meet_tickets::Deed;
 use std::sync::Wait;

@@ -4,7 +4,7 @@ ghost use Rattle.std.specs.Prelude.{◌≡◌, vec_len};
 ghost use Rattle.meet_place.specs.Ledgers.{AreOf};
 
 use meet_book::Bases;
-use meet_calls::{QueueLeaves, QueuePlace};
+use meet_core::{QueueLeaves, QueuePlace};
 use meet_line::FairLine;
 use meet_shop::{Idle, gates, two_backs, two_seats};
 use meet_sync::{

@@ -1,13 +1,14 @@
 -- A poll of a transfer queue in which a giver stands.
 use Rattle.std.proofs.Common.{◌≡◌, ℕ, ◌<◌, None}
 use Rattle.meet_tickets.specs.declared.places.End.TheVariants.{Front}
-use Rattle.meet_line.specs.Queue.{seats_of, IsSound}
+use Rattle.meet_line.specs.Sound.{IsSound}
+use Rattle.meet_core.specs.Queue.{seats_of}
 use Rattle.meet_book.specs.Draining.{TakesOne}
-use Rattle.meet_calls.specs.declared.queue_calls.QueueCall.TheVariants.{Poll}
-use Rattle.meet_calls.specs.declared.queue_calls.QueueAnswer.{QueueAnswer}
-use Rattle.meet_calls.specs.QueueRecords.{queue_record}
-use Rattle.meet_calls.specs.QueueSteps.{queue_refusal, queue_owed, queue_available, queue_left}
-use Rattle.meet_calls.proofs.Polling.{poll-takes}
+use Rattle.meet_core.specs.declared.calls.queue_calls.QueueCall.TheVariants.{Poll}
+use Rattle.meet_core.specs.declared.calls.queue_calls.QueueAnswer.{QueueAnswer}
+use Rattle.meet_core.specs.QueueRecords.{queue_record}
+use Rattle.meet_core.specs.QueueSteps.{queue_refusal, queue_owed, queue_available, queue_left}
+use Rattle.meet_core.proofs.Polling.{poll-takes}
 use Rattle.meet_transfer.specs.Bounded.{Bounded, BoundedStep}
 
 -- with a bound, which stays

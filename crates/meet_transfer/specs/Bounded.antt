@@ -1,9 +1,9 @@
 -- What a transfer queue shows of itself.
 use Rattle.std.specs.Prelude.{◌≡◌, ℕ, Option}
-use Rattle.meet_line.specs.Queue.{Queue}
-use Rattle.meet_calls.specs.declared.queue_calls.QueueCall.{QueueCall}
-use Rattle.meet_calls.specs.declared.queue_calls.QueueAnswer.{QueueAnswer}
-use Rattle.meet_calls.specs.QueueSteps.{QueueStep, bounded_kind}
+use Rattle.meet_core.specs.Queue.{Queue}
+use Rattle.meet_core.specs.declared.calls.queue_calls.QueueCall.{QueueCall}
+use Rattle.meet_core.specs.declared.calls.queue_calls.QueueAnswer.{QueueAnswer}
+use Rattle.meet_core.specs.QueueSteps.{QueueStep, bounded_kind}
 
 -- a queue, and its bound
 pub record Bounded (T : Type 0) : Type 0 where

@@ -8,9 +8,9 @@
 mod transfer;
 mod unbounded;
 
-pub use meet_calls::{QueueAnswer, QueueCall};
-pub use meet_line::{
-    Followed, Gave, Interrupted, Left, LeftStanding, Offered, Polled, Put, TakenBack, Took,
+pub use meet_core::{
+    Followed, Gave, Interrupted, Left, LeftStanding, Offered, Polled, Put, QueueAnswer, QueueCall,
+    TakenBack, Took,
 };
 pub use transfer::Transfer;
 pub use unbounded::Unbounded;

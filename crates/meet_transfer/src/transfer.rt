@@ -4,11 +4,12 @@ ghost use Rattle.std.specs.Prelude.{◌≡◌, ◌≤◌, ◌<◌, Some, None, I
 ghost use Rattle.meet_tickets.specs.Bases.{IsBaseOf};
 ghost use Rattle.meet_tickets.specs.BySeat.{nobody};
 ghost use Rattle.meet_tickets.specs.Limits.{most_seats, last_ticket};
-ghost use Rattle.meet_line.specs.Seen.{moment_of_queue};
+ghost use Rattle.meet_core.specs.Seen.{moment_of_queue};
 ghost use Rattle.meet_tickets.specs.Refusals.{IsWhy};
 ghost use Rattle.meet_tickets.specs.declared.places.End.TheVariants.{Front};
 
-use meet_line::{FairLine, Gave, Meetings, Offered, Polled, Put, Took};
+use meet_core::{Gave, Meetings, Offered, Polled, Put, Took};
+use meet_line::FairLine;
 use meet_tickets::{Base, Marked, Refusal, Refused, SeatNo, Ticket};
 use std::alloc::Global;
 use std::marker::Model;
@@ -35,8 +36,8 @@ impl<T: Marked> Model for Transfer<T> {
 }
 
 impl<T: Marked> Transfer<T> {
-    ghost use Rattle.meet_line.specs.Queue.{seats_of, count_of, places_of, admit_refusal};
-    ghost use Rattle.meet_line.specs.Steps.{GiveStep, PutStep, TakeStep, OfferStep, PollStep};
+    ghost use Rattle.meet_core.specs.Queue.{seats_of, count_of, places_of, admit_refusal};
+    ghost use Rattle.meet_core.specs.Steps.{GiveStep, PutStep, TakeStep, OfferStep, PollStep};
     ghost use Rattle.meet_tickets.specs.declared.refusals.Refusal.TheVariants.{Memory};
 
     /// A queue without a bound and with no room yet, with this many seats, at most 65,536, and this first ticket, 1

@@ -20,7 +20,7 @@ pub struct Unbounded<T: Marked> {
 
 impl<T: Marked> Model for Unbounded<T> {
     ghost use Rattle.std.specs.Prelude.{◌≡◌, None};
-    ghost use Rattle.meet_line.specs.Queue.{Queue};
+    ghost use Rattle.meet_core.specs.Queue.{Queue};
 
     ghost Value = { Queue T };
 
@@ -30,7 +30,7 @@ impl<T: Marked> Model for Unbounded<T> {
 }
 
 impl<T: Marked> Unbounded<T> {
-    ghost use Rattle.meet_line.specs.Queue.{seats_of, count_of};
+    ghost use Rattle.meet_core.specs.Queue.{seats_of, count_of};
     ghost use Rattle.meet_tickets.specs.declared.refusals.Refusal.TheVariants.{Memory};
 
     /// `new LinkedTransferQueue()`, with no room yet, with this many seats, at most 65,536, and this first ticket, 1 to

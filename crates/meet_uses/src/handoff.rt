@@ -10,8 +10,8 @@ use crate::telling::{
     tell_back, tell_followed, tell_gave, tell_interrupted, tell_taken, tell_took,
 };
 use anyhow::Result;
-use meet_core::Dual;
-use meet_line::{FairLine, Line, Polled};
+use meet_core::{Dual, Polled};
+use meet_line::{FairLine, Line};
 use meet_tickets::{Refusal, Refused, SeatNo, Ticket};
 
 /// `SynchronousQueue.poll` of this seat: the parcel of the giver that is met, or none where nobody is met. It refuses

@@ -9,9 +9,8 @@ ghost use Rattle.meet_uses.specs.Named.{Names};
 use crate::parcels::{Parcel, parcel_of};
 use anyhow::Result;
 use meet_book::{Book, Receipt};
-use meet_calls::{QueueAnswer, QueueCall};
-use meet_core::Dual;
-use meet_line::{FairLine, Line, Polled};
+use meet_core::{Dual, Polled, QueueAnswer, QueueCall};
+use meet_line::{FairLine, Line};
 use meet_queues::queue_book;
 use meet_tickets::{Deed, Refusal, Refused, SeatNo};
 

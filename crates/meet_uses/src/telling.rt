@@ -2,7 +2,7 @@
 
 use crate::parcels::Parcel;
 use anyhow::Result;
-use meet_line::{Followed, Gave, Interrupted, Offered, Put, TakenBack, Took};
+use meet_core::{Followed, Gave, Interrupted, Offered, Put, TakenBack, Took};
 use meet_tickets::Ticket;
 
 /// The answer to a give, which has this ticket.

@@ -23,7 +23,7 @@ use Rattle.meet_tickets.specs.BySeat.{put_at, without_first, open_ticket}
 use Rattle.meet_tickets.proofs.Keeping.{kept-cons, kept-found_waits}
 use Rattle.meet_tickets.proofs.Lookups.{keyed_from, keyed_pairs, map_keyed}
 use Rattle.meet_tickets.proofs.Sides.{All-without_first, AllPairs-without_first, found-there, HasOneSide, first-side, met-some}
-use Rattle.meet_line.specs.Queue.{IsSound as IsSoundLine, Stands, AreFellows}
+use Rattle.meet_line.specs.Sound.{IsSound as IsSoundLine, Stands, AreFellows}
 use Rattle.meet_line.proofs.Removed.{without_first-none}
 use Rattle.meet_line.proofs.Sound.{IsSound-gone, IsSound-removed, IsApart-free, waits-open, HasOneSide-sound}
 use Rattle.pool_core.specs.declared.settings.Settings.{Settings}

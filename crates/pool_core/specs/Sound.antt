@@ -4,7 +4,7 @@ use Rattle.std.specs.Prelude.{length, All, AllPairs}
 use Rattle.meet_tickets.specs.declared.lines.Hold.{Hold}
 use Rattle.meet_tickets.specs.declared.lines.Hold.TheVariants.{Free, Waiting as Waits, Served, Cut as WasCut}
 use Rattle.meet_tickets.specs.Meeting.{kept_count}
-use Rattle.meet_line.specs.Queue.{IsSound as IsSoundLine}
+use Rattle.meet_line.specs.Sound.{IsSound as IsSoundLine}
 use Rattle.pool_core.specs.declared.settings.Settings.{Settings}
 use Rattle.pool_core.specs.declared.settings.Policy.TheVariants.{DiscardOldest}
 use Rattle.pool_core.specs.declared.stages.Stage.{Stage}

@@ -3,13 +3,14 @@
 ghost use Rattle.std.specs.Prelude.{◌≡◌, ◌↔◌, ◌<◌, Some, IsOk, IfOk, IfErr};
 ghost use Rattle.meet_tickets.specs.BySeat.{open_ticket};
 
+use crate::answers::{Followed, Interrupted, TakenBack};
 use crate::dual::Dual;
-use meet_line::{Followed, Interrupted, Line, TakenBack};
+use meet_line::Line;
 use meet_tickets::{Marked, Refusal, SeatNo, Ticket};
 
 impl<T: Marked, L: Line<T>> Dual<T, L> {
-    ghost use Rattle.meet_line.specs.Queue.{seats_of, count_of, places_of};
-    ghost use Rattle.meet_line.specs.Steps.{FollowStep, WithdrawStep, InterruptStep};
+    ghost use Rattle.meet_core.specs.Queue.{seats_of, count_of, places_of};
+    ghost use Rattle.meet_core.specs.Steps.{FollowStep, WithdrawStep, InterruptStep};
     ghost use Rattle.meet_tickets.specs.declared.refusals.Refusal.TheVariants.{NoSuchSeat, NotOpen};
 
     /// The follow-up of the seat's open ticket. Refuses NotOpen where the ticket isn't the open one of that seat,

@@ -3,11 +3,12 @@
 ghost use Rattle.std.specs.Prelude.{◌≡◌, ◌≤◌, [], length};
 ghost use Rattle.std.specs.Vec.{vec_capacity};
 ghost use Rattle.meet_tickets.specs.BySeat.{nobody};
-ghost use Rattle.meet_line.specs.Left.{left_in};
-ghost use Rattle.meet_line.specs.Queue.{seats_of};
+ghost use Rattle.meet_core.specs.Left.{left_in};
+ghost use Rattle.meet_core.specs.Queue.{seats_of};
 
 use crate::dual::Dual;
-use meet_line::{Left, Line};
+use crate::left::Left;
+use meet_line::Line;
 use meet_tickets::Marked;
 
 impl<T: Marked, L: Line<T>> Dual<T, L> {

@@ -1,29 +1,30 @@
 //! The synchronous queue as a book's place, over either line.
 
 ghost use Rattle.std.specs.Prelude.{◌≡◌, ◌≤◌, None, [], List, length, refl};
-ghost use Rattle.meet_line.specs.Queue.{places_of, count_of};
-ghost use Rattle.meet_calls.specs.QueueRecords.{queue_record};
+ghost use Rattle.meet_core.specs.Queue.{places_of, count_of};
+ghost use Rattle.meet_core.specs.QueueRecords.{queue_record};
 ghost use Rattle.meet_tickets.specs.Bases.{Based, no_base, IsBaseOf};
 ghost use Rattle.std.specs.Vec.{vec_capacity};
 ghost use Rattle.meet_tickets.specs.declared.records.Deed.{Deed as Told};
 ghost use Rattle.meet_tickets.specs.declared.records.Record.{Record as Entered};
-ghost use Rattle.meet_line.specs.Left.{left_in};
-ghost use Rattle.meet_line.specs.LeftTold.{AreLeftOn};
-ghost use Rattle.meet_line.specs.Seen.{moment_of_queue};
-ghost use Rattle.meet_calls.specs.QueueSteps.{DualStep, LeadsTo, kind_of, queue_refusal, queue_need, queue_room};
-ghost use Rattle.meet_calls.specs.QueueSteps.{queue_owed, queue_available, queue_left};
-ghost use Rattle.meet_calls.specs.QueueRoom.{roomy, roomy-refusal, roomy-leads, roomy-steps, roomless, roomy-fresh};
-ghost use Rattle.meet_calls.specs.QueueRoom.{own-record};
-ghost use Rattle.meet_calls.specs.SeatCounts.{dual-count};
-ghost use Rattle.meet_calls.specs.Synchronous.{synchronous-step};
-ghost use Rattle.meet_calls.specs.declared.queue_calls.QueueCall.TheVariants.{Poll};
+ghost use Rattle.meet_core.specs.Left.{left_in};
+ghost use Rattle.meet_core.specs.LeftTold.{AreLeftOn};
+ghost use Rattle.meet_core.specs.Seen.{moment_of_queue};
+ghost use Rattle.meet_core.specs.QueueSteps.{DualStep, LeadsTo, kind_of, queue_refusal, queue_need, queue_room};
+ghost use Rattle.meet_core.specs.QueueSteps.{queue_owed, queue_available, queue_left};
+ghost use Rattle.meet_core.specs.QueueRoom.{roomy, roomy-refusal, roomy-leads, roomy-steps, roomless, roomy-fresh};
+ghost use Rattle.meet_core.specs.QueueRoom.{own-record};
+ghost use Rattle.meet_core.specs.SeatCounts.{dual-count};
+ghost use Rattle.meet_core.specs.Synchronous.{synchronous-step};
+ghost use Rattle.meet_core.specs.declared.calls.queue_calls.QueueCall.TheVariants.{Poll};
 
 use super::Dual;
-use meet_book::{Bases, Drains, Leaves, Object, Wakes};
-use meet_calls::{
+use crate::calls::{
     Answered, QueueAnswer, QueueCall, QueueDrains, QueueLeaves, QueuePlace, admit_call, make_call,
 };
-use meet_line::{Left, Line};
+use crate::left::Left;
+use meet_book::{Bases, Drains, Leaves, Object, Wakes};
+use meet_line::Line;
 use meet_tickets::{Base, Deed, Marked, Record, Refusal, SeatNo, Ticket};
 use std::alloc::Global;
 

@@ -5,7 +5,7 @@ ghost use Rattle.meet_place.specs.Ledgers.{AreOf};
 
 use crate::growth::{list, open};
 use meet_book::Bases;
-use meet_calls::{QueueLeaves, QueuePlace};
+use meet_core::{QueueLeaves, QueuePlace};
 use meet_line::FairLine;
 use meet_shop::{Idle, gates};
 use meet_sync::{

@@ -10,7 +10,7 @@ ghost use Rattle.meet_history.specs.OneThread.{standing_at};
 
 use crate::checker::{Standing, Why};
 use line::MarkLine;
-use meet_line::SeatTable;
+use meet_core::SeatTable;
 use meet_tickets::{Deed, Hold, Kind, Record, Refusal, SeatNo, Side, Ticket};
 use std::marker::Model;
 

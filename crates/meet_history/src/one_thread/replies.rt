@@ -5,7 +5,7 @@ ghost use Rattle.std.specs.Vec.{vec_capacity};
 ghost use Rattle.meet_history.specs.OneThread.{named, told};
 ghost use Rattle.meet_history.specs.Stepping.{back_of};
 
-use meet_line::{Followed, Gave, Offered, Put, TakenBack};
+use meet_core::{Followed, Gave, Offered, Put, TakenBack};
 use meet_queues::QueueAnswer;
 use meet_tickets::{Cause, Deed, Record, Refusal, SeatNo, Ticket};
 

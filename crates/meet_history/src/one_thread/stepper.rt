@@ -29,7 +29,7 @@ pub struct Stepper {
 
 impl Model for Stepper {
     ghost use Rattle.std.specs.Prelude.{◌≡◌};
-    ghost use Rattle.meet_line.specs.Queue.{count_of};
+    ghost use Rattle.meet_core.specs.Queue.{count_of};
     ghost use Rattle.meet_history.specs.Stepping.{Stepping};
 
     ghost Value = { Stepping };
@@ -102,7 +102,7 @@ fn counted(seat: SeatNo, number: u64) -> Reply
 
 impl Stepper {
     ghost use Rattle.meet_tickets.specs.Bases.{IsWellFormed, IsLegalOn};
-    ghost use Rattle.meet_calls.specs.QueueSteps.{queue_need, queue_refusal};
+    ghost use Rattle.meet_core.specs.QueueSteps.{queue_need, queue_refusal};
     ghost use Rattle.meet_history.specs.OneThread.{start, turn, turn_of, standing_of};
     ghost use Rattle.meet_history.specs.Served.{serves, IsOne, IsAnswered};
     ghost use Rattle.meet_history.specs.Stepping.{place_of, HasWritten, Takes, TakesTurn, LacksMemory, HasRoom};

@@ -4,12 +4,12 @@ ghost use Rattle.std.specs.Prelude.{◌≡◌, ◌<◌, None};
 ghost use Rattle.meet_tickets.specs.declared.places.End.TheVariants.{Front};
 
 use crate::transfer::Transfer;
-use meet_line::Put;
+use meet_core::Put;
 use meet_tickets::{Marked, SeatNo};
 
 impl<T: Marked> Transfer<T> {
-    ghost use Rattle.meet_line.specs.Queue.{places_of, admit_refusal};
-    ghost use Rattle.meet_line.specs.Steps.{PutStep};
+    ghost use Rattle.meet_core.specs.Queue.{places_of, admit_refusal};
+    ghost use Rattle.meet_core.specs.Steps.{PutStep};
 
     /// `LinkedTransferQueue.put`, which can't be refused: the item goes to the taker that is met, or is kept at the
     /// line's end, or comes back where as many as the bound are kept. It asks that `admit` refuses nothing, and that

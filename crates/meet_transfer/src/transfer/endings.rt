@@ -4,12 +4,12 @@ ghost use Rattle.std.specs.Prelude.{◌≡◌, ◌↔◌, ◌<◌, Some, IsOk, I
 ghost use Rattle.meet_tickets.specs.BySeat.{open_ticket};
 
 use crate::transfer::Transfer;
-use meet_line::{Followed, Interrupted, TakenBack};
+use meet_core::{Followed, Interrupted, TakenBack};
 use meet_tickets::{Marked, Refusal, SeatNo, Ticket};
 
 impl<T: Marked> Transfer<T> {
-    ghost use Rattle.meet_line.specs.Queue.{seats_of, count_of, places_of};
-    ghost use Rattle.meet_line.specs.Steps.{FollowStep, WithdrawStep, InterruptStep, CutsWaiting};
+    ghost use Rattle.meet_core.specs.Queue.{seats_of, count_of, places_of};
+    ghost use Rattle.meet_core.specs.Steps.{FollowStep, WithdrawStep, InterruptStep, CutsWaiting};
     ghost use Rattle.meet_tickets.specs.declared.refusals.Refusal.TheVariants.{NoSuchSeat, NotOpen};
 
     /// The follow-up of the seat's open ticket. Refuses NotOpen where the ticket isn't the open one of that seat,

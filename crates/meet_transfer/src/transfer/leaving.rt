@@ -4,11 +4,11 @@ ghost use Rattle.std.specs.Prelude.{◌≡◌, ◌≤◌, [], length};
 ghost use Rattle.std.specs.Vec.{vec_capacity};
 ghost use Rattle.meet_tickets.specs.BySeat.{nobody};
 ghost use Rattle.meet_tickets.specs.declared.places.End.TheVariants.{Front};
-ghost use Rattle.meet_line.specs.Left.{left_in};
-ghost use Rattle.meet_line.specs.Queue.{seats_of};
+ghost use Rattle.meet_core.specs.Left.{left_in};
+ghost use Rattle.meet_core.specs.Queue.{seats_of};
 
 use crate::transfer::Transfer;
-use meet_line::Left;
+use meet_core::Left;
 use meet_tickets::Marked;
 
 impl<T: Marked> Transfer<T> {

@@ -2,27 +2,26 @@
 
 ghost use Rattle.std.specs.Prelude.{◌≡◌, ◌≤◌, None, [], List, length, refl, Option};
 ghost use Rattle.meet_tickets.specs.declared.places.End.TheVariants.{Front};
-ghost use Rattle.meet_line.specs.Queue.{places_of, count_of};
+ghost use Rattle.meet_core.specs.Queue.{places_of, count_of};
 ghost use Rattle.meet_tickets.specs.Bases.{Based, no_base, IsBaseOf};
 ghost use Rattle.std.specs.Vec.{vec_capacity};
 ghost use Rattle.meet_tickets.specs.declared.records.Deed.{Deed as Told};
 ghost use Rattle.meet_tickets.specs.declared.records.Record.{Record as Entered};
-ghost use Rattle.meet_line.specs.Left.{left_in};
-ghost use Rattle.meet_line.specs.LeftTold.{AreLeftOn};
-ghost use Rattle.meet_line.specs.Seen.{moment_of_queue};
-ghost use Rattle.meet_calls.specs.QueueSteps.{LeadsTo, queue_owed, queue_available, queue_left};
+ghost use Rattle.meet_core.specs.Left.{left_in};
+ghost use Rattle.meet_core.specs.LeftTold.{AreLeftOn};
+ghost use Rattle.meet_core.specs.Seen.{moment_of_queue};
+ghost use Rattle.meet_core.specs.QueueSteps.{LeadsTo, queue_owed, queue_available, queue_left};
 ghost use Rattle.meet_transfer.specs.Bounded.{BoundedStep};
-ghost use Rattle.meet_calls.specs.QueueSteps.{bounded_kind, queue_refusal, queue_need, queue_room};
-ghost use Rattle.meet_calls.specs.QueueRecords.{queue_record};
-ghost use Rattle.meet_calls.specs.QueueRoom.{roomy, roomy-leads, roomless, roomy-fresh};
-ghost use Rattle.meet_calls.specs.QueueRoom.{roomy-refusal, roomy-queue-steps, own-record};
-ghost use Rattle.meet_calls.specs.SeatCounts.{queue-count};
-ghost use Rattle.meet_calls.specs.declared.queue_calls.QueueCall.TheVariants.{Poll};
+ghost use Rattle.meet_core.specs.QueueSteps.{bounded_kind, queue_refusal, queue_need, queue_room};
+ghost use Rattle.meet_core.specs.QueueRecords.{queue_record};
+ghost use Rattle.meet_core.specs.QueueRoom.{roomy, roomy-leads, roomless, roomy-fresh};
+ghost use Rattle.meet_core.specs.QueueRoom.{roomy-refusal, roomy-queue-steps, own-record};
+ghost use Rattle.meet_core.specs.SeatCounts.{queue-count};
+ghost use Rattle.meet_core.specs.declared.calls.queue_calls.QueueCall.TheVariants.{Poll};
 
 use super::Transfer;
 use meet_book::{Bases, Drains, Leaves, Object, Wakes};
-use meet_calls::{Answered, QueueAnswer, QueueCall, admit_call, answered_put, make_call};
-use meet_line::Left;
+use meet_core::{Answered, Left, QueueAnswer, QueueCall, admit_call, answered_put, make_call};
 use meet_tickets::{Base, Deed, Marked, Record, Refusal, SeatNo};
 use std::alloc::Global;
 

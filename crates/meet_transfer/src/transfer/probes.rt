@@ -14,8 +14,9 @@ use crate::transfer::Transfer;
 use meet_tickets::{Marked, Refusal, SeatNo, TOLD_CAPACITY, Ticket};
 
 impl<T: Marked> Transfer<T> {
-    ghost use Rattle.meet_line.specs.Awaits.{AwaitsAs};
-    ghost use Rattle.meet_line.specs.Queue.{seats_of, count_of, IsSound};
+    ghost use Rattle.meet_core.specs.Awaits.{AwaitsAs};
+    ghost use Rattle.meet_line.specs.Sound.{IsSound};
+    ghost use Rattle.meet_core.specs.Queue.{seats_of, count_of};
 
     /// `LinkedTransferQueue.size`: how many givers stand in the line, kept or waiting.
     pub fn size(&self) -> u64

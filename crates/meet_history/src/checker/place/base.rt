@@ -4,13 +4,13 @@ ghost use Rattle.std.specs.Prelude.{◌≡◌, ◌<◌, ◌≤◌, length, map, 
 ghost use Rattle.meet_tickets.specs.Bases.{paired_held, cut_held, hold_met, moment_of_base, IsWellFormed, IsBaseOf};
 ghost use Rattle.meet_tickets.specs.BySeat.{put_at};
 ghost use Rattle.meet_tickets.specs.declared.refusals.Refusal.TheVariants.{Memory};
-ghost use Rattle.meet_line.specs.Table.{hold_at, flag_at};
+ghost use Rattle.meet_core.specs.Table.{hold_at, flag_at};
 ghost use Rattle.meet_history.specs.Checking.{AreSeated, moment_at};
 ghost use Rattle.meet_history.specs.Laid.{held_once, waiting_in_line, flagged_once};
 
 use crate::checker::place::CheckedPlace;
 use crate::checker::place::line::MarkLine;
-use meet_line::{SeatTable, open_tickets};
+use meet_core::{SeatTable, open_tickets};
 use meet_tickets::{Base, Entry, Hold, Kind, OpenCut, OpenPair, Refusal, SeatNo, Side, Ticket};
 use std::alloc::Global;
 

@@ -1,6 +1,6 @@
 use Rattle.std.proofs.Common.{sym, subst, ◌<◌}
-use Rattle.meet_calls.specs.QueueSteps.{kind_of}
-use Rattle.meet_calls.proofs.Leading.{fresh-leads}
+use Rattle.meet_core.specs.QueueSteps.{kind_of}
+use Rattle.meet_core.proofs.Leading.{fresh-leads}
 use Rattle.meet_queues.proofs.books.queue_book.Goals as goal
 
 pub new-requires-2-clause-fresh : goal.new-requires-2-clause-fresh

@@ -1,6 +1,6 @@
 use Rattle.std.proofs.Common.{sym, subst, ◌<◌}
-use Rattle.meet_calls.specs.QueueSteps.{bounded_kind}
-use Rattle.meet_calls.proofs.Leading.{fresh-leads}
+use Rattle.meet_core.specs.QueueSteps.{bounded_kind}
+use Rattle.meet_core.proofs.Leading.{fresh-leads}
 use Rattle.meet_queues.proofs.books.transfer_book.Goals as goal
 
 pub new-requires-in-None-clause-fresh : goal.new-requires-in-None-clause-fresh

@@ -3,7 +3,7 @@ use Rattle.std.specs.Prelude.{slice_get, Result, IfOk}
 use Rattle.meet_tickets.specs.declared.places.End.TheVariants.{Front}
 use Rattle.meet_tickets.specs.declared.places.Kind.{Kind}
 use Rattle.meet_tickets.specs.declared.records.Deed.{Deed}
-use Rattle.meet_calls.specs.QueueSteps.{kind_of}
+use Rattle.meet_core.specs.QueueSteps.{kind_of}
 use Rattle.meet_place.specs.Seats.{SeatView, PendingView, AreFresh}
 use Rattle.meet_place.specs.Backs.{folded_in}
 use Rattle.meet_place.specs.declared.seats.Back.{Back}

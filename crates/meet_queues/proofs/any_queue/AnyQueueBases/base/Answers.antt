@@ -1,5 +1,5 @@
 use Rattle.std.proofs.lemmas.Result.{IfOk-weaker}
-use Rattle.meet_calls.proofs.Leading.{base-leads}
+use Rattle.meet_core.proofs.Leading.{base-leads}
 use Rattle.meet_queues.proofs.any_queue.AnyQueueBases.base.Goals as goal
 
 pub returns-in-Fair-clause-leads : goal.returns-in-Fair-clause-leads

@@ -1,7 +1,7 @@
 use Rattle.std.proofs.Common.{◌∙◌, sym, ap}
 use Rattle.meet_tickets.specs.declared.places.End.TheVariants.{Front, Back}
-use Rattle.meet_calls.specs.QueueSteps.{kind_of}
-use Rattle.meet_calls.specs.QueueSteps.{bounded_kind}
+use Rattle.meet_core.specs.QueueSteps.{kind_of}
+use Rattle.meet_core.specs.QueueSteps.{bounded_kind}
 use Rattle.meet_queues.specs.Queues.{of_kind}
 use Rattle.meet_queues.proofs.Polling.{any-takes, kept-takes}
 use Rattle.meet_queues.proofs.any_queue.AnyQueueDrains.poll_call.Goals as goal

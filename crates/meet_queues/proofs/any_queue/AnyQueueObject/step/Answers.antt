@@ -1,7 +1,7 @@
 use Rattle.std.proofs.Common.{refl, ap}
 use Rattle.meet_tickets.specs.declared.places.End.TheVariants.{Front, Back}
-use Rattle.meet_calls.specs.QueueSteps.{bounded_kind}
-use Rattle.meet_calls.specs.Synchronous.{synchronous-step}
+use Rattle.meet_core.specs.QueueSteps.{bounded_kind}
+use Rattle.meet_core.specs.Synchronous.{synchronous-step}
 use Rattle.meet_queues.proofs.any_queue.AnyQueueObject.step.Goals as goal
 
 pub returns-in-Fair-clause-step : goal.returns-in-Fair-clause-step

@@ -1,7 +1,7 @@
 use Rattle.std.proofs.Common.{◌≡◌, ◌++◌, sym, subst}
 use Rattle.meet_tickets.specs.Bases.{IsLegalOn}
 use Rattle.meet_tickets.specs.Fates.{opening}
-use Rattle.meet_line.specs.LeftTold.{AreLeftOn}
+use Rattle.meet_core.specs.LeftTold.{AreLeftOn}
 use Rattle.meet_laws.specs.Tally.{tally_in}
 use Rattle.meet_sync.proofs.closing.Chronicle.laws.Goals as goal
 

@@ -1,7 +1,7 @@
 use Rattle.std.proofs.Common.{◌≡◌, sym, ap, ◌∙◌, subst, Some, None}
-use Rattle.meet_line.specs.Awaits.{AwaitsAs}
-use Rattle.meet_line.specs.Queue.{seats_of}
-use Rattle.meet_calls.specs.QueueSteps.{queue_need, queue_refusal}
+use Rattle.meet_core.specs.Awaits.{AwaitsAs}
+use Rattle.meet_core.specs.Queue.{seats_of}
+use Rattle.meet_core.specs.QueueSteps.{queue_need, queue_refusal}
 use Rattle.meet_sync.proofs.Awaited.{no_need, not_refused}
 use Rattle.meet_sync.proofs.queue.Queue.end.Goals as goal
 

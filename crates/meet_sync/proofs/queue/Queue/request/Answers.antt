@@ -1,6 +1,6 @@
 use Rattle.std.proofs.Common.{ap, ◌∙◌, subst, option_to_list}
-use Rattle.meet_calls.specs.QueueRecords.{queue_record}
-use Rattle.meet_calls.specs.QueueSteps.{item_in}
+use Rattle.meet_core.specs.QueueRecords.{queue_record}
+use Rattle.meet_core.specs.QueueSteps.{item_in}
 use Rattle.meet_place.specs.Seats.{Adds}
 use Rattle.meet_sync.specs.Asking.{AnsweredBy}
 use Rattle.meet_sync.specs.Told.{IsAnswer, IsRefusalOf}

@@ -1,5 +1,5 @@
 use Rattle.std.proofs.Common.{ap, sym, ◌∙◌, min, refl}
-use Rattle.meet_calls.specs.declared.queue_calls.QueueCall.TheVariants.{Poll}
+use Rattle.meet_core.specs.declared.calls.queue_calls.QueueCall.TheVariants.{Poll}
 use Rattle.meet_sync.proofs.Takings.{place_takes, all_bring, all_drained, least_of, drain_why}
 use Rattle.meet_sync.proofs.queue.Queue.take_all.Goals as goal
 

@@ -1,6 +1,6 @@
 use Rattle.std.proofs.lemmas.Result.{IfOk-weaker}
-use Rattle.meet_calls.specs.QueueSteps.{kind_of}
-use Rattle.meet_calls.proofs.Leading.{base-leads}
+use Rattle.meet_core.specs.QueueSteps.{kind_of}
+use Rattle.meet_core.proofs.Leading.{base-leads}
 use Rattle.meet_core.proofs.dual.place.DualBases.base.Goals as goal
 
 pub returns-clause-leads : goal.returns-clause-leads

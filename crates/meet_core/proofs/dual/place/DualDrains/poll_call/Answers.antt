@@ -1,4 +1,4 @@
-use Rattle.meet_calls.proofs.Polling.{poll-takes}
+use Rattle.meet_core.proofs.Polling.{poll-takes}
 use Rattle.meet_core.proofs.dual.place.DualDrains.poll_call.Goals as goal
 
 pub returns-clause-takes : goal.returns-clause-takes

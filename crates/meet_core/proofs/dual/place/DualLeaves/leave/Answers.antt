@@ -1,6 +1,6 @@
 use Rattle.std.proofs.Common.{subst, sym}
-use Rattle.meet_calls.specs.QueueSteps.{LeadsTo, kind_of}
-use Rattle.meet_calls.proofs.Leavings.{left_on}
+use Rattle.meet_core.specs.QueueSteps.{LeadsTo, kind_of}
+use Rattle.meet_core.proofs.Leavings.{left_on}
 use Rattle.meet_core.proofs.dual.place.DualLeaves.leave.Goals as goal
 
 pub returns : goal.returns

@@ -1,6 +1,6 @@
-use Rattle.meet_calls.specs.QueueSteps.{kind_of}
-use Rattle.meet_calls.proofs.Effects.{synchronous-made, effect-owed, effect-room}
-use Rattle.meet_calls.proofs.Leading.{leads-on}
+use Rattle.meet_core.specs.QueueSteps.{kind_of}
+use Rattle.meet_core.proofs.Effects.{synchronous-made, effect-owed, effect-room}
+use Rattle.meet_core.proofs.Leading.{leads-on}
 use Rattle.meet_core.proofs.dual.place.DualObject.step.Goals as goal
 
 pub returns-clause-leads : goal.returns-clause-leads

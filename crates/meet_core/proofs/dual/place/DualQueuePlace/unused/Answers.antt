@@ -1,7 +1,7 @@
 use Rattle.std.proofs.Common.{sym, subst, ◌<◌}
 use Rattle.std.proofs.Math.Nat.{le_refl}
-use Rattle.meet_calls.specs.QueueSteps.{kind_of}
-use Rattle.meet_calls.proofs.Leading.{fresh-leads}
+use Rattle.meet_core.specs.QueueSteps.{kind_of}
+use Rattle.meet_core.proofs.Leading.{fresh-leads}
 use Rattle.meet_core.proofs.dual.place.DualQueuePlace.unused.Goals as goal
 
 pub returns-clause-history : goal.returns-clause-history

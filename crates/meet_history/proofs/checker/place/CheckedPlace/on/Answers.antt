@@ -4,7 +4,7 @@ use Rattle.meet_tickets.specs.declared.lines.Entry.{Entry}
 use Rattle.meet_tickets.specs.declared.bases.OpenPair.{OpenPair}
 use Rattle.meet_tickets.specs.declared.bases.OpenCut.{OpenCut}
 use Rattle.meet_tickets.specs.Bases.{Based, paired_held, cut_held}
-use Rattle.meet_line.specs.Table.{hold_at, flag_at}
+use Rattle.meet_core.specs.Table.{hold_at, flag_at}
 use Rattle.meet_history.specs.Checking.{AreSeated}
 use Rattle.meet_history.specs.Laid.{held_once, waiting_in_line, flagged_once}
 use Rattle.meet_history.specs.Marks.{IsNewest}

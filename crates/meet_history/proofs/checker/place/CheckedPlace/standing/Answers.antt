@@ -2,7 +2,7 @@ use Rattle.std.proofs.Common.{◌≡◌, ◌-◌, ◌∙◌, sym, ap}
 use Rattle.meet_tickets.specs.Meeting.{waiting_count}
 use Rattle.meet_tickets.specs.BySeat.{settled_of}
 use Rattle.meet_tickets.specs.Limits.{most_seats}
-use Rattle.meet_line.specs.Table.{hold_at}
+use Rattle.meet_core.specs.Table.{hold_at}
 use Rattle.meet_history.specs.Checking.{moment_at}
 use Rattle.meet_history.specs.OneThread.{standing_at}
 use Rattle.meet_history.proofs.Kept.{waiting-is, standings-same}

@@ -1,6 +1,6 @@
 use Rattle.std.proofs.Common.{◌∙◌, sym, ap, ℕ, Bool, true, length, arith}
 use Rattle.meet_tickets.specs.BySeat.{put_at}
-use Rattle.meet_line.specs.Table.{hold_at, flag_at}
+use Rattle.meet_core.specs.Table.{hold_at, flag_at}
 use Rattle.meet_history.proofs.Layings.{flagged-more}
 use Rattle.meet_history.proofs.checker.place.base.flag_all.Goals as goal
 

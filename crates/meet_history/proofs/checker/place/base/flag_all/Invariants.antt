@@ -1,5 +1,5 @@
 use Rattle.std.proofs.Common.{◌≡◌, ◌≤◌, length, take}
-use Rattle.meet_line.specs.Table.{hold_at, flag_at}
+use Rattle.meet_core.specs.Table.{hold_at, flag_at}
 use Rattle.meet_history.specs.Laid.{flagged_once}
 use Rattle.meet_history.proofs.checker.place.base.flag_all.Given as goal
 

@@ -2,7 +2,7 @@ use Rattle.std.proofs.Common.{◌∙◌, sym, ap, ℕ, arith}
 use Rattle.meet_tickets.specs.declared.lines.Hold.{Hold}
 use Rattle.meet_tickets.specs.BySeat.{put_at}
 use Rattle.meet_tickets.specs.Bases.{cut_held}
-use Rattle.meet_line.specs.Table.{hold_at}
+use Rattle.meet_core.specs.Table.{hold_at}
 use Rattle.meet_history.proofs.Layings.{held-more}
 use Rattle.meet_history.proofs.checker.place.base.hold_cut.Goals as goal
 

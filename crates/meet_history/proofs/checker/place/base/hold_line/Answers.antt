@@ -4,7 +4,7 @@ use Rattle.meet_tickets.specs.declared.lines.Entry.{Entry}
 use Rattle.meet_tickets.specs.declared.lines.Hold.{Hold}
 use Rattle.meet_tickets.specs.BySeat.{put_at}
 use Rattle.meet_tickets.specs.Bases.{waiting_held}
-use Rattle.meet_line.specs.Table.{hold_at}
+use Rattle.meet_core.specs.Table.{hold_at}
 use Rattle.meet_history.specs.Checking.{AreSeated}
 use Rattle.meet_history.proofs.Layings.{waits-more, kept-more}
 use Rattle.meet_history.proofs.Seated.{seated-longer, seated-added}

@@ -1,5 +1,5 @@
 use Rattle.std.proofs.Common.{◌≡◌, length, take}
-use Rattle.meet_line.specs.Table.{hold_at, flag_at}
+use Rattle.meet_core.specs.Table.{hold_at, flag_at}
 use Rattle.meet_history.specs.Checking.{AreSeated}
 use Rattle.meet_history.specs.Laid.{held_once, waiting_in_line}
 use Rattle.meet_history.proofs.checker.place.base.hold_line.Given as goal

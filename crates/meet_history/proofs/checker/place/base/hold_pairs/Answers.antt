@@ -1,7 +1,7 @@
 use Rattle.std.proofs.Common.{◌∙◌, sym, arith}
 use Rattle.meet_tickets.specs.BySeat.{put_at}
 use Rattle.meet_tickets.specs.Bases.{paired_held}
-use Rattle.meet_line.specs.Table.{hold_at}
+use Rattle.meet_core.specs.Table.{hold_at}
 use Rattle.meet_history.proofs.Layings.{held-more}
 use Rattle.meet_history.proofs.checker.place.base.hold_pairs.Goals as goal
 

@@ -1,6 +1,6 @@
 use Rattle.std.proofs.Common.{◌≡◌, ◌≤◌, length, map, take}
 use Rattle.meet_tickets.specs.Bases.{paired_held}
-use Rattle.meet_line.specs.Table.{hold_at, flag_at}
+use Rattle.meet_core.specs.Table.{hold_at, flag_at}
 use Rattle.meet_history.specs.Laid.{held_once}
 use Rattle.meet_history.proofs.checker.place.base.hold_pairs.Given as goal
 

@@ -8,11 +8,11 @@ use Rattle.meet_tickets.specs.Bases.{moment_of_base, IsBaseOf}
 use Rattle.meet_tickets.specs.BySeat.{moment_of}
 use Rattle.meet_tickets.specs.Limits.{most_gone}
 use Rattle.meet_tickets.specs.Refusals.{absent_refusal}
-use Rattle.meet_line.specs.Queue.{seats_of}
-use Rattle.meet_line.specs.Seen.{moment_of_queue}
+use Rattle.meet_core.specs.Queue.{seats_of}
+use Rattle.meet_core.specs.Seen.{moment_of_queue}
 use Rattle.meet_book.specs.Booking.{call_refusal}
 use Rattle.meet_history.specs.OneThread.{Turn, checkpoint, checkpoint_refusal, folded, refused}
-use Rattle.meet_calls.specs.QueueSteps.{LeadsTo}
+use Rattle.meet_core.specs.QueueSteps.{LeadsTo}
 use Rattle.meet_history.specs.declared.one_thread.replies.Outcome.TheVariants.{Based as FoldedAway}
 use Rattle.meet_history.specs.Standings.{IsFolded}
 use Rattle.meet_history.specs.Stepping.{Stepping, place_of}

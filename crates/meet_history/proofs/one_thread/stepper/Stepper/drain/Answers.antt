@@ -1,12 +1,12 @@
-use Rattle.meet_line.specs.Queue.{seats_of}
+use Rattle.meet_core.specs.Queue.{seats_of}
 use Rattle.std.proofs.Common.{◌≡◌, ◌+◌, ◌++◌, ◌∷◌, [], ◌∙◌, refl, sym, ap, min, map, length, append_assoc, append-nil, length-append, Some, rules, ℕ}
 use Rattle.std.proofs.lemmas.List.{length-map}
 use Rattle.meet_tickets.specs.declared.records.Deed.{Deed}
-use Rattle.meet_calls.specs.declared.queue_calls.QueueAnswer.{QueueAnswer}
+use Rattle.meet_core.specs.declared.calls.queue_calls.QueueAnswer.{QueueAnswer}
 use Rattle.meet_history.specs.declared.one_thread.replies.Outcome.TheVariants.{Drained}
 use Rattle.meet_book.specs.Received.{Received}
 use Rattle.meet_history.specs.OneThread.{Turn, drain, drain_refusal, refused}
-use Rattle.meet_calls.specs.QueueSteps.{queue_available}
+use Rattle.meet_core.specs.QueueSteps.{queue_available}
 use Rattle.meet_history.specs.Stepping.{Stepping, place_of, reply_of, back_of}
 use Rattle.meet_history.proofs.Calling.{refused-so}
 use Rattle.meet_history.proofs.Foldings.{folded-more}

@@ -3,8 +3,8 @@ use Rattle.std.specs.Prelude.{nat_lt}
 use Rattle.std.proofs.lemmas.Result.{IfErr-weaker}
 use Rattle.meet_tickets.specs.declared.records.Deed.{Deed}
 use Rattle.meet_book.specs.Received.{Received}
-use Rattle.meet_calls.specs.QueueSteps.{QueueStep, queue_need, queue_owed, queue_refusal}
-use Rattle.meet_calls.specs.SeatCounts.{queue-count}
+use Rattle.meet_core.specs.QueueSteps.{QueueStep, queue_need, queue_owed, queue_refusal}
+use Rattle.meet_core.specs.SeatCounts.{queue-count}
 use Rattle.meet_history.proofs.Calling.{refusal_at-is, admitted-at, place-admits, refused-needs, refused-so, memory-alone, most-needed, has-reply}
 use Rattle.meet_history.proofs.Telling.{takes-refused, takes-made, told-refused}
 use Rattle.meet_history.proofs.one_thread.stepper.Stepper.make.Goals.{in-Some, in-None}

@@ -1,5 +1,5 @@
 use Rattle.std.proofs.Common.{sym, subst, ◌<◌}
-use Rattle.meet_calls.proofs.Leading.{fresh-leads}
+use Rattle.meet_core.proofs.Leading.{fresh-leads}
 use Rattle.meet_history.proofs.one_thread.stepper.Stepper.new.Goals as goal
 
 pub new-book-requires-clause-fresh : goal.new-book-requires-clause-fresh

@@ -1,8 +1,8 @@
 use Rattle.std.proofs.Common.{subst, sym, ap}
 use Rattle.meet_tickets.specs.declared.places.End.TheVariants.{Front}
-use Rattle.meet_calls.specs.QueueSteps.{LeadsTo}
-use Rattle.meet_calls.specs.QueueSteps.{bounded_kind}
-use Rattle.meet_calls.proofs.Leavings.{left_on}
+use Rattle.meet_core.specs.QueueSteps.{LeadsTo}
+use Rattle.meet_core.specs.QueueSteps.{bounded_kind}
+use Rattle.meet_core.proofs.Leavings.{left_on}
 use Rattle.meet_transfer.proofs.transfer.place.TransferLeaves.leave.Goals as goal
 
 pub returns : goal.returns

@@ -1,6 +1,6 @@
-use Rattle.meet_calls.specs.QueueSteps.{bounded_kind}
-use Rattle.meet_calls.proofs.Effects.{queue-made, effect-owed, effect-room}
-use Rattle.meet_calls.proofs.Leading.{leads-on, bounded-on}
+use Rattle.meet_core.specs.QueueSteps.{bounded_kind}
+use Rattle.meet_core.proofs.Effects.{queue-made, effect-owed, effect-room}
+use Rattle.meet_core.proofs.Leading.{leads-on, bounded-on}
 use Rattle.meet_transfer.proofs.transfer.place.TransferObject.step.Goals as goal
 
 pub returns-clause-leads : goal.returns-clause-leads

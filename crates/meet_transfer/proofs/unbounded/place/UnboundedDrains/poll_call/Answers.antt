@@ -1,5 +1,5 @@
 use Rattle.meet_tickets.specs.declared.places.End.TheVariants.{Front}
-use Rattle.meet_calls.proofs.Polling.{poll-takes}
+use Rattle.meet_core.proofs.Polling.{poll-takes}
 use Rattle.meet_transfer.proofs.unbounded.place.UnboundedDrains.poll_call.Goals as goal
 
 pub returns-clause-takes : goal.returns-clause-takes

@@ -1,7 +1,7 @@
 use Rattle.std.proofs.Common.{sym, subst, ◌<◌, None}
 use Rattle.std.proofs.Math.Nat.{le_refl}
-use Rattle.meet_calls.specs.QueueSteps.{bounded_kind}
-use Rattle.meet_calls.proofs.Leading.{fresh-leads}
+use Rattle.meet_core.specs.QueueSteps.{bounded_kind}
+use Rattle.meet_core.proofs.Leading.{fresh-leads}
 use Rattle.meet_transfer.proofs.unbounded.place.UnboundedQueuePlace.unused.Goals as goal
 
 pub returns-clause-history : goal.returns-clause-history

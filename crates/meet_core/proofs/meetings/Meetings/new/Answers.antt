@@ -1,0 +1,13 @@
+use Rattle.std.proofs.Common.{ap, sym}
+use Rattle.meet_tickets.specs.declared.places.Side.TheVariants.{Giver}
+use Rattle.meet_tickets.specs.Meeting.{kept_count, count_on}
+use Rattle.meet_line.proofs.Sound.{IsSound-new}
+use Rattle.meet_core.proofs.meetings.Meetings.new.Goals as goal
+
+pub invariant_of-result : goal.invariant_of-result
+invariant_of-result g c = (
+  IsSound-new _ _ _ c.empty.ensures.entries c.in-Ok.ensures.holds c.requires.first_from c.requires.first_to,
+  sym (ap kept_count c.empty.ensures.entries),
+  c.requires.first_from,
+  sym (ap (count_on Giver) c.empty.ensures.entries),
+)

@@ -1,0 +1,15 @@
+pub mod Answers
+pub mod Awaits
+pub mod Handed
+pub mod Left
+pub mod LeftTold
+pub mod Opened
+pub mod Queue
+pub mod QueueRecords
+pub mod QueueRoom
+pub mod QueueSteps
+pub mod SeatCounts
+pub mod Seen
+pub mod Steps
+pub mod Synchronous
+pub mod Table

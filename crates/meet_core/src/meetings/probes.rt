@@ -1,0 +1,146 @@
+//! What a queue shows of itself, each at constant cost but `awaits`, which looks for a ticket in the line. None of
+//! these takes memory.
+
+ghost use Rattle.std.specs.Prelude.{◌+◌, ◌≡◌, ◌≤◌, ◌-◌, ◌↔◌, IsTrue, option_map, slice_get};
+ghost use Rattle.std.specs.Option.{option_and_then};
+ghost use Rattle.meet_tickets.specs.Meeting.{waiting_count, kept_count, count_on};
+ghost use Rattle.meet_tickets.specs.BySeat.{open_ticket, owed_of, settled_of};
+ghost use Rattle.meet_tickets.specs.Limits.{most_seats, last_ticket};
+ghost use Rattle.meet_tickets.specs.declared.places.Side.TheVariants.{Giver, Taker};
+
+use crate::meetings::Meetings;
+use crate::seats::mark_of;
+use meet_line::Line;
+use meet_tickets::{Hold, LAST_TICKET, Marked, SeatNo, Side, Ticket};
+
+/// Whether an item has this mark, or there is none where this is none.
+fn has_mark<T: Marked>(item: &Option<T>, mark: Option<u64>) -> bool
+    ensures { IsTrue result ↔ (option_map T.mark_of item.now ≡ mark) }
+{
+    mark_of(item) == mark
+}
+
+impl<T: Marked, L: Line<T>> Meetings<T, L> {
+    ghost use Rattle.meet_core.specs.Awaits.{AwaitsAs};
+    ghost use Rattle.meet_line.specs.Sound.{IsSound};
+    ghost use Rattle.meet_core.specs.Queue.{seats_of, count_of};
+
+    /// The seat's open ticket, if it has one.
+    pub fn open_ticket(&self, seat: SeatNo) -> Option<Ticket>
+        ensures { result ≡ open_ticket ((seats_of self.now).holds seat) }
+    {
+        if seat.number() < self.seats.count() {
+            self.seats.hold(seat).open_ticket()
+        } else {
+            None
+        }
+    }
+
+    /// The seat whose hold was changed last, where one was: after two tickets met, or one was cut, that of the one that
+    /// waited; none after a kept item was met. It is a hint, of which nothing is promised.
+    pub fn changed(&self) -> Option<SeatNo> {
+        self.seats.changed()
+    }
+
+    /// Whether the seat's open ticket is this one; and while its item lies here, since it waits or was cut, whether the
+    /// item has this mark, or there is none where this is none. Where the ticket waits it is looked for in the line.
+    pub fn awaits(&self, seat: SeatNo, ticket: Ticket, mark: Option<u64>) -> bool
+        ensures { IsTrue result ↔ AwaitsAs T.mark_of (seats_of self.now) seat ticket mark }
+    {
+        if self.open_ticket(seat) != Some(ticket) {
+            return false;
+        }
+        match self.seats.hold(seat) {
+            Hold::Waiting(_) => match self.line.entry(ticket) {
+                Some(entry) => has_mark(&entry.item, mark),
+                None => true,
+            },
+            Hold::Cut(_, item) => has_mark(item, mark),
+            Hold::Free | Hold::Handed(_, _, _) | Hold::Served(_, _, _) => true,
+        }
+    }
+
+    /// How many seats there are.
+    pub fn seats(&self) -> u64
+        ensures { result ≡ count_of self.now }
+    {
+        self.seats.count()
+    }
+
+    /// How many requests that wait have room.
+    pub fn room(&self) -> u64
+        ensures { result ≡ self.now.room }
+    {
+        self.line.room()
+    }
+
+    /// How many tickets are open.
+    pub fn owed(&self) -> u64
+        ensures value { result ≡ owed_of (count_of self.now) (seats_of self.now).holds }
+        ensures few { result ≤ most_seats }
+    {
+        self.seats.owed()
+    }
+
+    /// How many open tickets stand in the line.
+    pub fn waiting(&self) -> u64
+        ensures { result ≡ waiting_count self.now.line }
+    {
+        self.line.len() - self.kept
+    }
+
+    /// How many items are kept in the line: their givers went on.
+    pub fn kept(&self) -> u64
+        ensures { result ≡ kept_count self.now.line }
+    {
+        self.kept
+    }
+
+    /// How many open tickets were met or cut, and await their follow-up.
+    pub fn uncollected(&self) -> u64
+        ensures { result ≡ settled_of (count_of self.now) (seats_of self.now).holds }
+    {
+        self.seats.settled()
+    }
+
+    /// How many givers stand in the line.
+    pub fn givers(&self) -> u64
+        ensures { result ≡ count_on Giver self.now.line }
+    {
+        self.givers
+    }
+
+    /// How many takers stand in the line.
+    pub fn takers(&self) -> u64
+        ensures { result ≡ count_on Taker self.now.line }
+    {
+        self.line.len() - self.givers
+    }
+
+    /// The mark of the item that came first, where givers stand in the line.
+    pub fn first_mark(&self) -> Option<u64>
+        ensures { result ≡ option_and_then (λ e. option_map T.mark_of e.item) (slice_get self.now.line 0) }
+    {
+        let first = self.line.first()?;
+        match &first.item {
+            None => None,
+            Some(item) => Some(item.mark()),
+        }
+    }
+
+    /// How many tickets are left.
+    pub fn tickets_left(&self) -> u64
+        ensures { result ≡ last_ticket + 1 - self.now.next }
+    {
+        LAST_TICKET + 1 - self.next
+    }
+
+    /// What is always true of a queue: each entry of its line has a used ticket, and is what its seat holds where it
+    /// waits; where it is kept it has an item, and no seat has its ticket open; no two share a ticket, and all have
+    /// one side. It does nothing.
+    pub fn stays_sound(&self)
+        ensures { IsSound self.now.line (seats_of self.now).holds self.now.next }
+    {
+        let _ = &self.line;
+    }
+}

@@ -1,8 +1,0 @@
-use Rattle.std.proofs.Common.{◌≡◌, ◌∙◌, sym, refl, Some, rules}
-use Rattle.meet_line.proofs.Following.{WithdrawStep-from}
-use Rattle.meet_line.proofs.meetings.Meetings.cancel.Goals as goal
-
-pub returns-in-Some-clause-step : goal.returns-in-Some-clause-step
-returns-in-Some-clause-step g c =
-    let same : c.open_ticket.result ≡ Some c.args.ticket = search rules in
-    WithdrawStep-from _ _ _ _ _ _ (sym c.open_ticket.ensures ∙ same) c.in-Some.ensures.entry refl c.in-Some.ensures.left

@@ -1,4 +1,0 @@
-use Rattle.meet_line.proofs.meetings.Meetings.take_admitted.Goals as goal
-
-pub wait-requires-clause-new : goal.wait-requires-clause-new
-wait-requires-clause-new g c = rw (c.in-None.ensures.unchanged, c.draw-ticket.ensures.next) c.draw-ticket.ensures.newest

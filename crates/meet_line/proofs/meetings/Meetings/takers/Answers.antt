@@ -1,7 +1,0 @@
-use Rattle.std.proofs.Common.{arith}
-use Rattle.meet_tickets.proofs.Counted.{sides-counted}
-use Rattle.meet_line.proofs.meetings.Meetings.takers.Goals as goal
-
-pub returns : goal.returns
-returns g c =
-    rw (← c.self.view_is) (omega (arith, c.len.ensures.count, c.self.invariant.3, sides-counted (g.L.Line.entries c.self.inside.line)))

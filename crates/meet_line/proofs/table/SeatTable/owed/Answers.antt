@@ -1,7 +1,0 @@
-use Rattle.std.proofs.Common.{◌∙◌, sym}
-use Rattle.meet_tickets.specs.BySeat.{is_open}
-use Rattle.meet_line.proofs.Counts.{count_by-holds}
-use Rattle.meet_line.proofs.table.SeatTable.owed.Goals as goal
-
-pub returns-clause-value : goal.returns-clause-value
-returns-clause-value g c = rw (← c.self.view_is) (c.self.invariant.2 ∙ sym (count_by-holds is_open c.self.inside.holds.items))
