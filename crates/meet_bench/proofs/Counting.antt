@@ -7,8 +7,8 @@ use Rattle.meet_tickets.specs.declared.records.Deed.{Deed}
 use Rattle.meet_tickets.specs.Bases.{Based, no_base, moment_of_base, IsWellFormed, IsLegalOn}
 use Rattle.meet_tickets.specs.BySeat.{Seats, Moment, beginning, moment_of}
 use Rattle.meet_tickets.specs.Fates.{StandsOn}
-use Rattle.meet_tickets.proofs.Continued.{moment_of-append}
-use Rattle.meet_tickets.proofs.StandingsOn.{stands_on}
+use Rattle.meet_tickets.proofs.Tellings.Continued.{moment_of-append}
+use Rattle.meet_tickets.proofs.Told.StandingsOn.{stands_on}
 use Rattle.meet_history.specs.declared.one_thread.verbs.Call.{Call}
 use Rattle.meet_history.specs.declared.one_thread.setup.Setup.{Setup}
 use Rattle.meet_history.specs.OneThread.{start, turns, records, standing_at}

@@ -14,8 +14,8 @@ use Rattle.meet_tickets.specs.declared.places.Side.TheVariants.{Giver, Taker}
 use Rattle.meet_tickets.specs.declared.bases.OpenPair.{OpenPair}
 use Rattle.meet_tickets.specs.declared.bases.OpenCut.{OpenCut}
 use Rattle.meet_tickets.specs.Bases.{Based, hold_met, IsBaseOf}
-use Rattle.meet_tickets.proofs.Lookups.{keyed_from, keyed_map, keyed_pairs, map_keyed}
-use Rattle.meet_tickets.proofs.Based.{flags_told}
+use Rattle.meet_tickets.proofs.Lists.Lookups.{keyed_from, keyed_map, keyed_pairs, map_keyed}
+use Rattle.meet_tickets.proofs.OnBases.Based.{flags_told}
 use Rattle.meet_core.specs.Table.{Table, hold_at, flag_at}
 use Rattle.meet_core.specs.Queue.{Queue}
 use Rattle.meet_line.specs.Seen.{marked_entry}

@@ -17,7 +17,7 @@ use Rattle.meet_tickets.specs.declared.records.Deed.{Deed}
 use Rattle.meet_tickets.specs.declared.records.Deed.TheVariants.{GiveWaits, GiveMeets, GiveFails, GiveKept, TakeWaits, TakeMeets, TakeFails, EntryInterrupted, Done, Got, Withdrawn, Interrupt}
 use Rattle.meet_tickets.specs.Meeting.{end_of, keeps, partner, kept_count}
 use Rattle.meet_tickets.specs.BySeat.{Seats, put_at, is_open, open_ticket, owed_of, unmet, without_first, entry_of, queued, paired, paired_hold, released, flagged, left, cut_off, is_request, Allows, seats_after, meets}
-use Rattle.meet_tickets.proofs.Admitted.{IsAdmitted-from}
+use Rattle.meet_tickets.proofs.Line.Admitted.{IsAdmitted-from}
 use Rattle.meet_line.specs.Sound.{Stands, IsSound}
 use Rattle.meet_core.specs.Queue.{Queue, seats_of, count_of, places_of, admit_refusal}
 use Rattle.meet_core.specs.Steps.{Uses, Leaves, HandsTo, GetsFrom, GiveStep, OfferStep, PutStep, TakeStep, PollStep, FollowStep, WithdrawStep, InterruptStep}

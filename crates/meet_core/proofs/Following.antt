@@ -4,7 +4,7 @@ use Rattle.meet_tickets.specs.declared.lines.Entry.{Entry}
 use Rattle.meet_tickets.specs.declared.lines.Hold.{Hold}
 use Rattle.meet_tickets.specs.declared.lines.Hold.TheVariants.{Free, Waiting, Handed, Served, Cut}
 use Rattle.meet_tickets.specs.BySeat.{open_ticket, is_settled, entry_of, released, left}
-use Rattle.meet_tickets.proofs.Sides.{found-ticket}
+use Rattle.meet_tickets.proofs.Line.Sides.{found-ticket}
 use Rattle.meet_core.specs.Table.{hold_at}
 use Rattle.meet_core.specs.Queue.{Queue, seats_of}
 use Rattle.meet_core.specs.declared.answers.TakenBack.TheVariants.{Back}

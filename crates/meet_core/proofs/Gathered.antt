@@ -6,7 +6,7 @@ use Rattle.std.proofs.lemmas.Bool.{eqb-true, eqb-false}
 use Rattle.std.proofs.lemmas.List.Kept.{AllPairs-cons}
 use Rattle.std.proofs.lemmas.List.FromFn.{map-range_with_len_more}
 use Rattle.std.proofs.lemmas.List.Elements.{filter_map-append, All-weaker, All-contains_itself, Contains-append_left, Contains-append_right, Contains-append_cases}
-use Rattle.meet_tickets.proofs.Members.{Contains-first, Contains-cases, Contains-nil}
+use Rattle.meet_tickets.proofs.Lists.Members.{Contains-first, Contains-cases, Contains-nil}
 use Rattle.meet_core.specs.Opened.{gathered}
 
 alone : {X : Type 0} (o : Option X) → filter_map (λ y. y) (o ∷ []) ≡ option_to_list o

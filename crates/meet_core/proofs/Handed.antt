@@ -14,9 +14,9 @@ use Rattle.meet_tickets.specs.Bases.{Based}
 use Rattle.meet_tickets.specs.BySeat.{entry_of}
 use Rattle.meet_tickets.specs.Fates.{asked_for}
 use Rattle.meet_tickets.specs.Meeting.{partner}
-use Rattle.meet_tickets.proofs.Lookups.{Contains-map}
-use Rattle.meet_tickets.proofs.Remembered.{remembered}
-use Rattle.meet_tickets.proofs.Sides.{partner-there, found-there, found-ticket}
+use Rattle.meet_tickets.proofs.Lists.Lookups.{Contains-map}
+use Rattle.meet_tickets.proofs.Told.Remembered.{remembered}
+use Rattle.meet_tickets.proofs.Line.Sides.{partner-there, found-there, found-ticket}
 use Rattle.meet_core.specs.Queue.{Queue, seats_of}
 use Rattle.meet_line.specs.Seen.{marked_entry}
 use Rattle.meet_core.specs.Seen.{marked_hold, marked}

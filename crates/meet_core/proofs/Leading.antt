@@ -5,10 +5,10 @@ use Rattle.meet_tickets.specs.declared.places.Kind.{Kind}
 use Rattle.meet_tickets.specs.declared.records.Record.{Record}
 use Rattle.meet_tickets.specs.declared.records.Deed.{Deed}
 use Rattle.meet_tickets.specs.BySeat.{nobody, Moment, moment_of, moment_after, Fits, IsLegalBySeatFrom, is_request, Allows, seats_after}
-use Rattle.meet_tickets.proofs.Continued.{legal-append, moment_of-append}
+use Rattle.meet_tickets.proofs.Tellings.Continued.{legal-append, moment_of-append}
 use Rattle.meet_tickets.specs.Bases.{Based, no_base, moment_of_base, IsBaseOf}
-use Rattle.meet_tickets.proofs.Folded.{folds}
-use Rattle.meet_tickets.proofs.Based.{tellings_agree_on, no_base_well_formed}
+use Rattle.meet_tickets.proofs.OnBases.Folded.{folds}
+use Rattle.meet_tickets.proofs.OnBases.Based.{tellings_agree_on, no_base_well_formed}
 use Rattle.meet_core.specs.Queue.{Queue, seats_of}
 use Rattle.meet_core.specs.QueueSteps.{bounded_kind}
 use Rattle.meet_core.specs.Seen.{marked, moment_of_queue}

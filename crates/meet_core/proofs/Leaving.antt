@@ -21,8 +21,8 @@ use Rattle.meet_tickets.specs.declared.places.End.{End}
 use Rattle.meet_tickets.specs.declared.places.End.TheVariants.{Front, Back}
 use Rattle.meet_tickets.specs.Meeting.{met, is_on, count_on}
 use Rattle.meet_tickets.specs.BySeat.{unmet}
-use Rattle.meet_tickets.proofs.Lookups.{keyed_from, keyed_pairs, map_keyed}
-use Rattle.meet_tickets.proofs.Sides.{met-some}
+use Rattle.meet_tickets.proofs.Lists.Lookups.{keyed_from, keyed_pairs, map_keyed}
+use Rattle.meet_tickets.proofs.Line.Sides.{met-some}
 use Rattle.meet_core.specs.declared.left.Left.{Left}
 use Rattle.meet_line.specs.Sound.{IsSound}
 use Rattle.meet_core.specs.Queue.{Queue}

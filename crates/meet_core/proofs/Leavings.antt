@@ -9,8 +9,8 @@ use Rattle.meet_tickets.specs.Asked.{request_on, Remembers}
 use Rattle.meet_tickets.specs.Bases.{Based}
 use Rattle.meet_tickets.specs.Fates.{opening}
 use Rattle.meet_tickets.specs.Placed.{TellsPlace}
-use Rattle.meet_tickets.proofs.Placed.{tells_place}
-use Rattle.meet_tickets.proofs.Remembered.{remembered}
+use Rattle.meet_tickets.proofs.Told.Placed.{tells_place}
+use Rattle.meet_tickets.proofs.Told.Remembered.{remembered}
 use Rattle.meet_core.specs.declared.left.Left.{Left}
 use Rattle.meet_core.specs.Left.{left_in}
 use Rattle.meet_core.specs.LeftTold.{AreLeftOn}

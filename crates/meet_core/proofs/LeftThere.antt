@@ -21,9 +21,9 @@ use Rattle.meet_tickets.specs.declared.records.Deed.{Deed}
 use Rattle.meet_tickets.specs.Asked.{Remembers}
 use Rattle.meet_tickets.specs.Fates.{request_of}
 use Rattle.meet_tickets.specs.Placed.{TellsPlace}
-use Rattle.meet_tickets.proofs.Lookups.{AreKeyed, keyed_from, keyed_pairs, keyed_map, map_keyed, keyed_append, Contains-map, Contains-mapped}
-use Rattle.meet_tickets.proofs.Members.{Contains-first, Contains-rest, Contains-cases, Contains-nil}
-use Rattle.meet_tickets.proofs.Sides.{AllPairs-head, AllPairs-tail}
+use Rattle.meet_tickets.proofs.Lists.Lookups.{AreKeyed, keyed_from, keyed_pairs, keyed_map, map_keyed, keyed_append, Contains-map, Contains-mapped}
+use Rattle.meet_tickets.proofs.Lists.Members.{Contains-first, Contains-rest, Contains-cases, Contains-nil}
+use Rattle.meet_tickets.proofs.Line.Sides.{AllPairs-head, AllPairs-tail}
 use Rattle.meet_core.specs.declared.left.Left.{Left}
 use Rattle.meet_core.specs.Left.{left_of_entry, left_of_hold, as_met, left_in}
 use Rattle.meet_core.specs.LeftTold.{Leaving, leaving_of, left_told, AreLeft}

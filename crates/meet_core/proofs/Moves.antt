@@ -9,7 +9,7 @@ use Rattle.meet_tickets.specs.declared.places.End.{End}
 use Rattle.meet_tickets.specs.declared.places.Side.TheVariants.{Giver}
 use Rattle.meet_tickets.specs.Meeting.{is_on}
 use Rattle.meet_tickets.specs.BySeat.{Seats, put_at, unmet, paired, paired_hold, left, cut_off}
-use Rattle.meet_tickets.proofs.Partners.{none-from}
+use Rattle.meet_tickets.proofs.Line.Partners.{none-from}
 use Rattle.meet_core.specs.Table.{hold_at, flag_at}
 use Rattle.meet_core.specs.Queue.{Queue, seats_of}
 use Rattle.meet_core.specs.Steps.{Leaves}

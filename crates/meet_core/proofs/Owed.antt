@@ -5,8 +5,8 @@ use Rattle.std.proofs.lemmas.Bool.{cases_eq}
 use Rattle.meet_tickets.specs.declared.lines.Hold.{Hold}
 use Rattle.meet_tickets.specs.declared.lines.Hold.TheVariants.{Free}
 use Rattle.meet_tickets.specs.BySeat.{put_at, is_open, owed_of}
-use Rattle.meet_tickets.proofs.Changed.{one, count-same, count_more, count_once, times_range, times_most}
-use Rattle.meet_tickets.proofs.Whereabouts.{put_at_here, put_at_there}
+use Rattle.meet_tickets.proofs.Lists.Changed.{one, count-same, count_more, count_once, times_range, times_most}
+use Rattle.meet_tickets.proofs.Tellings.Whereabouts.{put_at_here, put_at_there}
 
 module _ {T : Type 0} (holds : ℕ → Hold T) (count i : ℕ) where
   -- the other seats are as they were

@@ -13,8 +13,8 @@ use Rattle.meet_tickets.specs.Meeting.{count_on}
 use Rattle.meet_tickets.specs.BySeat.{Seats, put_at, is_open, owed_of, paired_hold}
 use Rattle.meet_tickets.specs.Limits.{last_ticket}
 use Rattle.meet_tickets.specs.Refusals.{refusal_of}
-use Rattle.meet_tickets.proofs.Admitted.{IsAdmitted, IsAdmitted-from}
-use Rattle.meet_tickets.proofs.Counted.{HasGiver, giver-there}
+use Rattle.meet_tickets.proofs.Line.Admitted.{IsAdmitted, IsAdmitted-from}
+use Rattle.meet_tickets.proofs.Line.Counted.{HasGiver, giver-there}
 use Rattle.meet_line.specs.Sound.{Stands, IsSound}
 use Rattle.meet_core.specs.Queue.{Queue, seats_of, count_of}
 use Rattle.meet_core.specs.declared.answers.Polled.TheVariants.{Meets, Fails}

@@ -18,10 +18,10 @@ use Rattle.meet_tickets.specs.Agreement.{Holds}
 use Rattle.meet_tickets.specs.Bases.{Based, Held, held_in, waiting_held, paired_held, cut_held, state_of_base, moment_of_base}
 use Rattle.meet_tickets.specs.ByLists.{State, Open, IsOpen, IsStep, IsLegalFrom, closed, after, run}
 use Rattle.meet_tickets.specs.BySeat.{Moment, moment_after}
-use Rattle.meet_tickets.proofs.Based.{alike_base}
-use Rattle.meet_tickets.proofs.Histories.{Alike, alike_after}
-use Rattle.meet_tickets.proofs.Lookups.{Contains-map, Contains-mapped}
-use Rattle.meet_tickets.proofs.Members.{Contains-first, Contains-rest, Contains-cases, Contains-nil, Contains-unfiltered, filtered_passes, not_eqb-true}
+use Rattle.meet_tickets.proofs.OnBases.Based.{alike_base}
+use Rattle.meet_tickets.proofs.Tellings.Histories.{Alike, alike_after}
+use Rattle.meet_tickets.proofs.Lists.Lookups.{Contains-map, Contains-mapped}
+use Rattle.meet_tickets.proofs.Lists.Members.{Contains-first, Contains-rest, Contains-cases, Contains-nil, Contains-unfiltered, filtered_passes, not_eqb-true}
 use Rattle.meet_history.specs.declared.pieces.Piece.{Piece}
 use Rattle.meet_history.specs.declared.pieces.Piece.TheVariants.{Stands, Met, Cut, Flagged}
 use Rattle.meet_run.specs.BaseWording.{pieces_of}

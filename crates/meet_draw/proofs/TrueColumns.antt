@@ -16,10 +16,10 @@ use Rattle.meet_tickets.specs.declared.records.Record.{Record}
 use Rattle.meet_tickets.specs.Bases.{Based, Held, held_in, waiting_held, paired_held, cut_held, pair_met, state_of_base, moment_of_base, IsWellFormed}
 use Rattle.meet_tickets.specs.ByLists.{State, Open, IsOpen, IsInLine, IsLegalFrom, after, run}
 use Rattle.meet_tickets.specs.BySeat.{Moment, moment_after}
-use Rattle.meet_tickets.proofs.Based.{alike_base}
-use Rattle.meet_tickets.proofs.Histories.{Alike, alike_after}
-use Rattle.meet_tickets.proofs.Lookups.{Contains-map}
-use Rattle.meet_tickets.proofs.Whereabouts.{Reached, InLine, IsCut, Gave, Took}
+use Rattle.meet_tickets.proofs.OnBases.Based.{alike_base}
+use Rattle.meet_tickets.proofs.Tellings.Histories.{Alike, alike_after}
+use Rattle.meet_tickets.proofs.Lists.Lookups.{Contains-map}
+use Rattle.meet_tickets.proofs.Tellings.Whereabouts.{Reached, InLine, IsCut, Gave, Took}
 use Rattle.meet_history.specs.declared.pieces.Piece.{Piece}
 use Rattle.meet_history.specs.declared.pieces.Piece.TheVariants.{Stands, Met, Cut, Flagged}
 use Rattle.meet_run.specs.BaseWording.{pieces_of}

@@ -9,8 +9,8 @@ use Rattle.meet_tickets.specs.declared.records.Cause.TheVariants.{Cancelled, Exp
 use Rattle.meet_tickets.specs.declared.records.Deed.{Deed}
 use Rattle.meet_tickets.specs.declared.records.Deed.TheVariants.{GiveWaits, GiveMeets, GiveFails, GiveKept, TakeWaits, TakeMeets, TakeFails, EntryInterrupted, Done, Got, Withdrawn, Interrupt}
 use Rattle.meet_tickets.specs.ByLists.{State, Open, IsOpen, IsStep, without, wait, closed, after}
-use Rattle.meet_tickets.proofs.Members.{Contains-first, Contains-cases, Contains-nil, Contains-filter, Contains-unfiltered, filtered_passes, ne_not_eqb, not_eqb-true}
-use Rattle.meet_tickets.proofs.Whereabouts.{Reached, Never, InLine}
+use Rattle.meet_tickets.proofs.Lists.Members.{Contains-first, Contains-cases, Contains-nil, Contains-filter, Contains-unfiltered, filtered_passes, ne_not_eqb, not_eqb-true}
+use Rattle.meet_tickets.proofs.Tellings.Whereabouts.{Reached, Never, InLine}
 use Rattle.meet_draw.specs.declared.columns.Lane.{Lane}
 use Rattle.meet_draw.specs.declared.columns.Lane.TheVariants.{Clear, Waits, Settled}
 use Rattle.meet_draw.specs.declared.columns.Change.TheVariants.{Ends, Settles}

@@ -6,7 +6,7 @@ use Rattle.meet_tickets.specs.declared.refusals.Refusal.{Refusal}
 use Rattle.meet_tickets.specs.declared.refusals.Refusal.TheVariants.{Memory}
 use Rattle.meet_tickets.specs.BySeat.{owed_of}
 use Rattle.meet_tickets.specs.Refusals.{number_of, refusal_of, absent_refusal, IsWhy}
-use Rattle.meet_tickets.proofs.Refusing.{request-own, interrupt-own}
+use Rattle.meet_tickets.proofs.Line.Refusing.{request-own, interrupt-own}
 use Rattle.meet_core.specs.Queue.{Queue, seats_of, count_of}
 use Rattle.meet_history.specs.declared.one_thread.setup.Setup.{Setup}
 use Rattle.meet_core.specs.declared.calls.queue_calls.QueueCall.{QueueCall}

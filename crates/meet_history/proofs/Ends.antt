@@ -10,8 +10,8 @@ use Rattle.meet_tickets.specs.declared.bases.OpenPair.{OpenPair}
 use Rattle.meet_tickets.specs.declared.bases.OpenCut.{OpenCut}
 use Rattle.meet_tickets.specs.Bases.{Based, moment_of_base, IsBaseOf, IsWellFormed}
 use Rattle.meet_tickets.specs.BySeat.{Moment, moment_of}
-use Rattle.meet_tickets.proofs.Folded.{folds}
-use Rattle.meet_tickets.proofs.Unique.{same_base}
+use Rattle.meet_tickets.proofs.OnBases.Folded.{folds}
+use Rattle.meet_tickets.proofs.OnBases.Unique.{same_base}
 use Rattle.meet_core.specs.Queue.{Queue}
 use Rattle.meet_line.specs.Seen.{marked_entry}
 use Rattle.meet_core.specs.Seen.{marked_hold, moment_of_queue}

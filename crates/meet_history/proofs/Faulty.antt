@@ -7,8 +7,8 @@ use Rattle.meet_tickets.specs.declared.records.Deed.{Deed}
 use Rattle.meet_tickets.specs.declared.records.Deed.TheVariants.{GiveWaits, GiveMeets, GiveFails, GiveKept, TakeWaits, TakeMeets, TakeFails, EntryInterrupted, Done, Got, Withdrawn, Interrupt}
 use Rattle.meet_tickets.specs.BySeat.{Seats, Moment, moment_of, moment_after, open_ticket, is_open, IsFree, is_request, Allows, Fits, IsLegalBySeatFrom}
 use Rattle.meet_tickets.specs.Bases.{Based, moment_of_base, IsWellFormed, IsLegalOn}
-use Rattle.meet_tickets.proofs.Continued.{legal-append}
-use Rattle.meet_tickets.proofs.Based.{tellings_agree_on}
+use Rattle.meet_tickets.proofs.Tellings.Continued.{legal-append}
+use Rattle.meet_tickets.proofs.OnBases.Based.{tellings_agree_on}
 use Rattle.meet_history.specs.declared.checker.Why.{Why}
 use Rattle.meet_history.specs.declared.checker.Why.TheVariants.{SeatOpen, TicketOrder, NotOpen, WrongReply}
 use Rattle.meet_history.specs.Checking.{is_ending, IsFaulty, IsIllegalAt}

@@ -6,9 +6,9 @@ use Rattle.meet_tickets.specs.declared.records.Record.{Record}
 use Rattle.meet_tickets.specs.declared.records.Deed.{Deed}
 use Rattle.meet_tickets.specs.Bases.{Based, no_base, moment_of_base, IsWellFormed, IsLegalOn, IsBaseOf, Folds}
 use Rattle.meet_tickets.specs.BySeat.{moment_of}
-use Rattle.meet_tickets.proofs.Based.{no_base_well_formed}
-use Rattle.meet_tickets.proofs.Continued.{moment_of-append}
-use Rattle.meet_tickets.proofs.Folded.{folds}
+use Rattle.meet_tickets.proofs.OnBases.Based.{no_base_well_formed}
+use Rattle.meet_tickets.proofs.Tellings.Continued.{moment_of-append}
+use Rattle.meet_tickets.proofs.OnBases.Folded.{folds}
 use Rattle.meet_history.specs.Standings.{IsFolded}
 
 -- nothing was written, and nothing folded away

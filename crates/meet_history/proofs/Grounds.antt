@@ -11,7 +11,7 @@ use Rattle.meet_tickets.specs.declared.bases.OpenPair.{OpenPair}
 use Rattle.meet_tickets.specs.declared.bases.OpenCut.{OpenCut}
 use Rattle.meet_tickets.specs.declared.places.Kind.{Kind}
 use Rattle.meet_tickets.specs.Bases.{Based, Held, waiting_held, paired_held, cut_held}
-use Rattle.meet_tickets.proofs.Keeping.{kept-kept, kept-queued}
+use Rattle.meet_tickets.proofs.Line.Keeping.{kept-kept, kept-queued}
 use Rattle.meet_history.specs.declared.pieces.Piece.TheVariants.{Stands, Met, Cut, Flagged}
 use Rattle.meet_history.specs.Pieces.{with_piece, may_follow}
 use Rattle.meet_history.specs.Grounds.{has_number, named_at, held_at, waiting_at, Adds, IsGround}

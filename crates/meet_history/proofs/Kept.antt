@@ -8,9 +8,9 @@ use Rattle.meet_tickets.specs.Meeting.{partner, waiting_count, kept_count, count
 use Rattle.meet_tickets.specs.BySeat.{unmet, without_first}
 use Rattle.std.specs.Prelude.{All, is_some, is_none, if◌then◌else◌}
 use Rattle.std.specs.Option.{option_map_or}
-use Rattle.meet_tickets.proofs.Counted.{giver-leaves, giver-removed}
-use Rattle.meet_tickets.proofs.Keeping.{kept-met, kept-found, all-counted}
-use Rattle.meet_tickets.proofs.Sides.{HasOneSide, HasOneSide-added, HasOneSide-unmet, All-unmet, found-ticket, partner-met}
+use Rattle.meet_tickets.proofs.Line.Counted.{giver-leaves, giver-removed}
+use Rattle.meet_tickets.proofs.Line.Keeping.{kept-met, kept-found, all-counted}
+use Rattle.meet_tickets.proofs.Line.Sides.{HasOneSide, HasOneSide-added, HasOneSide-unmet, All-unmet, found-ticket, partner-met}
 use Rattle.meet_line.proofs.Removed.{removed-none}
 use Rattle.meet_history.specs.declared.checker.Standing.{Standing}
 use Rattle.meet_history.specs.Marks.{count_if_gives, count_if_kept}

@@ -13,8 +13,8 @@ use Rattle.meet_tickets.specs.BySeat.{put_at}
 use Rattle.meet_tickets.specs.declared.places.End.{End}
 use Rattle.meet_tickets.specs.Bases.{Based, Held, held_in, waiting_held, paired_held, cut_held}
 use Rattle.meet_tickets.specs.Meeting.{met, IsAlone}
-use Rattle.meet_tickets.proofs.Laying.{hold_all, hold_all_found}
-use Rattle.meet_tickets.proofs.Lookups.{AreKeyed, keyed_from}
+use Rattle.meet_tickets.proofs.OnBases.Laying.{hold_all, hold_all_found}
+use Rattle.meet_tickets.proofs.Lists.Lookups.{AreKeyed, keyed_from}
 use Rattle.meet_history.specs.Laid.{held_once, waiting_in_line, flagged_once}
 use Rattle.meet_history.specs.Marks.{IsNewest}
 

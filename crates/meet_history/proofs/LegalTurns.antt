@@ -19,10 +19,10 @@ use Rattle.meet_tickets.specs.declared.refusals.Refusal.{Refusal}
 use Rattle.meet_tickets.specs.Meeting.{end_of, keeps, partner, Alone, kept_count, count_on}
 use Rattle.meet_tickets.specs.BySeat.{Seats, Moment, Fits, Allows, IsFree, entry_of, paired, cut_off, flagged, cut_ticket, is_request, seats_after, moment_of, IsLegalBySeatFrom}
 use Rattle.meet_tickets.specs.Refusals.{refusal_of}
-use Rattle.meet_tickets.proofs.Continued.{legal-append, moment_of-append}
-use Rattle.meet_tickets.proofs.Partners.{none-from}
-use Rattle.meet_tickets.proofs.Sides.{HasOneSide, partner-other, HasOneSide-unmet, HasOneSide-without_first, HasOneSide-added}
-use Rattle.meet_tickets.proofs.Admitted.{IsAdmitted, IsAdmitted-from}
+use Rattle.meet_tickets.proofs.Tellings.Continued.{legal-append, moment_of-append}
+use Rattle.meet_tickets.proofs.Line.Partners.{none-from}
+use Rattle.meet_tickets.proofs.Line.Sides.{HasOneSide, partner-other, HasOneSide-unmet, HasOneSide-without_first, HasOneSide-added}
+use Rattle.meet_tickets.proofs.Line.Admitted.{IsAdmitted, IsAdmitted-from}
 use Rattle.meet_history.specs.declared.one_thread.verbs.Call.{Call}
 use Rattle.meet_history.specs.declared.one_thread.verbs.Verb.{Verb}
 use Rattle.meet_history.specs.declared.one_thread.verbs.Verb.TheVariants.{Put, Offer, Take, Poll, Transfer as TransferItem, Try, Follow, Cancel, Expire, Interrupt as InterruptSeat, Drain, Size, Room, Peek, Consumers, Checkpoint}

@@ -16,9 +16,9 @@ use Rattle.meet_tickets.specs.declared.bases.OpenCut.{OpenCut}
 use Rattle.meet_tickets.specs.declared.places.Kind.{Kind}
 use Rattle.meet_tickets.specs.Bases.{Based, Held, held_in, named_in, waiting_held, paired_held, cut_held, IsWellFormed, MayStand}
 use Rattle.meet_tickets.specs.Meeting.{keeps, kept_count}
-use Rattle.meet_tickets.proofs.Sides.{AllPairs-head, AllPairs-tail}
-use Rattle.meet_tickets.proofs.Members.{Contains-nil}
-use Rattle.meet_tickets.proofs.Keeping.{kept-kept, kept-queued}
+use Rattle.meet_tickets.proofs.Line.Sides.{AllPairs-head, AllPairs-tail}
+use Rattle.meet_tickets.proofs.Lists.Members.{Contains-nil}
+use Rattle.meet_tickets.proofs.Line.Keeping.{kept-kept, kept-queued}
 use Rattle.meet_history.specs.declared.pieces.Piece.{Piece}
 use Rattle.meet_history.specs.declared.pieces.Piece.TheVariants.{Stands, Met, Cut, Flagged}
 use Rattle.meet_history.specs.Pieces.{bare_base, with_piece, in_order, is_new, is_unheld, keeps_more, is_nil, entry_fits, pair_fits, cut_fits, flag_fits, may_follow}

@@ -7,8 +7,8 @@ use Rattle.meet_tickets.specs.Bases.{Based, moment_of_base, IsWellFormed, IsLega
 use Rattle.meet_tickets.specs.Fates.{StandsOn}
 use Rattle.meet_tickets.specs.BySeat.{Moment, moment_of, moment_after, Fits, IsFree}
 use Rattle.meet_tickets.specs.Limits.{most_seats}
-use Rattle.meet_tickets.proofs.Continued.{moment_of-append}
-use Rattle.meet_tickets.proofs.StandingsOn.{stands_on}
+use Rattle.meet_tickets.proofs.Tellings.Continued.{moment_of-append}
+use Rattle.meet_tickets.proofs.Told.StandingsOn.{stands_on}
 use Rattle.std.specs.Prelude.{IfOk}
 use Rattle.meet_history.specs.declared.checker.Standing.{Standing}
 use Rattle.meet_history.specs.declared.checker.Why.{Why}

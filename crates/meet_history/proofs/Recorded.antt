@@ -2,8 +2,8 @@
 use Rattle.std.proofs.Common.{◌≡◌, ◌<◌, sym, ap, ◌∙◌, List}
 use Rattle.meet_tickets.specs.ByLists.{IsLegal}
 use Rattle.meet_tickets.specs.BySeat.{beginning, moment_of}
-use Rattle.meet_tickets.proofs.Histories.{tellings_are_one}
-use Rattle.meet_tickets.proofs.Standings.{StandsAs, stands_as}
+use Rattle.meet_tickets.proofs.Tellings.Histories.{tellings_are_one}
+use Rattle.meet_tickets.proofs.Told.Standings.{StandsAs, stands_as}
 use Rattle.meet_history.specs.declared.one_thread.verbs.Call.{Call}
 use Rattle.meet_history.specs.declared.one_thread.setup.Setup.{Setup}
 use Rattle.meet_history.specs.OneThread.{start, turns, records, standing_at}

@@ -6,7 +6,7 @@ use Rattle.meet_tickets.specs.declared.lines.Entry.{Entry}
 use Rattle.meet_tickets.specs.declared.lines.Hold.{Hold}
 use Rattle.meet_tickets.specs.declared.lines.Hold.TheVariants.{Free}
 use Rattle.meet_tickets.specs.BySeat.{without_first, is_settled, settled_of}
-use Rattle.meet_tickets.proofs.Sides.{All-without_first}
+use Rattle.meet_tickets.proofs.Line.Sides.{All-without_first}
 use Rattle.meet_core.specs.Table.{hold_at}
 use Rattle.meet_core.proofs.Counts.{count_by-holds, count_by-more_free, hold_at-more}
 use Rattle.meet_history.specs.Checking.{AreSeated}

@@ -14,8 +14,8 @@ use Rattle.meet_tickets.specs.declared.records.Deed.{Deed}
 use Rattle.meet_tickets.specs.declared.records.Deed.TheVariants.{GiveWaits, GiveMeets, GiveFails, GiveKept, TakeWaits, TakeMeets, TakeFails, EntryInterrupted, Done, Got, Withdrawn, Interrupt}
 use Rattle.meet_tickets.specs.Meeting.{end_of, partner}
 use Rattle.meet_tickets.specs.BySeat.{Seats, put_at, entry_of, paired, paired_hold, meets, queued, released, left, interrupted, cut_off, flagged, is_request, seats_after}
-use Rattle.meet_tickets.proofs.Sides.{partner-there, All-unmet, All-without_first}
-use Rattle.meet_tickets.proofs.Whereabouts.{put_at_there}
+use Rattle.meet_tickets.proofs.Line.Sides.{partner-there, All-unmet, All-without_first}
+use Rattle.meet_tickets.proofs.Tellings.Whereabouts.{put_at_there}
 
 -- by the answer to a test
 pub by_cases : {A B : Type 0} (P : B → Type 0) (o : Option A) (f : A → B) (d : B) → ((x : A) → o ≡ Some x → P (f x)) → (o ≡ None → P d) → P (option_map_or f o d)

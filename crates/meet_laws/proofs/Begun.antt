@@ -18,11 +18,11 @@ use Rattle.meet_tickets.specs.declared.records.Deed.TheVariants.{Interrupt}
 use Rattle.meet_tickets.specs.Bases.{Based, named_in, IsWellFormed, IsLegalOn}
 use Rattle.meet_tickets.specs.BySeat.{is_request}
 use Rattle.meet_tickets.specs.Fates.{named_by, asked_for, asked_on, met_on, line_record, pair_records, cut_records, opening}
-use Rattle.meet_tickets.proofs.Fated.{Joining, Gives, Takes, deed_of, waits_of, blank, only_asked}
-use Rattle.meet_tickets.proofs.Laying.{said_quiet, quiet_line, quiet_pairs}
-use Rattle.meet_tickets.proofs.Lookups.{AreKeyed, keyed_from, keyed_map, keyed_left, keyed_right, keyed_cross, Contains-map}
-use Rattle.meet_tickets.proofs.Members.{Contains-first, Contains-rest, Contains-cases, Contains-nil}
-use Rattle.meet_tickets.proofs.Said.{said, heard, said_of_others, said_of_own}
+use Rattle.meet_tickets.proofs.Told.Fated.{Joining, Gives, Takes, deed_of, waits_of, blank, only_asked}
+use Rattle.meet_tickets.proofs.OnBases.Laying.{said_quiet, quiet_line, quiet_pairs}
+use Rattle.meet_tickets.proofs.Lists.Lookups.{AreKeyed, keyed_from, keyed_map, keyed_left, keyed_right, keyed_cross, Contains-map}
+use Rattle.meet_tickets.proofs.Lists.Members.{Contains-first, Contains-rest, Contains-cases, Contains-nil}
+use Rattle.meet_tickets.proofs.Told.Said.{said, heard, said_of_others, said_of_own}
 use Rattle.meet_laws.proofs.Speaking.{Meets, given, taken, asks, meets, cuts, AllGoOn, Speaks, go_on-append}
 use Rattle.meet_laws.proofs.Steps.{legal_goes_on}
 

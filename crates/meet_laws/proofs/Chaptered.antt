@@ -4,7 +4,7 @@ use Rattle.meet_tickets.specs.declared.places.Kind.{Kind}
 use Rattle.meet_tickets.specs.declared.records.Record.{Record}
 use Rattle.meet_tickets.specs.declared.records.Deed.{Deed}
 use Rattle.meet_tickets.specs.Bases.{Based, IsWellFormed, IsLegalOn}
-use Rattle.meet_tickets.proofs.Folded.{folds}
+use Rattle.meet_tickets.proofs.OnBases.Folded.{folds}
 use Rattle.meet_laws.specs.Chapters.{FollowOn, records_in}
 
 pub are_one : (k : Kind) (first : Based × List (Record Deed)) (later : List (Based × List (Record Deed)))

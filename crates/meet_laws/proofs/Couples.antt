@@ -16,9 +16,9 @@ use Rattle.meet_tickets.specs.Asked.{brought_by}
 use Rattle.meet_tickets.specs.Bases.{Based, IsWellFormed, IsLegalOn}
 use Rattle.meet_tickets.specs.BySeat.{is_request}
 use Rattle.meet_tickets.specs.Fates.{opening, fate, fate_on, is_past, request_of, named_by, meets_it}
-use Rattle.meet_tickets.proofs.Fated.{Joining, Gives, Keeps, Takes, deed_of, only_asked, only_met, only_cut}
-use Rattle.meet_tickets.proofs.Members.{Contains-first, Contains-rest}
-use Rattle.meet_tickets.proofs.Said.{Said, said, said_after, fate_of, fate_is}
+use Rattle.meet_tickets.proofs.Told.Fated.{Joining, Gives, Keeps, Takes, deed_of, only_asked, only_met, only_cut}
+use Rattle.meet_tickets.proofs.Lists.Members.{Contains-first, Contains-rest}
+use Rattle.meet_tickets.proofs.Told.Said.{Said, said, said_after, fate_of, fate_is}
 use Rattle.meet_laws.specs.Laws.{IsWith, takes, told_mark, HaveMet, AreMutual}
 use Rattle.meet_laws.proofs.Speaking.{Meets, given, taken, fetched, Learns, ends, gets, GoesOn, asks, meets, learns, leaves, returns, cuts, flags, Speaks, meets_asks, meets_names, meets_own, meets_other, turns}
 use Rattle.meet_laws.proofs.Told.{Course, unasked, has_asked, has_met, has_learned, has_left, was_cut, has_returned, course_of, carry, Parted, parted, HasAsked, asked_turns, Stays, only_stays, IsMetBy, met_turns, met_asked, met_met, asks_first}

@@ -19,13 +19,13 @@ use Rattle.meet_tickets.specs.ByLists.{State, Pair, Open, IsNew, IsOpen, IsStep,
 use Rattle.meet_tickets.specs.BySeat.{Moment, beginning, moment_after, is_request}
 use Rattle.meet_tickets.specs.Fates.{fate, named_by, meets_it, interrupts}
 use Rattle.meet_tickets.specs.Meeting.{end_of, Alone, Finds, MayKeep, kept_count}
-use Rattle.meet_tickets.proofs.Based.{no_base_well_formed, orderly_base}
-use Rattle.meet_tickets.proofs.Fated.{Joining, Gives, Keeps, Takes, deed_of, only_met}
-use Rattle.meet_tickets.proofs.Histories.{Alike, alike_after, starts_alike}
-use Rattle.meet_tickets.proofs.Members.{Contains-first, Contains-rest, Contains-nil, Contains-filter, Contains-unfiltered, filtered_passes}
-use Rattle.meet_tickets.proofs.Orderly.{Orderly, orderly_after}
-use Rattle.meet_tickets.proofs.Said.{Said, said, said_after, said_of_others, heard, fate_of, fate_is}
-use Rattle.meet_tickets.proofs.Sides.{HasOneSide}
+use Rattle.meet_tickets.proofs.OnBases.Based.{no_base_well_formed, orderly_base}
+use Rattle.meet_tickets.proofs.Told.Fated.{Joining, Gives, Keeps, Takes, deed_of, only_met}
+use Rattle.meet_tickets.proofs.Tellings.Histories.{Alike, alike_after, starts_alike}
+use Rattle.meet_tickets.proofs.Lists.Members.{Contains-first, Contains-rest, Contains-nil, Contains-filter, Contains-unfiltered, filtered_passes}
+use Rattle.meet_tickets.proofs.Tellings.Orderly.{Orderly, orderly_after}
+use Rattle.meet_tickets.proofs.Told.Said.{Said, said, said_after, said_of_others, heard, fate_of, fate_is}
+use Rattle.meet_tickets.proofs.Line.Sides.{HasOneSide}
 use Rattle.meet_laws.specs.Erasing.{is_gone, is_left, erase, IsErased}
 use Rattle.meet_laws.specs.Rows.{is_refused}
 use Rattle.meet_laws.proofs.Begun.{legal_speaks}

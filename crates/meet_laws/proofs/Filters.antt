@@ -9,9 +9,9 @@ use Rattle.meet_tickets.specs.declared.places.Side.TheVariants.{Giver, Taker}
 use Rattle.meet_tickets.specs.declared.places.End.{End}
 use Rattle.meet_tickets.specs.declared.places.End.TheVariants.{Front, Back}
 use Rattle.meet_tickets.specs.Meeting.{is_on, met, partner, kept_count}
-use Rattle.meet_tickets.proofs.Keeping.{kept-cons}
-use Rattle.meet_tickets.proofs.Members.{Contains-first, Contains-nil, Contains-unfiltered, Contains-filter, Contains-partner}
-use Rattle.meet_tickets.proofs.Sides.{HasOneSide, first-side, met-some, partner-met, partner-other}
+use Rattle.meet_tickets.proofs.Line.Keeping.{kept-cons}
+use Rattle.meet_tickets.proofs.Lists.Members.{Contains-first, Contains-nil, Contains-unfiltered, Contains-filter, Contains-partner}
+use Rattle.meet_tickets.proofs.Line.Sides.{HasOneSide, first-side, met-some, partner-met, partner-other}
 
 -- two filters in either order
 pub filter_comm : {X : Type 0} (p q : X → Bool) (xs : List X) → filter p (filter q xs) ≡ filter q (filter p xs)

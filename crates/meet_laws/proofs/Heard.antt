@@ -10,7 +10,7 @@ use Rattle.meet_tickets.specs.declared.fates.Fate.TheVariants.{Never, Paired, Co
 use Rattle.meet_tickets.specs.declared.records.Deed.TheVariants.{GiveWaits, GiveMeets, GiveFails, GiveKept, TakeWaits, TakeMeets, TakeFails, EntryInterrupted, Done, Got, Withdrawn, Interrupt}
 use Rattle.meet_tickets.specs.BySeat.{is_request}
 use Rattle.meet_tickets.specs.Fates.{request_of, partner_in, has_learned, withdrawal_of, was_cut, waits_first, fate_asked, fate, named_by, meets_it, tells_of_meeting, withdrawn_by, interrupts}
-use Rattle.meet_tickets.proofs.Said.{Said, said_after}
+use Rattle.meet_tickets.proofs.Told.Said.{Said, said_after}
 use Rattle.meet_laws.specs.Hearing.{told_in, fate_told, fate_told_asked, fate_settled}
 use Rattle.meet_laws.specs.declared.fates.Told.{Told}
 

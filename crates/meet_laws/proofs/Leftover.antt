@@ -14,11 +14,11 @@ use Rattle.meet_tickets.specs.declared.places.Side.TheVariants.{Giver, Taker}
 use Rattle.meet_tickets.specs.declared.records.Deed.{Deed}
 use Rattle.meet_tickets.specs.declared.records.Deed.TheVariants.{GiveWaits, GiveMeets, GiveFails, GiveKept, TakeWaits, TakeMeets, TakeFails, EntryInterrupted, Done, Got, Withdrawn, Interrupt}
 use Rattle.meet_tickets.specs.Fates.{fate, request_of, has_waited, waits_first, tickets_of, named_by, is_kept}
-use Rattle.meet_tickets.proofs.Changed.{one, times, count-cons, count-none, count-same, count_once}
-use Rattle.meet_tickets.proofs.Fated.{Joining, Gives, Keeps, Takes, deed_of, waits_of, only_asked, only_met, only_cut}
-use Rattle.meet_tickets.proofs.Lookups.{AreKeyed, keyed_from, map_keyed, keyed_filter, Contains-mapped, Contains-map}
-use Rattle.meet_tickets.proofs.Members.{Contains-first, Contains-rest, Contains-cases, Contains-nil, Contains-filter, Contains-unfiltered, filtered_passes}
-use Rattle.meet_tickets.proofs.Said.{Said, said, fate_of, fate_is}
+use Rattle.meet_tickets.proofs.Lists.Changed.{one, times, count-cons, count-none, count-same, count_once}
+use Rattle.meet_tickets.proofs.Told.Fated.{Joining, Gives, Keeps, Takes, deed_of, waits_of, only_asked, only_met, only_cut}
+use Rattle.meet_tickets.proofs.Lists.Lookups.{AreKeyed, keyed_from, map_keyed, keyed_filter, Contains-mapped, Contains-map}
+use Rattle.meet_tickets.proofs.Lists.Members.{Contains-first, Contains-rest, Contains-cases, Contains-nil, Contains-filter, Contains-unfiltered, filtered_passes}
+use Rattle.meet_tickets.proofs.Told.Said.{Said, said, fate_of, fate_is}
 use Rattle.meet_core.specs.declared.left.LeftStanding.{LeftStanding}
 use Rattle.meet_core.specs.declared.left.LeftStanding.TheVariants.{Offered, Kept, Ready}
 use Rattle.meet_core.specs.LeftTold.{Leaving, standing_waited, standing_kept, standing_met, left_asked, left_told, AreLeft}

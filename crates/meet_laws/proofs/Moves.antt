@@ -12,9 +12,9 @@ use Rattle.meet_tickets.specs.declared.fates.Fate.TheVariants.{Past}
 use Rattle.meet_tickets.specs.Bases.{Based, state_of_base, IsWellFormed, IsLegalOn}
 use Rattle.meet_tickets.specs.BySeat.{is_request}
 use Rattle.meet_tickets.specs.Fates.{opening, fate, fate_on, is_past}
-use Rattle.meet_tickets.proofs.Fated.{Joining, Gives, Keeps, Takes, deed_of, waits_of, blank, only_asked, only_met, only_cut}
-use Rattle.meet_tickets.proofs.Folded.{legal-parts}
-use Rattle.meet_tickets.proofs.Said.{Said, said, fate_of, waited_of, fate_is}
+use Rattle.meet_tickets.proofs.Told.Fated.{Joining, Gives, Keeps, Takes, deed_of, waits_of, blank, only_asked, only_met, only_cut}
+use Rattle.meet_tickets.proofs.OnBases.Folded.{legal-parts}
+use Rattle.meet_tickets.proofs.Told.Said.{Said, said, fate_of, waited_of, fate_is}
 use Rattle.meet_laws.specs.Laws.{MayMove, FatesMove}
 use Rattle.meet_laws.proofs.Speaking.{IsLeaving, Turned, stays, asked, met, learned, left, cut, returned, turns}
 use Rattle.meet_laws.proofs.Steps.{step_goes_on}

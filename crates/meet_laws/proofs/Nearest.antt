@@ -20,11 +20,11 @@ use Rattle.meet_tickets.specs.BySeat.{Moment, moment_of, open_ticket, is_settled
 use Rattle.meet_tickets.specs.Fates.{opening, fate, is_past, named_by, is_waiting, is_kept, is_unlearned, has_waited}
 use Rattle.meet_tickets.specs.Meeting.{end_of, met}
 use Rattle.meet_tickets.specs.Placed.{TellsPlace}
-use Rattle.meet_tickets.proofs.Based.{alike_base, orderly_base}
-use Rattle.meet_tickets.proofs.Folded.{legal-parts, orderly_at_end}
-use Rattle.meet_tickets.proofs.Histories.{alike_at_end}
-use Rattle.meet_tickets.proofs.Placed.{tells_place}
-use Rattle.meet_tickets.proofs.Sides.{partner-met}
+use Rattle.meet_tickets.proofs.OnBases.Based.{alike_base, orderly_base}
+use Rattle.meet_tickets.proofs.OnBases.Folded.{legal-parts, orderly_at_end}
+use Rattle.meet_tickets.proofs.Tellings.Histories.{alike_at_end}
+use Rattle.meet_tickets.proofs.Told.Placed.{tells_place}
+use Rattle.meet_tickets.proofs.Line.Sides.{partner-met}
 use Rattle.meet_laws.specs.Laws.{IsNearer, IsInOrder}
 
 -- the entry that is met is nearer than every other of a rising line

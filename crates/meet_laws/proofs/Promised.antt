@@ -23,14 +23,14 @@ use Rattle.meet_tickets.specs.Bases.{Based, state_of_base, moment_of_base, IsWel
 use Rattle.meet_tickets.specs.ByLists.{State, IsStep, IsLegalFrom, after, run}
 use Rattle.meet_tickets.specs.Fates.{named_by, was_cut, withdrawal_of, opening, entered_in, is_past, fate, fate_on}
 use Rattle.meet_tickets.specs.Meeting.{end_of, met}
-use Rattle.meet_tickets.proofs.Based.{alike_base}
-use Rattle.meet_tickets.proofs.Fated.{Joining, Gives, Keeps, Takes, deed_of, blank, only_asked}
-use Rattle.meet_tickets.proofs.FatesOn.{shows_fates}
-use Rattle.meet_tickets.proofs.Folded.{legal-parts}
-use Rattle.meet_tickets.proofs.Histories.{alike_at_end}
-use Rattle.meet_tickets.proofs.Members.{Contains-cases, Contains-nil, Contains-slice_get, Contains-unfiltered}
-use Rattle.meet_tickets.proofs.Placed.{tells_place}
-use Rattle.meet_tickets.proofs.Said.{Said, said}
+use Rattle.meet_tickets.proofs.OnBases.Based.{alike_base}
+use Rattle.meet_tickets.proofs.Told.Fated.{Joining, Gives, Keeps, Takes, deed_of, blank, only_asked}
+use Rattle.meet_tickets.proofs.Told.FatesOn.{shows_fates}
+use Rattle.meet_tickets.proofs.OnBases.Folded.{legal-parts}
+use Rattle.meet_tickets.proofs.Tellings.Histories.{alike_at_end}
+use Rattle.meet_tickets.proofs.Lists.Members.{Contains-cases, Contains-nil, Contains-slice_get, Contains-unfiltered}
+use Rattle.meet_tickets.proofs.Told.Placed.{tells_place}
+use Rattle.meet_tickets.proofs.Told.Said.{Said, said}
 use Rattle.meet_laws.specs.Erasing.{is_gone}
 use Rattle.meet_laws.specs.Promise.{KeepsPromise}
 use Rattle.meet_laws.specs.Rows.{HasMet}

@@ -18,9 +18,9 @@ use Rattle.meet_tickets.specs.declared.records.Deed.TheVariants.{GiveWaits, Give
 use Rattle.meet_tickets.specs.Bases.{Based, IsWellFormed, IsLegalOn}
 use Rattle.meet_tickets.specs.BySeat.{is_request}
 use Rattle.meet_tickets.specs.Fates.{opening, tickets_of, named_by, withdrawn_by, is_kept, asked_for, asked_on, met_on, line_record, pair_records, cut_records}
-use Rattle.meet_tickets.proofs.Changed.{one, count-cons, count-none}
-use Rattle.meet_tickets.proofs.Fated.{Joining, Gives, Keeps, Takes, deed_of, waits_of, only_asked, only_met, only_cut}
-use Rattle.meet_tickets.proofs.Said.{Said, said, fate_of}
+use Rattle.meet_tickets.proofs.Lists.Changed.{one, count-cons, count-none}
+use Rattle.meet_tickets.proofs.Told.Fated.{Joining, Gives, Keeps, Takes, deed_of, waits_of, only_asked, only_met, only_cut}
+use Rattle.meet_tickets.proofs.Told.Said.{Said, said, fate_of}
 use Rattle.meet_core.specs.LeftTold.{Leaving, AreLeft, leaving_of}
 use Rattle.meet_core.specs.declared.left.Left.{Left}
 use Rattle.meet_core.specs.declared.left.LeftStanding.{LeftStanding}

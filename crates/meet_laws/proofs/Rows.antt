@@ -16,9 +16,9 @@ use Rattle.meet_tickets.specs.declared.records.Deed.TheVariants.{GiveWaits, Give
 use Rattle.meet_tickets.specs.Bases.{Based, IsWellFormed, IsLegalOn}
 use Rattle.meet_tickets.specs.BySeat.{is_request}
 use Rattle.meet_tickets.specs.Fates.{opening, fate, is_past, named_by, tells_of_meeting, withdrawn_by, interrupts, waits_first}
-use Rattle.meet_tickets.proofs.Fated.{Joining, Gives, Keeps, Takes, deed_of, waits_of, blank, only_asked, only_met, only_cut}
-use Rattle.meet_tickets.proofs.Members.{Contains-first, Contains-rest}
-use Rattle.meet_tickets.proofs.Said.{Said, said, said_after, fate_of, fate_asked_of, fate_is}
+use Rattle.meet_tickets.proofs.Told.Fated.{Joining, Gives, Keeps, Takes, deed_of, waits_of, blank, only_asked, only_met, only_cut}
+use Rattle.meet_tickets.proofs.Lists.Members.{Contains-first, Contains-rest}
+use Rattle.meet_tickets.proofs.Told.Said.{Said, said, said_after, fate_of, fate_asked_of, fate_is}
 use Rattle.meet_laws.specs.Rows.{fails, is_refused, is_kept_deed, Has, HasMet, HasWithdrawn, IsUntouched, IsFate, HasOneFate}
 use Rattle.meet_laws.proofs.Speaking.{Meets, given, taken, fetched, GoesOn, asks, meets, learns, leaves, returns, cuts, flags, Turned, stays, asked, met, learned, left, cut, returned, Speaks}
 use Rattle.meet_laws.proofs.Told.{Course, unasked, has_asked, has_met, has_learned, has_left, was_cut, has_returned, course_of, carry, parted, IsMetBy, met_met}

@@ -11,8 +11,8 @@ use Rattle.meet_tickets.specs.declared.records.Deed.{Deed}
 use Rattle.meet_tickets.specs.declared.records.Deed.TheVariants.{GiveWaits, GiveMeets, GiveFails, GiveKept, TakeWaits, TakeMeets, TakeFails, EntryInterrupted, Done, Got, Withdrawn, Interrupt}
 use Rattle.meet_tickets.specs.BySeat.{is_request}
 use Rattle.meet_tickets.specs.Fates.{named_by, meets_it}
-use Rattle.meet_tickets.proofs.Said.{Said, said, heard, said_after, heard_nothing, said_of_others, said_of_own, said_of_named}
-use Rattle.meet_tickets.proofs.Fated.{Joining, Gives, Keeps, Takes, deed_of, waits_of, blank, only_asked, only_met, only_cut}
+use Rattle.meet_tickets.proofs.Told.Said.{Said, said, heard, said_after, heard_nothing, said_of_others, said_of_own, said_of_named}
+use Rattle.meet_tickets.proofs.Told.Fated.{Joining, Gives, Keeps, Takes, deed_of, waits_of, blank, only_asked, only_met, only_cut}
 
 -- a request meets a ticket in the line, which had joined it so
 pub data Meets : Deed → ℕ → Joining → Type 0 where

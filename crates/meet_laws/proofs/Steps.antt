@@ -15,15 +15,15 @@ use Rattle.meet_tickets.specs.ByLists.{State, IsOpen, IsInLine, IsStep, run}
 use Rattle.meet_tickets.specs.BySeat.{Moment, moment_of}
 use Rattle.meet_tickets.specs.Fates.{opening, asked_for, request_of}
 use Rattle.meet_tickets.specs.Meeting.{end_of, Finds}
-use Rattle.meet_tickets.proofs.Based.{alike_base}
-use Rattle.meet_tickets.proofs.Fated.{Joining, Gives, Keeps, Takes, deed_of, waits_of, only_asked, only_met, IsHeld}
-use Rattle.meet_tickets.proofs.Folded.{legal-parts}
-use Rattle.meet_tickets.proofs.Histories.{Alike, follows_at, alike_at_end}
-use Rattle.meet_tickets.proofs.Members.{Contains-partner}
-use Rattle.meet_tickets.proofs.Remembered.{remembered}
-use Rattle.meet_tickets.proofs.Said.{Said, said}
-use Rattle.meet_tickets.proofs.Standings.{AreTold, fits_all, bound_of, below_more, bound_is}
-use Rattle.meet_tickets.proofs.StandingsOn.{fits_base, bound_of_held, bound_held_is}
+use Rattle.meet_tickets.proofs.OnBases.Based.{alike_base}
+use Rattle.meet_tickets.proofs.Told.Fated.{Joining, Gives, Keeps, Takes, deed_of, waits_of, only_asked, only_met, IsHeld}
+use Rattle.meet_tickets.proofs.OnBases.Folded.{legal-parts}
+use Rattle.meet_tickets.proofs.Tellings.Histories.{Alike, follows_at, alike_at_end}
+use Rattle.meet_tickets.proofs.Lists.Members.{Contains-partner}
+use Rattle.meet_tickets.proofs.Told.Remembered.{remembered}
+use Rattle.meet_tickets.proofs.Told.Said.{Said, said}
+use Rattle.meet_tickets.proofs.Told.Standings.{AreTold, fits_all, bound_of, below_more, bound_is}
+use Rattle.meet_tickets.proofs.Told.StandingsOn.{fits_base, bound_of_held, bound_held_is}
 use Rattle.meet_laws.proofs.Speaking.{given, taken, fetched, Learns, ends, gets, GoesOn, asks, meets, learns, leaves, returns, cuts, flags, AllGoOn}
 
 -- the request that joined the line was this one

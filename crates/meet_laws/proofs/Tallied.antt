@@ -14,9 +14,9 @@ use Rattle.meet_tickets.specs.declared.records.Deed.TheVariants.{GiveWaits, Give
 use Rattle.meet_tickets.specs.Bases.{Based, IsWellFormed, IsLegalOn}
 use Rattle.meet_tickets.specs.BySeat.{is_request}
 use Rattle.meet_tickets.specs.Fates.{opening, fate, tickets_of, named_by, is_kept}
-use Rattle.meet_tickets.proofs.Changed.{one, count-cons, count-none, count-same}
-use Rattle.meet_tickets.proofs.Fated.{Joining, Gives, Keeps, Takes, deed_of, waits_of, only_asked, only_met, only_cut}
-use Rattle.meet_tickets.proofs.Said.{Said, said, fate_of, fate_is}
+use Rattle.meet_tickets.proofs.Lists.Changed.{one, count-cons, count-none, count-same}
+use Rattle.meet_tickets.proofs.Told.Fated.{Joining, Gives, Keeps, Takes, deed_of, waits_of, only_asked, only_met, only_cut}
+use Rattle.meet_tickets.proofs.Told.Said.{Said, said, fate_of, fate_is}
 use Rattle.meet_laws.specs.Tally.{meets as meets_somebody, is_give_meets, is_got, gives, has_given, is_delivered, is_returned, is_offered, given_in, gives_in, CountsOnce}
 use Rattle.meet_laws.proofs.Speaking.{Meets, given, taken, fetched, Learns, ends, gets, Speaks}
 use Rattle.meet_laws.proofs.Told.{Course, unasked, has_asked, has_met, has_learned, has_left, was_cut, has_returned, course_of}

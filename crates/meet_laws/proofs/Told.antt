@@ -7,9 +7,9 @@ use Rattle.meet_tickets.specs.declared.records.Cause.{Cause}
 use Rattle.meet_tickets.specs.declared.records.Cause.TheVariants.{Interrupted}
 use Rattle.meet_tickets.specs.declared.records.Deed.{Deed}
 use Rattle.meet_tickets.specs.BySeat.{is_request}
-use Rattle.meet_tickets.proofs.Fated.{Joining, deed_of, waits_of, blank, only_asked, only_met, only_cut}
-use Rattle.meet_tickets.proofs.Members.{Contains-cases, Contains-nil}
-use Rattle.meet_tickets.proofs.Said.{Said, said}
+use Rattle.meet_tickets.proofs.Told.Fated.{Joining, deed_of, waits_of, blank, only_asked, only_met, only_cut}
+use Rattle.meet_tickets.proofs.Lists.Members.{Contains-cases, Contains-nil}
+use Rattle.meet_tickets.proofs.Told.Said.{Said, said}
 use Rattle.meet_laws.proofs.Speaking.{IsLeaving, Learns, ends, gets, GoesOn, asks, meets, learns, leaves, returns, cuts, flags, Turned, stays, asked, met, learned, left, cut, returned, turns, AllGoOn, Speaks}
 
 -- the courses that a ticket may take

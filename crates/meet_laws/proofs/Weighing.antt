@@ -11,11 +11,11 @@ use Rattle.meet_tickets.specs.declared.records.Deed.{Deed}
 use Rattle.meet_tickets.specs.declared.records.Deed.TheVariants.{Withdrawn, Interrupt}
 use Rattle.meet_tickets.specs.BySeat.{is_request, put_at}
 use Rattle.meet_tickets.specs.Fates.{tickets_of, named_by}
-use Rattle.meet_tickets.proofs.Changed.{one, times, count-push, count-same, count_apart, count_once}
-use Rattle.meet_tickets.proofs.Fated.{Joining, deed_of, waits_of, blank, only_asked, only_met, only_cut}
-use Rattle.meet_tickets.proofs.Recorded.{tickets_more, tickets_same}
-use Rattle.meet_tickets.proofs.Said.{Said, said, said_after, heard}
-use Rattle.meet_tickets.proofs.Whereabouts.{put_at_here, put_at_there}
+use Rattle.meet_tickets.proofs.Lists.Changed.{one, times, count-push, count-same, count_apart, count_once}
+use Rattle.meet_tickets.proofs.Told.Fated.{Joining, deed_of, waits_of, blank, only_asked, only_met, only_cut}
+use Rattle.meet_tickets.proofs.Told.Recorded.{tickets_more, tickets_same}
+use Rattle.meet_tickets.proofs.Told.Said.{Said, said, said_after, heard}
+use Rattle.meet_tickets.proofs.Tellings.Whereabouts.{put_at_here, put_at_there}
 use Rattle.meet_laws.proofs.Speaking.{Meets, Learns, ends, gets, GoesOn, asks, meets, learns, leaves, returns, cuts, flags, AllGoOn, Speaks, flag_says, meets_asks, meets_own, meets_other, meets_others, own_adds, others_stay, learns_unnamed, learns_adds, asks_adds}
 
 -- what a record adds where it goes on so

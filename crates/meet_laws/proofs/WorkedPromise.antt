@@ -11,7 +11,7 @@ use Rattle.meet_tickets.specs.declared.records.Deed.{Deed}
 use Rattle.meet_tickets.specs.declared.records.Deed.TheVariants.{GiveMeets, TakeWaits, TakeMeets, Withdrawn, Interrupt}
 use Rattle.meet_tickets.specs.Bases.{Based, no_base}
 use Rattle.meet_tickets.specs.Fates.{named_by, opening}
-use Rattle.meet_tickets.proofs.Members.{Contains-first, Contains-rest}
+use Rattle.meet_tickets.proofs.Lists.Members.{Contains-first, Contains-rest}
 use Rattle.meet_laws.specs.Promise.{KeepsPromise}
 use Rattle.meet_laws.specs.Rows.{HasMet}
 

@@ -13,9 +13,9 @@ use Rattle.meet_tickets.specs.declared.places.End.{End}
 use Rattle.meet_tickets.specs.Meeting.{partner, kept_count, IsAlone}
 use Rattle.meet_tickets.specs.BySeat.{put_at, unmet, without_first, open_ticket}
 use Rattle.meet_tickets.specs.Limits.{last_ticket}
-use Rattle.meet_tickets.proofs.Keeping.{partner-waits}
-use Rattle.meet_tickets.proofs.Partners.{none-from}
-use Rattle.meet_tickets.proofs.Sides.{HasOneSide, All-unmet, All-without_first, AllPairs-unmet, AllPairs-without_first, partner-met, partner-there, partner-other, alone-same, met-apart, found-ticket, found-there, found-apart}
+use Rattle.meet_tickets.proofs.Line.Keeping.{partner-waits}
+use Rattle.meet_tickets.proofs.Line.Partners.{none-from}
+use Rattle.meet_tickets.proofs.Line.Sides.{HasOneSide, All-unmet, All-without_first, AllPairs-unmet, AllPairs-without_first, partner-met, partner-there, partner-other, alone-same, met-apart, found-ticket, found-there, found-apart}
 use Rattle.meet_line.specs.Sound.{Stands, AreFellows, IsSound}
 
 -- what two entries are to one another they are both ways

@@ -9,8 +9,8 @@ use Rattle.meet_tickets.specs.declared.records.Deed.{Deed}
 use Rattle.meet_tickets.specs.declared.records.Record.{Record}
 use Rattle.meet_tickets.specs.Bases.{Based, IsBaseOf, IsWellFormed, IsLegalOn, moment_of_base}
 use Rattle.meet_tickets.specs.BySeat.{Moment, moment_of}
-use Rattle.meet_tickets.proofs.Continued.{moment_of-append}
-use Rattle.meet_tickets.proofs.Folded.{folds}
+use Rattle.meet_tickets.proofs.Tellings.Continued.{moment_of-append}
+use Rattle.meet_tickets.proofs.OnBases.Folded.{folds}
 use Rattle.meet_history.specs.declared.checker.CheckFault.{CheckFault}
 use Rattle.meet_history.specs.declared.checker.CheckFault.TheVariants.{Illegal as IllegalRecord, Memory}
 use Rattle.meet_history.specs.declared.checker.Why.{Why}

@@ -6,7 +6,7 @@ use Rattle.meet_tickets.specs.declared.places.Kind.{Kind}
 use Rattle.meet_tickets.specs.declared.records.Deed.{Deed}
 use Rattle.meet_tickets.specs.Bases.{Based, no_base, moment_of_base}
 use Rattle.meet_tickets.specs.BySeat.{moment_of}
-use Rattle.meet_tickets.proofs.Unique.{one_base}
+use Rattle.meet_tickets.proofs.OnBases.Unique.{one_base}
 use Rattle.meet_tickets.specs.declared.records.Record.{Record}
 use Rattle.meet_history.specs.declared.one_thread.verbs.Call.{Call}
 use Rattle.meet_history.specs.declared.one_thread.setup.Setup.{Setup}

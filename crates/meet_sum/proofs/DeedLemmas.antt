@@ -3,7 +3,7 @@ use Rattle.std.proofs.Common.{◌≡◌, ◌+◌, refl, ap, ◌∙◌, arith, Li
 use Rattle.meet_tickets.specs.declared.records.Record.{Record}
 use Rattle.meet_tickets.specs.declared.records.Deed.{Deed}
 use Rattle.meet_tickets.specs.declared.records.Deed.TheVariants.{GiveWaits, GiveMeets, GiveFails, GiveKept, TakeWaits, TakeMeets, TakeFails, EntryInterrupted, Done, Got, Withdrawn, Interrupt}
-use Rattle.meet_tickets.proofs.Changed.{one, count-push, count-cons}
+use Rattle.meet_tickets.proofs.Lists.Changed.{one, count-push, count-cons}
 use Rattle.meet_sum.specs.declared.deeds.DeedCounts.{DeedCounts}
 use Rattle.meet_sum.specs.Deeds.{is_give_waits, is_give_meets, is_give_fails, is_give_kept, is_take_waits, is_take_meets, is_take_fails, is_entry_interrupted, is_done, is_got, is_withdrawn, is_interrupt, deeds_in, deeds_counted, with_deed}
 

@@ -4,7 +4,7 @@ use Rattle.meet_tickets.specs.declared.records.Cause.TheVariants.{Cancelled, Exp
 use Rattle.meet_tickets.specs.declared.fates.Fate.{Fate}
 use Rattle.meet_tickets.specs.declared.fates.Fate.TheVariants.{Never, Failed, EntryRefused, Paired, Collected, Withdrawn, Cut, Kept, Waiting, Past}
 use Rattle.meet_tickets.specs.Fates.{is_waiting, is_kept}
-use Rattle.meet_tickets.proofs.Changed.{one, count-push, count-cons}
+use Rattle.meet_tickets.proofs.Lists.Changed.{one, count-push, count-cons}
 use Rattle.meet_sum.specs.declared.fates.FateCounts.{FateCounts}
 use Rattle.meet_sum.specs.FatesCounted.{is_paired, is_collected, is_cancelled, is_expired, is_interrupted, is_cut, is_failed, is_entry_refused, numbers_of, fates_counted, with_fate}
 

@@ -18,14 +18,14 @@ use Rattle.meet_tickets.specs.declared.records.Deed.TheVariants.{GiveMeets, Take
 use Rattle.meet_tickets.specs.Bases.{Based, state_of_base, moment_of_base, IsWellFormed, IsLegalOn}
 use Rattle.meet_tickets.specs.BySeat.{Seats, Moment, Fits, Allows, seats_after, moment_after, moment_of, entry_of, unmet, without_first, meets, cut_ticket, interrupted, paired, cut_off, flagged}
 use Rattle.meet_tickets.specs.Meeting.{end_of, partner, met, is_on}
-use Rattle.meet_tickets.proofs.Members.{Contains-first, Contains-rest}
-use Rattle.meet_tickets.proofs.Based.{tellings_agree_on, alike_base}
-use Rattle.meet_tickets.proofs.Changed.{count-cons}
-use Rattle.meet_tickets.proofs.Continued.{moment_of-append}
-use Rattle.meet_tickets.proofs.Folded.{legal-parts}
-use Rattle.meet_tickets.proofs.Histories.{alike_at_end}
-use Rattle.meet_tickets.proofs.Whereabouts.{Where, Never, InLine}
-use Rattle.meet_tickets.proofs.Tally.{count-met, count-found}
+use Rattle.meet_tickets.proofs.Lists.Members.{Contains-first, Contains-rest}
+use Rattle.meet_tickets.proofs.OnBases.Based.{tellings_agree_on, alike_base}
+use Rattle.meet_tickets.proofs.Lists.Changed.{count-cons}
+use Rattle.meet_tickets.proofs.Tellings.Continued.{moment_of-append}
+use Rattle.meet_tickets.proofs.OnBases.Folded.{legal-parts}
+use Rattle.meet_tickets.proofs.Tellings.Histories.{alike_at_end}
+use Rattle.meet_tickets.proofs.Tellings.Whereabouts.{Where, Never, InLine}
+use Rattle.meet_tickets.proofs.Lists.Tally.{count-met, count-found}
 use Rattle.meet_sum.specs.Lines.{line_behind, IsNumbered, IsPeak}
 
 count-all : {X : Type 0} (xs : List X) → count_by (λ x. true) xs ≡ length xs

@@ -11,7 +11,7 @@ use Rattle.meet_tickets.specs.declared.records.Record.{Record}
 use Rattle.meet_tickets.specs.declared.records.Deed.{Deed}
 use Rattle.meet_tickets.specs.BySeat.{is_request}
 use Rattle.meet_tickets.specs.Limits.{most_seats}
-use Rattle.meet_tickets.proofs.Changed.{one, count-push}
+use Rattle.meet_tickets.proofs.Lists.Changed.{one, count-push}
 use Rattle.meet_sum.specs.declared.seats.SeatSum.{SeatSum}
 use Rattle.meet_sum.specs.declared.stories.Story.{Story}
 use Rattle.meet_sum.specs.Seats.{greater, greatest, stay_at, seat_sum, HasSeats}

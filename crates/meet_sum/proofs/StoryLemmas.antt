@@ -13,7 +13,7 @@ use Rattle.meet_tickets.specs.BySeat.{is_request}
 use Rattle.meet_tickets.specs.Fates.{request_of, meets_it, named_by, tells_of_meeting, has_learned, withdrawn_by, withdrawal_of, interrupts, was_cut, waits_first, fate}
 use Rattle.meet_tickets.specs.declared.fates.Fate.TheVariants.{Never, Paired, Collected, Withdrawn as TakenBack, Cut, Kept, Waiting}
 use Rattle.meet_tickets.specs.declared.records.Deed.TheVariants.{GiveWaits, GiveMeets, GiveFails, GiveKept, TakeWaits, TakeMeets, TakeFails, EntryInterrupted, Done, Got, Withdrawn, Interrupt}
-use Rattle.meet_tickets.proofs.Said.{Said, said, said_after, said_of_others, fate_is, fate_asked_of}
+use Rattle.meet_tickets.proofs.Told.Said.{Said, said, said_after, said_of_others, fate_is, fate_asked_of}
 use Rattle.meet_sum.specs.Stories.{asks_for, takes_out, story_in, fate_settled, fate_asked, fate_told, entries_of}
 use Rattle.meet_sum.specs.declared.stories.Story.{Story}
 

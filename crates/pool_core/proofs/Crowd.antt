@@ -20,9 +20,9 @@ use Rattle.pool_core.specs.declared.settings.PoolQueue.TheVariants.{Hand, Unboun
 use Rattle.meet_tickets.specs.declared.places.Side.TheVariants.{Giver, Taker}
 use Rattle.meet_tickets.specs.Meeting.{partner, met, is_on, kept_count}
 use Rattle.meet_tickets.specs.BySeat.{put_at, without_first, open_ticket}
-use Rattle.meet_tickets.proofs.Keeping.{kept-cons, kept-found_waits}
-use Rattle.meet_tickets.proofs.Lookups.{keyed_from, keyed_pairs, map_keyed}
-use Rattle.meet_tickets.proofs.Sides.{All-without_first, AllPairs-without_first, found-there, HasOneSide, first-side, met-some}
+use Rattle.meet_tickets.proofs.Line.Keeping.{kept-cons, kept-found_waits}
+use Rattle.meet_tickets.proofs.Lists.Lookups.{keyed_from, keyed_pairs, map_keyed}
+use Rattle.meet_tickets.proofs.Line.Sides.{All-without_first, AllPairs-without_first, found-there, HasOneSide, first-side, met-some}
 use Rattle.meet_line.specs.Sound.{IsSound as IsSoundLine, Stands, AreFellows}
 use Rattle.meet_line.proofs.Removed.{without_first-none}
 use Rattle.meet_line.proofs.Sound.{IsSound-gone, IsSound-removed, IsApart-free, waits-open, HasOneSide-sound}

@@ -3,7 +3,7 @@ use Rattle.std.proofs.Common.{◌≡◌, ℕ, ◌+◌, ◌-◌, ◌<◌, ◌≤�
 use Rattle.std.specs.Prelude.{count_by, option_map, option_to_list}
 use Rattle.std.specs.Option.{option_map_or}
 use Rattle.meet_tickets.specs.declared.lines.Entry.{Entry}
-use Rattle.meet_tickets.proofs.Changed.{one, count-cons}
+use Rattle.meet_tickets.proofs.Lists.Changed.{one, count-cons}
 use Rattle.pool_core.specs.declared.settings.Settings.{Settings}
 use Rattle.pool_core.specs.declared.stages.Task.{Task}
 use Rattle.pool_core.specs.declared.stages.Stage.{Stage}

@@ -5,8 +5,8 @@ use Rattle.std.specs.List.{cons_option}
 use Rattle.std.proofs.lemmas.Bool.{eq-eqb}
 use Rattle.std.proofs.lemmas.Bool.Decides.{eqb_tells}
 use Rattle.std.proofs.lemmas.List.Elements.{All-nil, All-cons}
-use Rattle.meet_tickets.proofs.Changed.{one, count-cons}
-use Rattle.meet_tickets.proofs.Members.{Contains-nil, Contains-cases, Contains-first, Contains-rest}
+use Rattle.meet_tickets.proofs.Lists.Changed.{one, count-cons}
+use Rattle.meet_tickets.proofs.Lists.Members.{Contains-nil, Contains-cases, Contains-first, Contains-rest}
 use Rattle.pool_core.specs.Promise.{Pair, pair}
 
 -- what passes and is there is counted

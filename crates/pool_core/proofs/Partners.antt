@@ -6,7 +6,7 @@ use Rattle.meet_tickets.specs.declared.lines.Entry.{Entry}
 use Rattle.meet_tickets.specs.declared.records.Record.{Record}
 use Rattle.meet_tickets.specs.declared.places.Side.TheVariants.{Giver}
 use Rattle.meet_tickets.specs.Meeting.{partner}
-use Rattle.meet_tickets.proofs.Changed.{one}
+use Rattle.meet_tickets.proofs.Lists.Changed.{one}
 use Rattle.pool_core.specs.declared.settings.Settings.{Settings}
 use Rattle.pool_core.specs.declared.stages.Task.{Task}
 use Rattle.pool_core.specs.declared.stages.Stage.{Stage}

@@ -4,7 +4,7 @@ use Rattle.std.specs.Prelude.{count_by}
 use Rattle.std.specs.Option.{option_map_or}
 use Rattle.meet_tickets.specs.declared.lines.Entry.{Entry}
 use Rattle.meet_tickets.specs.declared.records.Record.{Record}
-use Rattle.meet_tickets.proofs.Changed.{one, count-cons}
+use Rattle.meet_tickets.proofs.Lists.Changed.{one, count-cons}
 use Rattle.pool_core.specs.declared.settings.Settings.{Settings}
 use Rattle.pool_core.specs.declared.stages.Task.{Task}
 use Rattle.pool_core.specs.declared.stages.Stage.{Stage}

@@ -15,9 +15,9 @@ use Rattle.meet_tickets.specs.declared.places.Side.TheVariants.{Giver, Taker}
 use Rattle.meet_tickets.specs.Limits.{last_ticket}
 use Rattle.meet_tickets.specs.Meeting.{partner, met, kept_count}
 use Rattle.meet_tickets.specs.BySeat.{put_at, unmet}
-use Rattle.meet_tickets.proofs.Keeping.{kept-kept, kept-queued, kept-partner_waits, kept-partner_kept}
-use Rattle.meet_tickets.proofs.Partners.{none-from}
-use Rattle.meet_tickets.proofs.Sides.{All-unmet, AllPairs-unmet, partner-there, partner-other, alone-same}
+use Rattle.meet_tickets.proofs.Line.Keeping.{kept-kept, kept-queued, kept-partner_waits, kept-partner_kept}
+use Rattle.meet_tickets.proofs.Line.Partners.{none-from}
+use Rattle.meet_tickets.proofs.Line.Sides.{All-unmet, AllPairs-unmet, partner-there, partner-other, alone-same}
 use Rattle.meet_line.specs.Sound.{IsSound as IsSoundLine, Stands}
 use Rattle.meet_line.proofs.Sound.{IsMet, held-taker, IsSound-settled, IsSound-met, IsSound-unmet, IsSound-kept, IsSound-queued, IsApart-free, newest, unopened, HasOneSide-sound}
 use Rattle.pool_core.specs.declared.settings.Settings.{Settings}

@@ -7,7 +7,7 @@ use Rattle.std.proofs.lemmas.Bool.Decides.{eqb_tells}
 use Rattle.std.proofs.lemmas.List.Sums.{sum_by-set}
 use Rattle.meet_tickets.specs.declared.lines.Entry.{Entry}
 use Rattle.meet_tickets.specs.BySeat.{open_ticket}
-use Rattle.meet_tickets.proofs.Changed.{one, count-cons, count-same}
+use Rattle.meet_tickets.proofs.Lists.Changed.{one, count-cons, count-same}
 use Rattle.pool_core.specs.declared.settings.Settings.{Settings}
 use Rattle.pool_core.specs.declared.stages.Task.{Task}
 use Rattle.pool_core.specs.declared.stages.Stage.{Stage}

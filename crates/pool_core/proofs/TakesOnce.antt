@@ -5,7 +5,7 @@ use Rattle.std.proofs.lemmas.Bool.{eq-eqb}
 use Rattle.std.proofs.lemmas.Bool.Decides.{eqb_tells}
 use Rattle.std.proofs.lemmas.List.Elements.{All-append}
 use Rattle.meet_tickets.specs.declared.records.Record.{Record}
-use Rattle.meet_tickets.proofs.Changed.{one, count-cons, count-same}
+use Rattle.meet_tickets.proofs.Lists.Changed.{one, count-cons, count-same}
 use Rattle.pool_core.specs.declared.settings.Settings.{Settings}
 use Rattle.pool_core.specs.declared.stages.Stage.{Stage}
 use Rattle.pool_core.specs.declared.stages.Stage.TheVariants.{Absent, Starting, Waiting, Cut, HandedOver, Running}

@@ -5,7 +5,7 @@ use Rattle.std.proofs.lemmas.List.{get_or-map, length-map}
 use Rattle.std.proofs.lemmas.List.Elements.{All-cons, All-head, All-tail}
 use Rattle.std.proofs.lemmas.List.Kept.{AllPairs-cons}
 use Rattle.meet_tickets.specs.declared.lines.Entry.{Entry}
-use Rattle.meet_tickets.proofs.Sides.{AllPairs-head, AllPairs-tail}
+use Rattle.meet_tickets.proofs.Line.Sides.{AllPairs-head, AllPairs-tail}
 use Rattle.pool_core.specs.Pools.{kept_tasks}
 use Rattle.pool_core.specs.declared.stages.Task.{Task}
 use Rattle.pool_threads.specs.Mirrored.{told_task}

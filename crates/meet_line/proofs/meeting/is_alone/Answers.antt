@@ -1,6 +1,6 @@
 use Rattle.std.proofs.Common.{◌∙◌, sym}
 use Rattle.std.proofs.lemmas.Bool.{eqb-false}
-use Rattle.meet_tickets.proofs.Counted.{giver-meets, giver-told, taker-meets, taker-told}
+use Rattle.meet_tickets.proofs.Line.Counted.{giver-meets, giver-told, taker-meets, taker-told}
 use Rattle.meet_line.proofs.meeting.is_alone.Goals as goal
 
 pub returns-in-Giver-clause-alone : goal.returns-in-Giver-clause-alone

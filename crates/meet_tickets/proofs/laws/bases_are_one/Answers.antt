@@ -1,4 +1,4 @@
-use Rattle.meet_tickets.proofs.Unique.{one_base, one_empty}
+use Rattle.meet_tickets.proofs.OnBases.Unique.{one_base, one_empty}
 use Rattle.meet_tickets.proofs.laws.bases_are_one.Goals as goal
 
 pub returns-clause-one : goal.returns-clause-one

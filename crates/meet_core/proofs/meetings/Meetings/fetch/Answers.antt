@@ -1,8 +1,8 @@
 use Rattle.std.proofs.Common.{◌≡◌, ◌-◌, ◌∙◌, sym, subst, refl, arith}
 use Rattle.meet_tickets.specs.declared.places.Side.TheVariants.{Giver, Taker}
 use Rattle.meet_tickets.specs.Meeting.{count_on}
-use Rattle.meet_tickets.proofs.Counted.{giver-fetched}
-use Rattle.meet_tickets.proofs.Keeping.{kept-paired, kept-fetched}
+use Rattle.meet_tickets.proofs.Line.Counted.{giver-fetched}
+use Rattle.meet_tickets.proofs.Line.Keeping.{kept-paired, kept-fetched}
 use Rattle.meet_core.specs.Table.{HasNoItem}
 use Rattle.meet_line.proofs.Sound.{HasOneSide-sound, Stands-partner, IsSound-met, IsSound-unmet}
 use Rattle.meet_core.proofs.Following.{there-waiting}

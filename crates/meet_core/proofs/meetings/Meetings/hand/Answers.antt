@@ -1,10 +1,10 @@
 use Rattle.std.proofs.Common.{◌≡◌, ◌∙◌, sym, ap, subst, refl, Some, false}
 use Rattle.meet_tickets.specs.declared.places.Side.TheVariants.{Giver}
 use Rattle.meet_tickets.specs.Meeting.{is_on}
-use Rattle.meet_tickets.proofs.Counted.{givers-stay}
-use Rattle.meet_tickets.proofs.Keeping.{kept-paired}
-use Rattle.meet_tickets.proofs.Partners.{none-from}
-use Rattle.meet_tickets.proofs.Sides.{partner-other}
+use Rattle.meet_tickets.proofs.Line.Counted.{givers-stay}
+use Rattle.meet_tickets.proofs.Line.Keeping.{kept-paired}
+use Rattle.meet_tickets.proofs.Line.Partners.{none-from}
+use Rattle.meet_tickets.proofs.Line.Sides.{partner-other}
 use Rattle.meet_tickets.specs.BySeat.{put_at}
 use Rattle.meet_core.specs.Table.{hold_at, HasNoItem}
 use Rattle.meet_core.specs.Queue.{Queue}

@@ -1,7 +1,7 @@
 use Rattle.std.proofs.Common.{◌+◌, ◌<◌, ◌∙◌, sym, refl, ap, arith}
 use Rattle.meet_tickets.specs.Meeting.{kept_count}
-use Rattle.meet_tickets.proofs.Counted.{giver-joins}
-use Rattle.meet_tickets.proofs.Keeping.{kept-more}
+use Rattle.meet_tickets.proofs.Line.Counted.{giver-joins}
+use Rattle.meet_tickets.proofs.Line.Keeping.{kept-more}
 use Rattle.meet_line.proofs.Sound.{IsSound-kept}
 use Rattle.meet_core.proofs.meetings.Meetings.keep.Goals as goal
 

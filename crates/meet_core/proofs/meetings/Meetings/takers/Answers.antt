@@ -1,5 +1,5 @@
 use Rattle.std.proofs.Common.{arith}
-use Rattle.meet_tickets.proofs.Counted.{sides-counted}
+use Rattle.meet_tickets.proofs.Line.Counted.{sides-counted}
 use Rattle.meet_core.proofs.meetings.Meetings.takers.Goals as goal
 
 pub returns : goal.returns

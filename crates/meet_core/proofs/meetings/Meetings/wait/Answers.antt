@@ -1,6 +1,6 @@
 use Rattle.std.proofs.Common.{◌∙◌, sym, refl, arith}
-use Rattle.meet_tickets.proofs.Counted.{giver-joins}
-use Rattle.meet_tickets.proofs.Keeping.{kept-joined}
+use Rattle.meet_tickets.proofs.Line.Counted.{giver-joins}
+use Rattle.meet_tickets.proofs.Line.Keeping.{kept-joined}
 use Rattle.meet_line.proofs.Sound.{IsSound-queued}
 use Rattle.meet_core.proofs.meetings.Meetings.wait.Goals as goal
 

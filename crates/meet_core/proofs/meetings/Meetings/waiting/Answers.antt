@@ -1,5 +1,5 @@
 use Rattle.std.proofs.Common.{arith}
-use Rattle.meet_tickets.proofs.Keeping.{all-counted}
+use Rattle.meet_tickets.proofs.Line.Keeping.{all-counted}
 use Rattle.meet_core.proofs.meetings.Meetings.waiting.Goals as goal
 
 pub returns : goal.returns

@@ -2,9 +2,9 @@ use Rattle.std.proofs.Common.{◌≡◌, ◌-◌, ◌∙◌, ◌==◌, sym, ap, 
 use Rattle.meet_tickets.specs.declared.lines.Hold.TheVariants.{Free}
 use Rattle.meet_tickets.specs.declared.places.Side.TheVariants.{Giver}
 use Rattle.meet_tickets.specs.Meeting.{kept_count, count_on}
-use Rattle.meet_tickets.proofs.Counted.{giver-removed}
-use Rattle.meet_tickets.proofs.Keeping.{kept-removed}
-use Rattle.meet_tickets.proofs.Sides.{found-ticket}
+use Rattle.meet_tickets.proofs.Line.Counted.{giver-removed}
+use Rattle.meet_tickets.proofs.Line.Keeping.{kept-removed}
+use Rattle.meet_tickets.proofs.Line.Sides.{found-ticket}
 use Rattle.meet_tickets.specs.BySeat.{left, without_first}
 use Rattle.meet_core.specs.Queue.{Queue, seats_of}
 use Rattle.meet_core.specs.Steps.{Leaves}

@@ -1,6 +1,6 @@
 use Rattle.std.proofs.Common.{◌∙◌, sym, ap, map, Bor}
 use Rattle.meet_tickets.specs.declared.lines.Entry.{Entry}
-use Rattle.meet_tickets.proofs.Lookups.{map_map}
+use Rattle.meet_tickets.proofs.Lists.Lookups.{map_map}
 use Rattle.meet_line.specs.Seen.{marked_entry}
 use Rattle.meet_core.proofs.meetings.bases.marked_line.Goals as goal
 

@@ -1,5 +1,5 @@
 use Rattle.std.proofs.Common.{arith}
-use Rattle.meet_tickets.proofs.Histories.{tellings_are_one}
+use Rattle.meet_tickets.proofs.Tellings.Histories.{tellings_are_one}
 use Rattle.meet_history.specs.OneThread.{start}
 use Rattle.meet_history.proofs.Called.{all_called, all_served}
 use Rattle.meet_history.proofs.one_thread.laws.legal_histories_are_made.Goals as goal

@@ -1,8 +1,8 @@
 use Rattle.std.proofs.Common.{◌≤◌, ◌<◌, [], ◌∷◌, arith}
 use Rattle.std.proofs.lemmas.List.Elements.{All-nil, All-cons, All-append, All-weaker}
 use Rattle.meet_tickets.specs.Meeting.{IsAlone}
-use Rattle.meet_tickets.proofs.Counted.{giver-joins}
-use Rattle.meet_tickets.proofs.Keeping.{kept-joins}
+use Rattle.meet_tickets.proofs.Line.Counted.{giver-joins}
+use Rattle.meet_tickets.proofs.Line.Keeping.{kept-joins}
 use Rattle.meet_history.specs.Marks.{met_end, entries_of}
 use Rattle.meet_history.proofs.Kept.{one_side-joined}
 use Rattle.meet_history.proofs.checker.place.line.MarkLine.push_back.Goals as goal

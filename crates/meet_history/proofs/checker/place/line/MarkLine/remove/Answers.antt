@@ -1,5 +1,5 @@
 use Rattle.std.proofs.Common.{◌≤◌, refl, arith}
-use Rattle.meet_tickets.proofs.Sides.{All-without_first, HasOneSide-without_first}
+use Rattle.meet_tickets.proofs.Line.Sides.{All-without_first, HasOneSide-without_first}
 use Rattle.meet_history.specs.Marks.{entries_of}
 use Rattle.meet_history.proofs.Kept.{kept-without, givers-without}
 use Rattle.meet_history.proofs.checker.place.line.MarkLine.remove.Goals as goal

@@ -1,0 +1,11 @@
+pub mod Fated
+pub mod FatesOn
+pub mod Found
+pub mod Placed
+pub mod Recorded
+pub mod Remembered
+pub mod Said
+pub mod Standings
+pub mod StandingsOn
+pub mod Turns
+pub mod WorkedFates
