@@ -10,13 +10,13 @@ mod checkpoints;
 mod fresh;
 
 use meet_cells::ParkGate;
-use meet_history::{Kind, Order, check};
+use meet_history::check;
 use meet_shop::{Ask, Came, Found, Shop, Told, answer, ended, gates, has};
 use meet_sync::{
     Back, Blanks, Chronicle, DrainedItems, Ledgers, LeftStanding, NewQueue, QueueFault, Seat,
     SeatRefused,
 };
-use meet_tickets::{Base, Deed, MOST_RECORDS, Refusal};
+use meet_tickets::{Base, Deed, Kind, MOST_RECORDS, Order, Refusal};
 use std::alloc::Global;
 use std::marker::Brand;
 use std::process::Abort;

@@ -1,4 +1,4 @@
-//! The checker of histories, and the replies of one thread. What books and queues show of themselves is found here too.
+//! The checker of histories, and the replies of one thread.
 //!
 //! A checker knows records alone, and not the queue that wrote them: it plays each on a place of its own, of a line of
 //! marks and a table of seats, and stops at the first that can't stand there.
@@ -12,9 +12,6 @@ mod pieces;
 
 pub use checker::{CheckFault, Checker, Standing, Why, check};
 pub use ground::Ground;
-pub use meet_book::{Bases, Book, Drains, Holds, Object, Receipt, Same, compare};
-pub use meet_queues::{AnyQueue, QueueAnswer, QueueCall, queue_book, transfer_book};
-pub use meet_tickets::{Base, Kind, Order};
 pub use one_thread::{
     Answer, Call, Outcome, Reply, Run, Setup, Stepper, Verb, calls_have_one_deed, is_served,
     legal_histories_are_made, one_thread_is_recorded, run_all,

@@ -1,8 +1,8 @@
 //! The base that stands for what a checker has seen, and whether another one is that.
 
 use crate::calls::{checker_of, kind_of, pushed, record, seat, ticket};
-use meet_history::{CheckFault, Checker, Ground, Order, Why};
-use meet_tickets::{Base, Deed, Entry, OpenCut, OpenPair, Record, SeatNo, Side};
+use meet_history::{CheckFault, Checker, Ground, Why};
+use meet_tickets::{Base, Deed, Entry, OpenCut, OpenPair, Order, Record, SeatNo, Side};
 use std::alloc::Global;
 use std::process::Abort;
 

@@ -1,8 +1,8 @@
 //! Records that are pushed on a checker one by one, and more of them than a book has.
 
 use crate::calls::{checker_of, found, pushed, record, ticket};
-use meet_history::{CheckFault, Checker, Order, Standing, Why};
-use meet_tickets::{Deed, Record};
+use meet_history::{CheckFault, Checker, Standing, Why};
+use meet_tickets::{Deed, Order, Record};
 use std::alloc::Global;
 use std::process::Abort;
 

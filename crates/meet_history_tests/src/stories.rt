@@ -4,10 +4,8 @@ ghost use Rattle.std.specs.Prelude.{All, IsTrue};
 ghost use Rattle.meet_history.specs.Served.{serves};
 
 use crate::calls::{found, kind_of, seat};
-use meet_history::{
-    Answer, Call, Order, Outcome, Reply, Run, Setup, Standing, Verb, is_served, run_all,
-};
-use meet_tickets::{Cause, SeatNo};
+use meet_history::{Answer, Call, Outcome, Reply, Run, Setup, Standing, Verb, is_served, run_all};
+use meet_tickets::{Cause, Order, SeatNo};
 use std::alloc::Global;
 use std::process::Abort;
 

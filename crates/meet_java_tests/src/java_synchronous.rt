@@ -1,7 +1,7 @@
 //! What the documentation of `SynchronousQueue` says of each call, shown at queues for threads of both modes.
 
-use meet_history::Order;
 use meet_shop::{Ask, Call, Probe, Row, Step, Told, happens, told};
+use meet_tickets::Order;
 use std::alloc::Global;
 use std::process::Abort;
 use std::sync::Wait;

@@ -4,8 +4,8 @@
 use crate::java_synchronous::{both, in_both};
 use crate::whole::{Deal, is_cut, trade};
 use meet_cells::ParkGate;
-use meet_history::Order;
 use meet_shop::{Ask, Call, Row, Step, Told, told};
+use meet_tickets::Order;
 use std::test::*;
 
 /// There is no time to wait, and nobody is there; then a taker is.

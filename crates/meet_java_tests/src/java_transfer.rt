@@ -1,8 +1,8 @@
 //! What the documentation of `LinkedTransferQueue` says of calls that never wait, of drains and of probes.
 
 use crate::java_synchronous::DRAINS_NOTHING;
-use meet_history::Order;
 use meet_shop::{Ask, Call, Probe, Row, Step, Told, happens, told};
+use meet_tickets::Order;
 use std::alloc::Global;
 use std::process::Abort;
 use std::sync::Wait;

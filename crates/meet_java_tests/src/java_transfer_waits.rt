@@ -5,8 +5,8 @@ use crate::java_synchronous_waits::{PUT_IS_STOPPED, TAKE_IS_STOPPED};
 use crate::java_transfer::{asked, done};
 use crate::whole::{Deal, is_cut, trade};
 use meet_cells::ParkGate;
-use meet_history::Order;
 use meet_shop::{Ask, Call, Probe, Row, Step, Told};
+use meet_tickets::Order;
 use std::test::*;
 
 /// A taker waits for what is put.

@@ -4,13 +4,12 @@ ghost use Rattle.std.specs.Prelude.{◌≡◌, vec_len};
 ghost use Rattle.meet_place.specs.Ledgers.{AreOf};
 
 use meet_cells::ParkGate;
-use meet_history::Order;
 use meet_shop::{
     Ask, Call, Eager, Fresh, Idle, NOTHING, Shop, Story, Told, Unlike, answer, called, ended,
     gates, tells, two_backs, two_seats,
 };
 use meet_sync::{Back, Blanks, Chronicle, Ledgers, NewQueue, Seat};
-use meet_tickets::{Cause, Deed};
+use meet_tickets::{Cause, Deed, Order};
 use std::alloc::Global;
 use std::marker::Brand;
 use std::process::Abort;

@@ -7,10 +7,9 @@ mod passing;
 #[cfg(test)]
 mod plans;
 
-use meet_history::{Kind, Order};
 use meet_run::write_trace;
 use meet_sync::NewQueue;
-use meet_tickets::{MOST_RECORDS, Refusal};
+use meet_tickets::{Kind, MOST_RECORDS, Order, Refusal};
 use passing::{Passed, Plan, pass};
 use std::alloc::Global;
 use std::marker::Brand;

@@ -2,9 +2,9 @@
 //! legal.
 
 use crate::unlike::Unlike;
-use meet_history::{Kind, check};
+use meet_history::check;
 use meet_sync::{Chronicle, Tally};
-use meet_tickets::{Base, Deed, Fate, Side};
+use meet_tickets::{Base, Deed, Fate, Kind, Side};
 use std::alloc::Global;
 
 /// No give.

@@ -8,11 +8,11 @@ ghost use Rattle.meet_place.specs.Ledgers.{AreOf};
 
 use crate::accounts::Account;
 use crate::work::{Done, Round, interrupts, works};
-use meet_history::{Kind, check};
+use meet_history::check;
 use meet_shop::{Fresh, Shop, gates, keep};
 use meet_stamps::{Disorder, Stamps, find_disorder};
 use meet_sync::{Back, Blanks, Chronicle, Ledgers, NewQueue, QueueFault, Seat};
-use meet_tickets::{Deed, Order};
+use meet_tickets::{Deed, Kind, Order};
 use std::alloc::Global;
 use std::fmt::{Display, Formatter, Write};
 use std::marker::Brand;

@@ -3,10 +3,9 @@
 ghost use Rattle.std.specs.Prelude.{◌≡◌, vec_len};
 ghost use Rattle.meet_place.specs.Ledgers.{AreOf};
 
-use meet_history::Order;
 use meet_shop::{Ask, Idle, Seats, Shop, Told, ask_one, closed, drain_one, gates, keep, seated};
 use meet_sync::{Back, Blanks, Chronicle, Ledgers, NewQueue, Seat};
-use meet_tickets::Deed;
+use meet_tickets::{Deed, Order};
 use std::alloc::Global;
 use std::marker::Brand;
 use std::process::Abort;

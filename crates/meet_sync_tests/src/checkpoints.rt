@@ -4,13 +4,12 @@ ghost use Rattle.std.specs.Prelude.{◌≡◌, vec_len, IfOk};
 ghost use Rattle.meet_tickets.specs.Bases.{no_base};
 ghost use Rattle.meet_place.specs.Ledgers.{AreOf};
 
-use meet_history::Order;
 use meet_line::FairLine;
 use meet_shop::{
     Ask, Idle, Seats, Shop, Told, Unlike, ask_all, closed, gates, keep, seated, trimmed,
 };
 use meet_sync::{Asked, Back, Blanks, Chronicle, Ledgers, NewQueue, Request, SyncQueue};
-use meet_tickets::{Deed, Refusal};
+use meet_tickets::{Deed, Order, Refusal};
 use std::alloc::Global;
 use std::marker::Brand;
 use std::process::Abort;

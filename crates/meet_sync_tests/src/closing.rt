@@ -3,13 +3,13 @@
 ghost use Rattle.std.specs.Prelude.{◌≡◌, vec_len};
 ghost use Rattle.meet_place.specs.Ledgers.{AreOf};
 
-use meet_history::{Order, Standing};
+use meet_history::Standing;
 use meet_shop::{
     Ask, Found, Idle, Row, Seats, Shop, Story, Told, ask_all, ended, gates, given, play, seated,
     tells,
 };
 use meet_sync::{Back, Blanks, Chronicle, Ledgers, LeftStanding, NewQueue, QueueFault};
-use meet_tickets::Deed;
+use meet_tickets::{Deed, Order};
 use std::alloc::Global;
 use std::marker::Brand;
 use std::process::Abort;

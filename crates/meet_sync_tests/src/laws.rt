@@ -1,10 +1,10 @@
 //! What a chronicle tells of its tickets: each give counts once, by its fate, and what is left once it is erased is
 //! legal.
 
-use meet_history::{Order, Standing};
+use meet_history::Standing;
 use meet_shop::{Ask, Found, NOTHING, Row, Story, Told, played, tells};
 use meet_sync::{LeftStanding, Tally};
-use meet_tickets::Deed;
+use meet_tickets::{Deed, Order};
 use std::alloc::Global;
 use std::process::Abort;
 use std::sync::Wait;

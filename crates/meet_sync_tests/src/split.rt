@@ -1,8 +1,7 @@
 //! Split calls of one thread: what each seat is told, and what the queue's records leave.
 
-use meet_history::Order;
 use meet_shop::{Ask, NOTHING, Row, Story, Told, Unlike, play, told};
-use meet_tickets::Refusal;
+use meet_tickets::{Order, Refusal};
 use std::alloc::Global;
 use std::process::Abort;
 use std::sync::Wait;

@@ -3,12 +3,11 @@
 ghost use Rattle.std.specs.Prelude.{◌≡◌, vec_len};
 ghost use Rattle.meet_place.specs.Ledgers.{AreOf};
 
-use meet_history::Order;
 use meet_shop::{
     Chance, Idle, Seats, Shop, Told, ask_one, closed, ending, gates, keep, request, seated,
 };
 use meet_sync::{Back, Blanks, Chronicle, Ledgers, NewQueue};
-use meet_tickets::{Deed, Refusal};
+use meet_tickets::{Deed, Order, Refusal};
 use std::alloc::Global;
 use std::marker::Brand;
 use std::process::Abort;

@@ -4,10 +4,10 @@
 ghost use Rattle.std.specs.Prelude.{◌≡◌, vec_len};
 ghost use Rattle.meet_place.specs.Ledgers.{AreOf};
 
-use meet_history::{Kind, Order, check};
+use meet_history::check;
 use meet_shop::{Ask, Chance, Idle, Shop, Told, answer, ended, ending, gates, keep, request};
 use meet_sync::{Back, Blanks, Chronicle, Ledgers, NewQueue};
-use meet_tickets::{Base, Deed};
+use meet_tickets::{Base, Deed, Kind, Order};
 use std::alloc::Global;
 use std::marker::Brand;
 use std::process::Abort;

@@ -3,13 +3,12 @@
 ghost use Rattle.std.specs.Prelude.{◌≡◌, vec_len};
 ghost use Rattle.meet_place.specs.Ledgers.{AreOf};
 
-use meet_history::Order;
 use meet_shop::{
     Call, Came, FlagGate, Flags, NOTHING, Shop, Story, Told, called, ended, tells, two_backs,
     two_seats,
 };
 use meet_sync::{Back, Blanks, Chronicle, Ledgers, NewQueue, Seat};
-use meet_tickets::Deed;
+use meet_tickets::{Deed, Order};
 use std::alloc::Global;
 use std::marker::Brand;
 use std::process::Abort;

@@ -3,10 +3,9 @@
 ghost use Rattle.std.specs.Prelude.{◌≡◌, vec_len};
 ghost use Rattle.meet_place.specs.Ledgers.{AreOf};
 
-use meet_history::Order;
 use meet_shop::{Ask, FlagGate, Flags, Row, Shop, Told, ask_all, closed, drain_one, keep, seated};
 use meet_sync::{Blanks, Chronicle, Ledgers, NewQueue, Seat};
-use meet_tickets::Deed;
+use meet_tickets::{Deed, Order};
 use std::alloc::Global;
 use std::marker::Brand;
 use std::process::Abort;

@@ -4,12 +4,11 @@
 ghost use Rattle.std.specs.Prelude.{◌≡◌, vec_len};
 ghost use Rattle.meet_place.specs.Ledgers.{AreOf};
 
-use meet_history::Order;
 use meet_shop::{
     Ask, Chance, Seats, Shop, Told, ask_one, closed, drain_one, ending, keep, request, seated,
 };
 use meet_sync::{Back, Blanks, Chronicle, Gate, Ledgers, NewQueue, Seat, Turn};
-use meet_tickets::Deed;
+use meet_tickets::{Deed, Order};
 use std::alloc::Global;
 use std::marker::Brand;
 use std::process::Abort;

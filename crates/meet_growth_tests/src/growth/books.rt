@@ -1,9 +1,9 @@
 //! A queue's book grows by each request, by an interrupt and by a drain, and bears a refusal then.
 
 use crate::growth::{Day, Turn, passes};
-use meet_history::Order;
 use meet_shop::{Ask, Found, Told};
 use meet_sync::LeftStanding;
+use meet_tickets::Order;
 use std::alloc::Global;
 use std::process::Abort;
 use std::sync::Wait;

@@ -5,10 +5,9 @@ ghost use Rattle.meet_place.specs.Ledgers.{AreOf};
 
 use crate::growth::{Day, came_back, ends, list, made, takes_turn};
 use meet_cells::ParkGate;
-use meet_history::Order;
 use meet_shop::{Ask, Shop, Told, gates};
 use meet_sync::{Back, Blanks, Chronicle, Ledgers, NewQueue, Seat};
-use meet_tickets::{Deed, MOST_RECORDS, Refusal};
+use meet_tickets::{Deed, MOST_RECORDS, Order, Refusal};
 use std::alloc::Global;
 use std::marker::Brand;
 use std::process::Abort;
