@@ -1,5 +1,5 @@
 #!/usr/bin/env bash
-# What `bin/bench pool` runs: measures how long it takes a pool to run jobs, by runs of the program `pool_rounds`, which is built first
+# What `bin/bench pool` runs: measures how long it takes a pool to run jobs, by runs of the program `soak_pools`, which is built first
 # where it isn't there or its sources are newer, and of `bench/PoolRace.java` where there is a `java`. With `quick`, a tenth of the jobs,
 # and rough. Where not all jobs of a round ran the status is 1.
 #
@@ -23,8 +23,8 @@ workers=$(nproc)
 keeps=(env MALLOC_TRIM_THRESHOLD_=4294967296 MALLOC_MMAP_THRESHOLD_=4294967296 MALLOC_TOP_PAD_=67108864)
 [ "${1:-}" = quick ] && jobs=$((jobs / 10))
 
-build pool_rounds 2
-program=$(program_of pool_rounds)
+build soak_pools 2
+program=$(program_of soak_pools)
 work=$(mktemp -d)
 trap 'rm -rf "$work"' EXIT
 

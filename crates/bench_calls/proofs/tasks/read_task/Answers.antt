@@ -1,0 +1,5 @@
+use Rattle.bench_calls.proofs.TaskLemmas.{task-fits}
+use Rattle.bench_calls.proofs.tasks.read_task.Goals as goal
+
+pub returns-clause-fits : goal.returns-clause-fits
+returns-clause-fits c = task-fits c.args.line.now c.read_long_task.result c.read_long_task.ensures

@@ -1,5 +1,0 @@
-use Rattle.meet_bench.proofs.TaskLemmas.{task-fits}
-use Rattle.meet_bench.proofs.tasks.read_task.Goals as goal
-
-pub returns-clause-fits : goal.returns-clause-fits
-returns-clause-fits c = task-fits c.args.line.now c.read_long_task.result c.read_long_task.ensures

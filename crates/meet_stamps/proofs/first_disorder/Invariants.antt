@@ -1,9 +1,0 @@
-use Rattle.std.proofs.Common.{take}
-use Rattle.meet_stamps.proofs.Sweeping.{IsBest, AreOrdered}
-use Rattle.meet_stamps.proofs.first_disorder.Given as goal
-
-abbrev pub invariant-loop-moment : goal.invariant-loop-moment
-invariant-loop-moment l = record {
-  best : IsBest (take l.moment-index l.moments) l.ended;
-  ordered : AreOrdered l.moments (take l.moment-index l.moments);
-}

@@ -1,6 +1,0 @@
-use Rattle.std.proofs.Common.{take}
-use Rattle.meet_stamps.specs.Orders.{AreMoments}
-use Rattle.meet_stamps.proofs.moments.Given as goal
-
-abbrev pub invariant-loop-call : goal.invariant-loop-call
-invariant-loop-call l = AreMoments (take l.call-index l.calls) l.moments.items
