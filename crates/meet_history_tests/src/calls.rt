@@ -4,7 +4,10 @@ ghost use Rattle.std.specs.Prelude.{◌≡◌, All, IsTrue};
 ghost use Rattle.meet_history.specs.Served.{serves};
 ghost use Rattle.meet_tickets.specs.declared.places.Order.TheVariants.{Transfer};
 
-use meet_history::{Answer, Call, CheckFault, Checker, Outcome, Reply, Run, Setup, Standing, Verb, Why, check, is_served, run_all};
+use meet_history::{
+    Answer, Call, CheckFault, Checker, Outcome, Reply, Run, Setup, Standing, Verb, Why, check,
+    is_served, run_all,
+};
 use meet_tickets::{Base, Deed, Kind, Order, Record, SeatNo, Ticket};
 use std::alloc::Global;
 use std::process::Abort;

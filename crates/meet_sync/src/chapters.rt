@@ -11,7 +11,7 @@ ghost use Rattle.meet_sync.specs.Told.{IsCutWhy};
 
 use crate::asked::SeatRefused;
 use crate::queue::Queue;
-use ::meet_book as book;
+use meet_book as book;
 use meet_book::Bases;
 use meet_core::QueuePlace;
 use meet_place::{Ledgers, Place, Seat};

@@ -3,9 +3,9 @@
 use crate::accounts::Account;
 use meet_cells::ParkGate;
 use meet_shop::{Ask, Call, Chance, Shop, Told, answer, called, drained, trimmed};
-use soak_stamps::{Stamped, Stamps};
 use meet_sync::{Back, Gate, Ledgers, Seat, SeatRefused};
 use meet_tickets::{Deed, Order};
+use soak_stamps::{Stamped, Stamps};
 use std::alloc::Global;
 use std::sync::Wait;
 use std::sync::atomic::{AtomicU64, Ordering};
