@@ -18,7 +18,6 @@ use meet_sync::{Back, Chronicle, Ledgers, NewQueue, Seat, SyncQueue};
 use meet_tickets::{Base, Deed, Kind, Order, Record, Refusal};
 use std::alloc::Global;
 use std::marker::Brand;
-use std::mem::ManuallyDrop;
 use std::sync::{Mutex, Wait};
 use std::thread::Threads;
 use std::time::Clock;
@@ -174,11 +173,7 @@ where
     let (queue, handed) = course.into_parts();
     let chronicle = match queue.close(alloc, backs) {
         Ok(chronicle) => chronicle,
-        Err(fault) => {
-            let why = fault.why();
-            let _kept = ManuallyDrop::new(fault);
-            return Err(why);
-        }
+        Err(fault) => return Err(fault.into_why()), // the queue and the seats are let go
     };
     match ended_early(all_started, counted) {
         Some(why) => Err(why),

@@ -201,7 +201,7 @@ fn after_ready<C: Drop, S: Drop>(
 {
     match answer {
         Ready::Run(_, tag) => {
-            let _ = tag;
+            let _ = tag; // the moves speak of it
             Next::Run(seat, run(kept, given, w))
         }
         Ready::Waits => Next::Waits(seat),
@@ -230,7 +230,7 @@ fn after_follow<C: Drop, S: Drop>(
 {
     match answer {
         FollowedUp::Run(_, tag) => {
-            let _ = tag;
+            let _ = tag; // the moves speak of it
             Next::Run(seat, run(kept, given, w))
         }
         FollowedUp::NotYet => Next::Stays(seat),
