@@ -5,7 +5,7 @@ use Rattle.meet_history.specs.declared.one_thread.setup.Setup.{Setup}
 use Rattle.meet_tickets.specs.declared.refusals.Refusal.{Refusal}
 use Rattle.meet_tickets.specs.declared.refusals.Refusal.TheVariants.{Memory, BadLine, ReadFault}
 use Rattle.std.specs.Io.KnownBytes.{Appends}
-use Rattle.meet_run.specs.declared.faults.RunFault.{RunFault}
+use Rattle.meet_run.specs.declared.text.faults.RunFault.{RunFault}
 use Rattle.meet_run.specs.Reading.{lines_of, Both}
 use Rattle.meet_run.specs.Running.{RunEnds, FaultEnds}
 use Rattle.meet_run.proofs.Ran.{appends-nothing}

@@ -4,7 +4,7 @@ use Rattle.std.specs.Prelude.{◌∷◌}
 use Rattle.std.specs.Option.{option_map_or}
 use Rattle.meet_tickets.specs.declared.refusals.Refusal.TheVariants.{Memory, BadLine, ReadFault}
 use Rattle.meet_history.specs.declared.one_thread.setup.Setup.{Setup}
-use Rattle.meet_run.specs.declared.faults.RunFault.{RunFault}
+use Rattle.meet_run.specs.declared.text.faults.RunFault.{RunFault}
 use Rattle.meet_run.specs.Grammar.{setup_of}
 use Rattle.meet_run.specs.Reading.{lines_of}
 use Rattle.meet_run.specs.Running.{RunEnds}

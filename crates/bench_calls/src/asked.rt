@@ -10,10 +10,10 @@ ghost use Rattle.bench_calls.specs.Asked.{at_end, task_asked, asked_in, IsAsked}
 use crate::tasks::{Task, read_task};
 use meet_history::Setup;
 use meet_run::RunFault;
-use meet_run::faults::{at_line, cut_short};
-use meet_run::grammar::LONGEST_LINE;
-use meet_run::next::{Next, next_of, next_setup};
-use meet_run::reading::read_line;
+use meet_run::script::next::next_setup;
+use meet_run::text::faults::{at_line, cut_short};
+use meet_run::text::next::{Next, next_of};
+use meet_run::text::reading::{LONGEST_LINE, read_line};
 use meet_tickets::Refusal;
 use std::alloc::Global;
 use std::io::Read;

@@ -4,7 +4,7 @@ ghost use Rattle.std.specs.Prelude.{◌≡◌, ◌++◌, OnOk};
 ghost use Rattle.bench_calls.specs.Findings.{finding_text};
 
 use meet_history::Standing;
-use meet_run::wording::{push_last_line, push_numbered};
+use meet_run::text::wording::{push_last_line, push_numbered};
 use std::alloc::AllocError;
 
 /// What is found of a task.

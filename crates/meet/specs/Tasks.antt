@@ -4,7 +4,7 @@ use Rattle.meet_drive.specs.Driven.{IsSized}
 use Rattle.meet_draw.specs.Drawn.{DrawEnds}
 use Rattle.meet_explain.specs.Explained.{ExplainEnds}
 use Rattle.meet_judge.specs.Judging.{JudgeEnds}
-use Rattle.meet_run.specs.declared.faults.RunFault.{RunFault}
+use Rattle.meet_run.specs.declared.text.faults.RunFault.{RunFault}
 use Rattle.meet_run.specs.Chains.{ChainEnds}
 use Rattle.meet_run.specs.Erasing.{EraseEnds}
 use Rattle.meet_run.specs.Reading.{lines_of}

@@ -1,6 +1,5 @@
 pub mod Changes
 pub mod DrawnTickets
-pub mod Lines
 pub mod Repeats
 pub mod Rowing
 pub mod Showing

@@ -11,7 +11,7 @@ use Rattle.meet_tickets.specs.Bases.{Based, IsLegalOn}
 use Rattle.meet_history.specs.declared.checker.Why.{Why}
 use Rattle.meet_history.specs.Checking.{IsIllegalAt}
 use Rattle.meet_history.specs.Standings.{standing_on}
-use Rattle.meet_run.specs.declared.faults.RunFault.{RunFault}
+use Rattle.meet_run.specs.declared.text.faults.RunFault.{RunFault}
 use Rattle.meet_run.specs.TraceWording.{illegal_line}
 use Rattle.meet_run.specs.Traces.{IsTraceOn, trace_fault_in}
 use Rattle.meet_run.specs.Wording.{last_line}

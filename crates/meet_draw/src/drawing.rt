@@ -1,93 +1,23 @@
 //! Drawing a trace.
 
-ghost use Rattle.std.specs.Prelude.{◌≡◌, ◌⊎◌, ◌+◌, ◌^◌, ◌<◌, ◌++◌, length, None, IfOk, IfErr, IfSome, OnOk};
-ghost use Rattle.std.specs.List.{filter_map};
-ghost use Rattle.std.specs.Option.{option_to_list};
-ghost use Rattle.std.specs.Vec.{vec_capacity};
-ghost use Rattle.meet_tickets.specs.declared.refusals.Refusal.TheVariants.{Memory, ReadFault};
+ghost use Rattle.std.specs.Prelude.{◌≡◌, ◌+◌, ◌^◌, ◌<◌, length, None, IfOk, IfErr, IfSome};
 ghost use Rattle.meet_history.specs.Pushing.{HasSeen};
 ghost use Rattle.meet_run.specs.Reading.{lines_of};
-ghost use Rattle.meet_run.specs.TraceGrammar.{record_of};
-ghost use Rattle.meet_run.specs.TraceWording.{illegal_line, why_text};
 ghost use Rattle.meet_run.specs.Traces.{trace_fault_in, NamesLine, IsUnreadTrace, IsTraceFault};
 ghost use Rattle.meet_draw.specs.Drawn.{IsPicture, IsDrawn, DrawEnds};
 
 use crate::picture::draw_records;
 use crate::style::{Style, Width};
-use meet_history::{CheckFault, Why};
-use meet_run::check::{ReadTrace, read_trace};
-use meet_run::faults::cut_short;
-use meet_run::grammar::LONGEST_LINE;
-use meet_run::output::write_whole;
-use meet_run::reading::{LineRead, read_line};
-use meet_run::trace_grammar::read_record;
-use meet_run::wording::{push_last_line, push_numbered};
+use meet_history::CheckFault;
+use meet_run::text::faults::cut_short;
+use meet_run::text::output::write_whole;
+use meet_run::text::wording::push_last_line;
+use meet_run::trace::check::{ReadTrace, read_records};
+use meet_run::trace::wording::push_illegal;
 use meet_run::{MOST_READS, RunFault};
 use meet_tickets::{Deed, Record, Refusal};
 use std::alloc::{AllocError, Global};
 use std::io::{ErrorKind, Read, Write};
-
-/// Appends the record of a line, if it is one.
-fn take_line(records: &mut Vec<Record<Deed>>, line: &[u8]) -> Result<(), AllocError>
-    ensures { OnOk result (records.new.items ≡ records.old.items ++ option_to_list (record_of line.now)) }
-{
-    match read_record(line) {
-        Some(entry) => {
-            records.push(entry)?;
-            Ok(())
-        }
-        None => Ok(()),
-    }
-}
-
-/// The records of these bytes, line by line; what no record is, is passed over. It refuses Memory and ReadFault.
-fn records_in(alloc: Global, text: &[u8]) -> Result<Vec<Record<Deed>>, Refusal>
-    ensures records { IfOk result (λ records. records.items ≡ filter_map record_of (lines_of text.now)) }
-    ensures faults { IfErr result (λ why. (why ≡ Memory) ⊎ (why ≡ ReadFault)) }
-{
-    let mut reader = text;
-    let mut turns = MOST_READS;
-    let mut records = Vec::new(alloc);
-    let mut line = match Vec::with_capacity(alloc, LONGEST_LINE) {
-        Ok(line) => line,
-        Err(_) => return Err(Refusal::Memory),
-    };
-    loop {
-        match read_line(&mut reader, &mut turns, &mut line) {
-            LineRead::Line => match take_line(&mut records, line.as_slice()) {
-                Ok(()) => {}
-                Err(_) => return Err(Refusal::Memory),
-            },
-            LineRead::End => return Ok(records),
-            LineRead::TooLong => return Err(Refusal::ReadFault),
-            LineRead::Failed => return Err(Refusal::ReadFault),
-        }
-    }
-}
-
-/// Why a record can't come next, as a word.
-#[tactic(auto, unfolding(meet_run::specs::TraceWording::why_text))]
-fn why_word(why: Why) -> &'static [u8]
-    ensures { result.now ≡ why_text why }
-{
-    match why {
-        Why::SeatOpen => b"SeatOpen",
-        Why::TicketOrder => b"TicketOrder",
-        Why::NotOpen => b"NotOpen",
-        Why::WrongReply => b"WrongReply",
-    }
-}
-
-/// Appends the line that names the first record that can't stand, and why.
-#[tactic(auto, unfolding(meet_run::specs::TraceWording::illegal_line))]
-fn push_illegal(out: &mut Vec<u8>, number: u64, why: Why) -> Result<(), AllocError>
-    ensures { OnOk result (out.new.items ≡ out.old.items ++ illegal_line number why) }
-{
-    push_numbered(out, b"illegal ", number)?;
-    out.extend_from_slice(b" ")?;
-    out.extend_from_slice(why_word(why))?;
-    out.extend_from_slice(b"\n")
-}
 
 /// Draws a trace with these records, and tells whether it is legal.
 fn picture_of(
@@ -135,13 +65,9 @@ fn picture_in(
     ensures faults { IfErr result IsUnreadTrace }
 {
     let mut reader = text;
-    let trace = match read_trace(alloc, &mut reader, MOST_READS) {
-        Ok(trace) => trace,
+    let (trace, records) = match read_records(alloc, &mut reader, MOST_READS) {
+        Ok(read) => read,
         Err(fault) => return Err(fault),
-    };
-    let records = match records_in(alloc, text) {
-        Ok(records) => records,
-        Err(why) => return Err(cut_short(why)),
     };
     match picture_of(alloc, style, width, &trace, records) {
         Ok(drawn) => Ok(drawn),

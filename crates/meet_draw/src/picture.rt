@@ -7,8 +7,8 @@ use crate::rows::{Layout, Shown, count_columns, longest_line, push_rows};
 use crate::style::{COLUMN_WIDTH, Style, Width};
 use itoa::Buffer;
 use meet_history::Piece;
-use meet_run::trace_wording::order_word;
-use meet_run::wording::push_numbered;
+use meet_run::text::wording::push_numbered;
+use meet_run::trace::wording::order_word;
 use meet_tickets::{Base, Deed, Entry, Kind, Record};
 use std::alloc::{AllocError, Global};
 

@@ -7,7 +7,7 @@ ghost use Rattle.meet_draw.specs.Rows.{piece_seat, piece_change};
 
 use crate::columns::Change;
 use meet_history::Piece;
-use meet_run::wording::{push_numbered, push_pair};
+use meet_run::text::wording::{push_numbered, push_pair};
 use meet_tickets::{SeatNo, Side, Ticket};
 use std::alloc::AllocError;
 

@@ -8,7 +8,7 @@ use crate::columns::{Change, Column, change_by, change_columns, give_column, spa
 use crate::pieces::{change_of, push_piece, seat_of};
 use crate::style::Style;
 use meet_history::Piece;
-use meet_run::trace_wording::push_record;
+use meet_run::trace::wording::push_record;
 use meet_tickets::{Deed, Record, SeatNo};
 use std::alloc::{AllocError, Global};
 

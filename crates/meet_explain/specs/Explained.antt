@@ -1,7 +1,7 @@
 -- What is said of a trace.
 use Rattle.std.specs.Prelude.{◌≡◌, ℕ, Bool, true, Option, List, [], ◌++◌, Result, IfOk}
 use Rattle.std.specs.Io.KnownBytes.{Appends}
-use Rattle.meet_run.specs.declared.faults.RunFault.{RunFault}
+use Rattle.meet_run.specs.declared.text.faults.RunFault.{RunFault}
 use Rattle.meet_run.specs.Traces.{IsFoundIn}
 
 -- of these lines this is told: the line that `check` finds, and behind it more; of a legal trace nothing more

@@ -4,11 +4,11 @@ use crate::flaws::{Flaw, mended};
 use crate::lines::{count_lines, line_at};
 use crate::words::{BASES, DEEDS, Form, HEADS, VERBS, is_among, nearest, word_at};
 use meet_run::Setup;
-use meet_run::first_line::{behind_prefix, read_setup};
-use meet_run::grammar::{read_call, read_seat};
-use meet_run::trace_grammar::{read_kind, read_record, read_ticket};
-use meet_run::wording::push_numbered;
-use meet_run::words::read_number;
+use meet_run::script::first_line::{behind_prefix, read_setup};
+use meet_run::script::grammar::{read_call, read_seat};
+use meet_run::text::wording::push_numbered;
+use meet_run::text::words::read_number;
+use meet_run::trace::grammar::{read_kind, read_record, read_ticket};
 use meet_tickets::Order;
 use std::alloc::{AllocError, Global};
 
@@ -123,6 +123,25 @@ fn push_misspelt(
     }
 }
 
+/// What is said of a word that is none of those that can stand there: that it is missing, or that it is none of them.
+fn missing_or(word: &[u8], missing: &'static [u8], unknown: &'static [u8]) -> &'static [u8] {
+    if word.is_empty() { missing } else { unknown }
+}
+
+/// Appends what is wrong with a word that is to be a seat.
+fn push_seat_flaw(out: &mut Vec<u8>, seat: &[u8]) -> Result<(), AllocError> {
+    push_word(
+        out,
+        seat,
+        if read_number(seat).is_some() {
+            b"past the last seat"
+        } else {
+            number_flaw(seat)
+        },
+    )?;
+    push_can(out, b"", (b"a seat from 0 to 65535", b""))
+}
+
 /// Appends what is wrong with the words of a record: its seat, its ticket, its deed, or what stands behind that.
 fn push_record_flaw(alloc: Global, out: &mut Vec<u8>, line: &[u8]) -> Result<(), AllocError> {
     let (seat, ticket, deed) = (word_at(line, 0), word_at(line, 1), word_at(line, 2));
@@ -143,16 +162,7 @@ fn push_record_flaw(alloc: Global, out: &mut Vec<u8>, line: &[u8]) -> Result<(),
         push_word(out, seat, b"a deed before its seat and its ticket")?;
         push_forms(out, b"S T ", seat, &DEEDS)
     } else if read_seat(seat).is_none() {
-        push_word(
-            out,
-            seat,
-            if read_number(seat).is_some() {
-                b"past the last seat"
-            } else {
-                number_flaw(seat)
-            },
-        )?;
-        push_can(out, b"", (b"a seat from 0 to 65535", b""))
+        push_seat_flaw(out, seat)
     } else if is_among(ticket, &VERBS) && !is_among(ticket, &DEEDS) {
         push_word(out, ticket, b"a call of a script, which `meet run` reads")
     } else if is_among(ticket, &DEEDS) {
@@ -168,24 +178,9 @@ fn push_record_flaw(alloc: Global, out: &mut Vec<u8>, line: &[u8]) -> Result<(),
         push_can(out, b"", (b"a ticket from 0 to 9223372036854775807", b""))
     } else {
         let before = spaced(alloc, &[seat, ticket])?;
-        if deed.is_empty() {
-            push_misspelt(
-                alloc,
-                out,
-                before.as_slice(),
-                deed,
-                b"where a deed is to stand",
-                &DEEDS,
-            )
-        } else if !is_among(deed, &DEEDS) {
-            push_misspelt(
-                alloc,
-                out,
-                before.as_slice(),
-                deed,
-                b"which is no deed",
-                &DEEDS,
-            )
+        if !is_among(deed, &DEEDS) {
+            let is = missing_or(deed, b"where a deed is to stand", b"which is no deed");
+            push_misspelt(alloc, out, before.as_slice(), deed, is, &DEEDS)
         } else if read_record(line).is_some() {
             push_found(
                 out,
@@ -210,16 +205,7 @@ fn push_call_flaw(
         push_word(out, seat, b"a verb before its seat")?;
         push_forms(out, b"S ", seat, &VERBS)
     } else if read_seat(seat).is_none() {
-        push_word(
-            out,
-            seat,
-            if read_number(seat).is_some() {
-                b"past the last seat"
-            } else {
-                number_flaw(seat)
-            },
-        )?;
-        push_can(out, b"", (b"a seat from 0 to 65535", b""))
+        push_seat_flaw(out, seat)
     } else if is_among(word_at(line, 2), &DEEDS) && read_number(verb).is_some() {
         push_word(
             out,
@@ -228,24 +214,9 @@ fn push_call_flaw(
         )
     } else {
         let before = spaced(alloc, &[seat])?;
-        if verb.is_empty() {
-            push_misspelt(
-                alloc,
-                out,
-                before.as_slice(),
-                verb,
-                b"where a verb is to stand",
-                &VERBS,
-            )
-        } else if !is_among(verb, &VERBS) {
-            push_misspelt(
-                alloc,
-                out,
-                before.as_slice(),
-                verb,
-                b"which is no verb",
-                &VERBS,
-            )
+        if !is_among(verb, &VERBS) {
+            let is = missing_or(verb, b"where a verb is to stand", b"which is no verb");
+            push_misspelt(alloc, out, before.as_slice(), verb, is, &VERBS)
         } else if read_call(Order::Transfer, line).is_some() && !order.keeps() {
             push_word(out, verb, b"which a transfer queue alone has")
         } else {

@@ -1,8 +1,8 @@
 //! The lines of an explanation.
 
 use meet_answers::Instead;
-use meet_run::trace_wording::push_record;
-use meet_run::wording::{push_numbered, push_pair};
+use meet_run::text::wording::{push_numbered, push_pair};
+use meet_run::trace::wording::push_record;
 use meet_tickets::{Base, Deed, Entry, OpenCut, OpenPair, Record, SeatNo, Side};
 use std::alloc::AllocError;
 

@@ -1,6 +1,6 @@
 //! The words that texts are made of, and which of them a misspelt one may have been meant for.
 
-use meet_run::words::split_word;
+use meet_run::text::words::split_word;
 use std::alloc::{AllocError, Global};
 
 /// A word, and what stands behind it, each number by a letter.

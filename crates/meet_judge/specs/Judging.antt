@@ -7,7 +7,7 @@ use Rattle.meet_tickets.specs.declared.records.Record.{Record}
 use Rattle.meet_overlap.specs.declared.calls.Call.{Call}
 use Rattle.meet_overlap.specs.declared.search.Stuck.{Stuck}
 use Rattle.meet_overlap.specs.Explaining.{Explains}
-use Rattle.meet_run.specs.declared.faults.RunFault.{RunFault}
+use Rattle.meet_run.specs.declared.text.faults.RunFault.{RunFault}
 use Rattle.meet_run.specs.TraceWording.{trace_text}
 use Rattle.meet_judge.specs.CallText.{calls_text, refused_text}
 

@@ -6,8 +6,8 @@ ghost use Rattle.meet_judge.specs.CallText.{calls_text};
 use crate::writing::{push_call, push_calls};
 use meet_overlap::{Answer, Call, Calls, Patience, Returned, Verb};
 use meet_run::RunFault;
-use meet_run::faults::{at_line, cut_short};
-use meet_run::words::read_number;
+use meet_run::text::faults::{at_line, cut_short};
+use meet_run::text::words::read_number;
 use meet_tickets::{Kind, Order, Refusal, SeatNo};
 use std::alloc::Global;
 

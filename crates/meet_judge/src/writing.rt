@@ -6,8 +6,8 @@ ghost use Rattle.meet_judge.specs.CallText.{verb_text, answer_text, seen_text, e
 ghost use Rattle.meet_judge.specs.CallText.{stuck_text, refused_text};
 
 use meet_overlap::{Answer, Call, Patience, Returned, Stuck, Verb};
-use meet_run::trace_wording::order_word;
-use meet_run::wording::{push_number, push_numbered};
+use meet_run::text::wording::{push_number, push_numbered};
+use meet_run::trace::wording::order_word;
 use meet_tickets::{Kind, Order};
 use std::alloc::AllocError;
 

@@ -18,11 +18,11 @@ use Rattle.meet_history.specs.declared.checker.Standing.{Standing}
 use Rattle.meet_history.specs.Checking.{IsIllegalAt}
 use Rattle.meet_history.specs.Pushing.{Progress, HasTaken, SeenWith, HasSeen, IsStandingOf, TellsEnd}
 use Rattle.meet_laws.specs.Chapters.{Succeeds, IsSucceeded, FollowOn, records_in}
-use Rattle.meet_run.specs.declared.chain.Broken.{Broken}
-use Rattle.meet_run.specs.declared.chain.Chain.{Chain}
-use Rattle.meet_run.specs.declared.chain.ChapterFault.{ChapterFault}
-use Rattle.meet_run.specs.declared.chain.ChapterFault.TheVariants.{OtherPlace, OtherBase, Illegal}
-use Rattle.meet_run.specs.declared.check.ReadTrace.{ReadTrace}
+use Rattle.meet_run.specs.declared.trace.chain.Broken.{Broken}
+use Rattle.meet_run.specs.declared.trace.chain.Chain.{Chain}
+use Rattle.meet_run.specs.declared.trace.chain.ChapterFault.{ChapterFault}
+use Rattle.meet_run.specs.declared.trace.chain.ChapterFault.TheVariants.{OtherPlace, OtherBase, Illegal}
+use Rattle.meet_run.specs.declared.trace.check.ReadTrace.{ReadTrace}
 use Rattle.meet_run.specs.Chapters.{Chapter, stretch, all_records, AreOne, StandsBehind, IsWrongBehind, IsBroken, IsOf, IsLegalSoFar, HasRead, IsFoundOfAll, wrong_of, TellsWrong, broken_at, broken_line}
 use Rattle.meet_run.specs.Wording.{last_line}
 use Rattle.meet_history.specs.Standings.{standing_on}

@@ -8,7 +8,7 @@ use Rattle.meet_tickets.specs.declared.refusals.Refusal.{Refusal}
 use Rattle.meet_history.specs.declared.checker.Why.{Why}
 use Rattle.meet_history.specs.declared.checker.CheckFault.{CheckFault}
 use Rattle.meet_history.specs.Checking.{IsCheckFault}
-use Rattle.meet_run.specs.declared.faults.RunFault.{RunFault}
+use Rattle.meet_run.specs.declared.text.faults.RunFault.{RunFault}
 use Rattle.meet_tickets.specs.Bases.{no_base}
 use Rattle.meet_run.specs.Erasing.{AreRecords, IsErasure, WritesErased, BeginsErased, EraseBreaks, EraseEnds, erase_fault_in}
 use Rattle.meet_run.specs.Reading.{lines_of, Listed, Both, listed, no_more}

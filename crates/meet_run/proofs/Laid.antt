@@ -1,5 +1,5 @@
 -- How far the pieces of a base were read.
-use Rattle.std.proofs.Common.{if◌then◌else◌, ◌≡◌, ℕ, ◌+◌, ◌<◌, nat_le, Bool, true, false, cond, List, [], ◌∷◌, length, Option, Some, None, refl, sym, ap, ◌∙◌}
+use Rattle.std.proofs.Common.{if◌then◌else◌, ◌≡◌, ℕ, ◌+◌, ◌<◌, nat_le, Bool, true, false, cond, List, [], ◌∷◌, length, Option, Some, None, refl, sym, ap, subst, ◌∙◌}
 use Rattle.std.specs.Prelude.{IfSome}
 use Rattle.std.specs.Option.{option_map_or}
 use Rattle.std.specs.Io.KnownBytes.{Consumes, IsAtEnd}
@@ -9,12 +9,14 @@ use Rattle.meet_tickets.specs.declared.records.Deed.{Deed}
 use Rattle.meet_tickets.specs.declared.records.Record.{Record}
 use Rattle.meet_tickets.specs.Bases.{Based}
 use Rattle.meet_history.specs.Pushing.{Progress, HasSeen}
-use Rattle.meet_run.specs.declared.faults.RunFault.{RunFault}
+use Rattle.meet_run.specs.declared.text.faults.RunFault.{RunFault}
 use Rattle.meet_run.specs.Traces.{NamesLine}
 use Rattle.meet_tickets.specs.Limits.{most_records}
 use Rattle.meet_history.specs.declared.pieces.Piece.{Piece}
 use Rattle.meet_history.specs.declared.pieces.Piece.TheVariants.{Stands, Met, Cut, Flagged}
 use Rattle.meet_history.specs.Pieces.{bare_base, with_piece, may_follow}
+use Rattle.meet_run.specs.declared.trace.kept.Kept.{Kept}
+use Rattle.meet_run.specs.Keeping.{HasKept}
 use Rattle.meet_run.specs.Reading.{lines_of, Listed, Both, TakesLine, BeginsTooLong, listed}
 use Rattle.meet_run.specs.TraceGrammar.{record_of}
 use Rattle.meet_run.specs.BaseGrammar.{piece_of, numbers_of}
@@ -186,3 +188,19 @@ module _ (k : Kind) (start base : Based) (line : List ℕ) (n : ℕ) where
       by None m all names = tt
       by (Some xs) None all names = absurd all
       by (Some xs) (Some ys) all names = λ bad. names bad ∙ sym (ap (λ (t : Told). t.fault) all)
+
+  -- what was kept of the records behind a base are what its lines say
+  pub kept-left : (old mid new : Option (List ℕ)) (wanted : Bool) (kept : Kept) → Both old mid (λ xs ys. told_behind k (lines_of xs) ≡ told_from k start 3 (lines_of ys)) → HasLaid k start true line base n mid new → IfSome new (λ rest. HasKept wanted kept (listed (record_from n) n (line ∷ lines_of rest)).items) → IfSome old (λ rest. HasKept wanted kept (told_behind k (lines_of rest)).records)
+  kept-left old mid new wanted kept ground laid has = by old new (whole old mid new ground laid) has
+    where
+      by : (o m : Option (List ℕ)) → Both o m (λ xs ys. told_behind k (lines_of xs) ≡ record { base = base; records = (listed (record_from n) n (line ∷ lines_of ys)).items; fault = (listed (record_from n) n (line ∷ lines_of ys)).fault }) → IfSome m (λ rest. HasKept wanted kept (listed (record_from n) n (line ∷ lines_of rest)).items) → IfSome o (λ rest. HasKept wanted kept (told_behind k (lines_of rest)).records)
+      by None m all has = tt
+      by (Some xs) None all has = absurd all
+      by (Some xs) (Some ys) all has = subst (HasKept wanted kept) (sym (ap (λ (t : Told). t.records) all)) has
+
+-- where nothing stands behind a base, nothing is kept
+pub kept-none : (k : Kind) (start base : Based) (line : List ℕ) (n : ℕ) (old mid new : Option (List ℕ)) (wanted : Bool) (kept : Kept) → Both old mid (λ xs ys. told_behind k (lines_of xs) ≡ told_from k start 3 (lines_of ys)) → HasLaid k start false line base n mid new → HasKept wanted kept [] → IfSome old (λ rest. HasKept wanted kept (told_behind k (lines_of rest)).records)
+kept-none k start base line n None mid new wanted kept ground laid has = tt
+kept-none k start base line n (Some xs) None new wanted kept ground laid has = absurd ground
+kept-none k start base line n (Some xs) (Some ys) new wanted kept ground laid has =
+    subst (HasKept wanted kept) (sym (ap (λ (t : Told). t.records) (ground ∙ laid))) has

@@ -5,6 +5,7 @@ pub mod CallLemmas
 pub mod Chaining
 pub mod Erasing
 pub mod HeadLemmas
+pub mod KeepingLemmas
 pub mod Laid
 pub mod LineLemmas
 pub mod NextLemmas

@@ -3,9 +3,9 @@ use Rattle.std.proofs.Common.{◌≡◌, ℕ, ◌+◌, ◌<◌, ◌≤◌, Bool,
 use Rattle.std.specs.Prelude.{IfSome}
 use Rattle.std.proofs.lemmas.Bool.{lt-ltb, le-ltb}
 use Rattle.meet_tickets.specs.Limits.{most_records}
-use Rattle.meet_run.specs.declared.reading.LineRead.{LineRead}
-use Rattle.meet_run.specs.declared.reading.LineRead.TheVariants.{Line, End, TooLong, Failed}
-use Rattle.meet_run.specs.declared.next.Next.{Next}
+use Rattle.meet_run.specs.declared.text.reading.LineRead.{LineRead}
+use Rattle.meet_run.specs.declared.text.reading.LineRead.TheVariants.{Line, End, TooLong, Failed}
+use Rattle.meet_run.specs.declared.text.next.Next.{Next}
 use Rattle.meet_run.specs.Reading.{lines_of, Both, TakesLine, ReadsLine, SpendsTurn}
 use Rattle.meet_run.specs.Running.{IsNext, IfRead, next_from}
 use Rattle.meet_run.specs.TraceGrammar.{head_of, record_of}

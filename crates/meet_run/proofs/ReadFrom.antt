@@ -8,6 +8,8 @@ use Rattle.meet_tickets.specs.declared.records.Record.{Record}
 use Rattle.meet_tickets.specs.Bases.{Based}
 use Rattle.meet_tickets.specs.Limits.{most_records}
 use Rattle.meet_history.specs.Pushing.{Progress, HasSeen}
+use Rattle.meet_run.specs.declared.trace.kept.Kept.{Kept}
+use Rattle.meet_run.specs.Keeping.{HasKept}
 use Rattle.meet_run.specs.Reading.{lines_of, Listed, Both, TakesLine, BeginsTooLong, listed}
 use Rattle.meet_run.specs.TraceGrammar.{record_of}
 use Rattle.meet_run.specs.BasedTraces.{record_from, ArePushedOn}
@@ -92,3 +94,15 @@ module _ (first : ℕ) where
             ∙ (ap (λ (c : Listed (Record Deed)). after_records (past ++ entry ∷ []) c) (listed-end (record_from first) (n + 1)) ∙ ap (λ (q : List (Record Deed)). let l : Listed (Record Deed) = record { items = q; fault = None } in l) (append-nil (past ++ entry ∷ []))) in
             let pushed : ArePushedOn before after count whole = (refl, many, seen) in
             subst (λ c. ArePushedOn before after count c) (sym all) pushed
+
+    -- and so what was kept are the records
+    pub from-kept : (old mid new : Option (List ℕ)) (entry : Record Deed) (wanted : Bool) (kept : Kept) → WasReadFrom begin old mid line n past → record_from first n line ≡ Some entry → Consumes mid new [] → IsAtEnd new → HasKept wanted kept (past ++ entry ∷ []) → IfSome old (λ rest. HasKept wanted kept (told first (begin ∷ lines_of rest)).items)
+    from-kept old mid new entry wanted kept was is consumes at_end has = by old mid was (ended-lines mid new consumes at_end)
+      where
+        by : (o m : Option (List ℕ)) → WasReadFrom begin o m line n past → IfSome m (λ xs. lines_of xs ≡ []) → IfSome o (λ rest. HasKept wanted kept (told first (begin ∷ lines_of rest)).items)
+        by None m was none = tt
+        by (Some xs) None was none = absurd was
+        by (Some xs) (Some ys) was none =
+            let all : (told first (begin ∷ lines_of xs)).items ≡ past ++ entry ∷ [] = ap (λ (c : Listed (Record Deed)). c.items) (one-more xs ys entry [] was is none
+            ∙ ap (λ (c : Listed (Record Deed)). after_records (past ++ entry ∷ []) c) (listed-end (record_from first) (n + 1))) ∙ append-nil (past ++ entry ∷ []) in
+            subst (HasKept wanted kept) (sym all) has

@@ -4,12 +4,12 @@ use Rattle.std.specs.Prelude.{All, IfSome, IfOk, IfErr, Result, Ok, Err, codes}
 use Rattle.std.specs.Io.KnownBytes.{Appends, Consumes, IsAtEnd}
 use Rattle.std.proofs.lemmas.Grind.{flat_map-append}
 use Rattle.std.proofs.lemmas.List.Elements.{All-nil, All-cons, All-head, All-tail, All-push}
-use Rattle.meet_run.specs.declared.chain.Chain.{Chain}
+use Rattle.meet_run.specs.declared.trace.chain.Chain.{Chain}
 use Rattle.meet_tickets.specs.declared.refusals.Refusal.TheVariants.{Memory, BadTrace, ReadFault, WriteFault}
-use Rattle.meet_run.specs.declared.chains.Behind.{Behind}
-use Rattle.meet_run.specs.declared.chains.Behind.TheVariants.{Head, End, TooLong}
-use Rattle.meet_run.specs.declared.check.ReadTrace.{ReadTrace}
-use Rattle.meet_run.specs.declared.faults.RunFault.{RunFault}
+use Rattle.meet_run.specs.declared.trace.chains.Behind.{Behind}
+use Rattle.meet_run.specs.declared.trace.chains.Behind.TheVariants.{Head, End, TooLong}
+use Rattle.meet_run.specs.declared.trace.check.ReadTrace.{ReadTrace}
+use Rattle.meet_run.specs.declared.text.faults.RunFault.{RunFault}
 use Rattle.meet_run.specs.Chains.{is_head, parts_of, fault_in_parts, chain_fault_in, AreTraces, HaveNoHead, IsPart, IsChapterRead, IsChainFound, ChainBreaks, ChainEnds}
 use Rattle.meet_run.specs.Chapters.{Chapter, IsOf, HasRead, IsFoundOfAll}
 use Rattle.meet_run.specs.Reading.{HasNoEnd, lines_of, Both, TakesLine, BeginsTooLong}

@@ -13,7 +13,7 @@ use Rattle.meet_history.specs.declared.one_thread.setup.Setup.{Setup}
 use Rattle.meet_history.specs.OneThread.{Place, start, turn, turns, records}
 use Rattle.meet_history.specs.Standings.{IsFolded}
 use Rattle.meet_history.specs.Stepping.{Stepping, place_of, HasWritten}
-use Rattle.meet_run.specs.declared.faults.RunFault.{RunFault}
+use Rattle.meet_run.specs.declared.text.faults.RunFault.{RunFault}
 use Rattle.meet_run.specs.Grammar.{call_of, setup_of}
 use Rattle.meet_run.specs.Reading.{lines_of, Listed, Both, no_more, faulty_at, with_item}
 use Rattle.meet_run.specs.Script.{calls_from, calls_behind, fault_in, fault_of}

@@ -8,7 +8,7 @@ use Rattle.std.proofs.lemmas.Option.{cond_some}
 use Rattle.meet_tickets.specs.declared.places.Order.{Order}
 use Rattle.meet_tickets.specs.declared.places.Order.TheVariants.{Fair, Unfair, Transfer}
 use Rattle.meet_tickets.specs.Limits.{most_seats, most_records, most_kept, last_ticket}
-use Rattle.meet_run.specs.declared.first_line.Options.{Options}
+use Rattle.meet_run.specs.declared.script.first_line.Options.{Options}
 use Rattle.meet_history.specs.declared.one_thread.setup.Setup.{Setup}
 use Rattle.meet_run.specs.Words.{word_of, rest_of, behind, number_spelled}
 use Rattle.meet_run.specs.Grammar.{◌>>=◌, provided, order_of, option_value, option_in, written_in, may_have, setup_with, setup_at_end, setup_in, setup_of}

@@ -8,17 +8,19 @@ use Rattle.meet_tickets.specs.declared.records.Record.{Record}
 use Rattle.meet_tickets.specs.declared.refusals.Refusal.TheVariants.{BadTrace, WriteFault}
 use Rattle.meet_tickets.specs.Bases.{Based, no_base}
 use Rattle.meet_history.specs.Pushing.{Progress, HasSeen}
-use Rattle.meet_run.specs.declared.faults.RunFault.{RunFault}
+use Rattle.meet_run.specs.declared.text.faults.RunFault.{RunFault}
 use Rattle.std.specs.Io.KnownBytes.{Consumes, IsAtEnd}
 use Rattle.std.proofs.lemmas.Bool.{lt-ltb}
 use Rattle.meet_run.specs.BaseGrammar.{based_head_of}
-use Rattle.meet_run.specs.declared.check.ReadTrace.{ReadTrace}
+use Rattle.meet_run.specs.declared.trace.check.ReadTrace.{ReadTrace}
+use Rattle.meet_run.specs.declared.trace.kept.Kept.{Kept}
+use Rattle.meet_run.specs.Keeping.{HasKept}
 use Rattle.meet_run.specs.BasedTraces.{Told, told_behind, IsBasedTrace, IsVerdictOn, IsChecked}
 use Rattle.meet_run.proofs.RunLemmas.{ended-lines}
 use Rattle.meet_run.proofs.NextLemmas.{head-too_long}
 use Rattle.meet_run.specs.Reading.{lines_of, Listed, Both, TakesLine, BeginsTooLong, listed, no_more, faulty_at, with_item}
 use Rattle.meet_run.specs.TraceGrammar.{head_of}
-use Rattle.meet_run.specs.Traces.{record_at, records_behind, trace_fault_in, IsTrace, IsTraceOn, IsRead, NamesLine, IsVerdict, IsFoundIn, ArePushed, IsVerdictOf, CheckBreaks, CheckEnds, IsUnreadTrace, IsTraceFault}
+use Rattle.meet_run.specs.Traces.{record_at, records_behind, trace_fault_in, IsTrace, IsTraceOn, IsRead, IsReadInto, NamesLine, IsVerdict, IsFoundIn, ArePushed, IsVerdictOf, CheckBreaks, CheckEnds, IsUnreadTrace, IsTraceFault}
 use Rattle.meet_history.specs.Standings.{standing_in}
 use Rattle.meet_run.specs.Wording.{last_line}
 use Rattle.meet_run.specs.Writing.{AppendsPrefix}
@@ -62,6 +64,15 @@ module _ (past : List (Record Deed)) (read : ℕ) where
       let pushed : ArePushed checker count whole = (refl, many, seen) in
       subst (λ c. ArePushed checker count c) (sym all) pushed
 
+  -- and so what was kept are the records
+  pub read-kept : (old mid : Option (List ℕ)) (wanted : Bool) (kept : Kept) → WasRead old mid read past → HasKept wanted kept past → IfSome mid (λ xs. lines_of xs ≡ []) → IfSome old (λ rest. HasKept wanted kept (records_behind (lines_of rest)).items)
+  read-kept None mid wanted kept was has none = tt
+  read-kept (Some xs) None wanted kept was has none = absurd was
+  read-kept (Some xs) (Some ys) wanted kept was has none =
+      let items : listed record_at (read + 1) (lines_of ys) ≡ no_more = ap (λ (ls : List (List ℕ)). listed record_at (read + 1) ls) none ∙ listed-end record_at (read + 1) in
+      let all : (records_behind (lines_of xs)).items ≡ past = ap (λ (l : Listed (Record Deed)). l.items) (was ∙ ap (λ (c : Listed (Record Deed)). after_records past c) items) ∙ append-nil past in
+      subst (HasKept wanted kept) (sym all) has
+
   -- the next line is no record
   pub read-fault : (old mid : Option (List ℕ)) → WasRead old mid read past → IfSome mid (λ xs. (line : List ℕ) × (lines : List (List ℕ)) × (lines_of xs ≡ line ∷ lines) × (record_at (read + 1) line ≡ None)) → IfSome old (λ rest. (records_behind (lines_of rest)).fault ≡ Some (read + 1))
   read-fault None mid was next = tt
@@ -83,49 +94,53 @@ err-follows (Ok a) more own = tt
 err-follows (Err f) more own = more f own
 
 -- the lines behind a first line that names no base are records to their end: it is a whole trace, and was read
-pub read-plain : (old mid : Option (List ℕ)) (line : List ℕ) (kind : Kind) (trace : ReadTrace) → TakesLine old mid line → head_of line ≡ Some kind → IfSome mid (λ rest. ArePushed trace.checker trace.count (records_behind (lines_of rest))) → trace.kind ≡ kind → trace.checker.place.kind ≡ kind → trace.base ≡ no_base → IfSome old (λ input. IsRead (lines_of input) trace)
+pub read-plain : (old mid : Option (List ℕ)) (line : List ℕ) (kind : Kind) (trace : ReadTrace) (wanted : Bool) (kept : Kept) → TakesLine old mid line → head_of line ≡ Some kind → IfSome mid (λ rest. ArePushed trace.checker trace.count (records_behind (lines_of rest))) → trace.kind ≡ kind → trace.checker.place.kind ≡ kind → trace.base ≡ no_base → IfSome mid (λ rest. HasKept wanted kept (records_behind (lines_of rest)).items) → IfSome old (λ input. IsReadInto (lines_of input) trace wanted kept)
 unfolding trace_fault_in
-read-plain None mid line kind trace takes head pushed of own none = tt
-read-plain (Some xs) None line kind trace takes head pushed of own none = absurd takes
-read-plain (Some xs) (Some ys) line kind trace takes head pushed of own none =
+read-plain None mid line kind trace wanted kept takes head pushed of own none has = tt
+read-plain (Some xs) None line kind trace wanted kept takes head pushed of own none has = absurd takes
+read-plain (Some xs) (Some ys) line kind trace wanted kept takes head pushed of own none has =
     let lines : Listed (Record Deed) = records_behind (lines_of ys) in
     let whole : lines ≡ record { items = lines.items; fault = None } = ap (λ (f : Option ℕ). let l : Listed (Record Deed) = record { items = lines.items; fault = f } in l) pushed.0 in
     let plain : IsTrace (lines_of xs) kind lines.items = record { first = line; rest = lines_of ys; parts = takes; head = head; behind = whole } in
-    let clean : trace_fault_in (line ∷ lines_of ys) ≡ None = rw head pushed.0 in
-    record {
-      records = lines.items;
-      told = inl (subst (λ k. IsTrace (lines_of xs) k lines.items) (sym of) plain, none);
-      whole = ap (λ (ls : List (List ℕ)). trace_fault_in ls) takes ∙ clean;
-      own = own ∙ sym of;
-      seen = subst (λ b. HasSeen b trace.checker lines.items) (sym none) pushed.2;
-      counted = omega (arith, pushed.1, ap (λ (b : Based). b.gone) none);
-    }
+    let clean : trace_fault_in (line ∷ lines_of ys) ≡ None = rw head pushed.0 in (
+      record {
+        records = lines.items;
+        told = inl (subst (λ k. IsTrace (lines_of xs) k lines.items) (sym of) plain, none);
+        whole = ap (λ (ls : List (List ℕ)). trace_fault_in ls) takes ∙ clean;
+        own = own ∙ sym of;
+        seen = subst (λ b. HasSeen b trace.checker lines.items) (sym none) pushed.2;
+        counted = omega (arith, pushed.1, ap (λ (b : Based). b.gone) none);
+      },
+      has,
+    )
 
 -- so is one that names its base
-pub read-based : (old mid : Option (List ℕ)) (line : List ℕ) (kind : Kind) (trace : ReadTrace) → TakesLine old mid line → head_of line ≡ None → based_head_of line ≡ Some kind → IfSome mid (λ rest. IsChecked kind (lines_of rest) trace.base trace.checker trace.count) → trace.kind ≡ kind → IfSome old (λ input. IsRead (lines_of input) trace)
+pub read-based : (old mid : Option (List ℕ)) (line : List ℕ) (kind : Kind) (trace : ReadTrace) (wanted : Bool) (kept : Kept) → TakesLine old mid line → head_of line ≡ None → based_head_of line ≡ Some kind → IfSome mid (λ rest. IsChecked kind (lines_of rest) trace.base trace.checker trace.count) → trace.kind ≡ kind → IfSome mid (λ rest. HasKept wanted kept (told_behind kind (lines_of rest)).records) → IfSome old (λ input. IsReadInto (lines_of input) trace wanted kept)
 unfolding trace_fault_in
-read-based None mid line kind trace takes none head checked of = tt
-read-based (Some xs) None line kind trace takes none head checked of = absurd takes
-read-based (Some xs) (Some ys) line kind trace takes none head checked of =
+read-based None mid line kind trace wanted kept takes none head checked of has = tt
+read-based (Some xs) None line kind trace wanted kept takes none head checked of has = absurd takes
+read-based (Some xs) (Some ys) line kind trace wanted kept takes none head checked of has =
     let based : IsBasedTrace (lines_of xs) kind trace.base checked.records = record { first = line; rest = lines_of ys; parts = takes; head = head; behind = checked.told } in
-    let clean : trace_fault_in (line ∷ lines_of ys) ≡ None = rw (none, head) (ap (λ (t : Told). t.fault) checked.told) in
-    record {
-      records = checked.records;
-      told = inr (subst (λ k. IsBasedTrace (lines_of xs) k trace.base checked.records) (sym of) based);
-      whole = ap (λ (ls : List (List ℕ)). trace_fault_in ls) takes ∙ clean;
-      own = checked.own ∙ sym of;
-      seen = checked.seen;
-      counted = checked.counted;
-    }
+    let clean : trace_fault_in (line ∷ lines_of ys) ≡ None = rw (none, head) (ap (λ (t : Told). t.fault) checked.told) in (
+      record {
+        records = checked.records;
+        told = inr (subst (λ k. IsBasedTrace (lines_of xs) k trace.base checked.records) (sym of) based);
+        whole = ap (λ (ls : List (List ℕ)). trace_fault_in ls) takes ∙ clean;
+        own = checked.own ∙ sym of;
+        seen = checked.seen;
+        counted = checked.counted;
+      },
+      subst (HasKept wanted kept) (ap (λ (t : Told). t.records) checked.told) has,
+    )
 
 -- the same of what came of reading them
-pub plain-came : (old mid : Option (List ℕ)) (line : List ℕ) (kind : Kind) (r : Result ReadTrace RunFault) → TakesLine old mid line → head_of line ≡ Some kind → IfOk r (λ trace. IfSome mid (λ rest. ArePushed trace.checker trace.count (records_behind (lines_of rest)))) → IfOk r (λ trace. trace.kind ≡ kind) → IfOk r (λ trace. trace.checker.place.kind ≡ kind) → IfOk r (λ trace. trace.base ≡ no_base) → IfOk r (λ trace. IfSome old (λ input. IsRead (lines_of input) trace))
-plain-came old mid line kind (Ok trace) takes head pushed of own none = read-plain old mid line kind trace takes head pushed of own none
-plain-came old mid line kind (Err f) takes head pushed of own none = tt
+pub plain-came : (old mid : Option (List ℕ)) (line : List ℕ) (kind : Kind) (wanted : Bool) (kept : Kept) (r : Result ReadTrace RunFault) → TakesLine old mid line → head_of line ≡ Some kind → IfOk r (λ trace. IfSome mid (λ rest. ArePushed trace.checker trace.count (records_behind (lines_of rest)))) → IfOk r (λ trace. trace.kind ≡ kind) → IfOk r (λ trace. trace.checker.place.kind ≡ kind) → IfOk r (λ trace. trace.base ≡ no_base) → OnOk r (IfSome mid (λ rest. HasKept wanted kept (records_behind (lines_of rest)).items)) → IfOk r (λ trace. IfSome old (λ input. IsReadInto (lines_of input) trace wanted kept))
+plain-came old mid line kind wanted kept (Ok trace) takes head pushed of own none has = read-plain old mid line kind trace wanted kept takes head pushed of own none has
+plain-came old mid line kind wanted kept (Err f) takes head pushed of own none has = tt
 
-pub based-came : (old mid : Option (List ℕ)) (line : List ℕ) (kind : Kind) (r : Result ReadTrace RunFault) → TakesLine old mid line → head_of line ≡ None → based_head_of line ≡ Some kind → IfOk r (λ trace. IfSome mid (λ rest. IsChecked kind (lines_of rest) trace.base trace.checker trace.count)) → IfOk r (λ trace. trace.kind ≡ kind) → IfOk r (λ trace. IfSome old (λ input. IsRead (lines_of input) trace))
-based-came old mid line kind (Ok trace) takes none head checked of = read-based old mid line kind trace takes none head checked of
-based-came old mid line kind (Err f) takes none head checked of = tt
+pub based-came : (old mid : Option (List ℕ)) (line : List ℕ) (kind : Kind) (wanted : Bool) (kept : Kept) (r : Result ReadTrace RunFault) → TakesLine old mid line → head_of line ≡ None → based_head_of line ≡ Some kind → IfOk r (λ trace. IfSome mid (λ rest. IsChecked kind (lines_of rest) trace.base trace.checker trace.count)) → IfOk r (λ trace. trace.kind ≡ kind) → OnOk r (IfSome mid (λ rest. HasKept wanted kept (told_behind kind (lines_of rest)).records)) → IfOk r (λ trace. IfSome old (λ input. IsReadInto (lines_of input) trace wanted kept))
+based-came old mid line kind wanted kept (Ok trace) takes none head checked of has = read-based old mid line kind trace wanted kept takes none head checked of has
+based-came old mid line kind wanted kept (Err f) takes none head checked of has = tt
 
 -- what follows where all is well
 pub well-follows : {A B : Type 0} {P Q : Type 0} (r : Result A B) → (P → Q) → OnOk r P → OnOk r Q
@@ -210,14 +225,13 @@ plain-verdict k records true text found =
 plain-verdict k records false text found = found
 
 -- what the checker of a trace that was read found is found of it
-pub found-read : (old : Option (List ℕ)) (trace : ReadTrace) (legal : Bool) (text : List ℕ) → IfSome old (λ input. IsRead (lines_of input) trace) → IsVerdictOf trace.checker trace.count legal text → IfSome old (λ input. IsFoundIn (lines_of input) legal text)
-found-read None trace legal text read verdict = tt
-found-read (Some xs) trace legal text read verdict = by read.told
+pub found-lines : (lines : List (List ℕ)) (trace : ReadTrace) (legal : Bool) (text : List ℕ) → IsRead lines trace → IsVerdictOf trace.checker trace.count legal text → IsFoundIn lines legal text
+found-lines lines trace legal text read verdict = by read.told
   where
     found : IsVerdictOn trace.kind trace.base read.records legal text
     found = subst (λ k. IsVerdictOn k trace.base read.records legal text) read.own (verdict trace.base read.records read.seen read.counted)
 
-    by : IsTraceOn (lines_of xs) trace.kind trace.base read.records → IsFoundIn (lines_of xs) legal text
+    by : IsTraceOn lines trace.kind trace.base read.records → IsFoundIn lines legal text
     by (inl plain) = inl (record {
       kind = trace.kind;
       records = read.records;
@@ -225,3 +239,7 @@ found-read (Some xs) trace legal text read verdict = by read.told
       verdict = plain-verdict trace.kind read.records legal text (subst (λ b. IsVerdictOn trace.kind b read.records legal text) plain.1 found);
     })
     by (inr based) = inr (record { kind = trace.kind; base = trace.base; records = read.records; trace = based; verdict = found })
+
+pub found-read : (old : Option (List ℕ)) (trace : ReadTrace) (legal : Bool) (text : List ℕ) → IfSome old (λ input. IsRead (lines_of input) trace) → IsVerdictOf trace.checker trace.count legal text → IfSome old (λ input. IsFoundIn (lines_of input) legal text)
+found-read None trace legal text read verdict = tt
+found-read (Some xs) trace legal text read verdict = found-lines (lines_of xs) trace legal text read verdict

@@ -6,10 +6,10 @@ use Rattle.std.specs.Prelude.{Result, Ok, Err}
 use Rattle.std.specs.Option.{option_map_or}
 use Rattle.meet_tickets.specs.declared.refusals.Refusal.{Refusal}
 use Rattle.meet_tickets.specs.declared.refusals.Refusal.TheVariants.{Memory, BadTrace, ReadFault, WriteFault}
-use Rattle.meet_run.specs.declared.check.ReadTrace.{ReadTrace}
-use Rattle.meet_run.specs.declared.chains.Behind.{Behind}
-use Rattle.meet_run.specs.declared.chains.Behind.TheVariants.{Head, End, TooLong}
-use Rattle.meet_run.specs.declared.faults.RunFault.{RunFault}
+use Rattle.meet_run.specs.declared.trace.check.ReadTrace.{ReadTrace}
+use Rattle.meet_run.specs.declared.trace.chains.Behind.{Behind}
+use Rattle.meet_run.specs.declared.trace.chains.Behind.TheVariants.{Head, End, TooLong}
+use Rattle.meet_run.specs.declared.text.faults.RunFault.{RunFault}
 use Rattle.meet_run.specs.BaseGrammar.{based_head_of}
 use Rattle.meet_run.specs.Chapters.{Chapter, IsFoundOfAll}
 use Rattle.meet_run.specs.TraceGrammar.{head_of}

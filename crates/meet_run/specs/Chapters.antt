@@ -10,11 +10,11 @@ use Rattle.meet_history.specs.declared.checker.CheckFault.TheVariants.{Illegal a
 use Rattle.meet_history.specs.Checking.{IsIllegalAt}
 use Rattle.meet_history.specs.Pushing.{HasSeen, TellsEnd}
 use Rattle.meet_laws.specs.Chapters.{Succeeds, FollowOn, records_in}
-use Rattle.meet_run.specs.declared.chain.Broken.{Broken}
-use Rattle.meet_run.specs.declared.chain.Chain.{Chain}
-use Rattle.meet_run.specs.declared.chain.ChapterFault.{ChapterFault}
-use Rattle.meet_run.specs.declared.chain.ChapterFault.TheVariants.{OtherPlace, OtherBase, Illegal}
-use Rattle.meet_run.specs.declared.check.ReadTrace.{ReadTrace}
+use Rattle.meet_run.specs.declared.trace.chain.Broken.{Broken}
+use Rattle.meet_run.specs.declared.trace.chain.Chain.{Chain}
+use Rattle.meet_run.specs.declared.trace.chain.ChapterFault.{ChapterFault}
+use Rattle.meet_run.specs.declared.trace.chain.ChapterFault.TheVariants.{OtherPlace, OtherBase, Illegal}
+use Rattle.meet_run.specs.declared.trace.check.ReadTrace.{ReadTrace}
 use Rattle.meet_run.specs.BasedTraces.{IsVerdictOn}
 use Rattle.meet_run.specs.TraceWording.{illegal_line}
 

@@ -3,7 +3,7 @@ use Rattle.std.specs.Prelude.{◌≡◌, ◌⊎◌, ℕ, Bool, true, Option, Non
 use Rattle.std.specs.Io.KnownBytes.{Appends}
 use Rattle.meet_drive.specs.Driven.{IsDriven}
 use Rattle.meet_drive.specs.declared.outcome.Drive.{Drive}
-use Rattle.meet_run.specs.declared.faults.RunFault.{RunFault}
+use Rattle.meet_run.specs.declared.text.faults.RunFault.{RunFault}
 use Rattle.meet_run.specs.Wording.{last_line}
 use Rattle.meet_run.specs.Writing.{AppendsPrefix}
 

@@ -12,7 +12,7 @@ use Rattle.meet_tickets.specs.ByLists.{IsLegal}
 use Rattle.meet_laws.specs.Erasing.{erase}
 use Rattle.meet_history.specs.declared.checker.Why.{Why}
 use Rattle.meet_history.specs.Checking.{IsIllegalAt}
-use Rattle.meet_run.specs.declared.faults.RunFault.{RunFault}
+use Rattle.meet_run.specs.declared.text.faults.RunFault.{RunFault}
 use Rattle.meet_run.specs.Reading.{Listed}
 use Rattle.meet_run.specs.TraceGrammar.{head_of}
 use Rattle.meet_run.specs.Traces.{records_behind, IsTrace}

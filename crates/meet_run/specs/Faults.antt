@@ -7,7 +7,7 @@ use Rattle.meet_tickets.specs.declared.refusals.Refusal.TheVariants.{Contended, 
 use Rattle.meet_tickets.specs.declared.refusals.Refusal.TheVariants.{NoThread, BadLine, BadTrace, ReadFault}
 use Rattle.meet_tickets.specs.declared.refusals.Refusal.TheVariants.{WriteFault, HasBase}
 use Rattle.meet_tickets.specs.Refusals.{name_of}
-use Rattle.meet_run.specs.declared.faults.RunFault.{RunFault}
+use Rattle.meet_run.specs.declared.text.faults.RunFault.{RunFault}
 
 -- the exit status of a fault: 3 for a line that can't be read, 5 for a reader or a writer that fails, else 4
 unfoldable pub fault_status : Refusal → ℕ

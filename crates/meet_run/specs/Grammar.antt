@@ -13,7 +13,7 @@ use Rattle.meet_history.specs.declared.one_thread.verbs.Verb.TheVariants.{Put, O
 use Rattle.meet_history.specs.declared.one_thread.verbs.Verb.TheVariants.{Transfer as TransferItem, Try, Follow}
 use Rattle.meet_history.specs.declared.one_thread.verbs.Verb.TheVariants.{Cancel, Expire, Interrupt, Drain, Size}
 use Rattle.meet_history.specs.declared.one_thread.verbs.Verb.TheVariants.{Room, Peek, Consumers, Checkpoint}
-use Rattle.meet_run.specs.declared.first_line.Options.{Options}
+use Rattle.meet_run.specs.declared.script.first_line.Options.{Options}
 use Rattle.meet_history.specs.declared.one_thread.setup.Setup.{Setup}
 use Rattle.meet_history.specs.Served.{serves}
 use Rattle.meet_run.specs.Words.{word_of, rest_of, behind, number_spelled}

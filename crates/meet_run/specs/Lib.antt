@@ -9,6 +9,7 @@ pub mod Driving
 pub mod Erasing
 pub mod Faults
 pub mod Grammar
+pub mod Keeping
 pub mod Reading
 pub mod Running
 pub mod Script

@@ -3,10 +3,10 @@ use Rattle.std.specs.Prelude.{◌≡◌, ◌⊎◌, ℕ, ◌+◌, ◌<◌, ◌�
 use Rattle.std.specs.Prelude.{if◌then◌else◌, false}
 use Rattle.std.specs.Option.{option_map_or}
 use Rattle.std.specs.Io.KnownBytes.{Consumes, IsAtEnd}
-use Rattle.meet_run.specs.declared.reading.ByteRead.{ByteRead}
-use Rattle.meet_run.specs.declared.reading.ByteRead.TheVariants.{Byte, End as EndOfBytes, Failed as ByteFailed}
-use Rattle.meet_run.specs.declared.reading.LineRead.{LineRead}
-use Rattle.meet_run.specs.declared.reading.LineRead.TheVariants.{Line, End, TooLong, Failed}
+use Rattle.meet_run.specs.declared.text.reading.ByteRead.{ByteRead}
+use Rattle.meet_run.specs.declared.text.reading.ByteRead.TheVariants.{Byte, End as EndOfBytes, Failed as ByteFailed}
+use Rattle.meet_run.specs.declared.text.reading.LineRead.{LineRead}
+use Rattle.meet_run.specs.declared.text.reading.LineRead.TheVariants.{Line, End, TooLong, Failed}
 
 -- a byte in front of the first line, or a line of its own where there is none
 abbrev pub with_front : ℕ → List (List ℕ) → List (List ℕ)

@@ -5,11 +5,11 @@ use Rattle.std.specs.Io.KnownBytes.{Appends, Consumes, IsAtEnd}
 use Rattle.meet_tickets.specs.declared.refusals.Refusal.{Refusal}
 use Rattle.meet_tickets.specs.declared.refusals.Refusal.TheVariants.{Memory, BadLine, ReadFault, WriteFault}
 use Rattle.meet_history.specs.declared.one_thread.setup.Setup.{Setup}
-use Rattle.meet_run.specs.declared.faults.RunFault.{RunFault}
-use Rattle.meet_run.specs.declared.next.Next.{Next}
-use Rattle.meet_run.specs.declared.next.Next.TheVariants.{Read, Ended, Faulty, Broken}
-use Rattle.meet_run.specs.declared.reading.LineRead.{LineRead}
-use Rattle.meet_run.specs.declared.reading.LineRead.TheVariants.{Line, End, TooLong, Failed}
+use Rattle.meet_run.specs.declared.text.faults.RunFault.{RunFault}
+use Rattle.meet_run.specs.declared.text.next.Next.{Next}
+use Rattle.meet_run.specs.declared.text.next.Next.TheVariants.{Read, Ended, Faulty, Broken}
+use Rattle.meet_run.specs.declared.text.reading.LineRead.{LineRead}
+use Rattle.meet_run.specs.declared.text.reading.LineRead.TheVariants.{Line, End, TooLong, Failed}
 use Rattle.meet_run.specs.Reading.{lines_of, Both}
 use Rattle.meet_run.specs.Writing.{AppendsPrefix}
 use Rattle.meet_history.specs.OneThread.{start}

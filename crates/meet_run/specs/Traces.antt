@@ -17,9 +17,11 @@ use Rattle.meet_history.specs.Checking.{IsIllegalAt}
 use Rattle.meet_history.specs.OneThread.{records, start, turns}
 use Rattle.meet_history.specs.Pushing.{Progress, HasSeen}
 use Rattle.meet_history.specs.Standings.{standing_in, IsFolded}
-use Rattle.meet_run.specs.declared.check.ReadTrace.{ReadTrace}
-use Rattle.meet_run.specs.declared.faults.RunFault.{RunFault}
+use Rattle.meet_run.specs.declared.trace.check.ReadTrace.{ReadTrace}
+use Rattle.meet_run.specs.declared.text.faults.RunFault.{RunFault}
+use Rattle.meet_run.specs.declared.trace.kept.Kept.{Kept}
 use Rattle.meet_run.specs.Grammar.{setup_of}
+use Rattle.meet_run.specs.Keeping.{HasKept}
 use Rattle.meet_run.specs.Reading.{lines_of, Listed, listed}
 use Rattle.meet_run.specs.Running.{RunEnds}
 use Rattle.meet_run.specs.Script.{calls_behind, fault_of}
@@ -83,6 +85,14 @@ pub record IsRead (lines : List (List ℕ)) (trace : ReadTrace) : Type 0 where
   pub own : trace.checker.place.kind ≡ trace.kind
   pub seen : HasSeen trace.base trace.checker records
   pub counted : trace.count ≡ trace.base.gone + length records
+
+-- these lines are a whole trace that was read, with just these records
+abbrev pub IsReadWith : (lines : List (List ℕ)) → ReadTrace → List (Record Deed) → Type 0
+IsReadWith lines trace records = (read : IsRead lines trace) × (read.records ≡ records)
+
+-- these lines are a whole trace that was read, and its records were kept where they are wanted
+abbrev pub IsReadInto : (lines : List (List ℕ)) → ReadTrace → (wanted : Bool) → Kept → Type 0
+IsReadInto lines trace wanted kept = (read : IsRead lines trace) × HasKept wanted kept read.records
 
 -- the lines are a whole trace, of which this is found
 pub record IsFound (lines : List (List ℕ)) (legal : Bool) (text : List ℕ) : Type 0 where

@@ -4,9 +4,9 @@ ghost use Rattle.std.specs.Prelude.{◌≡◌, ◌++◌, OnOk};
 ghost use Rattle.meet_drive.specs.Driven.{IsSized};
 ghost use Rattle.meet_run.specs.Driving.{drive_text, DriveEnds};
 
-use crate::faults::{RunFault, cut_short};
-use crate::output::write_whole;
-use crate::wording::{push_last_line, push_numbered, push_pair};
+use crate::text::faults::{RunFault, cut_short};
+use crate::text::output::write_whole;
+use crate::text::wording::{push_last_line, push_numbered, push_pair};
 use meet_drive::{Drive, Progress, drive_told};
 use meet_tickets::Refusal;
 use std::alloc::{AllocError, Global};

@@ -1,44 +1,25 @@
-//! Scripts: one thread's calls on a meeting place, and their replies as text. Traces: a place's records as text.
-//! Drives: threads at a queue, and what came of it as text.
+//! Texts of a meeting place, in four rooms: what all texts have in common (`text`); scripts, one thread's calls and their
+//! replies (`script`); traces, a place's records (`trace`); and what came of threads that are driven (`driving`). What a
+//! call answers and what a record may be, it has from `meet_history`.
 #![tactic(auto)]
 
-pub mod base_grammar;
-pub mod base_spellings;
-pub mod base_wording;
-pub mod based;
-pub mod blocks;
-pub mod chain;
-pub mod chains;
-pub mod check;
-pub mod driving;
-pub mod erase;
-pub mod faults;
-pub mod first_line;
-pub mod grammar;
-pub mod next;
-pub mod output;
-pub mod reading;
-pub mod run;
-pub mod scripts;
-pub mod spellings;
+mod driving;
+pub mod script;
+pub mod text;
 pub mod trace;
-pub mod trace_grammar;
-pub mod trace_spellings;
-pub mod trace_wording;
-pub mod wording;
-pub mod words;
 
-pub use blocks::Blocks;
-pub use chain::ChapterFault;
-pub use chains::{check_chain, check_chain_within};
-pub use check::{check_trace, check_trace_within};
 pub use driving::{push_drive, run_drive};
-pub use erase::{erase_trace, erase_trace_within};
-pub use faults::{Report, RunFault, report_of};
 pub use meet_drive::{
     Drive, MOST_EACH, MOST_GIVERS, Progress, Silent, drive, drive_told, drive_within,
 };
 pub use meet_history::{Answer, Call, Outcome, Reply, Run, Setup, Stepper, Verb, run_all};
 pub use meet_tickets::{Base, Deed, Kind, Record, Refusal, SeatNo, Ticket};
-pub use run::{MOST_READS, run_script, run_script_within};
-pub use trace::{run_trace, run_trace_within, write_based, write_trace};
+pub use script::run::{run_script, run_script_within};
+pub use text::blocks::Blocks;
+pub use text::faults::{Report, RunFault, report_of};
+pub use text::reading::MOST_READS;
+pub use trace::chain::ChapterFault;
+pub use trace::chains::{check_chain, check_chain_within};
+pub use trace::check::{check_trace, check_trace_within};
+pub use trace::erase::{erase_trace, erase_trace_within};
+pub use trace::run::{run_trace, run_trace_within, write_based, write_trace};

@@ -2,8 +2,8 @@
 
 use crate::doubles::{Feed, feed_of, sink_by};
 use meet_run::Refusal;
-use meet_run::output::write_whole;
-use meet_run::reading::{LineRead, read_line};
+use meet_run::text::output::write_whole;
+use meet_run::text::reading::{LineRead, read_line};
 use std::alloc::Global;
 use std::process::Abort;
 use std::test::Fail;

@@ -88,6 +88,9 @@ in_front f fates = λ i. record {
   entry_refused = count-front is_entry_refused f fates i;
 }
 
+pub numbers-front : (f : Fate) (fates : List Fate) → numbers_of (f ∷ fates) ≡ with_fate (numbers_of fates) f
+numbers-front f fates = in_front f fates ∙ adds (numbers_of fates) f
+
 -- no ticket counts twice
 pub fates_counted-most : (fates : List Fate) → fates_counted (numbers_of fates) ≤ length fates
 fates_counted-most [] = omega arith

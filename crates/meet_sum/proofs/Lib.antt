@@ -1,14 +1,12 @@
 pub mod DeedLemmas
 pub mod FateLemmas
 pub mod FatesCounting
-pub mod LineCuts
 pub mod LineLemmas
+pub mod Requests
 pub mod SeatLemmas
 pub mod StoryLemmas
 pub mod SumLemmas
 pub mod SumsTold
 pub mod TableLemmas
 pub mod TextLemmas
-pub mod TextsRead
-pub mod TraceRecords
 pub mod WaitLemmas

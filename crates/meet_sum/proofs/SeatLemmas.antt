@@ -4,7 +4,7 @@ use Rattle.std.specs.Prelude.{slice_get, slice_set}
 use Rattle.std.specs.List.{list_any}
 use Rattle.std.specs.Option.{option_map_or}
 use Rattle.std.proofs.lemmas.Bool.{cases_eq, eq-eqb, ne_eqb}
-use Rattle.std.proofs.lemmas.List.{length-set, length-replicate, append_assoc, append-nil, map-append}
+use Rattle.std.proofs.lemmas.List.{length-set, length-replicate, map-append}
 use Rattle.std.proofs.lemmas.List.Folds.{list_any-append}
 use Rattle.std.proofs.lemmas.List.Sums.{fold-append, count_by-le-length}
 use Rattle.meet_tickets.specs.declared.records.Record.{Record}
@@ -13,6 +13,7 @@ use Rattle.meet_tickets.specs.BySeat.{is_request}
 use Rattle.meet_tickets.specs.Limits.{most_seats}
 use Rattle.meet_tickets.proofs.Lists.Changed.{one, count-push}
 use Rattle.meet_sum.specs.declared.seats.SeatSum.{SeatSum}
+use Rattle.meet_sum.specs.declared.stories.Asked.{Asked}
 use Rattle.meet_sum.specs.declared.stories.Story.{Story}
 use Rattle.meet_sum.specs.Seats.{greater, greatest, stay_at, seat_sum, HasSeats}
 use Rattle.meet_sum.specs.Waits.{stay_told}
@@ -144,7 +145,7 @@ module _ (before records : List (Record Deed)) (opened all : ℕ) (stories : Lis
   wait-push j s = ap greatest (map-append (stay_at j opened all) stories (s ∷ [])) ∙ greatest-push (map (stay_at j opened all) stories) (stay_at j opened all s)
 
   -- the story of a ticket more, whose request is of this seat
-  pub noted : (s : Story) (r : Record Deed) (sums new : List SeatSum) (old v : SeatSum) → s.asked ≡ Some r → r.seat < most_seats → HasSeats now sums → slice_get sums r.seat ≡ Some old → new ≡ slice_set sums r.seat v →
+  pub noted : (s : Story) (r : Asked) (sums new : List SeatSum) (old v : SeatSum) → s.asked ≡ Some r → r.seat < most_seats → HasSeats now sums → slice_get sums r.seat ≡ Some old → new ≡ slice_set sums r.seat v →
       v ≡ record old { wait = greater old.wait (stay_told opened all s) } → HasSeats (seat_sum before records opened all (stories ++ s ∷ [])) new
   noted s r sums new old v asked within has read put is = seats-put now (seat_sum before records opened all (stories ++ s ∷ [])) sums new r.seat v within has put own others
     where
@@ -170,28 +171,6 @@ module _ (before records : List (Record Deed)) (opened all : ℕ) (stories : Lis
       wait = sym (wait-push j s ∙ ap (greater (now j).wait) (ap (λ o. cond (option_map_or (λ q. q.seat == j) o false) (stay_told opened all s) None) asked) ∙ greater-none (now j).wait) i;
     });
   }
-
--- of all stories these are left, and the others are noted
-pub record Noting (opened all : ℕ) (stories : List Story) (first : List SeatSum) (left : List Story) (sums : List SeatSum) : Type 0 where
-  pub done : List Story
-  pub parts : done ++ left ≡ stories
-  pub noted : (before records : List (Record Deed)) → HasSeats (seat_sum before records opened all []) first → HasSeats (seat_sum before records opened all done) sums
-
-module _ (opened all : ℕ) (stories : List Story) (first : List SeatSum) (left : List Story) (sums : List SeatSum) where
-  pub noting-none : left ≡ stories → sums ≡ first → Noting opened all stories first left sums
-  noting-none same none = record { done = []; parts = same; noted = λ before records has. subst (HasSeats (seat_sum before records opened all [])) (sym none) has }
-
-  pub noting-more : (was : List Story) (x : Story) (old : List SeatSum) → Noting opened all stories first was old → was ≡ x ∷ left →
-      ((before records : List (Record Deed)) (done : List Story) → HasSeats (seat_sum before records opened all done) old → HasSeats (seat_sum before records opened all (done ++ x ∷ [])) sums) → Noting opened all stories first left sums
-  noting-more was x old so_far is more = record {
-    done = so_far.done ++ x ∷ [];
-    parts = append_assoc so_far.done (x ∷ []) left ∙ ap (λ xs. so_far.done ++ xs) (sym is) ∙ so_far.parts;
-    noted = λ before records has. more before records so_far.done (so_far.noted before records has);
-  }
-
-  pub noting-all : Noting opened all stories first left sums → left ≡ [] → (before records : List (Record Deed)) → HasSeats (seat_sum before records opened all []) first → HasSeats (seat_sum before records opened all stories) sums
-  noting-all so_far none before records has =
-      subst (λ xs. HasSeats (seat_sum before records opened all xs) sums) (sym (append-nil so_far.done) ∙ ap (λ xs. so_far.done ++ xs) (sym none) ∙ so_far.parts) (so_far.noted before records has)
 
 -- of the same records and stories the same is told
 pub seats-alike : (before before' records records' : List (Record Deed)) (opened all : ℕ) (stories : List Story) (sums : List SeatSum) → before ≡ before' → records ≡ records' → HasSeats (seat_sum before records opened all stories) sums → HasSeats (seat_sum before' records' opened all stories) sums

@@ -1,196 +1,102 @@
--- Tables of stories: what they find, and how they change.
-use Rattle.std.proofs.Common.{◌≡◌, ◌≢◌, ℕ, zero, suc, ◌==◌, refl, sym, ap, ◌∙◌, subst, ⊎_elim, Bool, true, false, cond, ◌||◌, if◌then◌else◌, Some, None, List, [], ◌∷◌, ◌++◌, fold, ◌+◌, ◌<◌, ◌≤◌, length, get_or, take}
-use Rattle.std.specs.List.{list_any}
-use Rattle.std.specs.Map.{lookup, set_value, values_of}
-use Rattle.std.specs.Prelude.{slice_get}
-use Rattle.std.proofs.Math.Path.{fun_ext}
-use Rattle.std.proofs.lemmas.Bool.{ne_eqb, eq-eqb, cases_eq, or_parts}
-use Rattle.std.proofs.lemmas.List.{append_assoc, take_more, length-append, length-take-le}
-use Rattle.std.proofs.lemmas.List.Folds.{list_any-append}
-use Rattle.indexmap.specs.IndexMap.{insert_entry, set_value_at}
+-- Stories of many tickets: where a ticket stands, and how the stories change.
+use Rattle.std.proofs.Common.{◌≡◌, ◌≢◌, ℕ, zero, suc, ◌==◌, refl, sym, ap, ◌∙◌, ⊎_elim, cond, false, Some, List, [], ◌∷◌, ◌++◌, ◌+◌, ◌<◌, ◌≤◌, length, get_or, take, map, arith, Ok, Err}
+use Rattle.std.specs.Prelude.{slice_set}
+use Rattle.std.specs.List.Sorted.{IsStrictlyIncreasing, IsBinarySearchResult}
 use Rattle.std.specs.Option.{option_map_or}
+use Rattle.std.specs.Ordering.{nat_cmp}
+use Rattle.std.proofs.Math.Path.{fun_ext}
+use Rattle.std.proofs.lemmas.Bool.{ne_eqb, eq-eqb, cases_eq, cases_lt}
+use Rattle.std.proofs.lemmas.List.{append_assoc, take_more, length-append, length-take-le, map-append}
+use Rattle.std.proofs.lemmas.List.Kept.{AllPairs-from_increasing}
+use Rattle.std.proofs.lemmas.List.Sorted.{searched}
 use Rattle.meet_tickets.specs.declared.records.Deed.{Deed}
 use Rattle.meet_tickets.specs.declared.records.Record.{Record}
 use Rattle.meet_tickets.specs.BySeat.{put_at}
 use Rattle.meet_tickets.specs.Fates.{named_by, meets_it}
 use Rattle.meet_sum.specs.declared.stories.Story.{Story}
-use Rattle.meet_sum.specs.Stories.{story_in, with_ticket, once, IsOnce, entries_of}
+use Rattle.meet_sum.specs.Stories.{story_in}
 use Rattle.meet_sum.proofs.StoryLemmas.{story_of_others}
 
-test-sym : (a b : ℕ) → (a == b) ≡ (b == a)
-test-sym a b = ⊎_elim (λ e. eq-eqb a b e ∙ sym (eq-eqb b a (sym e))) (λ n. ne_eqb a b n ∙ sym (ne_eqb b a (λ e. n (sym e)))) (cases_eq a b)
+-- of rising tickets each is below those behind it
+pub below : (tickets : List ℕ) → IsStrictlyIncreasing tickets → (i j : ℕ) → i < j → j < length tickets → get_or tickets i 0 < get_or tickets j 0
+below tickets rising i j before within = AllPairs-from_increasing tickets rising i j 0 before within
 
--- a table finds what is told of a ticket that was entered, and nothing of another
-pub lookup-entries : (f : ℕ → Story) (tickets : List ℕ) (t : ℕ) → lookup (λ k. t == k) (entries_of f tickets) ≡ (if list_any (λ u. u == t) tickets then Some (f t) else None)
-lookup-entries f [] t = refl
-lookup-entries f (u ∷ tickets) t = ⊎_elim (λ e. here e) (λ n. there n (lookup-entries f tickets t)) (cases_eq t u)
-  where
-    here : t ≡ u → cond (t == u) (Some (f u)) (lookup (λ k. t == k) (entries_of f tickets)) ≡ (if (u == t) || list_any (λ v. v == t) tickets then Some (f t) else None)
-    here e = ap (λ b. cond b (Some (f u)) (lookup (λ k. t == k) (entries_of f tickets))) (eq-eqb t u e)
-        ∙ ap (λ v. Some (f v)) (sym e)
-        ∙ sym (ap (λ b. if b || list_any (λ v. v == t) tickets then Some (f t) else None) (eq-eqb u t (sym e)))
+never-less : (tickets : List ℕ) → IsStrictlyIncreasing tickets → (i j : ℕ) → i ≤ j → j < length tickets → get_or tickets i 0 ≤ get_or tickets j 0
+never-less tickets rising i j before within = ⊎_elim
+    (λ (less : i < j). let low : get_or tickets i 0 < get_or tickets j 0 = below tickets rising i j less within in omega arith)
+    (λ (more : j ≤ i). let same : i ≡ j = omega arith in let own : get_or tickets i 0 ≡ get_or tickets j 0 = ap (λ k. get_or tickets k 0) same in omega arith)
+    (cases_lt i j)
 
-    there : t ≢ u → lookup (λ k. t == k) (entries_of f tickets) ≡ (if list_any (λ v. v == t) tickets then Some (f t) else None) → cond (t == u) (Some (f u)) (lookup (λ k. t == k) (entries_of f tickets)) ≡ (if (u == t) || list_any (λ v. v == t) tickets then Some (f t) else None)
-    there n rest = ap (λ b. cond b (Some (f u)) (lookup (λ k. t == k) (entries_of f tickets))) (ne_eqb t u n)
-        ∙ rest
-        ∙ sym (ap (λ b. if b || list_any (λ v. v == t) tickets then Some (f t) else None) (ne_eqb u t (λ e. n (sym e))))
+-- no ticket stands twice
+pub apart : (tickets : List ℕ) → IsStrictlyIncreasing tickets → (i t : ℕ) → i < length tickets → get_or tickets i 0 ≡ t → (k : ℕ) → k < length tickets → k ≢ i → get_or tickets k 0 ≢ t
+apart tickets rising i t within at k low other = ⊎_elim
+    (λ (less : k < i). λ same. let gap : get_or tickets k 0 < get_or tickets i 0 = below tickets rising k i less within in absurd (omega arith))
+    (λ (more : i ≤ k). ⊎_elim
+    (λ (above : i < k). λ same. let gap : get_or tickets i 0 < get_or tickets k 0 = below tickets rising i k above low in absurd (omega arith))
+    (λ (not_above : k ≤ i). absurd (other (omega arith)))
+    (cases_lt i k))
+    (cases_lt k i)
 
-cond-cons : (b : Bool) (u : ℕ) (xs ys : List ℕ) → cond b (u ∷ xs) (u ∷ ys) ≡ u ∷ cond b xs ys
-cond-cons true u xs ys = refl
-cond-cons false u xs ys = refl
+-- what a search found, or that it found nothing
+pub search-found : (tickets : List ℕ) (t i : ℕ) → IsStrictlyIncreasing tickets → IsBinarySearchResult (λ y. nat_cmp y t) tickets (Ok i) → (i < length tickets) × (get_or tickets i 0 ≡ t)
+search-found tickets t i rising found = searched tickets t (Ok i) found (never-less tickets rising)
 
--- a ticket behind another one
-with_ticket-cons : (u : ℕ) (tickets : List ℕ) (t : ℕ) → u ≢ t → with_ticket (u ∷ tickets) t ≡ u ∷ with_ticket tickets t
-with_ticket-cons u tickets t n =
-    ap (λ b. if b || list_any (λ v. v == t) tickets then u ∷ tickets else u ∷ (tickets ++ t ∷ [])) (ne_eqb u t n)
-    ∙ cond-cons (list_any (λ v. v == t) tickets) u tickets (tickets ++ t ∷ [])
+pub search-none : (tickets : List ℕ) (t i : ℕ) → IsStrictlyIncreasing tickets → IsBinarySearchResult (λ y. nat_cmp y t) tickets (Err i) → (k : ℕ) → k < length tickets → get_or tickets k 0 ≢ t
+search-none tickets t i rising found k within =
+    let parts = searched tickets t (Err i) found (never-less tickets rising) in
+    λ same. ⊎_elim
+    (λ (less : k < i). let gap : get_or tickets k 0 < t = parts.1 k less in absurd (omega arith))
+    (λ (more : i ≤ k). let gap : t < get_or tickets k 0 = parts.2 k more within in absurd (omega arith))
+    (cases_lt k i)
 
--- what is told already is entered once more
-pub entries-with_ticket : (f : ℕ → Story) (tickets : List ℕ) (t : ℕ) → insert_entry (λ a b. a == b) (entries_of f tickets) t (f t) ≡ entries_of f (with_ticket tickets t)
-entries-with_ticket f [] t = refl
-entries-with_ticket f (u ∷ tickets) t = ⊎_elim (λ e. here e) (λ n. there n (entries-with_ticket f tickets t)) (cases_eq t u)
-  where
-    here : t ≡ u → cond (t == u) ((u, f t) ∷ entries_of f tickets) ((u, f u) ∷ insert_entry (λ a b. a == b) (entries_of f tickets) t (f t)) ≡ entries_of f (with_ticket (u ∷ tickets) t)
-    here e = ap (λ b. cond b ((u, f t) ∷ entries_of f tickets) ((u, f u) ∷ insert_entry (λ a b. a == b) (entries_of f tickets) t (f t))) (eq-eqb t u e)
-        ∙ ap (λ v. (u, f v) ∷ entries_of f tickets) e
-        ∙ sym (ap (λ b. entries_of f (if b || list_any (λ v. v == t) tickets then u ∷ tickets else u ∷ (tickets ++ t ∷ []))) (eq-eqb u t (sym e)))
-
-    there : t ≢ u → insert_entry (λ a b. a == b) (entries_of f tickets) t (f t) ≡ entries_of f (with_ticket tickets t) → cond (t == u) ((u, f t) ∷ entries_of f tickets) ((u, f u) ∷ insert_entry (λ a b. a == b) (entries_of f tickets) t (f t)) ≡ entries_of f (with_ticket (u ∷ tickets) t)
-    there n rest = ap (λ b. cond b ((u, f t) ∷ entries_of f tickets) ((u, f u) ∷ insert_entry (λ a b. a == b) (entries_of f tickets) t (f t))) (ne_eqb t u n)
-        ∙ ap (λ es. (u, f u) ∷ es) rest
-        ∙ sym (ap (entries_of f) (with_ticket-cons u tickets t (λ e. n (sym e))))
-
--- of a ticket that wasn't entered nothing is kept
-pub entries-absent : (f : ℕ → Story) (tickets : List ℕ) (t : ℕ) (x : Story) → list_any (λ u. u == t) tickets ≡ false → entries_of f tickets ≡ entries_of (put_at f t x) tickets
-entries-absent f [] t x absent = refl
-entries-absent f (u ∷ tickets) t x absent =
-    let parts = or_parts (u == t) (list_any (λ v. v == t) tickets) absent in
-    λ i. ((u, cond (sym parts.0 i) x (f u)) ∷ entries-absent f tickets t x parts.1 i)
-
--- what is told of a ticket that was entered takes the place of what was, and of another one nothing is kept
-set-put : (f : ℕ → Story) (tickets : List ℕ) (t : ℕ) (x : Story) → IsOnce tickets → set_value (λ k. t == k) (entries_of f tickets) x ≡ entries_of (put_at f t x) tickets
-set-put f [] t x apart = refl
-set-put f (u ∷ tickets) t x apart = ⊎_elim (λ e. here e) (λ n. there n (set-put f tickets t x apart.1)) (cases_eq t u)
-  where
-    here : t ≡ u → cond (t == u) ((u, x) ∷ entries_of f tickets) ((u, f u) ∷ set_value (λ k. t == k) (entries_of f tickets) x) ≡ (u, cond (u == t) x (f u)) ∷ entries_of (put_at f t x) tickets
-    here e = ap (λ b. cond b ((u, x) ∷ entries_of f tickets) ((u, f u) ∷ set_value (λ k. t == k) (entries_of f tickets) x)) (eq-eqb t u e)
-        ∙ ap (λ es. (u, x) ∷ es) (entries-absent f tickets t x (subst (λ v. list_any (λ w. w == v) tickets ≡ false) (sym e) apart.0))
-        ∙ sym (ap (λ b. (u, cond b x (f u)) ∷ entries_of (put_at f t x) tickets) (eq-eqb u t (sym e)))
-
-    there : t ≢ u → set_value (λ k. t == k) (entries_of f tickets) x ≡ entries_of (put_at f t x) tickets → cond (t == u) ((u, x) ∷ entries_of f tickets) ((u, f u) ∷ set_value (λ k. t == k) (entries_of f tickets) x) ≡ (u, cond (u == t) x (f u)) ∷ entries_of (put_at f t x) tickets
-    there n rest = ap (λ b. cond b ((u, x) ∷ entries_of f tickets) ((u, f u) ∷ set_value (λ k. t == k) (entries_of f tickets) x)) (ne_eqb t u n)
-        ∙ ap (λ es. (u, f u) ∷ es) rest
-        ∙ sym (ap (λ b. (u, cond b x (f u)) ∷ entries_of (put_at f t x) tickets) (ne_eqb u t (λ e. n (sym e))))
-
-or-true : (b : Bool) → (b || true) ≡ true
-or-true true = refl
-or-true false = refl
-
--- a ticket that stands at a place was entered
-entered-at : (f : ℕ → Story) (tickets : List ℕ) (t i : ℕ) (v : Story) → slice_get (entries_of f tickets) i ≡ Some (t, v) → list_any (λ u. u == t) tickets ≡ true
-entered-at f [] t i v at = absurd (cc)
-entered-at f (u ∷ tickets) t zero v at =
-    let both : (u, f u) ≡ (t, v) = cc in
-    ap (λ b. b || list_any (λ w. w == t) tickets) (eq-eqb u t (ap (λ (p : ℕ × Story). p.0) both))
-entered-at f (u ∷ tickets) t (suc i) v at = ap (λ b. (u == t) || b) (entered-at f tickets t i v at) ∙ or-true (u == t)
+-- of a ticket that isn't there nothing is kept
+pub map-absent : (f : ℕ → Story) (tickets : List ℕ) (t : ℕ) (x : Story) → ((k : ℕ) → k < length tickets → get_or tickets k 0 ≢ t) → map f tickets ≡ map (put_at f t x) tickets
+map-absent f [] t x absent = refl
+map-absent f (u ∷ tickets) t x absent =
+    let first : u ≢ t = absent 0 (omega arith) in
+    let own : f u ≡ put_at f t x u = sym (ap (λ b. cond b x (f u)) (ne_eqb u t first)) in
+    let rest : map f tickets ≡ map (put_at f t x) tickets = map-absent f tickets t x (λ k within. absent (suc k) (omega arith)) in
+    λ i. (own i ∷ rest i)
 
 -- what is told of the ticket at a place takes the place of what was
-place-put : (f : ℕ → Story) (tickets : List ℕ) (t i : ℕ) (v x : Story) → IsOnce tickets → slice_get (entries_of f tickets) i ≡ Some (t, v) → (v ≡ f t) × (set_value_at (entries_of f tickets) i x ≡ entries_of (put_at f t x) tickets)
-place-put f [] t i v x apart at = absurd (cc)
-place-put f (u ∷ tickets) t zero v x apart at =
-    let both : (u, f u) ≡ (t, v) = cc in
-    let same : u ≡ t = ap (λ (p : ℕ × Story). p.0) both in
-    let told : f u ≡ v = ap (λ (p : ℕ × Story). p.1) both in (
-      sym told ∙ ap f same,
-      ap (λ es. (u, x) ∷ es) (entries-absent f tickets t x (subst (λ w. list_any (λ y. y == w) tickets ≡ false) same apart.0))
-          ∙ sym (ap (λ b. (u, cond b x (f u)) ∷ entries_of (put_at f t x) tickets) (eq-eqb u t same)),
-    )
-place-put f (u ∷ tickets) t (suc i) v x apart at =
-    let rest = place-put f tickets t i v x apart.1 at in
-    let there : list_any (λ w. w == t) tickets ≡ true = entered-at f tickets t i v at in
-    let other : u ≢ t = λ e. let not_there : list_any (λ w. w == t) tickets ≡ false = subst (λ y. list_any (λ w. w == y) tickets ≡ false) e apart.0 in let clash : true ≡ false = sym there ∙ not_there in absurd (cc) in (
-      rest.0,
-      ap (λ es. (u, f u) ∷ es) rest.1 ∙ sym (ap (λ b. (u, cond b x (f u)) ∷ entries_of (put_at f t x) tickets) (ne_eqb u t other)),
-    )
+pub map-put : (f : ℕ → Story) (tickets : List ℕ) (t : ℕ) (x : Story) (i : ℕ) → i < length tickets → get_or tickets i 0 ≡ t → ((k : ℕ) → k < length tickets → k ≢ i → get_or tickets k 0 ≢ t) → slice_set (map f tickets) i x ≡ map (put_at f t x) tickets
+map-put f [] t x i within at others = absurd (omega arith)
+map-put f (u ∷ tickets) t x zero within at others =
+    let own : x ≡ put_at f t x u = sym (ap (λ b. cond b x (f u)) (eq-eqb u t at)) in
+    let rest : map f tickets ≡ map (put_at f t x) tickets = map-absent f tickets t x (λ k low. others (suc k) (omega arith) (λ e. let clash : suc k ≡ 0 = e in absurd (omega arith))) in
+    λ j. (own j ∷ rest j)
+map-put f (u ∷ tickets) t x (suc i) within at others =
+    let first : u ≢ t = others 0 (omega arith) (λ e. let clash : 0 ≡ suc i = e in absurd (omega arith)) in
+    let own : f u ≡ put_at f t x u = sym (ap (λ b. cond b x (f u)) (ne_eqb u t first)) in
+    let rest : slice_set (map f tickets) i x ≡ map (put_at f t x) tickets = map-put f tickets t x i (omega arith) at (λ k low n. others (suc k) (omega arith) (λ e. n (omega (arith, e)))) in
+    λ j. (own j ∷ rest j)
 
--- the value at a place
-value-at : (entries : List (ℕ × Story)) (t i : ℕ) (v y : Story) → slice_get entries i ≡ Some (t, v) → Some y ≡ slice_get (values_of entries) i → y ≡ v
-value-at [] t i v y at is = absurd (cc)
-value-at (e ∷ es) t zero v y at is =
-    let both : e ≡ (t, v) = cc in
-    let own : y ≡ e.1 = cc in
-    own ∙ ap (λ (p : ℕ × Story). p.1) both
-value-at (e ∷ es) t (suc i) v y at is = value-at es t i v y at is
+pub map-at : (f : ℕ → Story) (tickets : List ℕ) (i : ℕ) (d : Story) → i < length tickets → get_or (map f tickets) i d ≡ f (get_or tickets i 0)
+map-at f [] i d within = absurd (omega arith)
+map-at f (u ∷ tickets) zero d within = refl
+map-at f (u ∷ tickets) (suc i) d within = map-at f tickets i d (omega arith)
 
-value-none : {G : Type 0} (entries : List (ℕ × Story)) (t i : ℕ) (v : Story) → slice_get entries i ≡ Some (t, v) → None ≡ slice_get (values_of entries) i → G
-value-none [] t i v at is = absurd (cc)
-value-none (e ∷ es) t zero v at is = absurd (cc)
-value-none (e ∷ es) t (suc i) v at is = value-none es t i v at is
+-- the same of a ticket by its number
+module _ (f : ℕ → Story) (tickets : List ℕ) (t n : ℕ) (x : Story) (is : n ≡ t) where
+  pub absent-put : ((k : ℕ) → k < length tickets → get_or tickets k 0 ≢ n) → map f tickets ≡ map (put_at f t x) tickets
+  absent-put absent = map-absent f tickets t x (λ k within same. absent k within (same ∙ sym is))
 
-pub none-at : {G : Type 0} (entries : List (ℕ × Story)) (t i : ℕ) (v : Story) → slice_get entries i ≡ Some (t, v) → None ≡ slice_get (values_of entries) i → G
-none-at entries t i v at is = value-none entries t i v at is
+  module _ (stories : List Story) (are : stories ≡ map f tickets) (i : ℕ) (at : (i < length tickets) × (get_or tickets i 0 ≡ n)) where
+    pub held-at : (d : Story) → get_or stories i d ≡ f t
+    held-at d = ap (λ xs. get_or xs i d) are ∙ map-at f tickets i d at.0 ∙ ap f (at.1 ∙ is)
 
--- tickets that stand once, with a new one at the end
-once-push : (tickets : List ℕ) (t : ℕ) → IsOnce tickets → list_any (λ u. u == t) tickets ≡ false → IsOnce (tickets ++ t ∷ [])
-once-push [] t apart absent = (refl, tt)
-once-push (u ∷ tickets) t apart absent =
-    let parts = or_parts (u == t) (list_any (λ v. v == t) tickets) absent in (
-      list_any-append (λ v. v == u) tickets (t ∷ []) ∙ ap (λ b. b || ((t == u) || false)) apart.0 ∙ ap (λ b. b || false) (test-sym t u ∙ parts.0),
-      once-push tickets t apart.1 parts.1,
-    )
+    pub put-there : IsStrictlyIncreasing tickets → slice_set stories i x ≡ map (put_at f t x) tickets
+    put-there rising =
+        ap (λ xs. slice_set xs i x) are ∙ map-put f tickets t x i at.0 (at.1 ∙ is) (apart tickets rising i t at.0 (at.1 ∙ is))
 
-once-with : (tickets : List ℕ) (t : ℕ) → IsOnce tickets → IsOnce (with_ticket tickets t)
-once-with tickets t apart = by (list_any (λ u. u == t) tickets) refl
-  where
-    by : (b : Bool) → list_any (λ u. u == t) tickets ≡ b → IsOnce (if b then tickets else tickets ++ t ∷ [])
-    by true is = apart
-    by false is = once-push tickets t apart is
+-- nothing is told of one ticket more
+pub one-untold : (tickets : List ℕ) (i : ℕ) → i < length tickets → (old new : List Story) → old ≡ map (story_in []) (take i tickets) → ((t : ℕ) → new ≡ old ++ story_in [] t ∷ []) → new ≡ map (story_in []) (take (i + 1) tickets)
+one-untold tickets i within old new so_far push =
+    let t = get_or tickets i 0 in
+    push t ∙ ap (λ xs. xs ++ story_in [] t ∷ []) so_far ∙ sym (map-append (story_in []) (take i tickets) (t ∷ [])) ∙ ap (map (story_in [])) (sym (take_more tickets i 0 within))
 
-once-fold : (more tickets : List ℕ) → IsOnce tickets → IsOnce (fold with_ticket tickets more)
-once-fold [] tickets apart = apart
-once-fold (t ∷ more) tickets apart = once-fold more (with_ticket tickets t) (once-with tickets t apart)
-
--- each stands once
-pub once-once : (tickets : List ℕ) → IsOnce (once tickets)
-once-once tickets = once-fold tickets [] tt
-
--- tables by what is told alike are one
-pub entries-alike : (f g : ℕ → Story) (tickets : List ℕ) → ((t : ℕ) → f t ≡ g t) → entries_of f tickets ≡ entries_of g tickets
-entries-alike f g tickets same = ap (λ h. entries_of h tickets) (fun_ext same)
-
--- what a table found of a ticket, or that it found nothing
-module _ (f : ℕ → Story) (tickets : List ℕ) (t : ℕ) (entries : List (ℕ × Story)) (are : entries ≡ entries_of f tickets) where
-  found : lookup (λ k. t == k) entries ≡ (if list_any (λ u. u == t) tickets then Some (f t) else None)
-  found = ap (lookup (λ k. t == k)) are ∙ lookup-entries f tickets t
-
-  pub found-none : None ≡ lookup (λ k. t == k) entries → list_any (λ u. u == t) tickets ≡ false
-  found-none none = by (list_any (λ u. u == t) tickets) (none ∙ found)
-    where
-      by : (b : Bool) → None ≡ (if b then Some (f t) else None) → b ≡ false
-      by true clash = absurd (cc)
-      by false clash = refl
-
-  pub found-there : (x : Story) → Some x ≡ lookup (λ k. t == k) entries → (list_any (λ u. u == t) tickets ≡ true) × (x ≡ f t)
-  found-there x some = by (list_any (λ u. u == t) tickets) (some ∙ found)
-    where
-      by : (b : Bool) → Some x ≡ (if b then Some (f t) else None) → (b ≡ true) × (x ≡ f t)
-      by true same = (refl, cc)
-      by false clash = absurd (cc)
-
-  -- a ticket that isn't there hears nothing
-  pub kept-absent : (x : Story) → None ≡ lookup (λ k. t == k) entries → entries ≡ entries_of (put_at f t x) tickets
-  kept-absent x none = are ∙ entries-absent f tickets t x (found-none none)
-
-  pub put-there : (x : Story) → IsOnce tickets → set_value (λ k. t == k) entries x ≡ entries_of (put_at f t x) tickets
-  put-there x apart = ap (λ es. set_value (λ k. t == k) es x) are ∙ set-put f tickets t x apart
-
-  pub held-at : (i : ℕ) (v y : Story) → IsOnce tickets → slice_get entries i ≡ Some (t, v) → Some y ≡ slice_get (values_of entries) i → y ≡ f t
-  held-at i v y apart at is =
-      value-at entries t i v y at is ∙ (place-put f tickets t i v v apart (sym (ap (λ es. slice_get es i) are) ∙ at)).0
-
-  pub put-at : (i : ℕ) (v x : Story) → IsOnce tickets → slice_get entries i ≡ Some (t, v) → set_value_at entries i x ≡ entries_of (put_at f t x) tickets
-  put-at i v x apart at =
-      ap (λ es. set_value_at es i x) are ∙ (place-put f tickets t i v x apart (sym (ap (λ es. slice_get es i) are) ∙ at)).1
+alike : (f g : ℕ → Story) (tickets : List ℕ) → ((t : ℕ) → f t ≡ g t) → map f tickets ≡ map g tickets
+alike f g tickets same = ap (λ h. map h tickets) (fun_ext same)
 
 -- elsewhere nothing has changed
 pub put-others : (f : ℕ → Story) (t : ℕ) (x : Story) (u : ℕ) → u ≢ t → put_at f t x u ≡ f u
@@ -201,16 +107,16 @@ module _ (history : List (Record Deed)) (r : Record Deed) (tickets : List ℕ) w
   abbrev later : ℕ → Story
   later = story_in (history ++ r ∷ [])
 
-  pub heard-alone : ((t : ℕ) → r.ticket ≢ t → meets_it t r ≡ false) → entries_of (put_at (story_in history) r.ticket (later r.ticket)) tickets ≡ entries_of later tickets
-  heard-alone unnamed = entries-alike (put_at (story_in history) r.ticket (later r.ticket)) later tickets each
+  pub heard-alone : ((t : ℕ) → r.ticket ≢ t → meets_it t r ≡ false) → map (put_at (story_in history) r.ticket (later r.ticket)) tickets ≡ map later tickets
+  heard-alone unnamed = alike (put_at (story_in history) r.ticket (later r.ticket)) later tickets each
     where
       each : (t : ℕ) → put_at (story_in history) r.ticket (later r.ticket) t ≡ later t
       each t = ⊎_elim (λ e. ap (λ b. cond b (later r.ticket) (story_in history t)) (eq-eqb t r.ticket e) ∙ ap later (sym e))
           (λ n. ap (λ b. cond b (later r.ticket) (story_in history t)) (ne_eqb t r.ticket n) ∙ sym (story_of_others history r t (λ e. n (sym e)) (unnamed t (λ e. n (sym e)))))
           (cases_eq t r.ticket)
 
-  pub heard-both : (u : ℕ) → named_by r.deed ≡ Some u → entries_of (put_at (put_at (story_in history) r.ticket (later r.ticket)) u (later u)) tickets ≡ entries_of later tickets
-  heard-both u named = entries-alike (put_at (put_at (story_in history) r.ticket (later r.ticket)) u (later u)) later tickets each
+  pub heard-both : (u : ℕ) → named_by r.deed ≡ Some u → map (put_at (put_at (story_in history) r.ticket (later r.ticket)) u (later u)) tickets ≡ map later tickets
+  heard-both u named = alike (put_at (put_at (story_in history) r.ticket (later r.ticket)) u (later u)) later tickets each
     where
       others : (t : ℕ) → t ≢ u → put_at (story_in history) r.ticket (later r.ticket) t ≡ later t
       others t n = ⊎_elim (λ e. ap (λ b. cond b (later r.ticket) (story_in history t)) (eq-eqb t r.ticket e) ∙ ap later (sym e))

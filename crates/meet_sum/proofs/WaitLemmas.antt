@@ -1,7 +1,7 @@
 -- The longest wait, one story more.
-use Rattle.std.proofs.Common.{◌≡◌, ℕ, ◌<◌, ◌≤◌, refl, sym, ap, ◌∙◌, subst, arith, Option, Some, None, List, [], ◌∷◌, ◌++◌}
+use Rattle.std.proofs.Common.{◌≡◌, ℕ, ◌+◌, ◌<◌, ◌≤◌, refl, sym, ap, ◌∙◌, subst, arith, Option, Some, None, List, [], ◌∷◌, ◌++◌, length, take, get_or}
 use Rattle.std.specs.Prelude.{IfSome, All}
-use Rattle.std.proofs.lemmas.List.{append_assoc, append-nil}
+use Rattle.std.proofs.lemmas.List.{append_assoc, take_more}
 use Rattle.std.proofs.lemmas.List.Elements.{All-append, All-nil, All-cons, All-push, All-weaker}
 use Rattle.meet_sum.specs.declared.stories.Story.{Story}
 use Rattle.meet_sum.specs.declared.waits.Wait.{Wait}
@@ -65,23 +65,7 @@ pub longer-either : (opened all : ℕ) (done : List Story) (s : Story) (old here
 longer-either opened all done s old here under own found =
     longest-stays opened all done s old (at_number (λ n. n ≤ old.records) (stay_told opened all s) here.records own.stay under) found
 
--- of all stories these are left, and of the others this is the longest
-pub record Sought (opened all : ℕ) (stories left : List Story) (best : Option Wait) : Type 0 where
-  pub done : List Story
-  pub parts : done ++ left ≡ stories
-  pub longest : IsLongest opened all done best
-
-module _ (opened all : ℕ) (stories left : List Story) where
-  pub sought-none : (best : Option Wait) → left ≡ stories → best ≡ None → Sought opened all stories left best
-  sought-none best same none = record { done = []; parts = same; longest = subst (IsLongest opened all []) (sym none) (All-nil (λ x. stay_told opened all x ≡ None)) }
-
-  pub sought-more : (before : List Story) (x : Story) (best next : Option Wait) → Sought opened all stories before best → before ≡ x ∷ left → ((done : List Story) → IsLongest opened all done best → IsLongest opened all (done ++ x ∷ []) next) → Sought opened all stories left next
-  sought-more before x best next so_far is more = record {
-    done = so_far.done ++ x ∷ [];
-    parts = append_assoc so_far.done (x ∷ []) left ∙ ap (λ xs. so_far.done ++ xs) (sym is) ∙ so_far.parts;
-    longest = more so_far.done so_far.longest;
-  }
-
-  pub sought-all : (best : Option Wait) → Sought opened all stories left best → left ≡ [] → IsLongest opened all stories best
-  sought-all best so_far none =
-      subst (λ xs. IsLongest opened all xs best) (sym (append-nil so_far.done) ∙ ap (λ xs. so_far.done ++ xs) (sym none) ∙ so_far.parts) so_far.longest
+-- of one story more that was told of
+pub one-more : (opened all : ℕ) (stories : List Story) (i : ℕ) (s : Story) (best : Option Wait) → i < length stories → s ≡ get_or stories i s → IsLongest opened all (take i stories ++ s ∷ []) best → IsLongest opened all (take (i + 1) stories) best
+one-more opened all stories i s best within is found =
+    subst (λ xs. IsLongest opened all xs best) (ap (λ x. take i stories ++ x ∷ []) is ∙ sym (take_more stories i s within)) found

@@ -1,5 +1,5 @@
 -- How many tickets have which fate.
-use Rattle.std.specs.Prelude.{ℕ, ◌+◌, Bool, true, false, List, ◌++◌, map, count_by}
+use Rattle.std.specs.Prelude.{◌≡◌, ℕ, ◌+◌, Bool, true, false, List, ◌++◌, map, count_by}
 use Rattle.meet_tickets.specs.declared.records.Record.{Record}
 use Rattle.meet_tickets.specs.declared.records.Deed.{Deed}
 use Rattle.meet_tickets.specs.declared.records.Cause.TheVariants.{Cancelled, Expired, Interrupted}
@@ -9,7 +9,7 @@ use Rattle.meet_tickets.specs.declared.fates.Fate.TheVariants.{Withdrawn, Cut, K
 use Rattle.meet_tickets.specs.Bases.{Based}
 use Rattle.meet_tickets.specs.Fates.{fate, opening, is_waiting, is_kept}
 use Rattle.meet_sum.specs.declared.fates.FateCounts.{FateCounts}
-use Rattle.meet_sum.specs.Stories.{requested_on}
+use Rattle.meet_sum.specs.Stories.{AreRequested}
 
 -- whether a fate is this one
 abbrev pub is_failed : Fate → Bool
@@ -59,9 +59,14 @@ numbers_of fates = record {
   entry_refused = count_by is_entry_refused fates;
 }
 
+-- how many of these tickets have which fate, by a base and the records since
+abbrev pub fates_on : Based → List (Record Deed) → (tickets : List ℕ) → FateCounts
+fates_on b records tickets = numbers_of (map (fate (opening b ++ records)) tickets)
+
 -- how many of the tickets that a base and the records since name as requested have which fate
-abbrev pub fates_on : Based → List (Record Deed) → FateCounts
-fates_on b records = numbers_of (map (fate (opening b ++ records)) (requested_on b records))
+abbrev pub AreFates : Based → List (Record Deed) → FateCounts → Type 0
+AreFates b records counts =
+    (tickets : List ℕ) × AreRequested b records tickets × (counts ≡ fates_on b records tickets)
 
 -- of how many tickets these are the numbers
 abbrev pub fates_counted : FateCounts → ℕ

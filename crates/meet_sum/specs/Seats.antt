@@ -26,7 +26,7 @@ greatest numbers = fold greater None numbers
 -- how long the ticket of a story stood in the line, if it did and is this seat's
 abbrev pub stay_at : (seat opened all : ℕ) → Story → Option ℕ
 stay_at seat opened all s =
-    if option_map_or (λ r. r.seat == seat) s.asked false then stay_told opened all s else None
+    if option_map_or (λ a. a.seat == seat) s.asked false then stay_told opened all s else None
 
 -- what a seat did, by the records that open a base, those since, and the stories of the tickets
 abbrev pub seat_sum : (before records : List (Record Deed)) → (opened all : ℕ) → List Story → (seat : ℕ) → SeatSum
@@ -42,7 +42,8 @@ pub record HasSeats (f : ℕ → SeatSum) (sums : List SeatSum) : Type 0 where
   pub every : length sums ≡ most_seats
   pub each : (seat : ℕ) → seat < most_seats → slice_get sums seat ≡ Some (f seat)
 
--- what each seat did, by a base and the records since
-abbrev pub AreSeatsOn : Based → List (Record Deed) → List SeatSum → Type 0
-AreSeatsOn b records sums = HasSeats
-    (seat_sum (opening b) records (length (opening b)) (length (opening b) + length records) (stories_on b records)) sums
+-- what each seat did, by a base, the records since and the tickets that they name as requested
+abbrev pub AreSeatsOn : Based → List (Record Deed) → (tickets : List ℕ) → List SeatSum → Type 0
+AreSeatsOn b records tickets sums = HasSeats
+    (seat_sum (opening b) records (length (opening b)) (length (opening b) + length records)
+    (stories_on b records tickets)) sums

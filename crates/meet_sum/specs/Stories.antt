@@ -1,18 +1,23 @@
 -- What records tell of one ticket, and when; records are numbered from 1.
-use Rattle.std.specs.Prelude.{◌≡◌, ⊤, Bool, false, map, ℕ, ◌==◌, ◌&&◌, ◌||◌, nat_lt, is_some, option_map, List, find, fold, [], ◌∷◌, ◌++◌}
-use Rattle.std.specs.Prelude.{if◌then◌else◌}
-use Rattle.std.specs.List.{list_any, position_from}
-use Rattle.std.specs.Option.{option_or, option_map_or}
+use Rattle.std.specs.Prelude.{ℕ, ◌==◌, ◌&&◌, ◌||◌, ◌↔◌, Bool, nat_lt, is_some, option_map, List, find}
+use Rattle.std.specs.Prelude.{◌++◌, Contains, if◌then◌else◌}
+use Rattle.std.specs.List.{position_from}
+use Rattle.std.specs.List.Sorted.{IsStrictlyIncreasing}
+use Rattle.std.specs.Option.{option_map_or}
 use Rattle.meet_tickets.specs.declared.records.Record.{Record}
 use Rattle.meet_tickets.specs.declared.records.Deed.{Deed}
-use Rattle.meet_tickets.specs.declared.records.Deed.TheVariants.{GiveFails, TakeFails, EntryInterrupted}
+use Rattle.meet_tickets.specs.declared.records.Deed.TheVariants.{GiveWaits, GiveMeets, GiveFails, GiveKept, TakeWaits}
+use Rattle.meet_tickets.specs.declared.records.Deed.TheVariants.{TakeMeets, TakeFails}
 use Rattle.meet_tickets.specs.declared.fates.Fate.{Fate}
 use Rattle.meet_tickets.specs.declared.fates.Fate.TheVariants.{Never, Failed, EntryRefused, Paired, Collected}
 use Rattle.meet_tickets.specs.declared.fates.Fate.TheVariants.{Withdrawn as TakenBack, Cut, Kept, Waiting}
 use Rattle.meet_tickets.specs.Bases.{Based}
 use Rattle.meet_tickets.specs.BySeat.{is_request}
 use Rattle.meet_tickets.specs.Fates.{meets_it, has_learned, withdrawn_by, withdrawal_of, interrupts, was_cut}
-use Rattle.meet_tickets.specs.Fates.{tickets_of, entered_in, named_by, waits_first}
+use Rattle.meet_tickets.specs.Fates.{tickets_of, entered_in}
+use Rattle.meet_sum.specs.declared.stories.Asked.{Asked}
+use Rattle.meet_sum.specs.declared.stories.AtOnce.{AtOnce}
+use Rattle.meet_sum.specs.declared.stories.AtOnce.TheVariants.{Waits, IsKept, Meets, Fails, Refused}
 use Rattle.meet_sum.specs.declared.stories.Story.{Story}
 
 -- whether a record is the request of this ticket
@@ -25,54 +30,58 @@ takes_out t r =
     meets_it t r || (is_some (withdrawn_by r.deed) && (r.ticket == t))
     || (interrupts r.deed && nat_lt 0 t && (r.ticket == t))
 
+-- what a request came to at once; one that is none of the others was refused at its entry
+abbrev pub at_once : Deed → AtOnce
+at_once (GiveWaits m) = Waits
+at_once (GiveMeets m u) = Meets
+at_once (GiveFails m) = Fails
+at_once (GiveKept m) = IsKept
+at_once TakeWaits = Waits
+at_once (TakeMeets m u) = Meets
+at_once TakeFails = Fails
+at_once deed = Refused
+
+-- who asked for which ticket, and what it came to at once, by the record of a request
+abbrev pub asked_by : Record Deed → Asked
+asked_by r = record { seat = r.seat; ticket = r.ticket; how = at_once r.deed }
+
 -- what these records tell of a ticket
 abbrev pub story_in : List (Record Deed) → (ticket : ℕ) → Story
 story_in history t = record {
-  asked = find (asks_for t) history;
+  asked = option_map asked_by (find (asks_for t) history);
   came = position_from (asks_for t) 1 history;
-  met = option_map (λ r. r.ticket) (find (meets_it t) history);
+  met = is_some (find (meets_it t) history);
   learned = has_learned history t;
   back = withdrawal_of history t;
   cut = was_cut history t;
   left = position_from (takes_out t) 1 history;
 }
 
--- these tickets and one more, if it is new
-abbrev pub with_ticket : List ℕ → ℕ → List ℕ
-with_ticket tickets t = if list_any (λ u. u == t) tickets then tickets else tickets ++ t ∷ []
+-- the tickets that a base and the records since name as requested, each once and rising: those of the base's entries,
+-- which are its line, the open tickets that were met and those that were cut, but not their partners (our choice), and
+-- those of the requests
+pub record AreRequested (b : Based) (records : List (Record Deed)) (tickets : List ℕ) : Type 0 where
+  pub rising : IsStrictlyIncreasing tickets
+  pub those : (t : ℕ) → Contains tickets t ↔ Contains (entered_in b ++ tickets_of records) t
 
--- each of these tickets once, where it stands first
-abbrev pub once : List ℕ → List ℕ
-once tickets = fold with_ticket [] tickets
+-- the fate of one that met somebody; of whom its story doesn't tell, so 0 stands there
+abbrev pub fate_met : (learned : Bool) → Fate
+fate_met learned = if learned then Collected 0 else Paired 0
 
--- the tickets that a base and the records since name as requested: those of the base's entries, which are its line, the
--- open tickets that were met and those that were cut, but not their partners (our choice), and those of the requests
-abbrev pub requested_on : Based → List (Record Deed) → List ℕ
-requested_on b records = once (entered_in b ++ tickets_of records)
+-- the fate of one whose request stood in the line, where this is what it came to at once
+abbrev pub fate_stood : Story → (first : Fate) → Fate
+fate_stood s first =
+    if s.met then fate_met s.learned
+    else option_map_or (λ cause. TakenBack cause) s.back (if s.cut then Cut else first)
 
--- no ticket stands twice
-abbrev pub IsOnce : List ℕ → Type 0
-IsOnce [] = ⊤
-IsOnce (t ∷ tickets) = (list_any (λ u. u == t) tickets ≡ false) × IsOnce tickets
-
--- a table that has what f tells of each of these tickets
-abbrev pub entries_of : (ℕ → Story) → List ℕ → List (ℕ × Story)
-entries_of f tickets = map (λ t. (t, f t)) tickets
-
--- the fate of a ticket with this story, whose request has this deed and neither failed nor was refused
-abbrev pub fate_settled : Story → Deed → Fate
-fate_settled s deed =
-    option_map_or (λ u. if s.learned then Collected u else Paired u) (option_or (named_by deed) s.met)
-    (option_map_or (λ cause. TakenBack cause) s.back
-    (if s.cut then Cut else (if waits_first deed then Waiting else Kept)))
-
--- the same, whatever became of the request
-abbrev pub fate_asked : Story → Deed → Fate
-fate_asked s (GiveFails m) = Failed
-fate_asked s TakeFails = Failed
-fate_asked s (EntryInterrupted side) = EntryRefused
-fate_asked s deed = fate_settled s deed
+-- the fate of a ticket with this story, whose request came to this at once
+abbrev pub fate_asked : Story → AtOnce → Fate
+fate_asked s Waits = fate_stood s Waiting
+fate_asked s IsKept = fate_stood s Kept
+fate_asked s Meets = fate_met s.learned
+fate_asked s Fails = Failed
+fate_asked s Refused = EntryRefused
 
 -- the fate of a ticket with this story
 abbrev pub fate_told : Story → Fate
-fate_told s = option_map_or (λ r. fate_asked s r.deed) s.asked Never
+fate_told s = option_map_or (λ a. fate_asked s a.how) s.asked Never

@@ -8,7 +8,7 @@ use Rattle.meet_tickets.specs.declared.refusals.Refusal.{Refusal}
 use Rattle.meet_tickets.specs.declared.refusals.Refusal.TheVariants.{Memory, BadTrace, ReadFault, WriteFault}
 use Rattle.meet_tickets.specs.Bases.{Based, IsWellFormed, IsLegalOn}
 use Rattle.meet_history.specs.Standings.{standing_on}
-use Rattle.meet_run.specs.declared.faults.RunFault.{RunFault}
+use Rattle.meet_run.specs.declared.text.faults.RunFault.{RunFault}
 use Rattle.meet_run.specs.Traces.{IsTraceOn, IsFoundIn, trace_fault_in}
 use Rattle.meet_run.specs.Wording.{last_line}
 use Rattle.meet_run.specs.Writing.{AppendsPrefix}

@@ -1,18 +1,12 @@
 //! How many tickets have which fate.
 
-ghost use Rattle.std.specs.Prelude.{◌≡◌, ◌+◌, ◌<◌, ◌≤◌, ◌^◌, ◌++◌, [], map, length, IfOk, IfErr};
-ghost use Rattle.std.specs.Option.{option_map_or};
-ghost use Rattle.std.specs.Prelude.{if◌then◌else◌};
-ghost use Rattle.indexmap.specs.IndexMap.{values};
-ghost use Rattle.meet_tickets.specs.declared.fates.Fate.TheVariants.{Withdrawn, Cut, Kept, Waiting};
-ghost use Rattle.meet_tickets.specs.declared.refusals.Refusal.TheVariants.{Memory};
-ghost use Rattle.meet_tickets.specs.Fates.{opening, waits_first};
-ghost use Rattle.meet_sum.specs.FatesCounted.{fates_on, fates_counted, numbers_of, with_fate};
-ghost use Rattle.meet_sum.specs.Stories.{fate_told, fate_asked, fate_settled, story_in, entries_of, requested_on};
+ghost use Rattle.std.specs.Prelude.{◌≡◌, ◌+◌, ◌<◌, ◌^◌, [], map};
+ghost use Rattle.meet_tickets.specs.declared.fates.Fate.TheVariants.{Kept, Waiting, Withdrawn};
+ghost use Rattle.meet_sum.specs.FatesCounted.{fates_counted, numbers_of, with_fate};
+ghost use Rattle.meet_sum.specs.Stories.{fate_told, fate_asked, fate_stood, fate_met};
 
-use crate::stories::{Story, named_by};
-use crate::table::Stories;
-use meet_tickets::{Cause, Deed, Fate};
+use crate::stories::{AtOnce, Story};
+use meet_tickets::Cause;
 
 /// How many tickets have which fate.
 #[derive(Clone, Copy, PartialEq, Eq, Debug)]
@@ -40,7 +34,7 @@ pub struct FateCounts {
 }
 
 /// The numbers of no fates.
-fn no_fates() -> FateCounts
+pub(crate) fn no_fates() -> FateCounts
     ensures { result ≡ numbers_of [] }
 {
     FateCounts {
@@ -57,98 +51,102 @@ fn no_fates() -> FateCounts
     }
 }
 
-/// Counts one fate more.
-fn add(counts: &mut FateCounts, fate: Fate)
+/// Counts a ticket more that met somebody.
+fn add_met(counts: &mut FateCounts, learned: bool)
     requires { fates_counted counts.old + 1 < 2 ^ 64 }
-    ensures { counts.new ≡ with_fate counts.old fate }
+    ensures { counts.new ≡ with_fate counts.old (fate_met learned) }
 {
-    match fate {
-        Fate::Waiting => counts.waiting += 1,
-        Fate::Kept => counts.kept += 1,
-        Fate::Paired(_) => counts.paired += 1,
-        Fate::Collected(_) => counts.collected += 1,
-        Fate::Withdrawn(Cause::Cancelled) => counts.cancelled += 1,
-        Fate::Withdrawn(Cause::Expired) => counts.expired += 1,
-        Fate::Withdrawn(Cause::Interrupted) => counts.interrupted += 1,
-        Fate::Cut => counts.cut += 1,
-        Fate::Failed => counts.failed += 1,
-        Fate::EntryRefused => counts.entry_refused += 1,
-        Fate::Never => {}
-        Fate::Past => {}
+    if learned {
+        counts.collected += 1;
+    } else {
+        counts.paired += 1;
     }
 }
 
-/// Whether a deed is a request that waits.
-fn waits_first(deed: &Deed) -> bool
-    ensures { result ≡ waits_first deed.now }
+/// Counts a ticket more that was taken back.
+fn add_back(counts: &mut FateCounts, cause: Cause)
+    requires { fates_counted counts.old + 1 < 2 ^ 64 }
+    ensures { counts.new ≡ with_fate counts.old (Withdrawn cause) }
 {
-    matches!(deed, Deed::GiveWaits(_) | Deed::TakeWaits)
+    match cause {
+        Cause::Cancelled => counts.cancelled += 1,
+        Cause::Expired => counts.expired += 1,
+        Cause::Interrupted => counts.interrupted += 1,
+    }
 }
 
-/// The fate of one that met nobody.
-fn unmet(story: &Story, deed: &Deed) -> Fate
-    ensures { result ≡ option_map_or (λ cause. Withdrawn cause) story.now.back
-        (if story.now.cut then Cut else (if waits_first deed.now then Waiting else Kept)) }
+/// Counts a ticket more whose request waits.
+fn add_waits(counts: &mut FateCounts, story: &Story)
+    requires { fates_counted counts.old + 1 < 2 ^ 64 }
+    ensures { counts.new ≡ with_fate counts.old (fate_stood story.now Waiting) }
 {
+    if story.met {
+        return add_met(counts, story.learned);
+    }
     match story.back {
-        Some(cause) => Fate::Withdrawn(cause),
+        Some(cause) => add_back(counts, cause),
         None => {
             if story.cut {
-                Fate::Cut
-            } else if waits_first(deed) {
-                Fate::Waiting
+                counts.cut += 1;
             } else {
-                Fate::Kept
+                counts.waiting += 1;
             }
         }
     }
 }
 
-/// The fate of a ticket with this story, whose request neither failed nor was refused.
-fn settled(story: &Story, deed: &Deed) -> Fate
-    ensures { result ≡ fate_settled story.now deed.now }
+/// Counts a ticket more whose item was kept.
+fn add_kept(counts: &mut FateCounts, story: &Story)
+    requires { fates_counted counts.old + 1 < 2 ^ 64 }
+    ensures { counts.new ≡ with_fate counts.old (fate_stood story.now Kept) }
 {
-    match named_by(deed).or(story.met) {
-        Some(partner) => {
-            if story.learned {
-                Fate::Collected(partner)
+    if story.met {
+        return add_met(counts, story.learned);
+    }
+    match story.back {
+        Some(cause) => add_back(counts, cause),
+        None => {
+            if story.cut {
+                counts.cut += 1;
             } else {
-                Fate::Paired(partner)
+                counts.kept += 1;
             }
         }
-        None => unmet(story, deed),
     }
 }
 
-/// The fate of a ticket with this story, whose request has this deed.
-fn fate_asked(story: &Story, deed: &Deed) -> Fate
-    ensures { result ≡ fate_asked story.now deed.now }
+/// Counts the ticket of a story, whose request came to this at once.
+fn add_asked(counts: &mut FateCounts, story: &Story, how: AtOnce)
+    requires { fates_counted counts.old + 1 < 2 ^ 64 }
+    ensures { counts.new ≡ with_fate counts.old (fate_asked story.now how) }
 {
-    match deed {
-        Deed::GiveFails(_) => Fate::Failed,
-        Deed::TakeFails => Fate::Failed,
-        Deed::EntryInterrupted(_) => Fate::EntryRefused,
-        _ => settled(story, deed),
+    match how {
+        AtOnce::Waits => add_waits(counts, story),
+        AtOnce::IsKept => add_kept(counts, story),
+        AtOnce::Meets => add_met(counts, story.learned),
+        AtOnce::Fails => counts.failed += 1,
+        AtOnce::Refused => counts.entry_refused += 1,
     }
 }
 
-/// The fate of a ticket with this story.
-fn fate_told(story: &Story) -> Fate
-    ensures { result ≡ fate_told story.now }
+/// Counts the ticket of a story.
+pub(crate) fn add(counts: &mut FateCounts, story: &Story)
+    requires { fates_counted counts.old + 1 < 2 ^ 64 }
+    ensures { counts.new ≡ with_fate counts.old (fate_told story.now) }
 {
     match story.asked {
-        None => Fate::Never,
-        Some(entry) => fate_asked(story, &entry.deed),
+        None => {}
+        Some(asked) => add_asked(counts, story, asked.how),
     }
 }
 
 /// How many of these stories end in which fate.
-pub(crate) fn count_stories(stories: &Stories) -> FateCounts
-    ensures { result ≡ numbers_of (map fate_told (values stories.now)) }
+pub(crate) fn count_stories(stories: &[Story]) -> FateCounts
+    ensures { result ≡ numbers_of (map fate_told stories.now) }
 {
     let mut counts = no_fates();
-    for story in stories.values() {
-        add(&mut counts, fate_told(story));
+    for story in stories {
+        add(&mut counts, story);
     }
     counts
 }

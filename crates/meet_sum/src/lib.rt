@@ -14,7 +14,6 @@ mod stories;
 mod summing;
 mod sums;
 mod table;
-mod texts;
 mod waits;
 mod wording;
 
@@ -22,7 +21,7 @@ pub use deeds::{DeedCounts, count_deeds};
 pub use fates::FateCounts;
 pub use line::{LongestLine, longest_line};
 pub use seats::SeatSum;
-pub use stories::Story;
+pub use stories::{Asked, AtOnce, Story};
 pub use summing::sum_trace;
 pub use sums::{Sums, count_fates, sum_records};
 pub use waits::Wait;

@@ -4,6 +4,7 @@ ghost use Rattle.std.specs.Prelude.{◌≡◌, ◌++◌, ◌∷◌, [], IfOk, On
 ghost use Rattle.std.specs.List.{flat_map};
 ghost use Rattle.meet_tickets.specs.Fates.{line_record, pair_records, cut_records, opening, entered_in, tickets_of};
 ghost use Rattle.meet_tickets.specs.Fates.{asked_for, asked_on, met_on};
+ghost use Rattle.meet_sum.specs.Stories.{AreRequested};
 
 use meet_tickets::{Base, Deed, Entry, OpenCut, OpenPair, Record, Side, Ticket};
 use std::alloc::{AllocError, Global};
@@ -132,53 +133,49 @@ pub(crate) fn opening(alloc: Global, base: &Base) -> Result<Vec<Record<Deed>>, A
 }
 
 /// Appends the tickets of a line.
-fn enter_line(tickets: &mut Vec<Ticket>, line: &[Entry<u64>]) -> Result<(), AllocError>
+fn enter_line(tickets: &mut Vec<u64>, line: &[Entry<u64>]) -> Result<(), AllocError>
     ensures { OnOk result (tickets.new.items ≡ tickets.old.items ++ map (λ e. e.ticket) line.now) }
 {
     for entry in line {
-        tickets.push(entry.ticket)?;
+        tickets.push(entry.ticket.number())?;
     }
     Ok(())
 }
 
 /// Appends the tickets of pairs.
-fn enter_pairs(tickets: &mut Vec<Ticket>, pairs: &[OpenPair]) -> Result<(), AllocError>
+fn enter_pairs(tickets: &mut Vec<u64>, pairs: &[OpenPair]) -> Result<(), AllocError>
     ensures { OnOk result (tickets.new.items ≡ tickets.old.items ++ map (λ p. p.ticket) pairs.now) }
 {
     for pair in pairs {
-        tickets.push(pair.ticket)?;
+        tickets.push(pair.ticket.number())?;
     }
     Ok(())
 }
 
 /// Appends the tickets that were cut.
-fn enter_cuts(tickets: &mut Vec<Ticket>, cuts: &[OpenCut]) -> Result<(), AllocError>
+fn enter_cuts(tickets: &mut Vec<u64>, cuts: &[OpenCut]) -> Result<(), AllocError>
     ensures { OnOk result (tickets.new.items ≡ tickets.old.items ++ map (λ c. c.ticket) cuts.now) }
 {
     for cut in cuts {
-        tickets.push(cut.ticket)?;
+        tickets.push(cut.ticket.number())?;
     }
     Ok(())
 }
 
 /// Appends the tickets of the requests among these records.
-fn enter_requests(tickets: &mut Vec<Ticket>, records: &[Record<Deed>]) -> Result<(), AllocError>
+fn enter_requests(tickets: &mut Vec<u64>, records: &[Record<Deed>]) -> Result<(), AllocError>
     ensures { OnOk result (tickets.new.items ≡ tickets.old.items ++ tickets_of records.now) }
 {
     for entry in records {
         if entry.deed.is_request() {
-            tickets.push(entry.ticket)?;
+            tickets.push(entry.ticket.number())?;
         }
     }
     Ok(())
 }
 
 /// The tickets of a base's entries, and those of the requests since.
-pub(crate) fn requested(
-    alloc: Global,
-    base: &Base,
-    records: &[Record<Deed>],
-) -> Result<Vec<Ticket>, AllocError>
+fn entered(alloc: Global, base: &Base, records: &[Record<Deed>]) -> Result<Vec<u64>, AllocError>
     ensures { IfOk result (λ tickets. tickets.items ≡ entered_in base.now ++ tickets_of records.now) }
 {
     let mut tickets = Vec::new(alloc);
@@ -186,5 +183,20 @@ pub(crate) fn requested(
     enter_pairs(&mut tickets, base.pairs.as_slice())?;
     enter_cuts(&mut tickets, base.cut.as_slice())?;
     enter_requests(&mut tickets, records)?;
+    Ok(tickets)
+}
+
+/// The tickets that a base and the records since name as requested, each once and rising. Those of a legal trace without
+/// a base come so, and take no sorting.
+pub(crate) fn requested(
+    alloc: Global,
+    base: &Base,
+    records: &[Record<Deed>],
+) -> Result<Vec<u64>, AllocError>
+    ensures { IfOk result (λ tickets. AreRequested base.now records.now tickets.items) }
+{
+    let mut tickets = entered(alloc, base, records)?;
+    tickets.sort_unstable();
+    tickets.dedup();
     Ok(tickets)
 }

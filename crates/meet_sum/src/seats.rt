@@ -1,7 +1,6 @@
 //! What each seat did.
 
 ghost use Rattle.std.specs.Prelude.{◌≡◌, ℕ, ◌+◌, ◌<◌, ◌≤◌, ◌^◌, ◌∷◌, ◌++◌, [], List, Some, length, slice_get, slice_set, IfOk, vec_len, if◌then◌else◌};
-ghost use Rattle.indexmap.specs.IndexMap.{values};
 ghost use Rattle.meet_tickets.specs.declared.records.Deed.{Deed};
 ghost use Rattle.meet_tickets.specs.declared.records.Record.{Record};
 ghost use Rattle.meet_tickets.specs.Limits.{most_seats};
@@ -9,7 +8,6 @@ ghost use Rattle.meet_sum.specs.declared.stories.Story.{Story};
 ghost use Rattle.meet_sum.specs.Seats.{greater, stay_at, seat_sum, HasSeats};
 
 use crate::stories::Story;
-use crate::table::Stories;
 use crate::waits::stay;
 use meet_tickets::{Deed, MOST_SEATS, Record, SeatNo};
 use std::alloc::{AllocError, Global};
@@ -111,7 +109,7 @@ fn greater(one: Option<u64>, other: Option<u64>) -> Option<u64>
 }
 
 /// Notes how long the ticket of a story stood in the line, at its seat.
-fn note(sums: &mut Vec<SeatSum>, story: &Story, opened: u64, all: u64)
+pub(crate) fn note(sums: &mut Vec<SeatSum>, story: &Story, opened: u64, all: u64)
     requires { vec_len sums.old ≡ most_seats }
     ensures every { vec_len sums.new ≡ most_seats }
     ensures told { (before records : List (Record Deed)) (stories : List Story)
@@ -120,12 +118,12 @@ fn note(sums: &mut Vec<SeatSum>, story: &Story, opened: u64, all: u64)
 {
     match story.asked {
         None => {}
-        Some(entry) => {
-            let old = sum_at(sums, entry.seat);
+        Some(asked) => {
+            let old = sum_at(sums, asked.seat);
             let here = stay(story, opened, all);
             put_sum(
                 sums,
-                entry.seat,
+                asked.seat,
                 SeatSum {
                     present: old.present,
                     records: old.records,
@@ -163,31 +161,17 @@ fn count_all(sums: &mut Vec<SeatSum>, more: &[Record<Deed>])
     }
 }
 
-/// Notes how long all these tickets stood in the line.
-fn note_all(sums: &mut Vec<SeatSum>, stories: &Stories, opened: u64, all: u64)
-    requires { vec_len sums.old ≡ most_seats }
-    ensures every { vec_len sums.new ≡ most_seats }
-    ensures told { (before records : List (Record Deed))
-        → HasSeats (seat_sum before records opened all []) sums.old.items
-        → HasSeats (seat_sum before records opened all (values stories.now)) sums.new.items }
-{
-    for story in stories.values() {
-        note(sums, story, opened, all);
-    }
-}
-
-/// What each seat did, from seat 0 on.
-pub(crate) fn seats_of(
+/// What each seat did by the records that open a base and those since, from seat 0 on: all but how long its tickets stood
+/// in the line.
+pub(crate) fn seats_in(
     alloc: Global,
     before: &[Record<Deed>],
     records: &[Record<Deed>],
-    stories: &Stories,
-    opened: u64,
-    all: u64,
 ) -> Result<Vec<SeatSum>, AllocError>
     requires { length records.now < 2 ^ 64 }
-    ensures { IfOk result (λ sums. HasSeats (seat_sum before.now records.now opened all (values stories.now))
-        sums.items) }
+    ensures every { IfOk result (λ sums. vec_len sums ≡ most_seats) }
+    ensures told { IfOk result (λ sums. (opened all : ℕ)
+        → HasSeats (seat_sum before.now records.now opened all []) sums.items) }
 {
     let none = SeatSum {
         present: false,
@@ -198,6 +182,5 @@ pub(crate) fn seats_of(
     let mut sums = vec![in alloc; none; MOST_SEATS as usize]?;
     enter_all(&mut sums, before);
     count_all(&mut sums, records);
-    note_all(&mut sums, stories, opened, all);
     Ok(sums)
 }

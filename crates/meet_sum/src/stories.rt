@@ -6,19 +6,42 @@ ghost use Rattle.std.specs.Option.{option_or};
 ghost use Rattle.meet_tickets.specs.declared.records.Deed.{Deed};
 ghost use Rattle.meet_tickets.specs.declared.records.Record.{Record};
 ghost use Rattle.meet_tickets.specs.Fates.{named_by, meets_it, tells_of_meeting, withdrawn_by, interrupts};
-ghost use Rattle.meet_sum.specs.Stories.{asks_for, takes_out, story_in};
+ghost use Rattle.meet_sum.specs.Stories.{asks_for, takes_out, at_once, asked_by, story_in};
 
-use meet_tickets::{Cause, Deed, Record, Ticket};
+use meet_tickets::{Cause, Deed, Record, SeatNo, Ticket};
+
+/// What a request came to at once.
+#[derive(Clone, Copy, PartialEq, Eq, Debug)]
+pub enum AtOnce {
+    /// It stands in the line, and its ticket is open.
+    Waits,
+    /// Its item stands in the line, and its giver went on.
+    IsKept,
+    /// It met somebody who stood there.
+    Meets,
+    /// It found nobody, and didn't wait.
+    Fails,
+    /// It was refused at its entry.
+    Refused,
+}
+
+/// What a ticket's request was.
+#[derive(Clone, Copy, PartialEq, Eq, Debug)]
+pub struct Asked {
+    pub seat: SeatNo,
+    pub ticket: Ticket,
+    pub how: AtOnce,
+}
 
 /// What records tell of one ticket.
 #[derive(Clone, Copy, PartialEq, Eq, Debug)]
 pub struct Story {
     /// Its request.
-    pub asked: Option<Record<Deed>>,
+    pub asked: Option<Asked>,
     /// The number of that record.
     pub came: Option<u64>,
-    /// The ticket whose request names it.
-    pub met: Option<Ticket>,
+    /// Whether another request names it.
+    pub met: bool,
     /// Whether it learned that it was met.
     pub learned: bool,
     /// Why it was taken back.
@@ -30,14 +53,14 @@ pub struct Story {
 }
 
 /// What no record tells.
-pub(crate) fn untold(asked: Option<Record<Deed>>) -> Story
+pub(crate) fn untold(asked: Option<Asked>) -> Story
     requires { asked ≡ None }
     ensures { (ticket : ℕ) → result ≡ story_in [] ticket }
 {
     Story {
         asked,
         came: None,
-        met: None,
+        met: false,
         learned: false,
         back: None,
         cut: false,
@@ -53,6 +76,33 @@ pub(crate) fn named_by(deed: &Deed) -> Option<Ticket>
         Deed::GiveMeets(_, partner) => Some(*partner),
         Deed::TakeMeets(_, partner) => Some(*partner),
         _ => None,
+    }
+}
+
+/// What a request came to at once.
+fn at_once(deed: &Deed) -> AtOnce
+    ensures { result ≡ at_once deed.now }
+{
+    match deed {
+        Deed::GiveWaits(_) => AtOnce::Waits,
+        Deed::GiveMeets(_, _) => AtOnce::Meets,
+        Deed::GiveFails(_) => AtOnce::Fails,
+        Deed::GiveKept(_) => AtOnce::IsKept,
+        Deed::TakeWaits => AtOnce::Waits,
+        Deed::TakeMeets(_, _) => AtOnce::Meets,
+        Deed::TakeFails => AtOnce::Fails,
+        _ => AtOnce::Refused,
+    }
+}
+
+/// What is told of a request by its record.
+fn asked_by(entry: &Record<Deed>) -> Asked
+    ensures { result ≡ asked_by entry.now }
+{
+    Asked {
+        seat: entry.seat,
+        ticket: entry.ticket,
+        how: at_once(&entry.deed),
     }
 }
 
@@ -143,20 +193,20 @@ fn first_of<T: Copy + Drop>(there: Option<T>, item: T, passes: bool) -> Option<T
 }
 
 /// What is told of a ticket once the record of this number is heard too.
-pub(crate) fn hear(story: Story, ticket: Ticket, entry: Record<Deed>, number: u64) -> Story
+pub(crate) fn hear(story: Story, ticket: Ticket, entry: &Record<Deed>, number: u64) -> Story
     ensures { (history : List (Record Deed)) → story ≡ story_in history ticket → number ≡ 1 + length history
-        → result ≡ story_in (history ++ entry ∷ []) ticket }
+        → result ≡ story_in (history ++ entry.now ∷ []) ticket }
 {
-    let asks = asks_for(&entry, ticket);
-    let meets = meets_it(&entry, ticket);
-    let leaves = takes_out(&entry, ticket);
+    let asks = asks_for(entry, ticket);
+    let meets = meets_it(entry, ticket);
+    let leaves = takes_out(entry, ticket);
     Story {
-        asked: first_of(story.asked, entry, asks),
+        asked: first_of(story.asked, asked_by(entry), asks),
         came: first_of(story.came, number, asks),
-        met: first_of(story.met, entry.ticket, meets),
-        learned: story.learned | tells(&entry, ticket),
-        back: story.back.or(reason(&entry, ticket)),
-        cut: story.cut | cuts(&entry, ticket),
+        met: story.met | meets,
+        learned: story.learned | tells(entry, ticket),
+        back: story.back.or(reason(entry, ticket)),
+        cut: story.cut | cuts(entry, ticket),
         left: first_of(story.left, number, leaves),
     }
 }

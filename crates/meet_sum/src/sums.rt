@@ -1,22 +1,28 @@
 //! The sums of a base and records.
 
-ghost use Rattle.std.specs.Prelude.{◌≡◌, ◌+◌, ◌<◌, ◌^◌, ◌++◌, length, IfOk, IfErr};
+ghost use Rattle.std.specs.Prelude.{◌≡◌, ℕ, ◌+◌, ◌<◌, ◌^◌, ◌++◌, [], List, length, map, vec_len, IfOk, IfErr};
+ghost use Rattle.std.specs.List.Sorted.{IsStrictlyIncreasing};
 ghost use Rattle.meet_tickets.specs.declared.refusals.Refusal.TheVariants.{Memory};
 ghost use Rattle.meet_tickets.specs.Fates.{opening};
-ghost use Rattle.meet_sum.specs.FatesCounted.{fates_on};
-ghost use Rattle.meet_sum.specs.Stories.{story_in, entries_of, requested_on};
+ghost use Rattle.meet_tickets.specs.declared.records.Deed.{Deed};
+ghost use Rattle.meet_tickets.specs.declared.records.Record.{Record};
+ghost use Rattle.meet_tickets.specs.Limits.{most_seats};
+ghost use Rattle.meet_sum.specs.FatesCounted.{AreFates, numbers_of};
+ghost use Rattle.meet_sum.specs.Seats.{seat_sum, HasSeats};
+ghost use Rattle.meet_sum.specs.Stories.{story_in, fate_told, AreRequested};
 ghost use Rattle.meet_sum.specs.Sums.{AreSums};
+ghost use Rattle.meet_sum.specs.Waits.{stories_on, IsLongest};
 
 use crate::deeds::{DeedCounts, count_deeds};
-use crate::fates::{FateCounts, count_stories};
+use crate::fates::{FateCounts, add, count_stories, no_fates};
 use crate::line::{LongestLine, longest_line};
 use crate::openings::{opening, requested};
-use crate::seats::{SeatSum, seats_of};
-use crate::table::{Stories, enter_all, hear_all};
-use crate::waits::{Wait, longest_of};
-use indexmap::IndexMap;
+use crate::seats::{SeatSum, note, seats_in};
+use crate::stories::Story;
+use crate::table::{hear_all, untold_all};
+use crate::waits::{Wait, longest_with};
 use meet_tickets::{Base, Deed, Record, Refusal};
-use std::alloc::Global;
+use std::alloc::{AllocError, Global};
 
 /// What a legal history holds.
 #[derive(Drop)]
@@ -30,6 +36,23 @@ pub struct Sums {
     pub seats: Vec<SeatSum>,
 }
 
+/// What a base, which these records open, and the records since tell of these tickets.
+fn stories_of(
+    alloc: Global,
+    tickets: &[u64],
+    before: &[Record<Deed>],
+    records: &[Record<Deed>],
+) -> Result<Vec<Story>, AllocError>
+    requires rising { IsStrictlyIncreasing tickets.now }
+    requires few { length before.now + length records.now < 2 ^ 64 }
+    ensures { IfOk result (λ stories. stories.items ≡ map (story_in (before.now ++ records.now)) tickets.now) }
+{
+    let mut stories = untold_all(alloc, tickets)?;
+    hear_all(tickets, &mut stories, before, 0);
+    hear_all(tickets, &mut stories, records, before.len() as u64);
+    Ok(stories)
+}
+
 /// What a base, which these records open, and the records since tell of the tickets that they name as requested. The
 /// only refusal is Memory.
 fn stories_on(
@@ -37,23 +60,20 @@ fn stories_on(
     base: &Base,
     before: &[Record<Deed>],
     records: &[Record<Deed>],
-) -> Result<Stories, Refusal>
+) -> Result<Vec<Story>, Refusal>
     requires few { length before.now + length records.now < 2 ^ 64 }
     requires opened { before.now ≡ opening base.now }
-    ensures told { IfOk result (λ stories. stories.entries
-        ≡ entries_of (story_in (opening base.now ++ records.now)) (requested_on base.now records.now)) }
+    ensures told { IfOk result (λ stories. (tickets : List ℕ) × AreRequested base.now records.now tickets
+        × (stories.items ≡ stories_on base.now records.now tickets)) }
     ensures memory { IfErr result (λ why. why ≡ Memory) }
 {
     let Ok(tickets) = requested(alloc, base, records) else {
         return Err(Refusal::Memory);
     };
-    let Ok(mut stories) = IndexMap::with_capacity(alloc, tickets.len()) else {
-        return Err(Refusal::Memory);
-    };
-    enter_all(&mut stories, tickets.as_slice())?;
-    hear_all(&mut stories, before, 0);
-    hear_all(&mut stories, records, before.len() as u64);
-    Ok(stories)
+    match stories_of(alloc, tickets.as_slice(), before, records) {
+        Ok(stories) => Ok(stories),
+        Err(_) => Err(Refusal::Memory),
+    }
 }
 
 /// How many tickets have which fate, of those that a base and the records since name as requested. It takes memory for
@@ -63,7 +83,7 @@ pub fn count_fates(
     base: &Base,
     records: &[Record<Deed>],
 ) -> Result<FateCounts, Refusal>
-    ensures counted { IfOk result (λ counts. counts ≡ fates_on base.now records.now) }
+    ensures counted { IfOk result (AreFates base.now records.now) }
     ensures memory { IfErr result (λ why. why ≡ Memory) }
 {
     let Ok(before) = opening(alloc, base) else {
@@ -73,7 +93,32 @@ pub fn count_fates(
         return Err(Refusal::Memory);
     }
     let stories = stories_on(alloc, base, before.as_slice(), records)?;
-    Ok(count_stories(&stories))
+    Ok(count_stories(stories.as_slice()))
+}
+
+/// Notes how long the tickets of these stories stood in the line, each at its seat. The answer is how many have which
+/// fate, and which stood longest, the first such. Each story is read once.
+fn add_up(
+    stories: &[Story],
+    seats: &mut Vec<SeatSum>,
+    opened: u64,
+    all: u64,
+) -> (FateCounts, Option<Wait>)
+    requires { vec_len seats.old ≡ most_seats }
+    ensures fates { result.0 ≡ numbers_of (map fate_told stories.now) }
+    ensures wait { IsLongest opened all stories.now result.1 }
+    ensures seats { (before records : List (Record Deed))
+        → HasSeats (seat_sum before records opened all []) seats.old.items
+        → HasSeats (seat_sum before records opened all stories.now) seats.new.items }
+{
+    let mut fates = no_fates();
+    let mut wait = None;
+    for story in stories {
+        add(&mut fates, story);
+        note(seats, story, opened, all);
+        wait = longest_with(wait, story, opened, all);
+    }
+    (fates, wait)
 }
 
 /// The sums of a base and the records since. It takes memory for each ticket, and reads each record five times. The only
@@ -93,14 +138,15 @@ pub fn sum_records(alloc: Global, base: &Base, records: &[Record<Deed>]) -> Resu
     let opened = before.len() as u64;
     let all = opened + records.len() as u64;
     let stories = stories_on(alloc, base, before.as_slice(), records)?;
-    let Ok(seats) = seats_of(alloc, before.as_slice(), records, &stories, opened, all) else {
+    let Ok(mut seats) = seats_in(alloc, before.as_slice(), records) else {
         return Err(Refusal::Memory);
     };
+    let (fates, wait) = add_up(stories.as_slice(), &mut seats, opened, all);
     Ok(Sums {
         deeds: count_deeds(records),
-        fates: count_stories(&stories),
+        fates,
         line: longest_line(base, records),
-        wait: longest_of(&stories, opened, all),
+        wait,
         seats,
     })
 }

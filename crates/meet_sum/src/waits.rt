@@ -1,13 +1,11 @@
 //! How long tickets stood in the line.
 
 ghost use Rattle.std.specs.Prelude.{◌≡◌, ℕ, ◌∷◌, ◌++◌, [], List, None, Some, MatchOption};
-ghost use Rattle.indexmap.specs.IndexMap.{values};
 ghost use Rattle.meet_sum.specs.declared.stories.Story.{Story};
 ghost use Rattle.meet_sum.specs.Waits.{joins, stay_told, IsStay, IsLongest};
 
-use crate::stories::Story;
-use crate::table::Stories;
-use meet_tickets::{Deed, SeatNo, Ticket};
+use crate::stories::{AtOnce, Story};
+use meet_tickets::{SeatNo, Ticket};
 
 /// How long a ticket stood in the line.
 #[derive(Clone, Copy, PartialEq, Eq, Debug)]
@@ -19,13 +17,10 @@ pub struct Wait {
 }
 
 /// Whether the ticket of a request stands in the line, at first.
-fn joins(deed: &Deed) -> bool
-    ensures { result ≡ joins deed.now }
+fn joins(how: AtOnce) -> bool
+    ensures { result ≡ joins how }
 {
-    matches!(
-        deed,
-        Deed::GiveWaits(_) | Deed::GiveKept(_) | Deed::TakeWaits
-    )
+    matches!(how, AtOnce::Waits | AtOnce::IsKept)
 }
 
 /// How long the ticket of a story stood in the line, if it did.
@@ -34,8 +29,8 @@ pub(crate) fn stay(story: &Story, opened: u64, all: u64) -> Option<u64>
 {
     match story.asked {
         None => None,
-        Some(entry) => {
-            if !joins(&entry.deed) {
+        Some(asked) => {
+            if !joins(asked.how) {
                 return None;
             }
             let came = story.came.unwrap_or(0).saturating_sub(opened);
@@ -51,11 +46,11 @@ fn wait_of(story: &Story, opened: u64, all: u64) -> Option<Wait>
 {
     match story.asked {
         None => None,
-        Some(entry) => match stay(story, opened, all) {
+        Some(asked) => match stay(story, opened, all) {
             None => None,
             Some(records) => Some(Wait {
-                ticket: entry.ticket,
-                seat: entry.seat,
+                ticket: asked.ticket,
+                seat: asked.seat,
                 records,
             }),
         },
@@ -79,16 +74,13 @@ fn longer(best: Option<Wait>, here: Wait) -> Wait
     }
 }
 
-/// Which of these tickets stood longest in the line, the first such.
-pub(crate) fn longest_of(stories: &Stories, opened: u64, all: u64) -> Option<Wait>
-    ensures { IsLongest opened all (values stories.now) result }
+/// The longest of what was found so far and the ticket of one story more.
+pub(crate) fn longest_with(best: Option<Wait>, story: &Story, opened: u64, all: u64) -> Option<Wait>
+    ensures { (done : List Story) → IsLongest opened all done best
+        → IsLongest opened all (done ++ story.now ∷ []) result }
 {
-    let mut best = None;
-    for story in stories.values() {
-        match wait_of(story, opened, all) {
-            None => {}
-            Some(here) => best = Some(longer(best, here)),
-        }
+    match wait_of(story, opened, all) {
+        None => best,
+        Some(here) => Some(longer(best, here)),
     }
-    best
 }

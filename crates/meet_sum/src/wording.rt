@@ -11,7 +11,7 @@ use crate::line::LongestLine;
 use crate::seats::SeatSum;
 use crate::sums::Sums;
 use crate::waits::Wait;
-use meet_run::wording::{push_numbered, push_pair};
+use meet_run::text::wording::{push_numbered, push_pair};
 use std::alloc::AllocError;
 
 /// Appends a number behind a word, as a line.

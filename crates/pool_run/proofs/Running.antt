@@ -5,7 +5,7 @@ use Rattle.std.specs.Io.KnownBytes.{Appends}
 use Rattle.meet_tickets.specs.declared.refusals.Refusal.{Refusal}
 use Rattle.meet_tickets.specs.declared.refusals.Refusal.TheVariants.{Memory, BadLine, BadSizes, PolicyNeedsBuffer, ReadFault, WriteFault}
 use Rattle.meet_tickets.specs.Refusals.{IsWhy}
-use Rattle.meet_run.specs.declared.faults.RunFault.{RunFault}
+use Rattle.meet_run.specs.declared.text.faults.RunFault.{RunFault}
 use Rattle.meet_run.specs.Reading.{lines_of}
 use Rattle.meet_run.specs.Writing.{AppendsPrefix, IsPrefix}
 use Rattle.meet_run.proofs.Ran.{appends-nothing}

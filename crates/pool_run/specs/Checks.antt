@@ -6,7 +6,7 @@ use Rattle.std.specs.Option.{option_map_or}
 use Rattle.meet_tickets.specs.declared.records.Record.{Record}
 use Rattle.meet_tickets.specs.declared.refusals.Refusal.{Refusal}
 use Rattle.meet_tickets.specs.declared.refusals.Refusal.TheVariants.{Memory, BadTrace, ReadFault, WriteFault}
-use Rattle.meet_run.specs.declared.faults.RunFault.{RunFault}
+use Rattle.meet_run.specs.declared.text.faults.RunFault.{RunFault}
 use Rattle.meet_run.specs.Reading.{Listed, listed}
 use Rattle.meet_run.specs.Writing.{AppendsPrefix}
 use Rattle.pool_core.specs.declared.deeds.PoolDeed.{PoolDeed}

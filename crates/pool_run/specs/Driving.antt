@@ -1,7 +1,7 @@
 -- A drive of a pool as text.
 use Rattle.std.specs.Prelude.{◌≡◌, ◌⊎◌, ℕ, Bool, true, Option, None, Result, Ok, Err, List, ◌++◌, codes, decimal}
 use Rattle.std.specs.Io.KnownBytes.{Appends}
-use Rattle.meet_run.specs.declared.faults.RunFault.{RunFault}
+use Rattle.meet_run.specs.declared.text.faults.RunFault.{RunFault}
 use Rattle.meet_run.specs.Writing.{AppendsPrefix}
 use Rattle.pool_drive.specs.Driven.{IsPoolDriven}
 use Rattle.pool_drive.specs.declared.whole.PoolDrive.{PoolDrive}

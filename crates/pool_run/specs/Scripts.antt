@@ -8,7 +8,7 @@ use Rattle.meet_tickets.specs.declared.refusals.Refusal.{Refusal}
 use Rattle.meet_tickets.specs.declared.refusals.Refusal.TheVariants.{Memory, BadSizes, PolicyNeedsBuffer, BadLine}
 use Rattle.meet_tickets.specs.declared.refusals.Refusal.TheVariants.{ReadFault, WriteFault}
 use Rattle.meet_tickets.specs.Refusals.{IsWhy}
-use Rattle.meet_run.specs.declared.faults.RunFault.{RunFault}
+use Rattle.meet_run.specs.declared.text.faults.RunFault.{RunFault}
 use Rattle.meet_run.specs.Reading.{Listed, listed}
 use Rattle.meet_run.specs.Writing.{AppendsPrefix}
 use Rattle.pool_core.specs.declared.deeds.PoolDeed.{PoolDeed}

@@ -15,11 +15,11 @@ ghost use Rattle.pool_run.specs.Checks.{IsFoundOfPool, IsFoundBehind, IsVerdictO
 
 use crate::next::{next_pool_head, next_pool_record};
 use crate::wording::push_pool_last_line;
-use meet_run::faults::{at_line, cut_short};
-use meet_run::grammar::LONGEST_LINE;
-use meet_run::next::Next;
-use meet_run::output::write_whole;
-use meet_run::wording::push_numbered;
+use meet_run::text::faults::{at_line, cut_short};
+use meet_run::text::next::Next;
+use meet_run::text::output::write_whole;
+use meet_run::text::reading::LONGEST_LINE;
+use meet_run::text::wording::push_numbered;
 use meet_run::{MOST_READS, RunFault};
 use meet_tickets::Refusal;
 use pool_core::Settings;

@@ -6,9 +6,9 @@ ghost use Rattle.pool_run.specs.Driving.{pool_drive_text, PoolDriveEnds};
 
 use crate::wording::push_pool_last_line;
 use meet_run::RunFault;
-use meet_run::faults::cut_short;
-use meet_run::output::write_whole;
-use meet_run::wording::{push_numbered, push_pair};
+use meet_run::text::faults::cut_short;
+use meet_run::text::output::write_whole;
+use meet_run::text::wording::{push_numbered, push_pair};
 use meet_tickets::Refusal;
 use pool_drive::{PoolDrive, drive_pool};
 use std::alloc::{AllocError, Global};

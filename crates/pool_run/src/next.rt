@@ -12,9 +12,8 @@ ghost use Rattle.pool_run.specs.Spelling.{FitsRequest, FitsSettings, FitsPoolHea
 use crate::records::read_record_behind;
 use crate::requests::read_request;
 use crate::settings::{read_head, read_settings};
-use meet_run::grammar::LONGEST_LINE;
-use meet_run::next::{Next, next_of};
-use meet_run::reading::read_line;
+use meet_run::text::next::{Next, next_of};
+use meet_run::text::reading::{LONGEST_LINE, read_line};
 use meet_tickets::Record;
 use pool_core::{PoolDeed, Settings};
 use pool_history::PoolRequest;

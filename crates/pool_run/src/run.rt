@@ -13,10 +13,10 @@ ghost use Rattle.pool_run.specs.Scripts.{replies_text, closing, IsScriptFault, R
 
 use crate::next::{next_request, next_settings};
 use crate::wording::{push_pool_last_line, push_pool_reply};
-use meet_run::faults::{at_line, cut_short};
-use meet_run::grammar::LONGEST_LINE;
-use meet_run::next::Next;
-use meet_run::output::write_whole;
+use meet_run::text::faults::{at_line, cut_short};
+use meet_run::text::next::Next;
+use meet_run::text::output::write_whole;
+use meet_run::text::reading::LONGEST_LINE;
 use meet_run::{MOST_READS, RunFault};
 use meet_tickets::Refusal;
 use pool_core::Settings;

@@ -7,8 +7,8 @@ ghost use Rattle.pool_run.specs.RecordSpelling.{pair_text, deed_text};
 ghost use Rattle.pool_run.specs.Wording.{from_text, answer_text, ticket_text, counters_text, outcome_text};
 ghost use Rattle.pool_run.specs.Wording.{pool_reply_line, pool_head_line, pool_record_line, pool_last_line};
 
-use meet_run::trace_wording::order_word;
-use meet_run::wording::{push_number, push_numbered, push_pair, push_seat};
+use meet_run::text::wording::{push_number, push_numbered, push_pair, push_seat};
+use meet_run::trace::wording::order_word;
 use meet_tickets::{Record, SeatNo, Ticket};
 use pool_core::{Counters, Policy, PoolDeed, PoolQueue, Settings, Sizes};
 use pool_history::{PoolOutcome, PoolReply};

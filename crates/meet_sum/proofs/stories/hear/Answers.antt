@@ -6,16 +6,17 @@ use Rattle.meet_sum.proofs.stories.hear.Goals as goal
 
 pub returns : goal.returns
 returns c =
-    let r = c.args.entry in
+    let r = c.args.entry.now in
     let t = c.args.ticket in
     let x = c.args.story in
     λ history e n. story_more history r t x e _ _ _ _ _ _ _
-    (c.first_of.ensures ∙ ap (λ b. option_or x.asked (if b then Some r else None)) c.asks_for-asks.ensures)
+    (c.first_of.ensures ∙ ap (λ b. option_or x.asked (if b then Some c.asked_by.result else None)) c.asks_for-asks.ensures
+    ∙ ap (λ a. option_or x.asked (if asks_for t r then Some a else None)) c.asked_by.ensures)
     (c.first_of-2.ensures ∙ ap (λ b. option_or x.came (if b then Some c.args.number else None)) c.asks_for-asks.ensures
     ∙ ap (λ k. option_or x.came (if asks_for t r then Some k else None)) n)
-    (c.first_of-3.ensures ∙ ap (λ b. option_or x.met (if b then Some r.ticket else None)) c.meets_it-meets.ensures)
+    (ap (λ b. x.met || b) c.meets_it-meets.ensures)
     (ap (λ b. x.learned || b) c.tells.ensures)
     (c.or.ensures ∙ ap (option_or x.back) c.reason.ensures)
     (ap (λ b. x.cut || b) c.cuts.ensures)
-    (c.first_of-4.ensures ∙ ap (λ b. option_or x.left (if b then Some c.args.number else None)) c.takes_out-leaves.ensures
+    (c.first_of-3.ensures ∙ ap (λ b. option_or x.left (if b then Some c.args.number else None)) c.takes_out-leaves.ensures
     ∙ ap (λ k. option_or x.left (if takes_out t r then Some k else None)) n)

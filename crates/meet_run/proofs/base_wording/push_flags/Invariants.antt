@@ -1,6 +1,0 @@
-use Rattle.meet_history.specs.declared.pieces.Piece.TheVariants.{Flagged}
-use Rattle.meet_run.proofs.PieceLines.{AreWritten}
-use Rattle.meet_run.proofs.base_wording.push_flags.Given as goal
-
-abbrev pub invariant-loop-entry : goal.invariant-loop-entry
-invariant-loop-entry l = AreWritten Flagged l.fn.out.items l.out.items l.flags l.entry-index

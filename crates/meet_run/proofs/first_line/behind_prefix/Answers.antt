@@ -1,5 +1,0 @@
-use Rattle.meet_run.proofs.WordLemmas.{behind-stripped}
-use Rattle.meet_run.proofs.first_line.behind_prefix.Goals as goal
-
-pub returns : goal.returns
-returns c = behind-stripped c.args.prefix.now c.args.text.now c.strip_prefix.result c.strip_prefix.ensures.cases

@@ -1,5 +1,0 @@
-use Rattle.meet_run.proofs.ScriptLemmas.{faults-end-scripts}
-use Rattle.meet_run.proofs.scripts.faults_end_scripts.Goals as goal
-
-pub returns : goal.returns
-returns c = faults-end-scripts

@@ -1,5 +1,0 @@
-use Rattle.meet_run.proofs.ScriptLemmas.{scripts-are-answered}
-use Rattle.meet_run.proofs.scripts.scripts_are_answered.Goals as goal
-
-pub returns : goal.returns
-returns c = scripts-are-answered

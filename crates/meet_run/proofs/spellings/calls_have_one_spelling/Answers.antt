@@ -1,5 +1,0 @@
-use Rattle.meet_run.proofs.CallLemmas.{calls-have-one-spelling}
-use Rattle.meet_run.proofs.spellings.calls_have_one_spelling.Goals as goal
-
-pub returns : goal.returns
-returns c = calls-have-one-spelling

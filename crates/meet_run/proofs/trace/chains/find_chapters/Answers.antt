@@ -1,0 +1,51 @@
+use Rattle.std.proofs.Common.{arith, ap, subst, ◌∙◌}
+use Rattle.meet_run.specs.declared.text.faults.RunFault.{RunFault}
+use Rattle.meet_run.proofs.LineLemmas.{uses-more, ends-more}
+use Rattle.meet_run.proofs.ReadParts.{ChainSoFar, chain-more, chain-begins, chain-faulty, chain-faulty-first, chain-found, memory-names}
+use Rattle.meet_run.proofs.trace.chains.find_chapters.Goals as goal
+
+pub returns-in-Err-clause-bad : goal.returns-in-Err-clause-bad
+returns-in-Err-clause-bad g c =
+    λ plain. chain-faulty-first c.args.line.now.items (g.R.Read.remaining c.args.reader.now) c.in-Err.fault plain c.in-Err.ensures.bad
+
+pub loop-more-init : goal.loop-more-init
+loop-more-init g c =
+    record {
+      so_far = λ plain. chain-begins c.args.line.now.items (g.R.Read.remaining c.args.reader.now) (g.R.Read.remaining c.read_chapter.new.reader) c.in-Ok.read.1 c.in-Ok.read.2 c.read_chapter.new.line.items c.in-Ok-begin.chain c.in-Ok.read.0 plain c.in-Ok.ensures.read c.in-Ok-begin.ensures.read;
+      chapters = omega (arith, c.in-Ok-begin.ensures.many, c.in-Ok.ensures.some);
+      few = omega (arith, c.in-Ok.ensures.few);
+      uses = c.read_chapter.ensures.uses;
+      room = c.read_chapter.ensures.room;
+      ends = c.in-Ok.ensures.ends;
+    }
+
+pub returns-in-Err-read_chapter-clause-bad : goal.returns-in-Err-read_chapter-clause-bad
+returns-in-Err-read_chapter-clause-bad g c =
+    λ plain. chain-faulty c.args.line.now.items (g.R.Read.remaining c.args.reader.now) (g.R.Read.remaining c.loop-more.reader) c.loop-more.before c.loop-more.line.items c.loop-more.chain c.in-Err-read_chapter.fault (subst (λ m. ChainSoFar c.args.line.now.items (g.R.Read.remaining c.args.reader.now) (g.R.Read.remaining c.loop-more.reader) c.loop-more.before m c.loop-more.line.items c.loop-more.chain) c.loop-more-test.true (c.loop-more.invariant.so_far plain)) c.in-Err-read_chapter.ensures.bad
+
+pub returns-in-Err-read_chapter-clause-uses : goal.returns-in-Err-read_chapter-clause-uses
+returns-in-Err-read_chapter-clause-uses g c =
+    uses-more (g.R.Read.remaining c.args.reader.now) (g.R.Read.remaining c.loop-more.reader) (g.R.Read.remaining c.read_chapter-in-loop-more.new.reader) c.args.turns.now c.loop-more.turns c.read_chapter-in-loop-more.new.turns c.loop-more.invariant.uses c.read_chapter-in-loop-more.ensures.uses
+
+pub returns-in-Err-take-clause-uses : goal.returns-in-Err-take-clause-uses
+returns-in-Err-take-clause-uses g c =
+    uses-more (g.R.Read.remaining c.args.reader.now) (g.R.Read.remaining c.loop-more.reader) (g.R.Read.remaining c.read_chapter-in-loop-more.new.reader) c.args.turns.now c.loop-more.turns c.read_chapter-in-loop-more.new.turns c.loop-more.invariant.uses c.read_chapter-in-loop-more.ensures.uses
+
+pub loop-more-preserved : goal.loop-more-preserved
+loop-more-preserved g c =
+    record {
+      so_far = λ plain. chain-more c.args.line.now.items (g.R.Read.remaining c.args.reader.now) (g.R.Read.remaining c.loop-more.reader) (g.R.Read.remaining c.read_chapter-in-loop-more.new.reader) c.loop-more.before c.in-Ok-read_chapter.read.1 c.in-Ok-read_chapter.read.2 c.loop-more.line.items c.read_chapter-in-loop-more.new.line.items c.loop-more.chain c.in-Ok-take.chain c.in-Ok-read_chapter.read.0 (subst (λ m. ChainSoFar c.args.line.now.items (g.R.Read.remaining c.args.reader.now) (g.R.Read.remaining c.loop-more.reader) c.loop-more.before m c.loop-more.line.items c.loop-more.chain) c.loop-more-test.true (c.loop-more.invariant.so_far plain)) c.in-Ok-read_chapter.ensures.read c.in-Ok-take.ensures.read;
+      chapters = omega (arith, c.loop-more.invariant.chapters, c.in-Ok-take.ensures.many, c.in-Ok-read_chapter.ensures.some);
+      few = omega (arith, c.loop-more.invariant.few, c.in-Ok-read_chapter.ensures.few);
+      uses = uses-more (g.R.Read.remaining c.args.reader.now) (g.R.Read.remaining c.loop-more.reader) (g.R.Read.remaining c.read_chapter-in-loop-more.new.reader) c.args.turns.now c.loop-more.turns c.read_chapter-in-loop-more.new.turns c.loop-more.invariant.uses c.read_chapter-in-loop-more.ensures.uses;
+      room = c.read_chapter-in-loop-more.ensures.room;
+      ends = λ last. ends-more (g.R.Read.remaining c.args.reader.now) (g.R.Read.remaining c.loop-more.reader) c.args.turns.now c.loop-more.turns c.loop-more.invariant.uses (c.in-Ok-read_chapter.ensures.ends last);
+    }
+
+pub returns-in-Ok-found-clause-found : goal.returns-in-Ok-found-clause-found
+returns-in-Ok-found-clause-found g c =
+    λ plain. chain-found c.args.line.now.items (g.R.Read.remaining c.args.reader.now) (g.R.Read.remaining c.loop-more.reader) c.loop-more.before c.loop-more.line.items c.loop-more.chain c.in-Ok-found.found.0 c.in-Ok-found.found.1.items (subst (λ m. ChainSoFar c.args.line.now.items (g.R.Read.remaining c.args.reader.now) (g.R.Read.remaining c.loop-more.reader) c.loop-more.before m c.loop-more.line.items c.loop-more.chain) c.loop-more-test.false (c.loop-more.invariant.so_far plain)) c.in-Ok-found.ensures.found
+
+pub returns-clause-bad : goal.returns-clause-bad
+returns-clause-bad g c =
+    λ plain. memory-names c.args.line.now.items (g.R.Read.remaining c.args.reader.now) c.cut_short-in-Err-found.result (ap (λ (f : RunFault). f.why) c.cut_short-in-Err-found.ensures ∙ c.in-Err-found.ensures.memory)

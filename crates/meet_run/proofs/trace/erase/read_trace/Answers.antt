@@ -1,0 +1,34 @@
+use Rattle.std.proofs.Common.{arith}
+use Rattle.meet_run.specs.Reading.{lines_of}
+use Rattle.meet_run.specs.Erasing.{erase_fault_in}
+use Rattle.meet_run.specs.Traces.{NamesLine}
+use Rattle.meet_run.proofs.LineLemmas.{uses-more, uses-fewer}
+use Rattle.meet_run.proofs.Erasing.{behind_head, bad_head, no_head}
+use Rattle.meet_run.proofs.TraceReading.{names-it}
+use Rattle.meet_run.proofs.trace.erase.read_trace.Goals as goal
+
+pub returns-in-Ok-read_records-clause-uses : goal.returns-in-Ok-read_records-clause-uses
+returns-in-Ok-read_records-clause-uses g c =
+    uses-fewer (g.R.Read.remaining c.args.reader.now) (g.R.Read.remaining c.read_records.new.reader) c.args.turns c.read_records.new.turns 0
+    (uses-more (g.R.Read.remaining c.args.reader.now) (g.R.Read.remaining c.next_head.new.reader) (g.R.Read.remaining c.read_records.new.reader) c.args.turns c.next_head.new.turns c.read_records.new.turns c.next_head.ensures.uses c.read_records.ensures.uses)
+    (omega arith)
+
+pub returns-in-Read-clause-bad : goal.returns-in-Read-clause-bad
+returns-in-Read-clause-bad g c =
+    behind_head (g.R.Read.remaining c.args.reader.now) (g.R.Read.remaining c.next_head.new.reader) c.in-Read.kind (NamesLine c.in-Err-read_records.fault) c.in-Read.ensures.next.0 c.in-Err-read_records.ensures.bad
+
+pub returns-in-Read-clause-uses : goal.returns-in-Read-clause-uses
+returns-in-Read-clause-uses g c =
+    uses-fewer (g.R.Read.remaining c.args.reader.now) (g.R.Read.remaining c.read_records.new.reader) c.args.turns c.read_records.new.turns 0
+    (uses-more (g.R.Read.remaining c.args.reader.now) (g.R.Read.remaining c.next_head.new.reader) (g.R.Read.remaining c.read_records.new.reader) c.args.turns c.next_head.new.turns c.read_records.new.turns c.next_head.ensures.uses c.read_records.ensures.uses)
+    (omega arith)
+
+pub returns-in-Ended-clause-bad : goal.returns-in-Ended-clause-bad
+returns-in-Ended-clause-bad g c =
+    names-it (g.R.Read.remaining c.args.reader.now) (λ input. erase_fault_in (lines_of input)) c.at_line.result 1 c.at_line.ensures
+    (no_head (g.R.Read.remaining c.args.reader.now) c.in-Ended.ensures.next.0)
+
+pub returns-in-Faulty-clause-bad : goal.returns-in-Faulty-clause-bad
+returns-in-Faulty-clause-bad g c =
+    names-it (g.R.Read.remaining c.args.reader.now) (λ input. erase_fault_in (lines_of input)) c.at_line-in-Faulty.result 1 c.at_line-in-Faulty.ensures
+    (bad_head (g.R.Read.remaining c.args.reader.now) c.in-Faulty.ensures.next.0)

@@ -1,5 +1,0 @@
-use Rattle.meet_run.proofs.WholeTexts.{based-traces-have-one-text}
-use Rattle.meet_run.proofs.trace_spellings.based_traces_have_one_text.Goals as goal
-
-pub returns : goal.returns
-returns c = based-traces-have-one-text

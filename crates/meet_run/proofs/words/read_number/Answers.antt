@@ -1,8 +1,0 @@
-use Rattle.meet_run.specs.Words.{BeginsAsNumber}
-use Rattle.meet_run.proofs.WordLemmas.{read-number}
-use Rattle.meet_run.proofs.words.read_number.Goals as goal
-
-pub returns : goal.returns
-returns c =
-    let begins : BeginsAsNumber c.args.word.now = c.is_misspelled.ensures.right cc in
-    read-number c.args.word.now c.read_digits.result begins c.read_digits.ensures.read c.read_digits.ensures.none c.read_digits.ensures.small

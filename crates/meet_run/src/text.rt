@@ -1,0 +1,10 @@
+//! What texts of every kind have in common: lines that are read without taking memory, words and numbers, what is
+//! written, and what stops a text.
+
+pub(crate) mod blocks;
+pub mod faults;
+pub mod next;
+pub mod output;
+pub mod reading;
+pub mod wording;
+pub mod words;

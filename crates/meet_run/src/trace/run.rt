@@ -1,0 +1,277 @@
+//! The trace of a script: the records that its calls write.
+
+ghost use Rattle.std.specs.Prelude.{ℕ, List, ◌≡◌, ◌+◌, ◌^◌, ◌<◌, ◌≤◌, ◌++◌, None, Err, IfSome, IfOk, IfErr, OnOk};
+ghost use Rattle.std.specs.Io.KnownBytes.{Appends};
+ghost use Rattle.std.specs.List.{flat_map};
+ghost use Rattle.std.specs.Vec.{vec_capacity};
+ghost use Rattle.meet_tickets.specs.declared.refusals.Refusal.TheVariants.{ReadFault};
+ghost use Rattle.meet_history.specs.Limits.{IsInLimits};
+ghost use Rattle.meet_run.specs.Reading.{UsesTurns, EndsInTurns, lines_of};
+ghost use Rattle.meet_run.specs.Running.{CannotRead, IsCutShort, IsRunFault, RunEnds};
+ghost use Rattle.meet_run.specs.Script.{fault_of};
+ghost use Rattle.meet_run.specs.BaseWording.{based_text, run_text, piece_line, numbers_line};
+ghost use Rattle.meet_run.specs.TraceWording.{record_line, trace_text};
+ghost use Rattle.meet_run.specs.Traces.{TracesAll, LeavesRun, TracesOn, IsTraceBehind, HasTrace, WasRun, IsUnread};
+ghost use Rattle.meet_run.specs.Writing.{AppendsPrefix};
+
+use crate::script::next::{next_call, next_setup};
+use crate::text::faults::{RunFault, at_line, cut_short};
+use crate::text::next::Next;
+use crate::text::output::write_whole;
+use crate::text::reading::{LONGEST_LINE, MOST_READS};
+use crate::trace::base_wording::push_base;
+use crate::trace::wording::{push_head, push_record};
+use meet_history::{Setup, Stepper};
+use meet_tickets::{Base, Deed, Kind, Record, Refusal};
+use std::alloc::Global;
+use std::io::{Read, Write};
+
+/// How many bytes are kept back at least before they are written.
+const BLOCK: usize = 8192;
+
+/// Writes what is kept back, and then the lines of these records, block by block.
+fn write_records<W: Write>(
+    out: &mut Vec<u8>,
+    records: &[Record<Deed>],
+    writer: &mut W,
+) -> Result<(), Refusal>
+    ensures written { OnOk result (Appends (W.contents writer.old) (W.contents writer.new) (out.old.items
+        ++ flat_map record_line records.now)) }
+    ensures prefix { AppendsPrefix (W.contents writer.old) (W.contents writer.new) (out.old.items
+        ++ flat_map record_line records.now) }
+    ensures why { IfErr result IsCutShort }
+{
+    for entry in records {
+        match push_record(out, *entry) {
+            Ok(()) => {}
+            Err(_) => return Err(Refusal::Memory),
+        }
+        if out.len() >= BLOCK {
+            write_whole(writer, out.as_slice())?;
+            out.clear();
+        }
+    }
+    write_whole(writer, out.as_slice())
+}
+
+/// Writes the trace of these records of a place of this kind, whole; it refuses Memory or WriteFault, and then a prefix
+/// of it is written.
+pub fn write_trace<W: Write>(
+    alloc: Global,
+    kind: Kind,
+    records: &[Record<Deed>],
+    writer: &mut W,
+) -> Result<(), Refusal>
+    ensures written { OnOk result (Appends (W.contents writer.old) (W.contents writer.new)
+        (trace_text kind records.now)) }
+    ensures prefix { AppendsPrefix (W.contents writer.old) (W.contents writer.new) (trace_text kind records.now) }
+    ensures why { IfErr result IsCutShort }
+{
+    let mut out = Vec::new(alloc);
+    match push_head(&mut out, kind) {
+        Ok(()) => write_records(&mut out, records, writer),
+        Err(_) => Err(Refusal::Memory),
+    }
+}
+
+/// Writes the trace of these records of a place of this kind after this base, whole; it refuses Memory or WriteFault,
+/// and then a prefix of it is written.
+pub fn write_based<W: Write>(
+    alloc: Global,
+    kind: Kind,
+    base: &Base,
+    records: &[Record<Deed>],
+    writer: &mut W,
+) -> Result<(), Refusal>
+    ensures written { OnOk result (Appends (W.contents writer.old) (W.contents writer.new)
+        (based_text kind base.now records.now)) }
+    ensures prefix { AppendsPrefix (W.contents writer.old) (W.contents writer.new)
+        (based_text kind base.now records.now) }
+    ensures why { IfErr result IsCutShort }
+{
+    let mut out = Vec::new(alloc);
+    match push_base(&mut out, kind, base) {
+        Ok(()) => write_records(&mut out, records, writer),
+        Err(_) => Err(Refusal::Memory),
+    }
+}
+
+/// What the calls of a script leave.
+#[derive(Drop)]
+pub(crate) struct Traced {
+    /// Whether a checkpoint was made.
+    pub(crate) cut: bool,
+    /// What stands for the records that were folded away.
+    pub(crate) base: Base,
+    /// The records since.
+    pub(crate) records: Vec<Record<Deed>>,
+    /// The number of the first faulty line, if there is one.
+    pub(crate) fault: Option<u64>,
+}
+
+/// What a stepper leaves, where this is the first faulty line.
+fn left_by(stepper: Stepper, fault: Option<u64>) -> Traced
+    ensures cut { result.cut ≡ stepper.cut }
+    ensures base { result.base ≡ stepper.base }
+    ensures records { result.records.items ≡ stepper.records }
+    ensures fault { result.fault ≡ fault }
+{
+    let cut = stepper.is_cut();
+    let (base, records) = stepper.into_parts();
+    Traced {
+        cut,
+        base,
+        records,
+        fault,
+    }
+}
+
+/// Makes the calls behind the first line: what they leave, up to the first faulty line, and the number of that line, if
+/// there is one. Where no turn is left it is ReadFault, whether or not there is memory.
+fn record_calls<R: Read>(
+    alloc: Global,
+    reader: &mut R,
+    turns: &mut u64,
+    line: &mut Vec<u8>,
+    setup: Setup,
+) -> Result<Traced, Refusal>
+    requires limits { IsInLimits setup }
+    requires room { LONGEST_LINE ≤ vec_capacity line.old }
+    requires turns { turns.old + 1 < 2 ^ 64 }
+    ensures records { IfOk result (λ left. IfSome (R.remaining reader.old) (λ rest.
+        LeavesRun setup (lines_of rest) left.cut left.base left.records.items left.fault)) }
+    ensures uses { UsesTurns (R.remaining reader.old) (R.remaining reader.new) turns.old turns.new }
+    ensures spent { turns.old ≡ 0 → result ≡ Err ReadFault }
+    ensures ends { IfOk result (λ left. left.fault ≡ None → EndsInTurns (R.remaining reader.old) turns.old) }
+    ensures why { IfErr result IsUnread }
+{
+    if *turns == 0 {
+        return Err(Refusal::ReadFault);
+    }
+    let mut stepper = Stepper::new(alloc, setup)?;
+    let mut replies = Vec::new(alloc);
+    // How many lines were read.
+    let mut read = 1u64;
+    loop {
+        match next_call(reader, turns, line, setup.kind.order) {
+            Next::Read(call) => {
+                replies.clear();
+                stepper.answer(call, &mut replies)?;
+                read += 1;
+            }
+            Next::Ended => return Ok(left_by(stepper, None)),
+            Next::Faulty => return Ok(left_by(stepper, Some(read + 1))),
+            Next::Broken => return Err(Refusal::ReadFault),
+        }
+    }
+}
+
+/// Writes the trace of what a script's calls leave: it has a base exactly where a checkpoint was made.
+fn write_run<W: Write>(
+    alloc: Global,
+    kind: Kind,
+    left: &Traced,
+    writer: &mut W,
+) -> Result<(), Refusal>
+    ensures written { OnOk result (Appends (W.contents writer.old) (W.contents writer.new)
+        (run_text kind left.now.cut left.now.base left.now.records.items)) }
+    ensures prefix { AppendsPrefix (W.contents writer.old) (W.contents writer.new)
+        (run_text kind left.now.cut left.now.base left.now.records.items) }
+    ensures why { IfErr result IsCutShort }
+{
+    if left.cut {
+        write_based(alloc, kind, &left.base, left.records.as_slice(), writer)
+    } else {
+        write_trace(alloc, kind, left.records.as_slice(), writer)
+    }
+}
+
+/// Makes the calls behind the first line, and writes their trace.
+fn trace_calls<R: Read, W: Write>(
+    alloc: Global,
+    reader: &mut R,
+    writer: &mut W,
+    turns: &mut u64,
+    line: &mut Vec<u8>,
+    setup: Setup,
+) -> Result<bool, RunFault>
+    requires limits { IsInLimits setup }
+    requires room { LONGEST_LINE ≤ vec_capacity line.old }
+    requires turns { turns.old + 1 < 2 ^ 64 }
+    ensures trace { IfSome (R.remaining reader.old) (λ rest.
+        TracesOn setup (lines_of rest) result (W.contents writer.old) (W.contents writer.new)) }
+    ensures made { WasRun result → IfSome (R.remaining reader.old) (λ rest.
+        (text : List ℕ) × IsTraceBehind setup (lines_of rest) text) }
+    ensures uses { UsesTurns (R.remaining reader.old) (R.remaining reader.new) turns.old turns.new }
+    ensures spent { turns.old ≡ 0 → CannotRead result }
+    ensures ends { OnOk result (EndsInTurns (R.remaining reader.old) turns.old) }
+    ensures faults { IfErr result IsRunFault }
+{
+    let left = match record_calls(alloc, reader, turns, line, setup) {
+        Ok(left) => left,
+        Err(why) => return Err(cut_short(why)),
+    };
+    match write_run(alloc, setup.kind, &left, writer) {
+        Ok(()) => {}
+        Err(why) => return Err(cut_short(why)),
+    }
+    match left.fault {
+        None => Ok(true),
+        Some(number) => Err(at_line(Refusal::BadLine, number)),
+    }
+}
+
+/// Runs the script that this reader gives, and writes the trace of its records: a first line that names the place,
+/// where a checkpoint was made the base, and a line for each record since. It is written once the script has ended. A
+/// read of the reader takes one byte and costs a turn.
+///
+/// The answer is true. A line that can't be read ends the script: the trace of the calls before it is written, and
+/// the fault is BadLine with the line's number, from 1; where that is the first line, or there is none, nothing is
+/// written. A read that fails, or no turn left for it, is ReadFault; a write that fails or takes no byte is
+/// WriteFault; where memory is wanted and not there, it is Memory. Then a prefix of the trace is written. Without a
+/// turn it is ReadFault, whether or not there is memory.
+pub fn run_trace_within<R: Read, W: Write>(
+    alloc: Global,
+    reader: &mut R,
+    writer: &mut W,
+    turns: u64,
+) -> Result<bool, RunFault>
+    ensures trace { IfSome (R.remaining reader.old) (λ input.
+        TracesAll input result (W.contents writer.old) (W.contents writer.new)) }
+    ensures made { WasRun result → IfSome (R.remaining reader.old) (λ input. HasTrace (lines_of input)) }
+    ensures uses { UsesTurns (R.remaining reader.old) (R.remaining reader.new) turns 0 }
+    ensures spent { turns ≡ 0 → CannotRead result }
+    ensures ends { OnOk result (EndsInTurns (R.remaining reader.old) turns) }
+    ensures faults { IfErr result IsRunFault }
+{
+    if turns == 0 {
+        return Err(cut_short(Refusal::ReadFault));
+    }
+    let mut left = turns;
+    let mut line = match Vec::with_capacity(alloc, LONGEST_LINE) {
+        Ok(line) => line,
+        Err(_) => return Err(cut_short(Refusal::Memory)),
+    };
+    match next_setup(reader, &mut left, &mut line) {
+        Next::Read(setup) => trace_calls(alloc, reader, writer, &mut left, &mut line, setup),
+        Next::Ended => Err(at_line(Refusal::BadLine, 1)),
+        Next::Faulty => Err(at_line(Refusal::BadLine, 1)),
+        Next::Broken => Err(cut_short(Refusal::ReadFault)),
+    }
+}
+
+/// Runs a script as `run_trace_within` does, with 2^32 reads.
+pub fn run_trace<R: Read, W: Write>(
+    alloc: Global,
+    reader: &mut R,
+    writer: &mut W,
+) -> Result<bool, RunFault>
+    ensures trace { IfSome (R.remaining reader.old) (λ input.
+        TracesAll input result (W.contents writer.old) (W.contents writer.new)) }
+    ensures made { WasRun result → IfSome (R.remaining reader.old) (λ input. HasTrace (lines_of input)) }
+    ensures uses { UsesTurns (R.remaining reader.old) (R.remaining reader.new) (2 ^ 32) 0 }
+    ensures ends { OnOk result (EndsInTurns (R.remaining reader.old) (2 ^ 32)) }
+    ensures faults { IfErr result IsRunFault }
+{
+    run_trace_within(alloc, reader, writer, MOST_READS)
+}
