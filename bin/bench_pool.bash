@@ -10,6 +10,9 @@
 # ran here, since there were as many workers as there may be. Memory that one round gave back the next one finds in the process, as it does
 # in Java's heap: the C library is told so by its settings.
 #
+# `bin/bench pool causes` prints what the system counted of such rounds by the job, ours and Java's, where there is `perf`: switches of
+# threads, wakes, calls of `futex` and of `sched_yield`, and page faults. Java's are those of its whole process, its start too.
+#
 # `bin/bench pool life` hands 1,000,000 and 10,000,000 empty jobs to a pool of one worker that is tended and keeps at most 1,024 jobs,
 # of which its caller runs those that find no room, and prints the most memory that each took: they may differ by 4 MiB. With more workers
 # the worst moment, in which one of them did most, comes late, so that is compared with nothing.
@@ -40,6 +43,37 @@ if [ "${1:-}" = life ]; then
     many=$(memory_of 10000000)
     echo "$few KiB after 1,000,000 jobs, $many KiB after 10,000,000"
     [ "$many" -le $((few + 4096)) ] || { echo "it grows"; exit 1; }
+    exit 0
+fi
+
+# Runs this command once, which holds so many rounds more than are told, and prints what the system counted of it by the job, one number
+# an event.
+counts_of() {
+    local more=$1 pool=$2 callers=$3 lasts=$4 each
+    shift 4
+    each=$((jobs / callers))
+    perf stat -x, -o "$work/counts" -e "$events" "$@" "$pool" "$workers" "$callers" "$each" "$lasts" "$rounds" >"$work/told" 2>"$work/times"
+    awk -F, -v jobs=$(((rounds + more) * each * callers)) '/^[0-9]/ { printf " %9.3f", $1 / jobs }' "$work/counts"
+}
+
+if [ "${1:-}" = causes ]; then
+    command -v perf >/dev/null || { echo "bin/bench pool causes: there is no perf here (Debian: linux-perf)" >&2; exit 1; }
+    events=sched:sched_switch,sched:sched_wakeup,syscalls:sys_enter_futex,syscalls:sys_enter_sched_yield,page-faults
+    echo "by the job: $workers processors, $(date -u +%F)"
+    printf '%8s %8s %7s %5s %9s %9s %9s %9s %9s\n' work pool callers whose switches wakes futex yields faults
+    for lasts in 0 10000; do
+        for pool in fixed cached; do
+            for callers in 1 4 16; do
+                printf '%8s %8s %7s %5s' "$lasts" "$pool" "$callers" ours
+                counts_of 0 "$pool" "$callers" "$lasts" "${keeps[@]}" "$program" race
+                echo
+                command -v java >/dev/null || continue
+                printf '%8s %8s %7s %5s' "$lasts" "$pool" "$callers" "Java"
+                counts_of "$untold" "$pool" "$callers" "$lasts" java "$top/bench/PoolRace.java"
+                echo
+            done
+        done
+    done
     exit 0
 fi
 
