@@ -1,7 +1,8 @@
 #!/usr/bin/env bash
-# What `bin/bench texts` runs: measures what `meet run`, `meet check` and `meet check --erase` (told as `erase`) take for a record, of texts
-# of 2^16 and of 2^20 records, by runs of the program `meet`, which is built first where it isn't there or its sources are newer. Further
-# programs, named behind `texts`, are run on the same texts: `bin/bench texts PROGRAM..` compares an earlier build with this one.
+# What `bin/bench texts` runs: measures what `meet run`, `meet check`, `meet check --erase` (told as `erase`) and `meet sum` take for a
+# record, of texts of 2^16 and of 2^20 records, by runs of the program `meet`, which is built first where it isn't there or its sources
+# are newer. Further programs, named behind `texts`, are run on the same texts: `bin/bench texts PROGRAM..` compares an earlier build with
+# this one.
 #
 # A time is processor time, the least of five runs, in nanoseconds a record. The last column is what a record costs of the large text
 # by what it costs of the small one: 1.00 where both cost the same. A run is cut off after 20 seconds, and then shown with what it took.
@@ -76,6 +77,9 @@ done <<'END'
 check trace fair handoffs
 check trace transfer handoffs
 check trace transfer withdrawals
+sum trace fair handoffs
+sum trace transfer handoffs
+sum trace transfer withdrawals
 erase trace fair handoffs
 erase trace transfer handoffs
 erase trace transfer withdrawals
