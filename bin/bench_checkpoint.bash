@@ -1,6 +1,6 @@
 #!/usr/bin/env bash
 # What `bin/bench checkpoint` runs: how long a checkpoint holds its queue, and what a step costs before any checkpoint
-# and behind one, by runs of the program `bench_handoffs`, which is built first where it isn't there or its sources are
+# and behind one, by runs of the program `bench_threads`, which is built first where it isn't there or its sources are
 # newer. With `quick`, a tenth of the rounds.
 #
 # A row is a transfer queue with so many seats, which keeps so many items. One seat makes all calls, in one thread. It
@@ -16,7 +16,7 @@ set -euo pipefail
 share=1
 [ "${1:-}" = quick ] && share=10
 
-build bench_handoffs 2
+build bench_threads 2
 work=$(mktemp -d)
 trap 'rm -rf "$work"' EXIT
 
@@ -27,9 +27,9 @@ fold() {
     sum=$((items * (items + 1) / 2))
     left=$((kept * items + kept * (kept + 1) / 2))
     echo "taken $items sum $sum left $kept sum $left gone $((kept + items * 2))" >"$work/expected"
-    if ! "$(program_of bench_handoffs)" checkpoint "$seats" "$kept" "$rounds" >"$work/told" 2>"$work/times" ||
+    if ! "$(program_of bench_threads)" checkpoint "$seats" "$kept" "$rounds" >"$work/told" 2>"$work/times" ||
         ! cmp -s "$work/expected" "$work/told"; then
-        echo "bin/bench checkpoint: bench_handoffs checkpoint $seats $kept $rounds says something else" >&2
+        echo "bin/bench checkpoint: bench_threads checkpoint $seats $kept $rounds says something else" >&2
         diff "$work/expected" "$work/told" >&2 || true
         cat "$work/times" >&2
         return 1

@@ -1,6 +1,6 @@
 #!/usr/bin/env bash
 # What `bin/bench exchange` runs: measures how many exchanges threads make in a second, in an arena and beside it at places under a lock, by
-# runs of the program `bench_exchanges`, which is built first where it isn't there or its sources are newer. With `quick`, a sixteenth of the
+# runs of the program `bench_threads`, which is built first where it isn't there or its sources are newer. With `quick`, a sixteenth of the
 # exchanges, and rough. Each run's items and their sum are compared with what they must be; where they differ the status is 1.
 #
 # A row is so many threads and slots, 100,000 exchanges in all, each counted at both of its threads. The time is that of the clock from
@@ -11,8 +11,8 @@ exchanges=100000
 rounds=5
 [ "${1:-}" = quick ] && exchanges=$((exchanges / 16))
 
-build bench_exchanges 2
-program=$(program_of bench_exchanges)
+build bench_threads 2
+program=$(program_of bench_threads)
 work=$(mktemp -d)
 trap 'rm -rf "$work"' EXIT
 
@@ -23,7 +23,7 @@ rate_of() {
         echo "items $threads sum $((threads * (threads + 1) / 2))"
     done >"$work/expected"
     if ! "$program" "$way" "$threads" "$slots" "$each" "$rounds" >"$work/told" 2>"$work/times" || ! cmp -s "$work/expected" "$work/told"; then
-        echo "bin/bench exchange: bench_exchanges $way $threads $slots $each $rounds says something else" >&2
+        echo "bin/bench exchange: bench_threads $way $threads $slots $each $rounds says something else" >&2
         diff "$work/expected" "$work/told" >&2 || true
         cat "$work/times" >&2
         return 1

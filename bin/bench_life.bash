@@ -1,6 +1,6 @@
 #!/usr/bin/env bash
 # What `bin/bench life` runs: whether the memory of a queue that is tended stays as it is, however long it lives, by runs of the program
-# `bench_handoffs`, which is built first where it isn't there or its sources are newer. With `quick`, fewer than a third of the items: a
+# `bench_threads`, which is built first where it isn't there or its sources are newer. With `quick`, fewer than a third of the items: a
 # tenth would end before the first checkpoint, and so before the memory is what it stays. With `long`, 100,000,000 handoffs of four
 # pairs too, some minutes: eight seats have more receipts at a time, so their memory is compared with nothing.
 #
@@ -12,7 +12,7 @@ set -euo pipefail
 few=1000000
 [ "${1:-}" = quick ] && few=300000
 
-build bench_handoffs 2
+build bench_threads 2
 work=$(mktemp -d)
 trap 'rm -rf "$work"' EXIT
 
@@ -21,7 +21,7 @@ live() {
     local pairs=$1 each=$2 items nanoseconds
     items=$((pairs * each))
     echo "items $items sum $((pairs * each * (each + 1) / 2))" >"$work/expected"
-    python3 - "$work" "$(program_of bench_handoffs)" park "$pairs" "$each" 1 <<'END'
+    python3 - "$work" "$(program_of bench_threads)" park "$pairs" "$each" 1 <<'END'
 import resource, subprocess, sys
 
 work = sys.argv[1]

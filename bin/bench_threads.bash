@@ -1,5 +1,5 @@
 #!/usr/bin/env bash
-# What `bin/bench threads` runs: measures how long it takes threads to hand items on, by runs of the program `bench_handoffs`, which is built
+# What `bin/bench threads` runs: measures how long it takes threads to hand items on, by runs of the program `bench_threads`, which is built
 # first where it isn't there or its sources are newer; beside it, where they are installed, of `bench/Race.java`, of the channels of the
 # Rust crate crossbeam-channel (`bench/crossbeam`, also from Debian's librust-crossbeam-channel-dev) and of Go (`bench/race.go`), both of
 # capacity 0. With `quick`, a sixteenth of the items, and rough. Each run's items and their sum are compared with what they must be; where
@@ -15,7 +15,7 @@ items=100000
 samples=12
 [ "${1:-}" = quick ] && items=$((items / 16)) && samples=3
 
-build bench_handoffs 2
+build bench_threads 2
 work=$(mktemp -d)
 trap 'rm -rf "$work"' EXIT
 
@@ -36,7 +36,7 @@ fi
 # The command that runs this way to hand items on; the status is 1 where it isn't installed.
 command_of() {
     case $1 in
-        park | spin | bare) command=("$(program_of bench_handoffs)" "$1") ;;
+        park | spin | bare) command=("$(program_of bench_threads)" "$1") ;;
         fair | unfair | transfer) [ -f "$work/Race.class" ] && command=(java -cp "$work" Race "$1") ;;
         crossbeam) [ -x "$work/crossbeam/target/release/race" ] && command=("$work/crossbeam/target/release/race") ;;
         go) [ -x "$work/go_race" ] && command=("$work/go_race") ;;

@@ -6,9 +6,9 @@ use Rattle.meet_tickets.specs.declared.refusals.Refusal.{Refusal}
 use Rattle.meet_tickets.specs.declared.refusals.Refusal.TheVariants.{Memory, BadLine, ReadFault}
 use Rattle.std.specs.Io.KnownBytes.{Appends}
 use Rattle.meet_run.specs.declared.text.faults.RunFault.{RunFault}
-use Rattle.meet_run.specs.Reading.{lines_of, Both}
-use Rattle.meet_run.specs.Running.{RunEnds, FaultEnds}
-use Rattle.meet_run.proofs.Ran.{appends-nothing}
+use Rattle.meet_run.specs.Texts.Reading.{lines_of, Both}
+use Rattle.meet_run.specs.Scripts.Running.{RunEnds, FaultEnds}
+use Rattle.meet_run.proofs.Scripts.Ran.{appends-nothing}
 use Rattle.bench_calls.specs.declared.tasks.Task.{Task}
 use Rattle.bench_calls.specs.Findings.{finding_of, finding_text}
 use Rattle.bench_calls.specs.Asked.{first_then, at_end, asked_in, IsAsked, fault_told, output_told, RunsTask}

@@ -4,10 +4,10 @@ use Rattle.std.proofs.lemmas.Bool.{lt-ltb}
 use Rattle.std.specs.Prelude.{codes, IfSome}
 use Rattle.std.specs.Option.{option_map}
 use Rattle.meet_tickets.specs.Limits.{most_records}
-use Rattle.meet_run.specs.Words.{word_of, rest_of}
-use Rattle.meet_run.specs.Grammar.{option_in}
-use Rattle.meet_run.proofs.CallLemmas.{bind-some}
-use Rattle.meet_run.proofs.SetupLemmas.{IsWithin, option-is}
+use Rattle.meet_run.specs.Texts.Words.{word_of, rest_of}
+use Rattle.meet_run.specs.Scripts.Grammar.{option_in}
+use Rattle.meet_run.proofs.Scripts.CallLemmas.{bind-some}
+use Rattle.meet_run.proofs.Scripts.SetupLemmas.{IsWithin, option-is}
 use Rattle.bench_calls.specs.declared.tasks.Shape.{Shape}
 use Rattle.bench_calls.specs.declared.tasks.Task.{Task}
 use Rattle.bench_calls.specs.Tasks.{FitsTask, shape_of, number_in, task_at_end, task_with, task_in, task_of}

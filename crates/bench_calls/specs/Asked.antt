@@ -5,9 +5,9 @@ use Rattle.std.specs.Option.{option_map_or}
 use Rattle.meet_tickets.specs.declared.refusals.Refusal.TheVariants.{Memory, BadLine, ReadFault}
 use Rattle.meet_history.specs.declared.one_thread.setup.Setup.{Setup}
 use Rattle.meet_run.specs.declared.text.faults.RunFault.{RunFault}
-use Rattle.meet_run.specs.Grammar.{setup_of}
-use Rattle.meet_run.specs.Reading.{lines_of}
-use Rattle.meet_run.specs.Running.{RunEnds}
+use Rattle.meet_run.specs.Scripts.Grammar.{setup_of}
+use Rattle.meet_run.specs.Texts.Reading.{lines_of}
+use Rattle.meet_run.specs.Scripts.Running.{RunEnds}
 use Rattle.bench_calls.specs.declared.tasks.Task.{Task}
 use Rattle.bench_calls.specs.Findings.{finding_of, finding_text}
 use Rattle.bench_calls.specs.Tasks.{task_of}

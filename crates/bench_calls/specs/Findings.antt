@@ -4,7 +4,7 @@ use Rattle.meet_history.specs.declared.one_thread.verbs.Call.{Call}
 use Rattle.meet_history.specs.declared.one_thread.setup.Setup.{Setup}
 use Rattle.meet_history.specs.OneThread.{records}
 use Rattle.meet_history.specs.Standings.{standing_in}
-use Rattle.meet_run.specs.Wording.{last_line}
+use Rattle.meet_run.specs.Scripts.Wording.{last_line}
 use Rattle.bench_calls.specs.declared.findings.Finding.{Finding}
 use Rattle.bench_calls.specs.declared.tasks.Task.{Task}
 use Rattle.bench_calls.specs.Calls.{calls_of}

@@ -3,7 +3,7 @@
 ghost use Rattle.std.specs.Prelude.{◌≡◌, ◌≤◌, IfOk};
 ghost use Rattle.std.specs.Vec.{vec_capacity};
 ghost use Rattle.meet_history.specs.Limits.{IsInLimits};
-ghost use Rattle.meet_run.specs.Running.{CannotRead, IsNext, IfRead};
+ghost use Rattle.meet_run.specs.Scripts.Running.{CannotRead, IsNext, IfRead};
 ghost use Rattle.bench_calls.specs.Tasks.{FitsTask, task_of};
 ghost use Rattle.bench_calls.specs.Asked.{at_end, task_asked, asked_in, IsAsked};
 

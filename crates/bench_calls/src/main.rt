@@ -5,8 +5,8 @@
 ghost use Rattle.std.specs.Prelude.{◌≡◌, [], IfSome};
 ghost use Rattle.std.specs.Process.{exit_status};
 ghost use Rattle.meet_history.specs.Limits.{IsInLimits};
-ghost use Rattle.meet_run.specs.Faults.{status_of};
-ghost use Rattle.meet_run.specs.Running.{RunEnds};
+ghost use Rattle.meet_run.specs.Texts.Faults.{status_of};
+ghost use Rattle.meet_run.specs.Scripts.Running.{RunEnds};
 ghost use Rattle.bench_calls.specs.Asked.{RunsTask};
 ghost use Rattle.bench_calls.specs.Findings.{finding_of, finding_text};
 ghost use Rattle.bench_calls.specs.Tasks.{FitsTask};

@@ -1,5 +1,5 @@
-//! Two buffers that change hands, as in the documentation of `Exchanger`: one thread fills a buffer and exchanges it for
-//! an empty one, the other empties a buffer and exchanges it for a full one.
+//! Two buffers that change hands, as in the documentation of `Exchanger`: one thread fills a buffer and exchanges it
+//! for an empty one, the other empties a buffer and exchanges it for a full one.
 mod loops;
 
 use self::loops::{Buffer, empty_all, fill_all};

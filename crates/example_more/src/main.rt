@@ -1,5 +1,6 @@
-//! Three more programs over the library, each in a module of its own: a pipeline of three stages, a server whose threads
-//! outnumber its seats, and two buffers that change hands. They share a crate, since each crate costs the gate minutes.
+//! Three more programs over the library, each in a module of its own: a pipeline of three stages, a server whose
+//! threads outnumber its seats, and two buffers that change hands. They share a crate, since each crate costs the gate
+//! minutes.
 #![tactic(auto)]
 
 mod buffers;

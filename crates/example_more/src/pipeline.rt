@@ -106,8 +106,8 @@ where
     outcome(made, squared, added)
 }
 
-/// The stages between a queue that is there, with its two seats, and another of these parts: its seats, and what came of
-/// it.
+/// The stages between a queue that is there, with its two seats, and another of these parts: its seats, and what came
+/// of it.
 fn run_to<M, N, R>(
     rt: &R,
     alloc: Global,

@@ -19,7 +19,7 @@ use std::time::Clock;
 /// How many workers there are, how many seats, and how many connections come.
 const WORKERS: u64 = 12;
 
-const SEATS: usize = 4;
+const SEATS: u64 = 4;
 
 const CONNECTIONS: u64 = 30;
 

@@ -82,8 +82,8 @@ fn cancel(rt: &HostRuntime, queue: &mut Counter, seat_0: SeatNo, ticket: Ticket)
 
 /// A seat is interrupted.
 fn interrupt(rt: &HostRuntime, queue: &mut Counter, seat_0: SeatNo) -> Result<()> {
-    let struck = queue.interrupt(seat_0)?; // Interrupted::Cut(ticket), Interrupted::Flagged
-    tell_interrupted(rt, struck)
+    let interrupted = queue.interrupt(seat_0)?; // Interrupted::Cut(ticket), Interrupted::Flagged
+    tell_interrupted(rt, interrupted)
 }
 
 /// A seat polls: what it brought is told.

@@ -1,4 +1,5 @@
-//! A first use of the library by one thread: parcels go from seat to seat, by queues and by an exchanger. What it prints is in `stdout`.
+//! A first use of the library by one thread: parcels go from seat to seat, by queues and by an exchanger. What it
+//! prints is in `stdout`.
 #![tactic(auto)]
 
 mod handoff;

@@ -70,8 +70,8 @@ pub fn tell_back(rt: &HostRuntime, back: TakenBack<Parcel>) -> Result<()> {
 }
 
 /// The answer to an interrupt.
-pub fn tell_interrupted(rt: &HostRuntime, struck: Interrupted) -> Result<()> {
-    match struck {
+pub fn tell_interrupted(rt: &HostRuntime, interrupted: Interrupted) -> Result<()> {
+    match interrupted {
         Interrupted::Cut(ticket) => println!(rt; "t{} was cut", ticket.number())?,
         Interrupted::Flagged => println!(rt; "flagged")?,
     }

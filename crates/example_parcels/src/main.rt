@@ -1,6 +1,6 @@
 //! Parcels between threads: one thread transfers them, another takes them. Then the queue is closed, and what came,
-//! what came back and its records are counted on standard output; or, as `example_parcels trace`, the records are written
-//! there as a trace, which `meet check` accepts.
+//! what came back and its records are counted on standard output; or, as `example_parcels trace`, the records are
+//! written there as a trace, which `meet check` accepts.
 #![tactic(auto)]
 
 mod passing;

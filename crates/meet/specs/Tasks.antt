@@ -5,12 +5,12 @@ use Rattle.meet_draw.specs.Drawn.{DrawEnds}
 use Rattle.meet_explain.specs.Explained.{ExplainEnds}
 use Rattle.meet_judge.specs.Judging.{JudgeEnds}
 use Rattle.meet_run.specs.declared.text.faults.RunFault.{RunFault}
-use Rattle.meet_run.specs.Chains.{ChainEnds}
-use Rattle.meet_run.specs.Erasing.{EraseEnds}
-use Rattle.meet_run.specs.Reading.{lines_of}
-use Rattle.meet_run.specs.Running.{RunEnds}
-use Rattle.meet_run.specs.Script.{fault_of, text_before, output_of}
-use Rattle.meet_run.specs.Traces.{TracesAll, CheckEnds}
+use Rattle.meet_run.specs.Tracing.Chains.{ChainEnds}
+use Rattle.meet_run.specs.Tracing.Erasing.{EraseEnds}
+use Rattle.meet_run.specs.Texts.Reading.{lines_of}
+use Rattle.meet_run.specs.Scripts.Running.{RunEnds}
+use Rattle.meet_run.specs.Scripts.Script.{fault_of, text_before, output_of}
+use Rattle.meet_run.specs.Tracing.Traces.{TracesAll, CheckEnds}
 use Rattle.meet_sum.specs.Summing.{SumEnds}
 use Rattle.pool_drive.specs.Driven.{IsPoolSized}
 use Rattle.pool_run.specs.Checks.{PoolCheckEnds}
@@ -24,7 +24,8 @@ use Rattle.meet.specs.declared.command_line.Wanted.TheVariants.{Text, Drive, Poo
 
 -- what came of a task with this input: of a script its replies, or its trace; of a trace what is found of it, with what
 -- explains it or without, its picture, its sums, or what is left of it once erased; of a chain of them what is found of
--- it; of calls that overlap a history that explains them, or that there is none. So it is with scripts and traces of pools
+-- it; of calls that overlap a history that explains them, or that there is none. So it is with scripts and traces of
+-- pools
 abbrev pub Performs : Task → (input : List ℕ) → Result Bool RunFault → (old new : Option (List ℕ)) → Type 0
 Performs Run input result old new = RunEnds (fault_of input) (text_before input) (output_of input) result old new
 Performs Trace input result old new = TracesAll input result old new

@@ -340,9 +340,9 @@ fn wanted_by(matches: &ArgMatches<'_>) -> Wanted
 }
 
 /// Reads the words of a command line, the program's name first: none, `run`, `run --trace`, `check`, `check --erase`,
-/// `chain`, `explain`, `draw`, with `--unicode` and `--width COLUMNS` or without, `sum`, `judge`, `drive N M`, or behind
-/// `pool` `run`, `run --trace`, `check` or `drive N M W`. The error has the text to show; a request for help or for the
-/// version is one.
+/// `chain`, `explain`, `draw`, with `--unicode` and `--width COLUMNS` or without, `sum`, `judge`, `drive N M`, or
+/// behind `pool` `run`, `run --trace`, `check` or `drive N M W`. The error has the text to show; a request for help or
+/// for the version is one.
 pub fn wanted_of(alloc: Global, words: &[String]) -> Result<Wanted, Error>
     ensures { IfOk result IsWithin }
 {

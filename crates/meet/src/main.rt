@@ -1,11 +1,11 @@
-//! The program `meet`: a script of calls on standard input, their replies or their trace on standard output; or a
-//! trace on standard input, what is found of it on standard output, as text or drawn; or calls that overlap, and a history that explains
-//! them; or threads at a queue, and what came of it.
+//! The program `meet`: a script of calls on standard input, their replies or their trace on standard output; or a trace
+//! on standard input, what is found of it on standard output, as text or drawn; or calls that overlap, and a history
+//! that explains them; or threads at a queue, and what came of it.
 #![tactic(auto)]
 
 ghost use Rattle.std.specs.Prelude.{◌≡◌, IfSome};
 ghost use Rattle.std.specs.Process.{exit_status};
-ghost use Rattle.meet_run.specs.Faults.{status_of};
+ghost use Rattle.meet_run.specs.Texts.Faults.{status_of};
 ghost use Rattle.meet.specs.Tasks.{Performs};
 
 mod command_line;
@@ -105,8 +105,8 @@ impl Progress for Teller<'_> {
     }
 }
 
-/// Whether these words end with the name of a text, or with `-`, as of who wants it read from a file: texts are read from
-/// standard input alone.
+/// Whether these words end with the name of a text, or with `-`, as of who wants it read from a file: texts are read
+/// from standard input alone.
 fn name_a_text(words: &[String]) -> bool {
     let drives = words.iter().any(|word| word.as_str() == "drive");
     match words.last() {

@@ -16,7 +16,7 @@ use Rattle.meet_tickets.specs.BySeat.{Allows}
 use Rattle.meet_tickets.specs.Meeting.{Finds}
 use Rattle.meet_answers.specs.Answers.{Answers, AreAll, AreChosen}
 use Rattle.meet_answers.specs.declared.attempts.Attempt.{Attempt}
-use Rattle.meet_answers.specs.declared.attempts.Attempt.TheVariants.{Give, Take, End, Interrupt as Strike}
+use Rattle.meet_answers.specs.declared.attempts.Attempt.TheVariants.{Give, Take, End, Interrupt as ToInterrupt}
 
 -- of all that may come those that do
 pub chosen_all : (P : Deed → Type 0) (attempt : Attempt) (deeds list : List Deed) → AllByRecursion (Answers attempt) deeds →
@@ -98,19 +98,19 @@ ending_all k b i t u m met (EntryInterrupted side) is may = absurd is
 ending_all k b i t u m met (Interrupt j) is may = absurd is
 
 -- of an interrupt
-pub strike_own : (j : ℕ) → AllByRecursion (Answers (Strike j)) (Interrupt j ∷ [])
-strike_own j = (refl, tt)
+pub interrupt_own : (j : ℕ) → AllByRecursion (Answers (ToInterrupt j)) (Interrupt j ∷ [])
+interrupt_own j = (refl, tt)
 
-pub strike_all : (j : ℕ) (deed : Deed) → Answers (Strike j) deed → Contains (Interrupt j ∷ []) deed
-strike_all j (Interrupt i) is = subst (λ x. Contains (Interrupt j ∷ []) (Interrupt x)) (sym is) (0, omega arith, refl)
-strike_all j (GiveWaits n) is = absurd is
-strike_all j (GiveMeets n v) is = absurd is
-strike_all j (GiveFails n) is = absurd is
-strike_all j (GiveKept n) is = absurd is
-strike_all j TakeWaits is = absurd is
-strike_all j (TakeMeets n v) is = absurd is
-strike_all j TakeFails is = absurd is
-strike_all j (EntryInterrupted side) is = absurd is
-strike_all j Done is = absurd is
-strike_all j (Got n v) is = absurd is
-strike_all j (Withdrawn cause) is = absurd is
+pub interrupt_all : (j : ℕ) (deed : Deed) → Answers (ToInterrupt j) deed → Contains (Interrupt j ∷ []) deed
+interrupt_all j (Interrupt i) is = subst (λ x. Contains (Interrupt j ∷ []) (Interrupt x)) (sym is) (0, omega arith, refl)
+interrupt_all j (GiveWaits n) is = absurd is
+interrupt_all j (GiveMeets n v) is = absurd is
+interrupt_all j (GiveFails n) is = absurd is
+interrupt_all j (GiveKept n) is = absurd is
+interrupt_all j TakeWaits is = absurd is
+interrupt_all j (TakeMeets n v) is = absurd is
+interrupt_all j TakeFails is = absurd is
+interrupt_all j (EntryInterrupted side) is = absurd is
+interrupt_all j Done is = absurd is
+interrupt_all j (Got n v) is = absurd is
+interrupt_all j (Withdrawn cause) is = absurd is

@@ -13,7 +13,7 @@ use Rattle.meet_tickets.specs.Bases.{Based, moment_of_base}
 use Rattle.meet_tickets.specs.BySeat.{Seats, Allows, cut_ticket, is_request, open_ticket}
 use Rattle.meet_tickets.specs.Limits.{last_ticket}
 use Rattle.meet_answers.specs.Answers.{Answers, MayCome, IsBest}
-use Rattle.meet_answers.specs.declared.attempts.Attempt.TheVariants.{Give, Take, End, Interrupt as Strike}
+use Rattle.meet_answers.specs.declared.attempts.Attempt.TheVariants.{Give, Take, End, Interrupt as ToInterrupt}
 
 -- a request is allowed with whatever ticket
 request_allowed : (k : Kind) (s : Seats ℕ) (i t u : ℕ) (deed : Deed) → is_request deed ≡ true → Allows k s i t deed → Allows k s i u deed
@@ -96,18 +96,18 @@ ending_best k b i u is t (EntryInterrupted side) small ends may = absurd ends
 ending_best k b i u is t (Interrupt j) small ends may = absurd ends
 
 -- an interrupt names the ticket that it cuts
-pub strike_best : (k : Kind) (b : Based) (i j u : ℕ) → (cut_ticket (moment_of_base b).seats j ≤ last_ticket → u ≡ cut_ticket (moment_of_base b).seats j) → IsBest k b i (Strike j) u
-strike_best k b i j u is t (Interrupt x) small strikes may =
-    let here : t ≡ cut_ticket (moment_of_base b).seats j = may.allowed ∙ ap (cut_ticket (moment_of_base b).seats) strikes in
+pub interrupt_best : (k : Kind) (b : Based) (i j u : ℕ) → (cut_ticket (moment_of_base b).seats j ≤ last_ticket → u ≡ cut_ticket (moment_of_base b).seats j) → IsBest k b i (ToInterrupt j) u
+interrupt_best k b i j u is t (Interrupt x) small interrupts may =
+    let here : t ≡ cut_ticket (moment_of_base b).seats j = may.allowed ∙ ap (cut_ticket (moment_of_base b).seats) interrupts in
     subst (λ y. MayCome k b i y (Interrupt x)) (here ∙ sym (is (subst (λ y. y ≤ last_ticket) here small))) may
-strike_best k b i j u is t (GiveWaits n) small strikes may = absurd strikes
-strike_best k b i j u is t (GiveMeets n v) small strikes may = absurd strikes
-strike_best k b i j u is t (GiveFails n) small strikes may = absurd strikes
-strike_best k b i j u is t (GiveKept n) small strikes may = absurd strikes
-strike_best k b i j u is t TakeWaits small strikes may = absurd strikes
-strike_best k b i j u is t (TakeMeets n v) small strikes may = absurd strikes
-strike_best k b i j u is t TakeFails small strikes may = absurd strikes
-strike_best k b i j u is t (EntryInterrupted side) small strikes may = absurd strikes
-strike_best k b i j u is t Done small strikes may = absurd strikes
-strike_best k b i j u is t (Got n v) small strikes may = absurd strikes
-strike_best k b i j u is t (Withdrawn cause) small strikes may = absurd strikes
+interrupt_best k b i j u is t (GiveWaits n) small interrupts may = absurd interrupts
+interrupt_best k b i j u is t (GiveMeets n v) small interrupts may = absurd interrupts
+interrupt_best k b i j u is t (GiveFails n) small interrupts may = absurd interrupts
+interrupt_best k b i j u is t (GiveKept n) small interrupts may = absurd interrupts
+interrupt_best k b i j u is t TakeWaits small interrupts may = absurd interrupts
+interrupt_best k b i j u is t (TakeMeets n v) small interrupts may = absurd interrupts
+interrupt_best k b i j u is t TakeFails small interrupts may = absurd interrupts
+interrupt_best k b i j u is t (EntryInterrupted side) small interrupts may = absurd interrupts
+interrupt_best k b i j u is t Done small interrupts may = absurd interrupts
+interrupt_best k b i j u is t (Got n v) small interrupts may = absurd interrupts
+interrupt_best k b i j u is t (Withdrawn cause) small interrupts may = absurd interrupts

@@ -12,7 +12,7 @@ use Rattle.meet_tickets.specs.BySeat.{is_open, is_request, Fits}
 use Rattle.meet_tickets.specs.Limits.{last_ticket}
 use Rattle.meet_answers.specs.declared.replacing.Instead.{Instead}
 use Rattle.meet_answers.specs.declared.attempts.Attempt.{Attempt}
-use Rattle.meet_answers.specs.declared.attempts.Attempt.TheVariants.{Give, Take, End, Interrupt as Strike}
+use Rattle.meet_answers.specs.declared.attempts.Attempt.TheVariants.{Give, Take, End, Interrupt as ToInterrupt}
 
 -- the deeds of requests to give an item with this mark; one that was interrupted at its entry tells no mark
 abbrev pub OfGiver : (mark : ℕ) → Deed → Type 0
@@ -48,7 +48,7 @@ abbrev pub Answers : Attempt → Deed → Type 0
 Answers (Give m) deed = OfGiver m deed
 Answers Take deed = OfTaker deed
 Answers End deed = OfEnding deed
-Answers (Strike j) deed = OfInterrupt j deed
+Answers (ToInterrupt j) deed = OfInterrupt j deed
 
 -- a record of this seat with this ticket and deed may come next behind a base
 abbrev pub MayCome : Kind → Based → (seat ticket : ℕ) → Deed → Type 0

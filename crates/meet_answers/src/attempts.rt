@@ -29,8 +29,8 @@ fn at_entry(side: Side) -> Attempt
 }
 
 impl Attempt {
-    /// What a seat tried whose record has this deed. A record of a giver that was interrupted at its entry tells no mark:
-    /// there it is 0.
+    /// What a seat tried whose record has this deed. A record of a giver that was interrupted at its entry tells no
+    /// mark: there it is 0.
     pub fn of(deed: Deed) -> Attempt
         ensures { Answers result deed }
     {

@@ -49,7 +49,8 @@ fn open_ticket(base: &Base, seat: SeatNo, ticket: Ticket) -> Ticket
     hold(base, seat).open_ticket().unwrap_or(ticket)
 }
 
-/// The ticket with which a seat may answer what it tries: its open one; that which an interrupt cuts, or 0; or a new one.
+/// The ticket with which a seat may answer what it tries: its open one; that which an interrupt cuts, or 0; or a new
+/// one.
 fn ticket_for(base: &Base, seat: SeatNo, attempt: &Attempt, ticket: Ticket) -> Ticket
     ensures { (k : Kind) → IsBest k base.now seat attempt.now result }
 {
@@ -72,9 +73,9 @@ fn attempt_for(deed: &Deed, is_open: bool) -> Attempt
     Attempt::of(*deed)
 }
 
-/// What may come in the place of a record that can't, behind a base: each answer to what its seat tried, with the ticket
-/// that it may have; or, where the seat asks while its ticket is open, each ending of that. There is none where a seat
-/// that has none open ends a ticket. The only error is want of memory.
+/// What may come in the place of a record that can't, behind a base: each answer to what its seat tried, with the
+/// ticket that it may have; or, where the seat asks while its ticket is open, each ending of that. There is none where
+/// a seat that has none open ends a ticket. The only error is want of memory.
 pub fn comes_instead(
     alloc: Global,
     kind: Kind,

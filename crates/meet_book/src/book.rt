@@ -133,8 +133,8 @@ impl<O: Object> Book<O> {
         if let Err(why) = self.object.admit(seat, call) {
             return Some(why);
         }
-        let left = self.cap - self.records.len() as u64 - self.object.owed();
-        if left < O::need(call) {
+        let free = self.cap - self.records.len() as u64 - self.object.owed();
+        if free < O::need(call) {
             Some(Refusal::HistoryFull)
         } else {
             None

@@ -58,16 +58,16 @@ fn count_in_order<D: Same>(
     list: &[Receipt<D>],
     all: usize,
 ) -> Option<usize>
-    ensures count { IfSome result (λ left. left + length (entries_since gone list.now) ≡ all) }
+    ensures count { IfSome result (λ unseen. unseen + length (entries_since gone list.now) ≡ all) }
     ensures fewer { IfSome result (λ _. FewerOrThese (entries_since gone list.now) (of_seat seat records.now)) }
 {
-    let mut left = all;
+    let mut unseen = all;
     let mut next = 0;
     for receipt in list {
         let place = receipt.place();
         if gone < place {
             let index = place - gone - 1;
-            if index < next as u64 || records.len() as u64 <= index || left == 0 {
+            if index < next as u64 || records.len() as u64 <= index || unseen == 0 {
                 return None;
             }
             let entry = records[index as usize];
@@ -75,10 +75,10 @@ fn count_in_order<D: Same>(
                 return None;
             }
             next = index as usize + 1;
-            left -= 1;
+            unseen -= 1;
         }
     }
-    Some(left)
+    Some(unseen)
 }
 
 /// Whether the lists are the records by the receipts' own numbers: each list is in order, and all the lists together
@@ -87,15 +87,15 @@ fn is_whole<D: Same, H: Holds<D>>(gone: u64, records: &[Record<D>], seats: &[H])
     requires few { length seats.now ≤ most_seats }
     ensures { IsTrue result → AreListed gone records.now (map H.held seats.now) }
 {
-    let mut left = records.len();
+    let mut unseen = records.len();
     for number in 0..seats.len() {
         let seat = SeatNo::new(number as u64).unwrap();
-        match count_in_order(gone, records, seat, seats[number].receipts(), left) {
-            Some(rest) => left = rest,
+        match count_in_order(gone, records, seat, seats[number].receipts(), unseen) {
+            Some(rest) => unseen = rest,
             None => return false,
         }
     }
-    left == 0
+    unseen == 0
 }
 
 /// The next receipt, from this index, for a record that wasn't folded away.

@@ -176,7 +176,7 @@ pub trait Drains: Object {
     ghost available_of: { Self → ℕ };
 
     /// How many tickets are left.
-    ghost left_of: { Self → ℕ };
+    ghost unspent_of: { Self → ℕ };
 
     /// How many items are there to be taken. It takes no memory.
     fn available(&self) -> u64
@@ -184,14 +184,14 @@ pub trait Drains: Object {
 
     /// How many tickets are left. It takes no memory.
     fn tickets_left(&self) -> u64
-        ensures { result ≡ left_of self.now };
+        ensures { result ≡ unspent_of self.now };
 
     /// Whether this seat's poll is admitted, or why it is refused: the first reason that applies. It takes no memory.
     fn admit_poll(&self, seat: SeatNo) -> Result<(), Refusal>
         ensures admitted { IfOk result (λ _. Self.refusal_of self.now seat poll ≡ None) }
         ensures why { IfErr result (λ why. Self.refusal_of self.now seat poll ≡ Some why) }
         ensures own { IfErr result (λ why. (why ≢ Memory) × (why ≢ HistoryFull)) }
-        ensures left { 0 < left_of self.now → Self.refusal_of self.now seat poll ≢ Some TicketsSpent };
+        ensures tickets { 0 < unspent_of self.now → Self.refusal_of self.now seat poll ≢ Some TicketsSpent };
 
     /// The call that takes one item, if one is there. It takes no memory.
     fn poll_call(&self) -> Self::Call
@@ -199,7 +199,7 @@ pub trait Drains: Object {
         ensures takes { (seat : ℕ) (answer : Self.Answer) (new : Self)
             → Self.steps self.now seat poll answer new → Self.refusal_of self.now seat poll ≡ None
             → 0 < available_of self.now
-            → TakesOne available_of left_of Self.owed_of (λ o. Self.refusal_of o seat poll)
+            → TakesOne available_of unspent_of Self.owed_of (λ o. Self.refusal_of o seat poll)
             (Self.record_of seat poll answer) self.now new };
 
     /// The seat that may go on, now that a poll has taken its item. It is a hint: nothing is promised of it.

@@ -77,7 +77,7 @@ fn are_taken(
 /// What a cell and its book show: the tokens, the tickets and the room that are left, and how many records there are.
 fn seen(book: &Book<Cell>) -> (u64, u64, u64, usize) {
     let cell = book.probe();
-    (cell.tokens, cell.left, cell.room, book.records().len())
+    (cell.tokens, cell.unspent, cell.room, book.records().len())
 }
 
 /// A drain of so many by a seat, and what it takes, by place and ticket, or why it is refused.

@@ -60,7 +60,7 @@ pub struct Cell {
     pub tokens: u64,
     pub wait: Option<Wait>,
     pub next: Ticket,
-    pub left: u64,
+    pub unspent: u64,
     pub room: u64,
     pub most: u64,
 }
@@ -74,7 +74,7 @@ impl Cell {
             tokens: 0,
             wait: None,
             next: Ticket::new(1).expect(rt, "no such ticket number"),
-            left: tickets,
+            unspent: tickets,
             room: 0,
             most,
         }
@@ -92,21 +92,21 @@ impl Cell {
 
     /// The next ticket, which is used up.
     fn draw(&mut self) -> Ticket
-        requires { 0 < self.old.left }
-        ensures left { self.new.left + 1 ≡ self.old.left }
+        requires { 0 < self.old.unspent }
+        ensures unspent { self.new.unspent + 1 ≡ self.old.unspent }
         ensures room { self.new.room ≡ self.old.room }
         ensures tokens { self.new.tokens ≡ self.old.tokens }
         ensures wait { self.new.wait ≡ self.old.wait }
     {
         let ticket = self.next;
         self.next = Ticket::new(ticket.number() + 1).unwrap_or(ticket);
-        self.left -= 1;
+        self.unspent -= 1;
         ticket
     }
 
     /// Puts tokens in, up to the greatest number, which uses up the room of a put.
     fn put(&mut self, tokens: u64) -> Made
-        requires ticket { 0 < self.old.left }
+        requires ticket { 0 < self.old.unspent }
         requires room { 0 < self.old.room }
         ensures room { self.new.room + 1 ≡ self.old.room }
         ensures wait { self.new.wait ≡ self.old.wait }
@@ -122,8 +122,8 @@ impl Cell {
 
     /// Takes a token, or waits for one, or misses it.
     fn take(&mut self, seat: SeatNo) -> Made
-        requires { 0 < self.old.left }
-        ensures left { self.new.left + 1 ≡ self.old.left }
+        requires { 0 < self.old.unspent }
+        ensures unspent { self.new.unspent + 1 ≡ self.old.unspent }
         ensures room { self.new.room ≡ self.old.room }
         ensures took { 0 < self.old.tokens → (self.new.tokens + 1 ≡ self.old.tokens) × (self.new.wait ≡ self.old.wait) }
         ensures wait { (self.new.wait ≡ self.old.wait) ⊎ (self.old.wait ≡ None) }
@@ -210,7 +210,7 @@ impl Object for Cell {
 
     /// What a drain has to know of a step: what Take does where a token is there.
     ghost steps = { λ old seat call made new. call ≡ Take → 0 < old.tokens
-        → IsSome made × (new.tokens + 1 ≡ old.tokens) × (new.left + 1 ≡ old.left) × (new.wait ≡ old.wait) };
+        → IsSome made × (new.tokens + 1 ≡ old.tokens) × (new.unspent + 1 ≡ old.unspent) × (new.wait ≡ old.wait) };
 
     ghost record_of = { λ seat call made. option_map
         (λ m. record { seat = seat; ticket = m.ticket; deed = m.deed }) made };
@@ -221,7 +221,7 @@ impl Object for Cell {
           | End ↦ None
           | _ ↦
               (if option_map_or (λ wait. nat_eq wait.seat seat) cell.wait false then Some SeatOpen
-              else (if nat_lt 0 cell.left then None else Some TicketsSpent))
+              else (if nat_lt 0 cell.unspent then None else Some TicketsSpent))
         ])
         else Some NoSuchSeat };
 
@@ -284,7 +284,7 @@ impl Object for Cell {
             Call::Put(_) | Call::Take => {
                 if self.waits(seat) {
                     Err(Refusal::SeatOpen)
-                } else if self.left == 0 {
+                } else if self.unspent == 0 {
                     Err(Refusal::TicketsSpent)
                 } else {
                     Ok(())
@@ -355,7 +355,7 @@ impl Drains for Cell {
 
     ghost available_of = { λ cell. cell.tokens };
 
-    ghost left_of = { λ cell. cell.left };
+    ghost unspent_of = { λ cell. cell.unspent };
 
     ghost poll_fits = { refl };
 
@@ -364,7 +364,7 @@ impl Drains for Cell {
     }
 
     fn tickets_left(&self) -> u64 {
-        self.left
+        self.unspent
     }
 
     fn admit_poll(&self, seat: SeatNo) -> Result<(), Refusal> {

@@ -1,4 +1,4 @@
-//! Where threads wait, and what they are told while they wait: gates, and bells that are rung once. It names no queue.
+//! Where threads wait, and what they are told while they wait: gates, bells that are rung once, and deadlines. It names no queue.
 //!
 //! A gate keeps one wake, as a permit of `LockSupport.park` and `unpark`: a wake that comes before the wait ends it.
 //! Both gates and bells are hints: who was woken, or wasn't, looks at the place, so no answer of any place rests on
@@ -6,11 +6,13 @@
 #![tactic(auto)]
 
 mod bells;
+mod deadline;
 mod gates;
 mod parking;
 mod spinning;
 
 pub use bells::{Bell, Envelope, Verdict, notes_agree};
+pub use deadline::Deadline;
 pub use gates::{Gate, Turn};
 pub use once_cell::race::Note;
 pub use parking::ParkGate;

@@ -4,6 +4,7 @@ ghost use Rattle.std.specs.Prelude.{◌≡◌, None, IfNone, IfOk, IfErr, vec_le
 ghost use Rattle.meet_cells.specs.declared.gates.Turn.TheVariants.{Woken};
 ghost use Rattle.meet_tickets.specs.declared.refusals.Refusal.TheVariants.{Memory};
 
+use crate::deadline::Deadline;
 use crate::gates::{Gate, Turn};
 use meet_tickets::Refusal;
 use std::alloc::Global;
@@ -11,41 +12,13 @@ use std::sync::Wait;
 use std::sync::atomic::{AtomicBool, Ordering};
 use std::thread;
 use std::thread::Parker;
-use std::time::{Clock, Duration, Instant};
+use std::time::Clock;
 
 /// How often a thread looks for a wake before it parks, and lets another thread run after each look. Who wakes it is
 /// often about to: a look and a yield take some 250 nanoseconds, to park and be woken takes 2,000 to 5,000. With one
 /// pair of threads at a fair queue, and four processors, an item took 6,000 nanoseconds with one look and 1,000 with
 /// 16, and more looks gained nothing.
 const TURNS: u64 = 16;
-
-/// When a wait is over: so long after it began, which isn't known where there is no clock.
-#[derive(Clone, Copy)]
-struct Deadline {
-    start: Option<Instant>,
-    whole: Duration,
-}
-
-impl Deadline {
-    /// So many milliseconds from now; none without a limit.
-    fn after<R: Clock>(rt: &R, limit: Option<u64>) -> Option<Deadline>
-        ensures { IfNone limit (result ≡ None) }
-    {
-        match limit {
-            None => None,
-            Some(milliseconds) => Some(Deadline {
-                start: Instant::now(rt).ok(),
-                whole: Duration::from_millis(milliseconds),
-            }),
-        }
-    }
-
-    /// How long it is until then; none where the time is up, or where there is no clock.
-    fn left<R: Clock>(&self, rt: &R) -> Option<Duration> {
-        let left = self.whole.checked_sub(self.start?.elapsed(rt).ok()?)?;
-        if left.is_zero() { None } else { Some(left) }
-    }
-}
 
 /// A gate at which one thread at a time parks, as by `LockSupport.park` and `parkNanos`, and is let go by a wake, as by
 /// `LockSupport.unpark`. Before it parks it lets other threads run some times, as by `Thread.yield`: often one of them
@@ -68,7 +41,7 @@ impl ParkGate {
     }
 
     /// So many gates that nobody woke, one for each seat of a place. The only refusal is Memory.
-    pub fn many(alloc: Global, count: usize) -> Result<Vec<ParkGate>, Refusal>
+    pub fn many(alloc: Global, count: u64) -> Result<Vec<ParkGate>, Refusal>
         ensures count { IfOk result (λ gates. vec_len gates ≡ count) }
         ensures memory { IfErr result (λ why. why ≡ Memory) }
     {
@@ -111,9 +84,9 @@ impl ParkGate {
             if self.take_wake() {
                 return Turn::Woken;
             }
-            match deadline.left(rt) {
+            match deadline.rest(rt) {
                 None => return Turn::Elapsed,
-                Some(left) => self.parker.park_timeout(rt, left),
+                Some(rest) => self.parker.park_timeout(rt, rest),
             }
         }
         unreachable!()

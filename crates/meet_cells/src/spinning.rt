@@ -31,7 +31,7 @@ impl SpinGate {
 
     /// So many gates that nobody woke, one for each seat of a place, each with so many turns. The only refusal is
     /// Memory.
-    pub fn many(alloc: Global, count: usize, turns: u64) -> Result<Vec<SpinGate>, Refusal>
+    pub fn many(alloc: Global, count: u64, turns: u64) -> Result<Vec<SpinGate>, Refusal>
         ensures count { IfOk result (λ gates. vec_len gates ≡ count) }
         ensures memory { IfErr result (λ why. why ≡ Memory) }
     {

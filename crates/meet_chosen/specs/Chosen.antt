@@ -48,9 +48,9 @@ module _ {T : Type 0} where
   records_in (TransferBook book) = book.records
 
 module _ {T G N : Type 0} where
-  -- this is why a queue isn't closed with these seats. Fewer seats than were made, or no memory: the queue and the seats
-  -- come back. A difference: the book comes back, with as many records as the seats' shares are together, and the seats,
-  -- in the order of their numbers, by which this is the first difference (our choice)
+  -- this is why a queue isn't closed with these seats. Fewer seats than were made, or no memory: the queue and the
+  -- seats come back. A difference: the book comes back, with as many records as the seats' shares are together, and the
+  -- seats, in the order of their numbers, by which this is the first difference (our choice)
   abbrev pub ChosenFaultFits : ChosenQueue T G N → List (Back Deed N)
       → QueueFault (ChosenQueue T G N) (ChosenBook T) N → Type 0
   ChosenFaultFits chosen seats (SeatMissing have made queue back) =

@@ -2,13 +2,13 @@
 
 ghost use Rattle.std.specs.Prelude.{◌≡◌, ◌<◌, None, IfOk, IfErr};
 ghost use Rattle.meet_tickets.specs.declared.records.Cause.TheVariants.{Cancelled, Expired};
-ghost use Rattle.meet_sync.specs.Asking.{item_of, RefusedAs, AskedAs, StruckAs, FollowedAs, WithdrawnAs};
+ghost use Rattle.meet_sync.specs.Asking.{item_of, RefusedAs, AskedAs, InterruptedAs, FollowedAs, TakenBackAs};
 ghost use Rattle.meet_sync.specs.Told.{IsRequestWhy, IsInterruptWhy};
 ghost use Rattle.meet_chosen.specs.Chosen.{kind_of};
 
 use crate::queue::{ChosenQueue, whichever};
 use meet_place::{Gate, Ledgers, Pending, Seat};
-use meet_sync::{Asked, FollowedUp, Request, SeatRefused, Struck, Withdrawn};
+use meet_sync::{Asked, Followed, Interrupted, Request, SeatRefused, TakenBack};
 use meet_tickets::{Deed, Marked, SeatNo};
 use std::sync::Wait;
 
@@ -35,8 +35,8 @@ impl<T: Marked, G: Gate, N: Ledgers> ChosenQueue<T, G, N> {
         rt: &R,
         seat: Seat<Deed, N>,
         target: SeatNo,
-    ) -> Result<Struck<N>, SeatRefused<T, N>>
-        ensures struck { IfOk result (λ struck. StruckAs seat target struck) }
+    ) -> Result<Interrupted<N>, SeatRefused<T, N>>
+        ensures interrupted { IfOk result (λ interrupted. InterruptedAs seat target interrupted) }
         ensures there { IfOk result (λ _. target < N.parts) }
         ensures refused { IfErr result (RefusedAs (IsInterruptWhy N.parts target) seat None) }
     {
@@ -44,22 +44,22 @@ impl<T: Marked, G: Gate, N: Ledgers> ChosenQueue<T, G, N> {
     }
 
     /// Follows an open ticket up: how it ended, or NotYet while it stands in the line. It is never refused.
-    pub fn follow_up<R: Wait>(&self, rt: &R, pending: Pending<Deed, N>) -> FollowedUp<T, N>
+    pub fn follow_up<R: Wait>(&self, rt: &R, pending: Pending<Deed, N>) -> Followed<T, N>
         ensures { FollowedAs T.mark_of pending result }
     {
         whichever!(self, queue => queue.follow_up(rt, pending))
     }
 
     /// Takes an open ticket back, or answers Late where it was met or cut before. It is never refused.
-    pub fn cancel<R: Wait>(&self, rt: &R, pending: Pending<Deed, N>) -> Withdrawn<T, N>
-        ensures { WithdrawnAs T.mark_of pending Cancelled result }
+    pub fn cancel<R: Wait>(&self, rt: &R, pending: Pending<Deed, N>) -> TakenBack<T, N>
+        ensures { TakenBackAs T.mark_of pending Cancelled result }
     {
         whichever!(self, queue => queue.cancel(rt, pending))
     }
 
     /// The same, told as an expiry: the ticket's time ran out.
-    pub fn expire<R: Wait>(&self, rt: &R, pending: Pending<Deed, N>) -> Withdrawn<T, N>
-        ensures { WithdrawnAs T.mark_of pending Expired result }
+    pub fn expire<R: Wait>(&self, rt: &R, pending: Pending<Deed, N>) -> TakenBack<T, N>
+        ensures { TakenBackAs T.mark_of pending Expired result }
     {
         whichever!(self, queue => queue.expire(rt, pending))
     }

@@ -1,5 +1,5 @@
-//! A queue of the order that was chosen: its beginning and its end. What lies between is written for all three orders at
-//! once (`whichever`).
+//! A queue of the order that was chosen: its beginning and its end. What lies between is written for all three orders
+//! at once (`whichever`).
 
 ghost use Rattle.std.specs.Prelude.{◌≡◌, ℕ, ◌+◌, ◌<◌, ◌≤◌, ◌^◌, None, List, length, map, vec_len, IfOk, IfErr};
 ghost use Rattle.meet_tickets.specs.Limits.{most_records, most_seats};
@@ -70,7 +70,7 @@ impl<T: Marked, G, N: Ledgers> ChosenQueue<T, G, N> {
     }
 
     /// How many seats there are.
-    pub fn seats(&self) -> usize
+    pub fn seats(&self) -> u64
         ensures count { result ≡ seats_in self.now }
         ensures parts { result ≡ N.parts }
         ensures limit { result ≤ most_seats }
@@ -81,8 +81,8 @@ impl<T: Marked, G, N: Ledgers> ChosenQueue<T, G, N> {
 
 impl<T: Marked, G: Drop, N: Ledgers> ChosenQueue<T, G, N> {
     /// A queue of this order with a seat for each gate, numbered from 0, and at most so many records. It refuses
-    /// BadSizes where there is no gate or more than 65,536, or the records are none or more than 1,048,576; then Memory.
-    /// All comes back.
+    /// BadSizes where there is no gate or more than 65,536, or the records are none or more than 1,048,576; then
+    /// Memory. All comes back.
     pub fn with_cap(
         alloc: Global,
         order: Order,
@@ -266,9 +266,10 @@ fn transfer_fault<T: Marked, G, N: Ledgers>(
 }
 
 impl<T: Marked, G: Drop, N: Ledgers> ChosenQueue<T, G, N> {
-    /// Ends the queue, as `Queue::close`: takes all seats back, free or with an open ticket, in whatever order, compares
-    /// the records with the seats' receipts, and takes out what is left. It refuses SeatMissing exactly where fewer seats
-    /// are given back than were made, then Memory, then Differs, at the least seat whose receipts aren't its records.
+    /// Ends the queue, as `Queue::close`: takes all seats back, free or with an open ticket, in whatever order,
+    /// compares the records with the seats' receipts, and takes out what is left. It refuses SeatMissing exactly where
+    /// fewer seats are given back than were made, then Memory, then Differs, at the least seat whose receipts aren't
+    /// its records.
     pub fn close(
         self,
         alloc: Global,

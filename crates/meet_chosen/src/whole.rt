@@ -34,7 +34,8 @@ impl<T: Marked, G: Gate, N: Ledgers> ChosenQueue<T, G, N> {
         whichever!(self, queue => queue.ask(rt, seat, request, limit))
     }
 
-    /// `BlockingQueue.put`: gives an item, and waits until it is taken, where the queue keeps none. Refuses as `request`.
+    /// `BlockingQueue.put`: gives an item, and waits until it is taken, which may be never, where the queue keeps none.
+    /// It ends as that queue's `put`. Refuses as `request`.
     pub fn put<R: Wait + Clock>(
         &self,
         rt: &R,
@@ -47,8 +48,8 @@ impl<T: Marked, G: Gate, N: Ledgers> ChosenQueue<T, G, N> {
         self.ask(rt, seat, Request::Put(item), None)
     }
 
-    /// `BlockingQueue.offer`: gives an item to a taker that waits, or fails, where the queue keeps none; else it is `put`.
-    /// Refuses as `request`.
+    /// `BlockingQueue.offer`: gives an item to a taker that waits, or fails, where the queue keeps none; else it is
+    /// `put`. It doesn't wait. Refuses as `request`.
     pub fn offer<R: Wait + Clock>(
         &self,
         rt: &R,
@@ -67,7 +68,8 @@ impl<T: Marked, G: Gate, N: Ledgers> ChosenQueue<T, G, N> {
         self.ask(rt, seat, request, None)
     }
 
-    /// `BlockingQueue.take`: takes an item, and waits until there is one. Refuses as `request`.
+    /// `BlockingQueue.take`: takes an item, and waits until there is one, which may be never. It ends as `Queue::take`.
+    /// Refuses as `request`.
     pub fn take<R: Wait + Clock>(
         &self,
         rt: &R,
@@ -79,7 +81,7 @@ impl<T: Marked, G: Gate, N: Ledgers> ChosenQueue<T, G, N> {
         self.ask(rt, seat, Request::Take, None)
     }
 
-    /// `Queue.poll`: takes an item from a giver that is there, or fails. Refuses as `request`.
+    /// `Queue.poll`: takes an item from a giver that is there, or fails. It doesn't wait. Refuses as `request`.
     pub fn poll<R: Wait + Clock>(
         &self,
         rt: &R,

@@ -16,7 +16,7 @@ use Rattle.meet_tickets.specs.declared.records.Record.{Record}
 use Rattle.meet_tickets.specs.declared.records.Deed.{Deed}
 use Rattle.meet_tickets.specs.declared.records.Deed.TheVariants.{GiveWaits, GiveMeets, GiveFails, GiveKept, TakeWaits, TakeMeets, TakeFails, EntryInterrupted, Done, Got, Withdrawn, Interrupt}
 use Rattle.meet_tickets.specs.Meeting.{end_of, keeps, partner, kept_count}
-use Rattle.meet_tickets.specs.BySeat.{Seats, put_at, is_open, open_ticket, owed_of, unmet, without_first, entry_of, queued, paired, paired_hold, released, flagged, left, cut_off, is_request, Allows, seats_after, meets}
+use Rattle.meet_tickets.specs.BySeat.{Seats, put_at, is_open, open_ticket, owed_of, unmet, without_first, entry_of, queued, paired, paired_hold, released, flagged, withdrawn, cut_off, is_request, Allows, seats_after, meets}
 use Rattle.meet_tickets.proofs.Line.Admitted.{IsAdmitted-from}
 use Rattle.meet_line.specs.Sound.{Stands, IsSound}
 use Rattle.meet_core.specs.Queue.{Queue, seats_of, count_of, places_of, admit_refusal}
@@ -35,7 +35,7 @@ use Rattle.meet_core.specs.declared.answers.Followed.{Followed}
 use Rattle.meet_core.specs.declared.answers.Followed.TheVariants.{Done as WasMet, Got as HasGot, Interrupted as WasCut, NotYet}
 use Rattle.meet_core.specs.declared.answers.TakenBack.{TakenBack}
 use Rattle.meet_core.specs.declared.answers.TakenBack.TheVariants.{Back, Late}
-use Rattle.meet_core.specs.declared.answers.Interrupted.{Interrupted as Struck}
+use Rattle.meet_core.specs.declared.answers.Interrupted.{Interrupted as WasInterrupted}
 use Rattle.meet_core.specs.declared.answers.Interrupted.TheVariants.{Cut as CutOff, Flagged}
 use Rattle.meet_line.proofs.Sound.{Stands-partner}
 use Rattle.meet_core.proofs.Following.{there-waiting}
@@ -50,7 +50,7 @@ use Rattle.meet_core.specs.QueueRecords.{made, give_record, offer_record, put_re
 use Rattle.meet_core.specs.QueueSteps.{DualStep, QueueStep, kind_of, queue_refusal, queue_need, queue_room, queue_owed}
 use Rattle.meet_core.specs.Synchronous.{synchronous-end}
 use Rattle.meet_line.proofs.Marks.{partner-marked}
-use Rattle.meet_core.proofs.Marking.{entry_of-marked, kept-marked, queued-marked, paired-marked, released-marked, left-marked, cut_off-marked}
+use Rattle.meet_core.proofs.Marking.{entry_of-marked, kept-marked, queued-marked, paired-marked, released-marked, withdrawn-marked, cut_off-marked}
 use Rattle.meet_core.proofs.Owed.{owed-same, owed-more, owed-fewer}
 
 -- what a step that writes this record does to the queue, in the words of histories
@@ -112,7 +112,7 @@ module _ {T : Type 0} (mark : T → ℕ) (k : Kind) (old new : Queue T) where
     last = uses.last ∙ sym (ap (λ b. cond b t old.last) asks);
     next = uses.next ∙ sym (ap (λ b. cond b (old.next + 1) old.next) asks);
     allowed = allowed;
-    after = ap (marked mark) uses.left ∙ after;
+    after = ap (marked mark) uses.seats_are ∙ after;
   }
 
   -- an ending's, or an interrupt's
@@ -122,7 +122,7 @@ module _ {T : Type 0} (mark : T → ℕ) (k : Kind) (old new : Queue T) where
     last = leaves.last ∙ sym (ap (λ b. cond b t old.last) asks);
     next = leaves.next ∙ sym (ap (λ b. cond b (old.next + 1) old.next) asks);
     allowed = allowed;
-    after = ap (marked mark) leaves.left ∙ after;
+    after = ap (marked mark) leaves.seats_are ∙ after;
   }
 
   costs-from : (need room written : ℕ) (seats : Seats T) → count_of new ≡ count_of old → seats_of new ≡ seats → written + owed_of (count_of old) seats.holds ≤ queue_owed old + need → length seats.line ≤ length old.line + room → Costs old new need room written
@@ -164,7 +164,7 @@ module _ {T : Type 0} (mark : T → ℕ) (k : Kind) (old new : Queue T) where
     writes-request i t (GiveMeets (mark item) u) _ refl uses
         (free-marked i free, (marked_entry mark e, found-marked Giver e found, sym ticket, ap (option_map mark) none))
         (meets-marked t (Some item) Giver e found),
-    costs-from 2 room 1 _ uses.count uses.left
+    costs-from 2 room 1 _ uses.count uses.seats_are
         (omega (arith, met-open mark (end_of k.order) old Giver t (Some item) e sound found (ap (λ o. is_open (paired_hold mark e.ticket o t (Some item))) none)))
         (omega (arith, unmet-short (end_of k.order) old.line)),
   )
@@ -175,7 +175,7 @@ module _ {T : Type 0} (mark : T → ℕ) (k : Kind) (old new : Queue T) where
     writes-request i t (TakeMeets (mark item) u) _ refl uses
         (free-marked i free, (marked_entry mark e, found-marked Taker e found, sym ticket, ap (option_map mark) own))
         (meets-marked t None Taker e found),
-    costs-from 2 room 1 _ uses.count uses.left
+    costs-from 2 room 1 _ uses.count uses.seats_are
         (omega (arith, met-open mark (end_of k.order) old Taker t None e sound found (ap (λ o. is_open (paired_hold mark e.ticket o t None)) own)))
         (omega (arith, unmet-short (end_of k.order) old.line)),
   )
@@ -184,13 +184,13 @@ module _ {T : Type 0} (mark : T → ℕ) (k : Kind) (old new : Queue T) where
   waits-costs : (i t : ℕ) (item : Option T) → Uses old new t (queued (seats_of old) i t item true) → Costs old new 2 1 1
   waits-costs i t item uses =
       let e : Entry T = record { ticket = t; seat = i; item = item; waits = true } in
-      costs-from 2 1 1 _ uses.count uses.left
+      costs-from 2 1 1 _ uses.count uses.seats_are
       (omega (arith, owed-more (seats_of old).holds (count_of old) i (Waiting t)))
       (omega (arith, length-append old.line (e ∷ [])))
 
   -- one that leaves line and seats as they are
   same-costs : (room t : ℕ) (flags : ℕ → Bool) → Uses old new t (record (seats_of old) { flags = flags }) → Costs old new 2 room 1
-  same-costs room t flags uses = costs-from 2 room 1 _ uses.count uses.left (omega arith) (omega arith)
+  same-costs room t flags uses = costs-from 2 room 1 _ uses.count uses.seats_are (omega arith) (omega arith)
 
   give-effect : (i : ℕ) (item : T) (answer : Gave T) → IsSound old.line (seats_of old).holds old.next → (seats_of old).holds i ≡ Free → GiveStep mark (end_of k.order) old i item answer new → Writes mark k old new (give_record i (mark item) answer) × Costs old new 2 1 1
   give-effect i item (GiverWaits t) sound free (alone, flag, uses) =
@@ -221,7 +221,7 @@ module _ {T : Type 0} (mark : T → ℕ) (k : Kind) (old new : Queue T) where
   put-effect i item (PutKept t) sound free keeps (alone, room, uses) =
       let e : Entry T = record { ticket = t; seat = i; item = Some item; waits = false } in (
         writes-request i t (GiveKept (mark item)) _ refl uses (free-marked i free, alone-marked Giver alone, (keeps, may-marked room)) (queued-marked mark (seats_of old) i t (Some item) false),
-        costs-from 2 1 1 _ uses.count uses.left (omega arith) (omega (arith, length-append old.line (e ∷ []))),
+        costs-from 2 1 1 _ uses.count uses.seats_are (omega arith) (omega (arith, length-append old.line (e ∷ []))),
       )
   put-effect i item (PutMeets t u) sound free keeps step = hands-effect 1 i t u item sound free step
   put-effect i item (PutFails t back) sound free keeps (alone, full, same, uses) =
@@ -230,7 +230,7 @@ module _ {T : Type 0} (mark : T → ℕ) (k : Kind) (old new : Queue T) where
   -- an open ticket that ends where it was settled
   ends-costs : (i t : ℕ) → open_ticket ((seats_of old).holds i) ≡ Some t → Leaves old new (released (seats_of old) i) → Costs old new 0 0 1
   ends-costs i t opened leaves =
-      costs-from 0 0 1 _ leaves.count leaves.left
+      costs-from 0 0 1 _ leaves.count leaves.seats_are
       (omega (arith, owed-fewer (seats_of old).holds (count_of old) i (there-open old.table.holds i t opened) (ap is_some opened)))
       (omega arith)
 
@@ -248,28 +248,28 @@ module _ {T : Type 0} (mark : T → ℕ) (k : Kind) (old new : Queue T) where
   in-line-marked i t e held found =
       ap is_some (entry_of-marked mark old.line ((seats_of old).holds i) ∙ ap (λ h. option_map (marked_entry mark) (entry_of old.line h)) held ∙ ap (option_map (marked_entry mark)) found)
 
-  back-costs : (i t : ℕ) → (seats_of old).holds i ≡ Waiting t → Leaves old new (left (seats_of old) i t) → Costs old new 0 0 1
+  back-costs : (i t : ℕ) → (seats_of old).holds i ≡ Waiting t → Leaves old new (withdrawn (seats_of old) i t) → Costs old new 0 0 1
   back-costs i t held leaves =
-      costs-from 0 0 1 _ leaves.count leaves.left
+      costs-from 0 0 1 _ leaves.count leaves.seats_are
       (omega (arith, owed-fewer (seats_of old).holds (count_of old) i (there-waiting old.table.holds i t held) (ap is_open held)))
       (omega (arith, without-short t old.line))
 
   cancel-effect : (i t : ℕ) (answer : TakenBack T) → WithdrawStep old i t answer new → HasEffect mark k old new 0 0 (back_record i t Cancelled answer)
   cancel-effect i t (Back item) (e, held, found, is, leaves) =
-      (writes-other i t (Withdrawn Cancelled) _ refl leaves (ap (marked_hold mark) held, in-line-marked i t e held found) (left-marked mark (seats_of old) i t), back-costs i t held leaves)
+      (writes-other i t (Withdrawn Cancelled) _ refl leaves (ap (marked_hold mark) held, in-line-marked i t e held found) (withdrawn-marked mark (seats_of old) i t), back-costs i t held leaves)
   cancel-effect i t Late (none, same) = same
 
   expire-effect : (i t : ℕ) (answer : TakenBack T) → WithdrawStep old i t answer new → HasEffect mark k old new 0 0 (back_record i t Expired answer)
   expire-effect i t (Back item) (e, held, found, is, leaves) =
-      (writes-other i t (Withdrawn Expired) _ refl leaves (ap (marked_hold mark) held, in-line-marked i t e held found) (left-marked mark (seats_of old) i t), back-costs i t held leaves)
+      (writes-other i t (Withdrawn Expired) _ refl leaves (ap (marked_hold mark) held, in-line-marked i t e held found) (withdrawn-marked mark (seats_of old) i t), back-costs i t held leaves)
   expire-effect i t Late (none, same) = same
 
-  interrupt-effect : (i j : ℕ) (answer : Struck) → InterruptStep old j answer new → Writes mark k old new (interrupt_record i j answer) × Costs old new 1 0 1
+  interrupt-effect : (i j : ℕ) (answer : WasInterrupted) → InterruptStep old j answer new → Writes mark k old new (interrupt_record i j answer) × Costs old new 1 0 1
   interrupt-effect i j (CutOff t) (e, found, ticket, leaves) =
       let there : entry_of now.line (now.holds j) ≡ Some (marked_entry mark e) = entry_of-marked mark old.line ((seats_of old).holds j) ∙ ap (option_map (marked_entry mark)) found in (
         writes-other i t (Interrupt j) _ refl leaves (ticket ∙ sym (ap (λ o. option_map_or (λ (f : Entry ℕ). f.ticket) o 0) there))
             (cut_off-marked mark (seats_of old) j e ∙ sym (ap (λ o. option_map_or (cut_off now j) o (flagged now j true)) there)),
-        costs-from 1 0 1 _ leaves.count leaves.left
+        costs-from 1 0 1 _ leaves.count leaves.seats_are
             (omega (arith, owed-same (seats_of old).holds (count_of old) j (Cut e.ticket e.item) (sym (entry-open old.line ((seats_of old).holds j) e found))))
             (omega (arith, without-short e.ticket old.line)),
       )
@@ -277,7 +277,7 @@ module _ {T : Type 0} (mark : T → ℕ) (k : Kind) (old new : Queue T) where
       let there : entry_of now.line (now.holds j) ≡ None = entry_of-marked mark old.line ((seats_of old).holds j) ∙ ap (option_map (marked_entry mark)) none in (
         writes-other i 0 (Interrupt j) _ refl leaves (sym (ap (λ o. option_map_or (λ (f : Entry ℕ). f.ticket) o 0) there))
             (sym (ap (λ o. option_map_or (cut_off now j) o (flagged now j true)) there)),
-        costs-from 1 0 1 _ leaves.count leaves.left (omega arith) (omega arith),
+        costs-from 1 0 1 _ leaves.count leaves.seats_are (omega arith) (omega arith),
       )
 
   -- an admitted call of a queue that keeps nothing, whatever it is

@@ -3,7 +3,7 @@ use Rattle.std.proofs.Common.{◌≡◌, ◌≢◌, ℕ, zero, suc, ◌<◌, Lis
 use Rattle.meet_tickets.specs.declared.lines.Entry.{Entry}
 use Rattle.meet_tickets.specs.declared.lines.Hold.{Hold}
 use Rattle.meet_tickets.specs.declared.lines.Hold.TheVariants.{Free, Waiting, Handed, Served, Cut}
-use Rattle.meet_tickets.specs.BySeat.{open_ticket, is_settled, entry_of, released, left}
+use Rattle.meet_tickets.specs.BySeat.{open_ticket, is_settled, entry_of, released, withdrawn}
 use Rattle.meet_tickets.proofs.Line.Sides.{found-ticket}
 use Rattle.meet_core.specs.Table.{hold_at}
 use Rattle.meet_core.specs.Queue.{Queue, seats_of}
@@ -44,21 +44,21 @@ entry_of-waits line (Served v u item) t e o found = cc
 entry_of-waits line (Cut v item) t e o found = cc
 
 -- the step of a waiting ticket that is taken back
-pub WithdrawStep-from : {T : Type 0} (old new : Queue T) (seat t : ℕ) (e : Entry T) (item : Option T) → open_ticket ((seats_of old).holds seat) ≡ Some t → Some e ≡ entry_of old.line ((seats_of old).holds seat) → item ≡ e.item → Leaves old new (left (seats_of old) seat e.ticket) → WithdrawStep old seat t (Back item) new
+pub WithdrawStep-from : {T : Type 0} (old new : Queue T) (seat t : ℕ) (e : Entry T) (item : Option T) → open_ticket ((seats_of old).holds seat) ≡ Some t → Some e ≡ entry_of old.line ((seats_of old).holds seat) → item ≡ e.item → Leaves old new (withdrawn (seats_of old) seat e.ticket) → WithdrawStep old seat t (Back item) new
 WithdrawStep-from old new seat t e item opened found is leaves =
     let waits = entry_of-waits old.line ((seats_of old).holds seat) t e opened found in
-    (e, waits.0, waits.1, is, subst (λ ticket. Leaves old new (left (seats_of old) seat ticket)) (found-ticket t old.line e waits.1) leaves)
+    (e, waits.0, waits.1, is, subst (λ ticket. Leaves old new (withdrawn (seats_of old) seat ticket)) (found-ticket t old.line e waits.1) leaves)
 
 -- the step of a settled ticket's follow-up
 pub FollowStep-from : {T : Type 0} (old new : Queue T) (seat t : ℕ) (hold : Hold T) → (seats_of old).holds seat ≡ hold → open_ticket hold ≡ Some t → is_settled hold ≡ true → Leaves old new (released (seats_of old) seat) → FollowStep old seat t (followed_by hold) new
-FollowStep-from old new seat t Free is o settled left = cc
-FollowStep-from old new seat t (Waiting v) is o settled left = cc
-FollowStep-from old new seat t (Handed v u mark) is o settled left =
+FollowStep-from old new seat t Free is o settled leaves = cc
+FollowStep-from old new seat t (Waiting v) is o settled leaves = cc
+FollowStep-from old new seat t (Handed v u mark) is o settled leaves =
     let same : v ≡ t = cc in
-    (u, mark, is ∙ ap (λ w. Handed w u mark) same, left)
-FollowStep-from old new seat t (Served v u item) is o settled left =
+    (u, mark, is ∙ ap (λ w. Handed w u mark) same, leaves)
+FollowStep-from old new seat t (Served v u item) is o settled leaves =
     let same : v ≡ t = cc in
-    (is ∙ ap (λ w. Served w u item) same, left)
-FollowStep-from old new seat t (Cut v item) is o settled left =
+    (is ∙ ap (λ w. Served w u item) same, leaves)
+FollowStep-from old new seat t (Cut v item) is o settled leaves =
     let same : v ≡ t = cc in
-    (is ∙ ap (λ w. Cut w item) same, left)
+    (is ∙ ap (λ w. Cut w item) same, leaves)

@@ -9,7 +9,7 @@ use Rattle.meet_tickets.specs.declared.lines.Hold.TheVariants.{Free, Waiting, Ha
 use Rattle.meet_tickets.specs.declared.places.End.{End}
 use Rattle.std.proofs.lemmas.List.Sums.{sum_by-cons}
 use Rattle.meet_tickets.specs.Meeting.{kept_count}
-use Rattle.meet_tickets.specs.BySeat.{Seats, put_at, entry_of, queued, paired, paired_hold, released, left, cut_off}
+use Rattle.meet_tickets.specs.BySeat.{Seats, put_at, entry_of, queued, paired, paired_hold, released, withdrawn, cut_off}
 use Rattle.meet_line.specs.Seen.{marked_entry}
 use Rattle.meet_core.specs.Seen.{marked_hold, marked}
 use Rattle.meet_line.proofs.Marks.{unmet-marked, find-marked, without-marked}
@@ -68,8 +68,8 @@ module _ {T : Type 0} (mark : T → ℕ) where
   pub released-marked : (s : Seats T) (i : ℕ) → marked mark (released s i) ≡ released (marked mark s) i
   released-marked s i = λ j. record { line = map (marked_entry mark) s.line; holds = put_at-marked s.holds i Free j; flags = s.flags }
 
-  pub left-marked : (s : Seats T) (i t : ℕ) → marked mark (left s i t) ≡ left (marked mark s) i t
-  left-marked s i t = λ j. record { line = without-marked mark t s.line j; holds = put_at-marked s.holds i Free j; flags = s.flags }
+  pub withdrawn-marked : (s : Seats T) (i t : ℕ) → marked mark (withdrawn s i t) ≡ withdrawn (marked mark s) i t
+  withdrawn-marked s i t = λ j. record { line = without-marked mark t s.line j; holds = put_at-marked s.holds i Free j; flags = s.flags }
 
   pub cut_off-marked : (s : Seats T) (i : ℕ) (e : Entry T) → marked mark (cut_off s i e) ≡ cut_off (marked mark s) i (marked_entry mark e)
   cut_off-marked s i e = λ j. record { line = without-marked mark e.ticket s.line j; holds = put_at-marked s.holds i (Cut e.ticket e.item) j; flags = s.flags }

@@ -8,7 +8,7 @@ use Rattle.meet_tickets.specs.declared.lines.Hold.TheVariants.{Free, Handed, Ser
 use Rattle.meet_tickets.specs.declared.places.End.{End}
 use Rattle.meet_tickets.specs.declared.places.Side.TheVariants.{Giver}
 use Rattle.meet_tickets.specs.Meeting.{is_on}
-use Rattle.meet_tickets.specs.BySeat.{Seats, put_at, unmet, paired, paired_hold, left, cut_off}
+use Rattle.meet_tickets.specs.BySeat.{Seats, put_at, unmet, paired, paired_hold, withdrawn, cut_off}
 use Rattle.meet_tickets.proofs.Line.Partners.{none-from}
 use Rattle.meet_core.specs.Table.{hold_at, flag_at}
 use Rattle.meet_core.specs.Queue.{Queue, seats_of}
@@ -42,7 +42,7 @@ Leaves-paired mark end old new e t item waits line h =
       last = h.last;
       next = h.next;
       count = h.count;
-      left = same_seats line
+      seats_are = same_seats line
           (h.holds ∙ sym (ap (λ b. cond b (put_at (hold_at old.table.holds) e.seat hold) (hold_at old.table.holds)) waits))
           (ap flag_at h.flags);
     }
@@ -55,7 +55,7 @@ Leaves-kept mark end old new e t item kept line table last next =
       last = last;
       next = next;
       count = ap (λ table. length table.holds) table;
-      left = same_seats line
+      seats_are = same_seats line
           (ap (λ table. hold_at table.holds) table ∙ sym (ap (λ b. cond b (put_at (hold_at old.table.holds) e.seat hold) (hold_at old.table.holds)) kept))
           (ap (λ table. flag_at table.flags) table);
     }
@@ -66,7 +66,7 @@ Leaves-from old new seat hold line is h = record {
   last = h.last;
   next = h.next;
   count = h.count;
-  left = same_seats is h.holds (ap flag_at h.flags);
+  seats_are = same_seats is h.holds (ap flag_at h.flags);
 }
 
 -- what was put somewhere is there
@@ -82,16 +82,16 @@ put_at-twice {A = A} f i first second = fun_ext (λ k. by_test (k == i) (f k))
     by_test false value = refl
 
 -- a seat whose ticket left the line holds nothing
-pub free-left : {T : Type 0} (old new : Queue T) (seat t : ℕ) → Leaves old new (left (seats_of old) seat t) → (seats_of new).holds seat ≡ Free
-free-left old new seat t leaves = ap (λ s. s.holds seat) leaves.left ∙ put_at-here (hold_at old.table.holds) seat Free
+pub free-withdrawn : {T : Type 0} (old new : Queue T) (seat t : ℕ) → Leaves old new (withdrawn (seats_of old) seat t) → (seats_of new).holds seat ≡ Free
+free-withdrawn old new seat t leaves = ap (λ s. s.holds seat) leaves.seats_are ∙ put_at-here (hold_at old.table.holds) seat Free
 
 -- a ticket that left the line is kept as cut
-pub Leaves-cut : {T : Type 0} (old mid new : Queue T) (j : ℕ) (e : Entry T) → Leaves old mid (left (seats_of old) j e.ticket) → new.line ≡ mid.line → Holds mid new j (Cut e.ticket e.item) → Leaves old new (cut_off (seats_of old) j e)
+pub Leaves-cut : {T : Type 0} (old mid new : Queue T) (j : ℕ) (e : Entry T) → Leaves old mid (withdrawn (seats_of old) j e.ticket) → new.line ≡ mid.line → Holds mid new j (Cut e.ticket e.item) → Leaves old new (cut_off (seats_of old) j e)
 Leaves-cut old mid new j e leaves line h = record {
   last = h.last ∙ leaves.last;
   next = h.next ∙ leaves.next;
   count = h.count ∙ leaves.count;
-  left = same_seats (line ∙ ap (λ s. s.line) leaves.left)
-      (h.holds ∙ ap (λ s. put_at s.holds j (Cut e.ticket e.item)) leaves.left ∙ put_at-twice (hold_at old.table.holds) j Free (Cut e.ticket e.item))
-      (ap flag_at h.flags ∙ ap (λ s. s.flags) leaves.left);
+  seats_are = same_seats (line ∙ ap (λ s. s.line) leaves.seats_are)
+      (h.holds ∙ ap (λ s. put_at s.holds j (Cut e.ticket e.item)) leaves.seats_are ∙ put_at-twice (hold_at old.table.holds) j Free (Cut e.ticket e.item))
+      (ap flag_at h.flags ∙ ap (λ s. s.flags) leaves.seats_are);
 }

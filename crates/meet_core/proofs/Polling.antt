@@ -24,7 +24,7 @@ use Rattle.meet_core.specs.declared.calls.queue_calls.QueueCall.TheVariants.{Pol
 use Rattle.meet_core.specs.declared.calls.queue_calls.QueueAnswer.{QueueAnswer}
 use Rattle.meet_core.specs.declared.calls.queue_calls.QueueAnswer.TheVariants.{Put as ToPut, Gave as ToGive, Offered as ToOffer, Took as ToTake, Polled as ToPoll, Followed as ToFollowUp, TakenBack as ToWithdrawal, Interrupted as ToInterrupt}
 use Rattle.meet_core.specs.QueueRecords.{queue_record}
-use Rattle.meet_core.specs.QueueSteps.{DualStep, queue_refusal, queue_owed, queue_available, queue_left}
+use Rattle.meet_core.specs.QueueSteps.{DualStep, queue_refusal, queue_owed, queue_available, queue_unspent}
 use Rattle.meet_core.proofs.Effects.{met-open}
 
 -- a request is admitted where its seat is there and free, and a ticket is left
@@ -35,7 +35,7 @@ admitted-from count next s seat there free few =
     λ i. cond (low i) (Some NoSuchSeat) (cond (is_open (free i)) (Some SeatOpen) (cond (left i) (Some TicketsSpent) None))
 
 -- a request isn't refused for want of a ticket where one is left
-pub not-spent : {T : Type 0} (q : Queue T) (seat : ℕ) → 0 < queue_left q → queue_refusal q seat Poll ≢ Some TicketsSpent
+pub not-spent : {T : Type 0} (q : Queue T) (seat : ℕ) → 0 < queue_unspent q → queue_refusal q seat Poll ≢ Some TicketsSpent
 not-spent q seat some spent =
     let left : nat_lt last_ticket q.next ≡ false = le-ltb last_ticket q.next (omega arith) in
     by_test (nat_le (count_of q) seat) (is_open ((seats_of q).holds seat)) (nat_lt last_ticket q.next) left spent
@@ -53,7 +53,7 @@ others-free q seat e hold free true held =
     ap (λ b. cond b hold ((seats_of q).holds seat)) (ne_eqb seat e.seat apart) ∙ free
 others-free q seat e hold free false held = free
 
-pub poll-takes : {T : Type 0} (mark : T → ℕ) (end : End) (old : Queue T) → IsSound old.line (seats_of old).holds old.next → (seat : ℕ) (answer : QueueAnswer T) (new : Queue T) → DualStep mark end old seat Poll answer new → queue_refusal old seat Poll ≡ None → 0 < queue_available old → TakesOne queue_available queue_left queue_owed (λ q. queue_refusal q seat Poll) (queue_record mark seat Poll answer) old new
+pub poll-takes : {T : Type 0} (mark : T → ℕ) (end : End) (old : Queue T) → IsSound old.line (seats_of old).holds old.next → (seat : ℕ) (answer : QueueAnswer T) (new : Queue T) → DualStep mark end old seat Poll answer new → queue_refusal old seat Poll ≡ None → 0 < queue_available old → TakesOne queue_available queue_unspent queue_owed (λ q. queue_refusal q seat Poll) (queue_record mark seat Poll answer) old new
 poll-takes {T} mark end old sound seat (ToPoll (Meets t u item)) new (e, found, ticket, own, uses) none some =
     let admitted : IsAdmitted (count_of old) old.next (seats_of old) seat = IsAdmitted-from (count_of old) old.next (seats_of old) seat none in
     let giver : HasGiver end old.line = giver-there end old.line (HasOneSide-sound sound) some in
@@ -61,12 +61,12 @@ poll-takes {T} mark end old sound seat (ToPoll (Meets t u item)) new (e, found, 
     let used : new.next ≡ old.next + 1 = uses.next in
     record {
       recorded = refl;
-      available = ap (λ (s : Seats T). count_on Giver s.line + 1) uses.left ∙ giver.fewer;
-      left = omega (arith, used, admitted.few);
-      owed = ap (λ n. owed_of n (seats_of new).holds) uses.count ∙ ap (λ (s : Seats T). owed_of (count_of old) s.holds) uses.left ∙ met-open mark end old Taker t None e sound found (ap (λ o. is_open (paired_hold mark e.ticket o t None)) own);
+      available = ap (λ (s : Seats T). count_on Giver s.line + 1) uses.seats_are ∙ giver.fewer;
+      tickets = omega (arith, used, admitted.few);
+      owed = ap (λ n. owed_of n (seats_of new).holds) uses.count ∙ ap (λ (s : Seats T). owed_of (count_of old) s.holds) uses.seats_are ∙ met-open mark end old Taker t None e sound found (ap (λ o. is_open (paired_hold mark e.ticket o t None)) own);
       free = λ more. admitted-from (count_of new) new.next (seats_of new) seat
           (omega (arith, admitted.there, uses.count))
-          (ap (λ s. s.holds seat) uses.left ∙ others-free old seat e (paired_hold mark e.ticket e.item t None) admitted.free e.waits stands.held)
+          (ap (λ s. s.holds seat) uses.seats_are ∙ others-free old seat e (paired_hold mark e.ticket e.item t None) admitted.free e.waits stands.held)
           (omega (arith, more));
     }
 poll-takes mark end old sound seat (ToPoll (Fails t)) new (alone, uses) none some =

@@ -25,7 +25,7 @@ use Rattle.meet_core.specs.declared.answers.Followed.TheVariants.{Done as WasMet
 use Rattle.meet_core.specs.declared.answers.Followed.TheVariants.{Interrupted as WasCut, NotYet}
 use Rattle.meet_core.specs.declared.answers.TakenBack.{TakenBack}
 use Rattle.meet_core.specs.declared.answers.TakenBack.TheVariants.{Back, Late}
-use Rattle.meet_core.specs.declared.answers.Interrupted.{Interrupted as Struck}
+use Rattle.meet_core.specs.declared.answers.Interrupted.{Interrupted as WasInterrupted}
 use Rattle.meet_core.specs.declared.answers.Interrupted.TheVariants.{Cut as CutOff, Flagged}
 use Rattle.meet_core.specs.declared.calls.queue_calls.QueueCall.{QueueCall}
 use Rattle.meet_core.specs.declared.calls.queue_calls.QueueCall.TheVariants.{Put, Give, Offer, Take, Poll, FollowUp}
@@ -83,7 +83,7 @@ back_record i t cause (Back item) = Some (made i t (Withdrawn cause))
 back_record i t cause Late = None
 
 -- an interrupt names the ticket that it cuts, and else 0
-abbrev pub interrupt_record : (seat target : ℕ) → Struck → Record Deed
+abbrev pub interrupt_record : (seat target : ℕ) → WasInterrupted → Record Deed
 interrupt_record i j (CutOff t) = made i t (Interrupt j)
 interrupt_record i j Flagged = made i 0 (Interrupt j)
 

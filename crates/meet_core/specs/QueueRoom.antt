@@ -64,7 +64,7 @@ roomy-leads mark k q room b records l =
 pub roomy-uses : {T : Type 0} (q : Queue T) (room : ℕ) (new : Queue T) (t : ℕ) (seats : Seats T)
     → Uses (roomy q room) new t seats → Uses q new t seats
 roomy-uses q room new t seats uses =
-    record { used = uses.used; last = uses.last; next = uses.next; count = uses.count; left = uses.left }
+    record { used = uses.used; last = uses.last; next = uses.next; count = uses.count; seats_are = uses.seats_are }
 
 pub roomy-hands : {T : Type 0} (mark : T → ℕ) (end : End) (q : Queue T) (room : ℕ) (item : T) (t u : ℕ)
     (new : Queue T) → HandsTo mark end (roomy q room) item t u new → HandsTo mark end q item t u new

@@ -115,8 +115,8 @@ abbrev pub queue_available : {T : Type 0} → Queue T → ℕ
 queue_available q = count_on Giver q.line
 
 -- the tickets from the next one to 2^63 - 1 are left
-abbrev pub queue_left : {T : Type 0} → Queue T → ℕ
-queue_left q = last_ticket + 1 - q.next
+abbrev pub queue_unspent : {T : Type 0} → Queue T → ℕ
+queue_unspent q = last_ticket + 1 - q.next
 
 -- the order of a synchronous place whose entries are met at this end (SynchronousQueue in fair mode, or in its
 -- default mode)

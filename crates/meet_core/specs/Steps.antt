@@ -5,7 +5,7 @@ use Rattle.meet_tickets.specs.declared.lines.Hold.TheVariants.{Waiting, Handed, 
 use Rattle.meet_tickets.specs.declared.places.End.{End}
 use Rattle.meet_tickets.specs.declared.places.Side.TheVariants.{Giver, Taker}
 use Rattle.meet_tickets.specs.Meeting.{partner, kept_count}
-use Rattle.meet_tickets.specs.BySeat.{Seats, entry_of, queued, paired, flagged, released, left, cut_off}
+use Rattle.meet_tickets.specs.BySeat.{Seats, entry_of, queued, paired, flagged, released, withdrawn, cut_off}
 use Rattle.meet_core.specs.declared.answers.Gave.{Gave}
 use Rattle.meet_core.specs.declared.answers.Gave.TheVariants.{Waits, Meets, EntryInterrupted}
 use Rattle.meet_core.specs.declared.answers.Took.{Took}
@@ -21,7 +21,7 @@ use Rattle.meet_core.specs.declared.answers.Followed.{Followed}
 use Rattle.meet_core.specs.declared.answers.Followed.TheVariants.{Done, Got, Interrupted, NotYet}
 use Rattle.meet_core.specs.declared.answers.TakenBack.{TakenBack}
 use Rattle.meet_core.specs.declared.answers.TakenBack.TheVariants.{Back, Late}
-use Rattle.meet_core.specs.declared.answers.Interrupted.{Interrupted as Struck}
+use Rattle.meet_core.specs.declared.answers.Interrupted.{Interrupted as WasInterrupted}
 use Rattle.meet_core.specs.declared.answers.Interrupted.TheVariants.{Cut as CutOff, Flagged}
 use Rattle.meet_core.specs.Queue.{Queue, seats_of, count_of}
 
@@ -31,14 +31,14 @@ pub record Uses {T : Type 0} (old new : Queue T) (ticket : ℕ) (seats : Seats T
   pub last : new.last ≡ ticket
   pub next : new.next ≡ old.next + 1
   pub count : count_of new ≡ count_of old
-  pub left : seats_of new ≡ seats
+  pub seats_are : seats_of new ≡ seats
 
 -- no ticket was used, and these seats are left
 pub record Leaves {T : Type 0} (old new : Queue T) (seats : Seats T) : Type 0 where
   pub last : new.last ≡ old.last
   pub next : new.next ≡ old.next
   pub count : count_of new ≡ count_of old
-  pub left : seats_of new ≡ seats
+  pub seats_are : seats_of new ≡ seats
 
 -- the giver of ticket t met the taker of ticket u, which brought nothing
 abbrev pub HandsTo : {T : Type 0} → (T → ℕ) → End → Queue T → (item : T) → (t u : ℕ) → Queue T → Type 0
@@ -122,11 +122,11 @@ FollowStep old seat t NotYet new = ((seats_of old).holds seat ≡ Waiting t) × 
 abbrev pub WithdrawStep : {T : Type 0} → Queue T → (seat ticket : ℕ) → TakenBack T → Queue T → Type 0
 WithdrawStep {T} old seat t (Back item) new =
     (e : Entry T) × ((seats_of old).holds seat ≡ Waiting t) × (entry_of old.line (Waiting t) ≡ Some e)
-    × (item ≡ e.item) × Leaves old new (left (seats_of old) seat t)
+    × (item ≡ e.item) × Leaves old new (withdrawn (seats_of old) seat t)
 WithdrawStep old seat t Late new = (entry_of old.line ((seats_of old).holds seat) ≡ None) × (new ≡ old)
 
 -- an interrupt of a seat: its ticket is cut where it stands in the line, and else the seat is flagged
-abbrev pub InterruptStep : {T : Type 0} → Queue T → (target : ℕ) → Struck → Queue T → Type 0
+abbrev pub InterruptStep : {T : Type 0} → Queue T → (target : ℕ) → WasInterrupted → Queue T → Type 0
 InterruptStep {T} old target (CutOff t) new =
     (e : Entry T) × (entry_of old.line ((seats_of old).holds target) ≡ Some e) × (t ≡ e.ticket)
     × Leaves old new (cut_off (seats_of old) target e)
@@ -134,6 +134,6 @@ InterruptStep old target Flagged new =
     (entry_of old.line ((seats_of old).holds target) ≡ None) × Leaves old new (flagged (seats_of old) target true)
 
 -- an interrupt cuts only who waits: the giver of a kept item went on, and can't be interrupted in the line
-abbrev pub CutsWaiting : {T : Type 0} → Queue T → (target : ℕ) → Struck → Type 0
+abbrev pub CutsWaiting : {T : Type 0} → Queue T → (target : ℕ) → WasInterrupted → Type 0
 CutsWaiting old target (CutOff t) = IfSome (entry_of old.line ((seats_of old).holds target)) (λ e. e.waits ≡ true)
 CutsWaiting old target Flagged = ⊤

@@ -200,7 +200,7 @@ impl<T: Marked, L: Line<T>> Dual<T, L> {
     /// Uses up the next ticket, and changes nothing else. The only refusal is TicketsSpent, exactly where none is left.
     pub fn draw(&mut self) -> Result<Ticket, Refusal>
         ensures ticket { IfOk result (λ ticket. ticket ≡ self.old.next) }
-        ensures left { IsOk result ↔ (self.old.next ≤ last_ticket) }
+        ensures tickets { IsOk result ↔ (self.old.next ≤ last_ticket) }
         ensures next { OnOk result (self.new ≡ record self.old { last = self.old.next; next = self.old.next + 1 }) }
         ensures why { IfErr result (λ why. why ≡ TicketsSpent) }
         ensures unchanged { OnErr result (self.new ≡ self.old) }

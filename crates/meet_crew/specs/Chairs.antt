@@ -5,7 +5,7 @@ use Rattle.meet_tickets.specs.declared.records.Deed.{Deed}
 use Rattle.meet_place.specs.Seats.{SeatView, SameSeat, Trims}
 use Rattle.meet_place.specs.Tending.{Tends}
 use Rattle.meet_sync.specs.Ending.{EndsAs}
-use Rattle.meet_sync.specs.Stopping.{Strikes, others}
+use Rattle.meet_sync.specs.Stopping.{Interrupts, others}
 use Rattle.meet_sync.specs.declared.asked.End.{End}
 use Rattle.meet_sync.specs.declared.asked.Request.{Request}
 
@@ -14,12 +14,13 @@ abbrev pub Keeps : (old new : Option (SeatView Deed)) → Type 0
 Keeps old new = IfSome old (λ seat. IfSome new (λ after. SameSeat seat after × (after.list ≡ seat.list)))
 
 -- the chair's seat interrupted these targets, one after another
-abbrev pub StrikesAs : (old new : Option (SeatView Deed)) → (targets : List ℕ) → Type 0
-StrikesAs old new targets = IfSome old (λ seat. IfSome new (λ after. Strikes seat after targets))
+abbrev pub InterruptsAs : (old new : Option (SeatView Deed)) → (targets : List ℕ) → Type 0
+InterruptsAs old new targets = IfSome old (λ seat. IfSome new (λ after. Interrupts seat after targets))
 
 -- it interrupted the other seats below this number
-abbrev pub StrikesOthers : (below : ℕ) → (old new : Option (SeatView Deed)) → Type 0
-StrikesOthers below old new = IfSome old (λ seat. IfSome new (λ after. Strikes seat after (others seat.number below)))
+abbrev pub InterruptsOthers : (below : ℕ) → (old new : Option (SeatView Deed)) → Type 0
+InterruptsOthers below old new =
+    IfSome old (λ seat. IfSome new (λ after. Interrupts seat after (others seat.number below)))
 
 -- it tended the history, or had nothing to do
 abbrev pub TendsAs : (old new : Option (SeatView Deed)) → Type 0

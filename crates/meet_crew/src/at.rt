@@ -4,7 +4,7 @@ ghost use Rattle.std.specs.Prelude.{◌≡◌, ◌<◌, ℕ, None, [], ◌∷◌
 ghost use Rattle.meet_sync.specs.Asking.{item_of};
 ghost use Rattle.meet_sync.specs.Ending.{MayRunOut};
 ghost use Rattle.meet_sync.specs.Told.{IsRequestWhy, IsInterruptWhy, IsCutWhy};
-ghost use Rattle.meet_crew.specs.Chairs.{CalledAs, Keeps, StrikesAs, StrikesOthers, TendsAs, TrimsAs};
+ghost use Rattle.meet_crew.specs.Chairs.{CalledAs, Keeps, InterruptsAs, InterruptsOthers, TendsAs, TrimsAs};
 
 use crate::chair::Chair;
 use crate::refused::{CallRefused, ended_apart, refused_apart};
@@ -68,7 +68,7 @@ where
     fn seats(&self) -> u64
         ensures { result ≡ N.parts }
     {
-        self.queue.seats() as u64
+        self.queue.seats()
     }
 
     fn ask(&mut self, request: Request<T>, limit: Option<u64>) -> Result<End<T>, CallRefused<T>>
@@ -85,13 +85,13 @@ where
     }
 
     fn interrupt(&mut self, target: u64) -> Result<(), CallRefused<T>>
-        ensures struck { IfOk result (λ _. StrikesAs self.old.seat self.new.seat (target ∷ [])) }
+        ensures interrupted { IfOk result (λ _. InterruptsAs self.old.seat self.new.seat (target ∷ [])) }
         ensures there { IfOk result (λ _. target < N.parts) }
         ensures same { IfErr result (λ _. Keeps self.old.seat self.new.seat) }
         ensures item { IfErr result (λ refused. refused.item ≡ None) }
         ensures why { IfErr result (λ refused. IsInterruptWhy N.parts target refused.why) }
     {
-        if target >= self.queue.seats() as u64 {
+        if target >= self.queue.seats() {
             return Err(CallRefused {
                 why: Refusal::NoSuchSeat,
                 item: None,
@@ -100,8 +100,8 @@ where
         let number = SeatNo::new(target).unwrap();
         let seat = self.seat.take().unwrap();
         match self.queue.interrupt(self.rt, seat, number) {
-            Ok(struck) => {
-                self.seat = Some(struck.into_seat());
+            Ok(interrupted) => {
+                self.seat = Some(interrupted.into_seat());
                 Ok(())
             }
             Err(refused) => {
@@ -113,9 +113,9 @@ where
     }
 
     fn interrupt_all(&mut self) -> Result<(), CallRefused<T>>
-        ensures all { IfOk result (λ _. StrikesOthers N.parts self.old.seat self.new.seat) }
+        ensures all { IfOk result (λ _. InterruptsOthers N.parts self.old.seat self.new.seat) }
         ensures some { IfErr result (λ _. (below : ℕ) × (below < N.parts)
-            × StrikesOthers below self.old.seat self.new.seat) }
+            × InterruptsOthers below self.old.seat self.new.seat) }
         ensures item { IfErr result (λ refused. refused.item ≡ None) }
         ensures why { IfErr result (λ refused. IsCutWhy refused.why) }
     {

@@ -8,7 +8,7 @@ ghost use Rattle.meet_sync.specs.Asking.{item_of};
 ghost use Rattle.meet_sync.specs.Ending.{MayRunOut};
 ghost use Rattle.meet_sync.specs.Told.{IsRequestWhy, IsInterruptWhy, IsCutWhy};
 ghost use Rattle.meet_sync.specs.declared.asked.Request.TheVariants.{Put, Give, Offer, Take, Poll};
-ghost use Rattle.meet_crew.specs.Chairs.{CalledAs, Keeps, StrikesAs, StrikesOthers, TendsAs, TrimsAs};
+ghost use Rattle.meet_crew.specs.Chairs.{CalledAs, Keeps, InterruptsAs, InterruptsOthers, TendsAs, TrimsAs};
 
 use crate::refused::CallRefused;
 use meet_sync::{End, Request};
@@ -53,7 +53,7 @@ pub trait Chair<T: Marked> {
     /// `Thread.interrupt` of who has the seat of this number: its call is cut where it waits, else it is flagged, so
     /// that its next call that would wait doesn't. It refuses NoSuchSeat, HistoryFull or Memory.
     fn interrupt(&mut self, target: u64) -> Result<(), CallRefused<T>>
-        ensures struck { IfOk result (λ _. StrikesAs (seat_of self.old) (seat_of self.new) (target ∷ [])) }
+        ensures interrupted { IfOk result (λ _. InterruptsAs (seat_of self.old) (seat_of self.new) (target ∷ [])) }
         ensures there { IfOk result (λ _. target < count) }
         ensures same { IfErr result (λ _. Keeps (seat_of self.old) (seat_of self.new)) }
         ensures item { IfErr result (λ refused. refused.item ≡ None) }
@@ -62,9 +62,9 @@ pub trait Chair<T: Marked> {
     /// Interrupts every other seat, in the order of their numbers: so the users of its queue are stopped. It refuses
     /// HistoryFull or Memory; then those below some seat were interrupted.
     fn interrupt_all(&mut self) -> Result<(), CallRefused<T>>
-        ensures all { IfOk result (λ _. StrikesOthers count (seat_of self.old) (seat_of self.new)) }
+        ensures all { IfOk result (λ _. InterruptsOthers count (seat_of self.old) (seat_of self.new)) }
         ensures some { IfErr result (λ _. (below : ℕ) × (below < count)
-            × StrikesOthers below (seat_of self.old) (seat_of self.new)) }
+            × InterruptsOthers below (seat_of self.old) (seat_of self.new)) }
         ensures item { IfErr result (λ refused. refused.item ≡ None) }
         ensures why { IfErr result (λ refused. IsCutWhy refused.why) };
 

@@ -33,7 +33,7 @@ pub trait Crew<T: Marked> {
 }
 
 /// What a crew leaves.
-#[derive(Drop)]
+#[derive(Debug, Drop)]
 pub struct Done<T, A> {
     /// What each thread answered, in the order of their seats.
     pub told: Vec<A>,
@@ -170,13 +170,13 @@ where
 }
 
 /// Has so many threads work at a new `SynchronousQueue` in fair mode, each with a chair, and closes it once all have
-/// ended. Its records are a legal history, in which each seat's calls stand once, in its order, and no others. It
-/// refuses BadSizes where the threads are none or more than 65,536, Memory, or NoThread where one can't be started;
-/// then nobody began.
+/// ended: it waits for them, for ever where one never ends. Its records are a legal history, in which each seat's calls
+/// stand once, in its order, and no others. It refuses BadSizes where the threads are none or more than 65,536, Memory,
+/// or NoThread where one can't be started; then nobody began.
 pub fn at_fair_queue<T, R, V>(
     rt: &R,
     alloc: Global,
-    threads: usize,
+    threads: u64,
     crew: &V,
 ) -> Result<Done<T, V::Told>, Refusal>
 where
@@ -195,7 +195,7 @@ where
 pub fn at_unfair_queue<T, R, V>(
     rt: &R,
     alloc: Global,
-    threads: usize,
+    threads: u64,
     crew: &V,
 ) -> Result<Done<T, V::Told>, Refusal>
 where
@@ -214,7 +214,7 @@ where
 pub fn at_transfer_queue<T, R, V>(
     rt: &R,
     alloc: Global,
-    threads: usize,
+    threads: u64,
     crew: &V,
 ) -> Result<Done<T, V::Told>, Refusal>
 where

@@ -1,5 +1,5 @@
-//! The threads of a crew. Those of each kind of queue are started by a function of its own: a queue of whatever kind can't
-//! be handed to what starts threads (docs/DECISIONS.md, at the end).
+//! The threads of a crew. Those of each kind of queue are started by a function of its own: a queue of whatever kind
+//! can't be handed to what starts threads (docs/DECISIONS.md, at the end).
 
 use crate::at::At;
 use crate::crews::Crew;
@@ -44,8 +44,8 @@ where
     }
 }
 
-/// All threads of a crew at a synchronous queue in fair mode, until each has ended: whether all could be started. Else none
-/// began.
+/// All threads of a crew at a synchronous queue in fair mode, until each has ended: whether all could be started. Else
+/// none began.
 pub(crate) fn seated_fair<T, N, R, V>(
     rt: &R,
     queue: &SyncQueue<T, FairLine<T>, ParkGate, N>,
@@ -73,8 +73,8 @@ where
     })
 }
 
-/// All threads of a crew at a synchronous queue in its default mode, until each has ended: whether all could be started. Else none
-/// began.
+/// All threads of a crew at a synchronous queue in its default mode, until each has ended: whether all could be
+/// started. Else none began.
 pub(crate) fn seated_unfair<T, N, R, V>(
     rt: &R,
     queue: &SyncQueue<T, StackLine<T>, ParkGate, N>,

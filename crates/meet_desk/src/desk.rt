@@ -12,8 +12,8 @@ use std::sync::{Condvar, Mutex, Wait};
 
 /// The seats of one place, for whoever comes: a thread sits down with one that is free, makes calls with it, and rises
 /// again. A seat that is given out isn't there, so nobody else has it; one that comes back has more receipts, and is
-/// the same seat. Who waits in a call keeps its seat: with as many waiting calls as seats nobody else gets one, so calls
-/// with a limit, or such as don't wait, are for a desk.
+/// the same seat. Who waits in a call keeps its seat: with as many waiting calls as seats nobody else gets one, so
+/// calls with a limit, or such as don't wait, are for a desk.
 #[derive(Drop)]
 pub struct Desk<D: Copy + Drop, N: Ledgers> {
     free: Mutex<Free<D, N>>,
@@ -45,7 +45,7 @@ impl<D: Copy + Drop, N: Ledgers> Desk<D, N> {
         })
     }
 
-    /// A seat, where one is free now: the one with the least number.
+    /// A seat, where one is free now: the one with the least number. It waits for the lock alone.
     pub fn sit<R: Wait>(&self, rt: &R) -> Option<Seat<D, N>> {
         self.free.lock(rt).take()
     }

@@ -24,7 +24,7 @@ use Rattle.meet_tickets.proofs.Lists.Lookups.{Contains-map, Contains-mapped}
 use Rattle.meet_tickets.proofs.Lists.Members.{Contains-first, Contains-rest, Contains-cases, Contains-nil, Contains-unfiltered, filtered_passes, not_eqb-true}
 use Rattle.meet_history.specs.declared.pieces.Piece.{Piece}
 use Rattle.meet_history.specs.declared.pieces.Piece.TheVariants.{Stands, Met, Cut, Flagged}
-use Rattle.meet_run.specs.BaseWording.{pieces_of}
+use Rattle.meet_run.specs.Tracing.BaseWording.{pieces_of}
 use Rattle.meet_draw.specs.declared.columns.Lane.{Lane}
 use Rattle.meet_draw.specs.declared.columns.Lane.TheVariants.{Settled}
 use Rattle.meet_draw.specs.declared.columns.Column.{Column}

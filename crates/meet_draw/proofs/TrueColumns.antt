@@ -22,7 +22,7 @@ use Rattle.meet_tickets.proofs.Lists.Lookups.{Contains-map}
 use Rattle.meet_tickets.proofs.Tellings.Whereabouts.{Reached, InLine, IsCut, Gave, Took}
 use Rattle.meet_history.specs.declared.pieces.Piece.{Piece}
 use Rattle.meet_history.specs.declared.pieces.Piece.TheVariants.{Stands, Met, Cut, Flagged}
-use Rattle.meet_run.specs.BaseWording.{pieces_of}
+use Rattle.meet_run.specs.Tracing.BaseWording.{pieces_of}
 use Rattle.meet_draw.specs.declared.columns.Lane.{Lane}
 use Rattle.meet_draw.specs.declared.columns.Lane.TheVariants.{Waits, Settled}
 use Rattle.meet_draw.specs.declared.columns.Column.{Column}

@@ -12,10 +12,10 @@ use Rattle.meet_history.specs.declared.checker.Why.{Why}
 use Rattle.meet_history.specs.Checking.{IsIllegalAt}
 use Rattle.meet_history.specs.Standings.{standing_on}
 use Rattle.meet_run.specs.declared.text.faults.RunFault.{RunFault}
-use Rattle.meet_run.specs.TraceWording.{illegal_line}
-use Rattle.meet_run.specs.Traces.{IsTraceOn, trace_fault_in}
-use Rattle.meet_run.specs.Wording.{last_line}
-use Rattle.meet_run.specs.Writing.{AppendsPrefix}
+use Rattle.meet_run.specs.Tracing.TraceWording.{illegal_line}
+use Rattle.meet_run.specs.Tracing.Traces.{IsTraceOn, trace_fault_in}
+use Rattle.meet_run.specs.Scripts.Wording.{last_line}
+use Rattle.meet_run.specs.Texts.Writing.{AppendsPrefix}
 use Rattle.meet_draw.specs.declared.style.Style.{Style}
 use Rattle.meet_draw.specs.Pictures.{drawn}
 

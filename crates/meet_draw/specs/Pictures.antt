@@ -4,8 +4,8 @@ use Rattle.meet_tickets.specs.declared.places.Kind.{Kind}
 use Rattle.meet_tickets.specs.declared.records.Deed.{Deed}
 use Rattle.meet_tickets.specs.declared.records.Record.{Record}
 use Rattle.meet_tickets.specs.Bases.{Based}
-use Rattle.meet_run.specs.BaseWording.{pieces_of}
-use Rattle.meet_run.specs.Spelling.{place_text, option_text}
+use Rattle.meet_run.specs.Tracing.BaseWording.{pieces_of}
+use Rattle.meet_run.specs.Scripts.Spelling.{place_text, option_text}
 use Rattle.meet_draw.specs.declared.style.Style.{Style}
 use Rattle.meet_draw.specs.declared.rows.Shown.{Shown}
 use Rattle.meet_draw.specs.declared.rows.Shown.TheVariants.{Stood, Came}

@@ -5,8 +5,8 @@ use Rattle.std.specs.List.{repeat}
 use Rattle.std.specs.Option.{option_map_or}
 use Rattle.meet_history.specs.declared.pieces.Piece.{Piece}
 use Rattle.meet_history.specs.declared.pieces.Piece.TheVariants.{Stands, Met, Cut, Flagged}
-use Rattle.meet_run.specs.BaseWording.{piece_line}
-use Rattle.meet_run.specs.TraceWording.{record_line}
+use Rattle.meet_run.specs.Tracing.BaseWording.{piece_line}
+use Rattle.meet_run.specs.Tracing.TraceWording.{record_line}
 use Rattle.meet_draw.specs.declared.columns.Column.{Column}
 use Rattle.meet_draw.specs.declared.columns.Change.{Change}
 use Rattle.meet_draw.specs.declared.columns.Change.TheVariants.{Nothing, Opens, Owed}

@@ -2,8 +2,8 @@
 
 ghost use Rattle.std.specs.Prelude.{◌≡◌, ◌+◌, ◌^◌, ◌<◌, length, None, IfOk, IfErr, IfSome};
 ghost use Rattle.meet_history.specs.Pushing.{HasSeen};
-ghost use Rattle.meet_run.specs.Reading.{lines_of};
-ghost use Rattle.meet_run.specs.Traces.{trace_fault_in, NamesLine, IsUnreadTrace, IsTraceFault};
+ghost use Rattle.meet_run.specs.Texts.Reading.{lines_of};
+ghost use Rattle.meet_run.specs.Tracing.Traces.{trace_fault_in, NamesLine, IsUnreadTrace, IsTraceFault};
 ghost use Rattle.meet_draw.specs.Drawn.{IsPicture, IsDrawn, DrawEnds};
 
 use crate::picture::draw_records;
@@ -98,8 +98,9 @@ fn draw_text<W: Write>(
 
 /// Draws a trace, of either format, as text: a row for each piece of its base and for each record, a column for each
 /// seat, and in it a bar while its ticket waits in the line, and dots from when it was met or cut until its seat is
-/// told. A seat keeps its column; one that has none takes a new one where the width leaves room beside the longest line,
-/// else the first in which nothing is drawn, else it has none. Behind the rows stands the line that `check` writes.
+/// told. A seat keeps its column; one that has none takes a new one where the width leaves room beside the longest
+/// line, else the first in which nothing is drawn, else it has none. Behind the rows stands the line that `check`
+/// writes.
 ///
 /// Where the trace is legal the answer is true. Else only the records up to the first that can't stand are drawn, which
 /// is marked, and the answer is false. The whole text is read before anything is written. It refuses BadTrace with the

@@ -56,11 +56,11 @@ fn count_digits(number: u64) -> usize
 fn columns_within(width: Width, digits: usize, long: usize) -> usize
     ensures { result ≡ most_columns width digits long }
 {
-    let left = (width.number() as usize)
+    let rest = (width.number() as usize)
         .saturating_sub(long)
         .saturating_sub(digits)
         .saturating_sub(2);
-    (left / COLUMN_WIDTH).max(1)
+    (rest / COLUMN_WIDTH).max(1)
 }
 
 /// How these rows are laid out, of which the last has this number.

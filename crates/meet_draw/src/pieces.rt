@@ -1,8 +1,8 @@
 //! The lines of a base's pieces, as a trace spells them. Where memory runs out, nothing is said of what was appended.
 
 ghost use Rattle.std.specs.Prelude.{◌≡◌, ◌++◌, OnOk};
-ghost use Rattle.meet_run.specs.BaseWording.{placed_text, item_text, standing_text, piece_text, piece_line};
-ghost use Rattle.meet_run.specs.TraceSpelling.{side_text};
+ghost use Rattle.meet_run.specs.Tracing.BaseWording.{placed_text, item_text, standing_text, piece_text, piece_line};
+ghost use Rattle.meet_run.specs.Tracing.TraceSpelling.{side_text};
 ghost use Rattle.meet_draw.specs.Rows.{piece_seat, piece_change};
 
 use crate::columns::Change;
@@ -109,7 +109,7 @@ fn push_words(out: &mut Vec<u8>, piece: &Piece) -> Result<(), AllocError>
 }
 
 /// Appends a piece's line.
-#[tactic(auto, unfolding(meet_run::specs::BaseWording::piece_line))]
+#[tactic(auto, unfolding(meet_run::specs::Tracing::BaseWording::piece_line))]
 pub(crate) fn push_piece(out: &mut Vec<u8>, piece: &Piece) -> Result<(), AllocError>
     ensures { OnOk result (out.new.items ≡ out.old.items ++ piece_line piece.now) }
 {

@@ -4,7 +4,7 @@ use crate::history::History;
 use crate::progress::Progress;
 use meet_cells::{Gate, ParkGate, Turn};
 use meet_sync::{
-    Answer, Asked, FairLine, FollowedUp, Ledgers, Pending, Request, Seat, SyncQueue, Withdrawn,
+    Answer, Asked, FairLine, Followed, Ledgers, Pending, Request, Seat, SyncQueue, TakenBack,
 };
 use meet_tickets::{Deed, Record, Refusal, SeatNo};
 use std::alloc::Global;
@@ -130,7 +130,7 @@ impl<G: Gate, N: Ledgers> Course<G, N> {
     /// Stops all: who waits is woken, and takes its ticket back.
     pub fn stop(&self) {
         self.stopped.store(true, Ordering::SeqCst);
-        for number in 0..self.queue.seats() as u64 {
+        for number in 0..self.queue.seats() {
             if let Some(seat) = SeatNo::new(number) {
                 self.queue.wake(seat);
             }
@@ -144,11 +144,11 @@ impl<G: Gate, N: Ledgers> Course<G, N> {
         pending: Pending<Deed, N>,
     ) -> Result<(Seat<Deed, N>, Passed), Pending<Deed, N>> {
         match self.queue.follow_up(rt, pending) {
-            FollowedUp::Done(seat) => Ok((seat, Passed::Gave)),
-            FollowedUp::Got(seat, _, item) => Ok((seat, Passed::Got(item))),
+            Followed::Done(seat) => Ok((seat, Passed::Gave)),
+            Followed::Got(seat, _, item) => Ok((seat, Passed::Got(item))),
             // Nobody interrupts a drive.
-            FollowedUp::Interrupted(seat, _) => Ok((seat, Passed::Stopped)),
-            FollowedUp::NotYet(again) => Err(again),
+            Followed::Interrupted(seat, _) => Ok((seat, Passed::Stopped)),
+            Followed::NotYet(again) => Err(again),
         }
     }
 
@@ -162,8 +162,8 @@ impl<G: Gate, N: Ledgers> Course<G, N> {
         for _ in rt.forever() {
             if self.is_stopped() {
                 match self.queue.cancel(rt, pending) {
-                    Withdrawn::Back(seat, _) => return (seat, Passed::Stopped),
-                    Withdrawn::Late(again) => pending = again,
+                    TakenBack::Back(seat, _) => return (seat, Passed::Stopped),
+                    TakenBack::Late(again) => pending = again,
                 }
             } else {
                 let _ = self.queue.wait(rt, &pending, None);

@@ -307,6 +307,6 @@ where
     requires { IsSized givers each }
     ensures { IfOk result (λ ended. length ended.chronicle.records.items ≤ cap) }
 {
-    let parts = NewQueue::parked(alloc, 2 * givers as usize)?;
+    let parts = NewQueue::parked(alloc, 2 * givers)?;
     driving::<ParkGate, Brand, R, P>(rt, alloc, parts, each, cap, most, progress)
 }

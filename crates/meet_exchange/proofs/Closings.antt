@@ -9,7 +9,7 @@ use Rattle.meet_exchange.specs.declared.views.Trail.{Trail}
 use Rattle.meet_exchange.specs.declared.views.Plan.{Plan}
 use Rattle.meet_exchange.specs.declared.records.Round.{Round}
 use Rattle.meet_exchange.specs.declared.records.RoundEnd.{RoundEnd}
-use Rattle.meet_exchange.specs.declared.records.RoundEnd.TheVariants.{Posted as Stands, Withdrawn as TakenBack, Swapped as Exchanged}
+use Rattle.meet_exchange.specs.declared.records.RoundEnd.TheVariants.{Posted as Stands, Withdrawn as EndWithdrawn, Swapped as Exchanged}
 use Rattle.meet_exchange.specs.declared.views.InHand.{InHand}
 use Rattle.meet_exchange.specs.declared.views.InHand.TheVariants.{Nothing, At}
 use Rattle.meet_exchange.specs.declared.views.Duty.{Duty}
@@ -84,7 +84,7 @@ left_last (y ∷ z ∷ past) x = left_last (z ∷ past) x
 
 left_end : (x : Round) (e : RoundEnd) → HasEnded e → left_at_end x e ≡ None
 left_end x Stands h = absurd h
-left_end x TakenBack h = refl
+left_end x EndWithdrawn h = refl
 left_end x (Exchanged j b true) h = refl
 left_end x (Exchanged j b false) h = absurd cc
 
@@ -132,7 +132,7 @@ module _ {T : Type 0} (mark : T → ℕ) (plan : Plan) where
   runs (taken o a j b) p = inr (round_of o a (Exchanged j b false), refl, p.0)
   runs (answered o a j b) p = inr (round_of o a (Exchanged j b false), refl, p.0)
   runs (collected o a j b) p = inr (round_of o a (Exchanged j b true), refl, p.0)
-  runs (withdrawn o a) p = inr (round_of o a TakenBack, refl, p.0)
+  runs (withdrawn o a) p = inr (round_of o a EndWithdrawn, refl, p.0)
 
   history_at : (s : St) (r : Kept mark plan s) (k : ℕ) → Dec (plan.slots ≤ k) → IsHistory plan.seats (rounds (r.cells k))
   history_at s r k (yes d) = subst (λ c. IsHistory plan.seats (rounds c)) (sym (r.beyond k d)) tt

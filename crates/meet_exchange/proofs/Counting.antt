@@ -4,7 +4,7 @@ use mathlib.Core.Logic.{dite}
 use native.Mathlib.Decide.{ℕ_discrete}
 use Rattle.meet_exchange.specs.declared.records.SlotDeed.TheVariants.{Posted, Swapped}
 use Rattle.meet_exchange.specs.declared.records.RoundEnd.{RoundEnd}
-use Rattle.meet_exchange.specs.declared.records.RoundEnd.TheVariants.{Posted as Stands, Withdrawn as TakenBack, Swapped as Exchanged}
+use Rattle.meet_exchange.specs.declared.records.RoundEnd.TheVariants.{Posted as Stands, Withdrawn as EndWithdrawn, Swapped as Exchanged}
 use Rattle.meet_exchange.specs.declared.records.Part.{Part}
 use Rattle.meet_exchange.specs.declared.records.Round.{Round}
 use Rattle.meet_exchange.specs.Rounds.{part, parts_in, parts_of, poster_part, taker_part}
@@ -19,13 +19,13 @@ among_append (p ∷ ps) qs = let e = among_append ps qs in omega arith
 
 poster_none : (k r : ℕ) (e : RoundEnd) → posts_among (poster_part k r e) ≡ 0
 poster_none k r Stands = refl
-poster_none k r TakenBack = refl
+poster_none k r EndWithdrawn = refl
 poster_none k r (Exchanged j b true) = refl
 poster_none k r (Exchanged j b false) = refl
 
 taker_none : (x k r a : ℕ) (e : RoundEnd) → posts_among (taker_part x k r a e) ≡ 0
 taker_none x k r a Stands = refl
-taker_none x k r a TakenBack = refl
+taker_none x k r a EndWithdrawn = refl
 taker_none x k r a (Exchanged j b c) = by_case (eqb j x) where
   by_case : (f : Bool) → posts_among (cond f (part k r (Swapped b a) ∷ []) []) ≡ 0
   by_case true = refl

@@ -13,7 +13,7 @@ use Rattle.meet_exchange.specs.declared.views.Trail.{Trail}
 use Rattle.meet_exchange.specs.declared.views.Plan.{Plan}
 use Rattle.meet_exchange.specs.declared.records.Round.{Round}
 use Rattle.meet_exchange.specs.declared.records.SlotDeed.TheVariants.{Posted, Withdrawn, Swapped, Collected}
-use Rattle.meet_exchange.specs.declared.records.RoundEnd.TheVariants.{Withdrawn as TakenBack, Swapped as Exchanged}
+use Rattle.meet_exchange.specs.declared.records.RoundEnd.TheVariants.{Withdrawn as EndWithdrawn, Swapped as Exchanged}
 use Rattle.meet_exchange.specs.declared.views.Duty.{Duty}
 use Rattle.meet_exchange.specs.declared.views.Duty.TheVariants.{Claimed, Offering, Took, Gathered, TookBack}
 use Rattle.meet_exchange.specs.declared.views.InHand.TheVariants.{Nothing, At}
@@ -217,7 +217,7 @@ module _ {T : Type 0} (mark : T → ℕ) (plan : Plan) where
   pub clears_withdrawn : (slots id k n new : ℕ) (me : M) → k < plan.slots → me ≡ (top me.0 ∷ [], (k, None) ∷ []) → (top me.0).hand ≡ At k n TookBack → new ≡ round_unit * (n + 1) → n + 1 ≤ last_round
       → Allows Rule slots id me k (λ _. new) (λ _. Frees (step slots k new 0 none) me new)
   clears_withdrawn slots id k n new me inside one hand up bound = let i = (top me.0).number in opened slots id k (λ _. new) (λ m _. Frees (step slots k new 0 none) m new) me (top me.0) ((k, None) ∷ []) one
-      (clears_from slots id k n new (top me.0) TookBack inside hand up bound (λ st d. let is = is_withdrawn st i d in let rd = round_of i is.0 TakenBack in
+      (clears_from slots id k n new (top me.0) TookBack inside hand up bound (λ st d. let is = is_withdrawn st i d in let rd = round_of i is.0 EndWithdrawn in
       subst (λ z. (rd : Round) × (running z ≡ rd ∷ []) × HasEnded rd.end × IsPlayedWhen z rd × ((x : ℕ) → x ≢ i → duties_in x z ≡ []) × ((y : Perhaps (Option T)) → AtHome mark z y → y ≡ none)) (sym is.1)
       (rd, refl, tt, (λ all. all.0), (λ x ne. rw (apart i x (flip ne)) refl), λ y e. e)))
 

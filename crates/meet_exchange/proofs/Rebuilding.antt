@@ -6,7 +6,7 @@ use native.Mathlib.Decide.{ℕ_discrete}
 use Rattle.meet_exchange.specs.declared.records.SlotDeed.{SlotDeed}
 use Rattle.meet_exchange.specs.declared.records.SlotDeed.TheVariants.{Posted, Withdrawn, Swapped, Collected}
 use Rattle.meet_exchange.specs.declared.records.RoundEnd.{RoundEnd}
-use Rattle.meet_exchange.specs.declared.records.RoundEnd.TheVariants.{Posted as Stands, Withdrawn as TakenBack, Swapped as Exchanged}
+use Rattle.meet_exchange.specs.declared.records.RoundEnd.TheVariants.{Posted as Stands, Withdrawn as EndWithdrawn, Swapped as Exchanged}
 use Rattle.meet_exchange.specs.declared.records.Part.{Part}
 use Rattle.meet_exchange.specs.declared.records.Round.{Round}
 use Rattle.meet_exchange.specs.Rounds.{round_of, part, in_slot, parts_in, parts_of, poster_part, taker_part}
@@ -44,12 +44,12 @@ in_cond s false ps a = tt
 
 poster_of : (k s : ℕ) (e : RoundEnd) → AllOf s (poster_part k s e)
 poster_of k s Stands = tt
-poster_of k s TakenBack = (refl, tt)
+poster_of k s EndWithdrawn = (refl, tt)
 poster_of k s (Exchanged j b c) = in_cond s c (part k s (Collected b) ∷ []) (refl, tt)
 
 taker_of : (x k s a : ℕ) (e : RoundEnd) → AllOf s (taker_part x k s a e)
 taker_of x k s a Stands = tt
-taker_of x k s a TakenBack = tt
+taker_of x k s a EndWithdrawn = tt
 taker_of x k s a (Exchanged j b c) = in_cond s (eqb j x) (part k s (Swapped b a) ∷ []) (refl, tt)
 
 in_round : (x k s : ℕ) (rd : Round) → AllOf s (parts_in x k s rd)
@@ -130,12 +130,12 @@ module _ (w : ℕ → SlotDeed → Round → Round) where
   -- the effect of one round's parts, by cases
   eff_poster : ℕ → RoundEnd → Round → Round
   eff_poster x Stands t = t
-  eff_poster x TakenBack t = w x Withdrawn t
+  eff_poster x EndWithdrawn t = w x Withdrawn t
   eff_poster x (Exchanged j b c) t = cond c (w x (Collected b) t) t
 
   eff_taker : ℕ → ℕ → RoundEnd → Round → Round
   eff_taker x a Stands t = t
-  eff_taker x a TakenBack t = t
+  eff_taker x a EndWithdrawn t = t
   eff_taker x a (Exchanged j b c) t = cond (eqb j x) (w x (Swapped b a) t) t
 
   on_one : (x k r : ℕ) (d : SlotDeed) (ps : List Part) (t : Round) → on_entry x r (part k r d ∷ ps) t ≡ on_entry x r ps (w x d t)
@@ -153,13 +153,13 @@ module _ (w : ℕ → SlotDeed → Round → Round) where
   on_poster : (x k r : ℕ) (e : RoundEnd) (t : Round) → on_entry x r (poster_part k r e) t ≡ eff_poster x e t
   unfolding eff_poster
   on_poster x k r Stands t = on_nil x r t
-  on_poster x k r TakenBack t = on_one x k r Withdrawn [] t ∙ on_nil x r (w x Withdrawn t)
+  on_poster x k r EndWithdrawn t = on_one x k r Withdrawn [] t ∙ on_nil x r (w x Withdrawn t)
   on_poster x k r (Exchanged j b c) t = on_cond x k r c (Collected b) t
 
   on_taker : (x k r a : ℕ) (e : RoundEnd) (t : Round) → on_entry x r (taker_part x k r a e) t ≡ eff_taker x a e t
   unfolding eff_taker
   on_taker x k r a Stands t = on_nil x r t
-  on_taker x k r a TakenBack t = on_nil x r t
+  on_taker x k r a EndWithdrawn t = on_nil x r t
   on_taker x k r a (Exchanged j b c) t = on_cond x k r (eqb j x) (Swapped b a) t
 
   eff : ℕ → Round → Round → Round
@@ -193,24 +193,24 @@ cond_same false t = refl
 
 abbrev open_end : RoundEnd → RoundEnd
 open_end Stands = Stands
-open_end TakenBack = TakenBack
+open_end EndWithdrawn = EndWithdrawn
 open_end (Exchanged j b c) = Exchanged j b false
 
 abbrev TakerAmong : List ℕ → RoundEnd → Type 0
 TakerAmong xs Stands = Unit {0}
-TakerAmong xs TakenBack = Unit {0}
+TakerAmong xs EndWithdrawn = Unit {0}
 TakerAmong xs (Exchanged j b c) = Among j xs
 
 poster_posts : (x : ℕ) (e : RoundEnd) (t : Round) → eff_poster posts_in x e t ≡ t
 unfolding eff_poster
 poster_posts x Stands t = refl
-poster_posts x TakenBack t = refl
+poster_posts x EndWithdrawn t = refl
 poster_posts x (Exchanged j b c) t = cond_same c t
 
 taker_posts : (x a : ℕ) (e : RoundEnd) (t : Round) → eff_taker posts_in x a e t ≡ t
 unfolding eff_taker
 taker_posts x a Stands t = refl
-taker_posts x a TakenBack t = refl
+taker_posts x a EndWithdrawn t = refl
 taker_posts x a (Exchanged j b c) t = cond_same (eqb j x) t
 
 eff_posts : (x : ℕ) (rd t : Round) → eff posts_in x rd t ≡ cond (eqb rd.seat x) (round_of x rd.mark Stands) t
@@ -230,7 +230,7 @@ module _ (k r : ℕ) (ls : List (ℕ × List Part)) where
   sweep_ends : (s m : ℕ) (e : RoundEnd) → Among s (firsts ls) → TakerAmong (firsts ls) e → on_round ends_in k r (round_of s m e) ls (round_of s m Stands) ≡ round_of s m (open_end e)
   unfolding eff eff_poster eff_taker
   sweep_ends s m Stands a t = stays ends_in k r (round_of s m Stands) (round_of s m Stands) ls (λ x. cond_same (eqb s x) (round_of s m Stands))
-  sweep_ends s m TakenBack a t = let p = round_of s m Stands in let q = round_of s m TakenBack in reaches ends_in k r s q p q ls (λ x. cond_same (eqb s x) q) (ap (λ b. cond b q p) (same s)) (λ x ne. ap (λ b. cond b q p) (apart s x (flip ne))) a
+  sweep_ends s m EndWithdrawn a t = let p = round_of s m Stands in let q = round_of s m EndWithdrawn in reaches ends_in k r s q p q ls (λ x. cond_same (eqb s x) q) (ap (λ b. cond b q p) (same s)) (λ x ne. ap (λ b. cond b q p) (apart s x (flip ne))) a
   sweep_ends s m (Exchanged j b c) a t = let p = round_of s m Stands in let q = round_of s m (Exchanged j b false) in let rd = round_of s m (Exchanged j b c) in
       let inner = λ (x : ℕ) (z : Round). ap (λ u. cond (eqb s x) u z) (cond_same c z) ∙ cond_same (eqb s x) z in
       let step = λ (x : ℕ) (z : Round). cond (eqb j x) (round_of z.seat z.mark (Exchanged x b false)) z in
@@ -245,7 +245,7 @@ module _ (k r : ℕ) (ls : List (ℕ × List Part)) where
   sweep_collects : (s m : ℕ) (e : RoundEnd) → Among s (firsts ls) → on_round collects_in k r (round_of s m e) ls (round_of s m (open_end e)) ≡ round_of s m e
   unfolding eff eff_poster eff_taker
   sweep_collects s m Stands a = stays collects_in k r (round_of s m Stands) (round_of s m Stands) ls (λ x. cond_same (eqb s x) (round_of s m Stands))
-  sweep_collects s m TakenBack a = stays collects_in k r (round_of s m TakenBack) (round_of s m TakenBack) ls (λ x. cond_same (eqb s x) (round_of s m TakenBack))
+  sweep_collects s m EndWithdrawn a = stays collects_in k r (round_of s m EndWithdrawn) (round_of s m EndWithdrawn) ls (λ x. cond_same (eqb s x) (round_of s m EndWithdrawn))
   sweep_collects s m (Exchanged j b false) a = let p = round_of s m (Exchanged j b false) in stays collects_in k r p p ls (λ x. ap (λ z. cond (eqb j x) z z) (cond_same (eqb s x) p) ∙ cond_same (eqb j x) p)
   sweep_collects s m (Exchanged j b true) a = let p = round_of s m (Exchanged j b false) in let q = round_of s m (Exchanged j b true) in reaches collects_in k r s q p q ls
       (λ x. ap (λ z. cond (eqb j x) z z) (cond_same (eqb s x) q) ∙ cond_same (eqb j x) q)
@@ -280,12 +280,12 @@ played_at n (suc i) (x ∷ y ∷ ys) h l = played_at n i (y ∷ ys) h.2 (omega a
 
 pub seat_low : (n : ℕ) (rd : Round) (e : RoundEnd) → IsPlayed n rd e → rd.seat < n
 seat_low n rd Stands p = p
-seat_low n rd TakenBack p = p
+seat_low n rd EndWithdrawn p = p
 seat_low n rd (Exchanged j b c) p = p.0
 
 taker_among : (n : ℕ) (xs : List ℕ) (rd : Round) (e : RoundEnd) → ((x : ℕ) → x < n → Among x xs) → IsPlayed n rd e → TakerAmong xs e
 taker_among n xs rd Stands all p = tt
-taker_among n xs rd TakenBack all p = tt
+taker_among n xs rd EndWithdrawn all p = tt
 taker_among n xs rd (Exchanged j b c) all p = all j p.1
 
 module _ (n start k count : ℕ) (rounds : ℕ → List Round) (ls : List (ℕ × List Part)) (parts : AreParts n start rounds ls) (many : n ≤ length ls) (history : IsHistory n (rounds k)) (long : count ≡ length (rounds k)) where

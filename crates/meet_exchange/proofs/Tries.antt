@@ -10,7 +10,7 @@ use Rattle.meet_exchange.specs.Rounds.{part}
 use Rattle.meet_exchange.specs.Seats.{SeatView, PendingView, Went}
 use Rattle.meet_exchange.specs.Calls.{HasRound, StandsAt}
 use Rattle.meet_exchange.specs.Ways.{AllOf, SawContended, SawFree, SawTaken, IsReached, IsWithin, patience, MayStand, IsOver, HasCome, HasSwapped, HasCollected, HasTimedOut}
-use Rattle.meet_exchange.specs.Waits.{left_after, HasPosted, HasStayed, EndsAs, seat_after}
+use Rattle.meet_exchange.specs.Waits.{more_after, HasPosted, HasStayed, EndsAs, seat_after}
 use Rattle.meet_exchange.specs.Ways.Comes.{begins, goes_on, comes_back}
 
 -- a seat goes on from where it went
@@ -23,13 +23,13 @@ then u v w ps qs xs ys a b = record {
 }
 
 -- a limit before the first turn, and after a turn more
-pub left_first : (limit : Option ℕ) → limit ≡ left_after limit 0
-left_first None = refl
-left_first (Some most) = let e : most ≡ most - 0 = omega arith in ap (λ (z : ℕ). Some z) e
+pub more_first : (limit : Option ℕ) → limit ≡ more_after limit 0
+more_first None = refl
+more_first (Some most) = let e : most ≡ most - 0 = omega arith in ap (λ (z : ℕ). Some z) e
 
-pub left_step : (limit : Option ℕ) (turns : ℕ) → left_after (left_after limit turns) 1 ≡ left_after limit (turns + 1)
-left_step None turns = refl
-left_step (Some most) turns = let e : (most - turns) - 1 ≡ most - (turns + 1) = omega arith in ap (λ (z : ℕ). Some z) e
+pub more_step : (limit : Option ℕ) (turns : ℕ) → more_after (more_after limit turns) 1 ≡ more_after limit (turns + 1)
+more_step None turns = refl
+more_step (Some most) turns = let e : (most - turns) - 1 ≡ most - (turns + 1) = omega arith in ap (λ (z : ℕ). Some z) e
 
 -- what is left tells whether the limit is reached
 pub within_first : (limit : Option ℕ) → IsWithin limit 0
@@ -40,11 +40,11 @@ pub within : (limit : Option ℕ) (turns : ℕ) → ¬ IsReached limit turns →
 within None turns f = tt
 within (Some most) turns f = let l : turns < most = lt_of_not-le f in omega arith
 
-pub reached : (limit : Option ℕ) (turns : ℕ) → left_after limit turns ≡ Some 0 → IsReached limit turns
+pub reached : (limit : Option ℕ) (turns : ℕ) → more_after limit turns ≡ Some 0 → IsReached limit turns
 reached None turns e = absurd (cc)
 reached (Some most) turns e = let d : most - turns ≡ 0 = cc in omega arith
 
-pub not_reached : (limit : Option ℕ) (turns : ℕ) → left_after limit turns ≢ Some 0 → ¬ IsReached limit turns
+pub not_reached : (limit : Option ℕ) (turns : ℕ) → more_after limit turns ≢ Some 0 → ¬ IsReached limit turns
 not_reached None turns f = λ h. h
 not_reached (Some most) turns f = λ h. let l : most ≤ turns = h in let d : most - turns ≡ 0 = omega arith in f (ap (λ (z : ℕ). Some z) d)
 
@@ -52,7 +52,7 @@ pub within_more : (limit : Option ℕ) (turns : ℕ) → ¬ IsReached limit turn
 within_more None turns f = tt
 within_more (Some most) turns f = let l : turns < most = lt_of_not-le f in omega arith
 
-pub is_limit : (limit : Option ℕ) (turns : ℕ) → left_after limit turns ≡ Some 0 → IsWithin limit turns → limit ≡ Some turns
+pub is_limit : (limit : Option ℕ) (turns : ℕ) → more_after limit turns ≡ Some 0 → IsWithin limit turns → limit ≡ Some turns
 is_limit None turns e w = absurd (cc)
 is_limit (Some most) turns e w = let d : most - turns ≡ 0 = cc in let l : turns ≤ most = w in let same : most ≡ turns = omega arith in ap (λ (z : ℕ). Some z) same
 

@@ -7,8 +7,8 @@ use Rattle.meet_exchange.specs.declared.offers.Offered.{Offered}
 use Rattle.meet_exchange.specs.declared.offers.Offered.TheVariants.{Posted, Swapped, Contended, Worn, Memory}
 use Rattle.meet_exchange.specs.declared.endings.Gathered.{Gathered}
 use Rattle.meet_exchange.specs.declared.endings.Gathered.TheVariants.{Got, NotYet}
-use Rattle.meet_exchange.specs.declared.endings.Returned.{Returned}
-use Rattle.meet_exchange.specs.declared.endings.Returned.TheVariants.{Back, Late}
+use Rattle.meet_exchange.specs.declared.endings.TakenBack.{TakenBack}
+use Rattle.meet_exchange.specs.declared.endings.TakenBack.TheVariants.{Back, Late}
 use Rattle.meet_exchange.specs.Words.{code_in, number_in}
 use Rattle.meet_exchange.specs.Rounds.{part}
 use Rattle.meet_exchange.specs.Seats.{SeatView, PendingView, Went}
@@ -64,7 +64,7 @@ module _ {T : Type 0} (mark : T → ℕ) (v : SeatView) (k : ℕ) where
   Collects r a (NotYet p) = StandsAt k r a p × (w : ℕ) × (code_in w ≢ 4) × Went v p.seat [] ((k, w) ∷ [])
 
   -- of its withdrawal: back, or a step that saw it posted no more
-  abbrev pub Withdraws : (r a : ℕ) → Returned T → Type 0
+  abbrev pub Withdraws : (r a : ℕ) → TakenBack T → Type 0
   Withdraws r a (Back s x) = (mark x ≡ a) × Went v s (part k r Withdrawn ∷ []) []
   Withdraws r a (Late p) = StandsAt k r a p × (w : ℕ) × (code_in w ≢ 2) × Went v p.seat [] ((k, w) ∷ [])
 

@@ -3,7 +3,7 @@ use Rattle.std.specs.Prelude.{ℕ, ◌+◌, ◌-◌, true, false, List, [], ◌�
 use Rattle.meet_exchange.specs.declared.records.SlotDeed.{SlotDeed}
 use Rattle.meet_exchange.specs.declared.records.SlotDeed.TheVariants.{Posted, Withdrawn, Swapped, Collected}
 use Rattle.meet_exchange.specs.declared.records.RoundEnd.{RoundEnd}
-use Rattle.meet_exchange.specs.declared.records.RoundEnd.TheVariants.{Posted as Stands, Withdrawn as TakenBack}
+use Rattle.meet_exchange.specs.declared.records.RoundEnd.TheVariants.{Posted as Stands, Withdrawn as EndWithdrawn}
 use Rattle.meet_exchange.specs.declared.records.RoundEnd.TheVariants.{Swapped as Exchanged}
 use Rattle.meet_exchange.specs.declared.records.Part.{Part}
 use Rattle.meet_exchange.specs.declared.records.Round.{Round}
@@ -24,13 +24,13 @@ posts_in x (Collected h) t = t
 
 abbrev pub ends_in : ℕ → SlotDeed → Round → Round
 ends_in x (Posted m) t = t
-ends_in x Withdrawn t = round_of t.seat t.mark TakenBack
+ends_in x Withdrawn t = round_of t.seat t.mark EndWithdrawn
 ends_in x (Swapped g h) t = round_of t.seat t.mark (Exchanged x g false)
 ends_in x (Collected h) t = t
 
 abbrev pub collected_end : RoundEnd → RoundEnd
 collected_end Stands = Stands
-collected_end TakenBack = TakenBack
+collected_end EndWithdrawn = EndWithdrawn
 collected_end (Exchanged j b c) = Exchanged j b true
 
 abbrev pub collects_in : ℕ → SlotDeed → Round → Round

@@ -5,7 +5,7 @@ use Rattle.std.specs.Prelude.{Option, Some, None}
 use Rattle.meet_exchange.specs.declared.records.SlotDeed.{SlotDeed}
 use Rattle.meet_exchange.specs.declared.records.SlotDeed.TheVariants.{Posted, Withdrawn, Swapped, Collected}
 use Rattle.meet_exchange.specs.declared.records.RoundEnd.{RoundEnd}
-use Rattle.meet_exchange.specs.declared.records.RoundEnd.TheVariants.{Posted as Stands, Withdrawn as TakenBack}
+use Rattle.meet_exchange.specs.declared.records.RoundEnd.TheVariants.{Posted as Stands, Withdrawn as EndWithdrawn}
 use Rattle.meet_exchange.specs.declared.records.RoundEnd.TheVariants.{Swapped as Exchanged}
 use Rattle.meet_exchange.specs.declared.records.Part.{Part}
 use Rattle.meet_exchange.specs.declared.records.Round.{Round}
@@ -17,13 +17,13 @@ round_of seat mark end = record { seat = seat; mark = mark; end = end }
 -- ended: taken back by its seat, or swapped and then collected
 abbrev pub HasEnded : RoundEnd → Type 0
 HasEnded Stands = ⊥
-HasEnded TakenBack = Unit {0}
+HasEnded EndWithdrawn = Unit {0}
 HasEnded (Exchanged by mark collected) = collected ≡ true
 
 -- its seats are seats of an arena of n, and no seat swaps with itself
 abbrev pub IsPlayed : (n : ℕ) → Round → RoundEnd → Type 0
 IsPlayed n round Stands = round.seat < n
-IsPlayed n round TakenBack = round.seat < n
+IsPlayed n round EndWithdrawn = round.seat < n
 IsPlayed n round (Exchanged by mark collected) = (round.seat < n) × (by < n) × (round.seat ≢ by)
 
 -- the history of a slot of an arena of n seats: each round is posted by a seat, and then taken back by it, or swapped
@@ -42,13 +42,13 @@ part k r deed = record { slot = k; round = r; deed = deed }
 -- what the poster does after its post: it takes its item back, or gets b, which the other seat gave
 abbrev pub poster_part : (k r : ℕ) → RoundEnd → List Part
 poster_part k r Stands = []
-poster_part k r TakenBack = part k r Withdrawn ∷ []
+poster_part k r EndWithdrawn = part k r Withdrawn ∷ []
 poster_part k r (Exchanged by b collected) = cond collected (part k r (Collected b) ∷ []) []
 
 -- what the seat x does in a round that another posted with a: it gives b and gets a
 abbrev pub taker_part : (x k r a : ℕ) → RoundEnd → List Part
 taker_part x k r a Stands = []
-taker_part x k r a TakenBack = []
+taker_part x k r a EndWithdrawn = []
 taker_part x k r a (Exchanged by b collected) = cond (by == x) (part k r (Swapped b a) ∷ []) []
 
 -- what the seat x does in a round
@@ -70,7 +70,7 @@ in_slot k list = filter (λ p. p.slot == k) list
 -- the mark of the item that a round leaves in its slot, and whether that was offered; else it answers an offer
 abbrev pub left_at_end : Round → RoundEnd → Option (ℕ × Bool)
 left_at_end round Stands = Some (round.mark, true)
-left_at_end round TakenBack = None
+left_at_end round EndWithdrawn = None
 left_at_end round (Exchanged by b false) = Some (b, false)
 left_at_end round (Exchanged by b true) = None
 

@@ -1,6 +1,6 @@
 -- The stages that a slot goes through, and what each says of its word and of what the seats have in hand.
 use Rattle.std.specs.Prelude.{ℕ, true, false, ◌==◌, cond, List, [], ◌∷◌, ◌++◌}
-use Rattle.meet_exchange.specs.declared.records.RoundEnd.TheVariants.{Posted as Stands, Withdrawn as TakenBack}
+use Rattle.meet_exchange.specs.declared.records.RoundEnd.TheVariants.{Posted as Stands, Withdrawn as EndWithdrawn}
 use Rattle.meet_exchange.specs.declared.records.RoundEnd.TheVariants.{Swapped as Exchanged}
 use Rattle.meet_exchange.specs.declared.records.Round.{Round}
 use Rattle.meet_exchange.specs.declared.views.Duty.{Duty}
@@ -35,7 +35,7 @@ running (posted o a) = round_of o a Stands ∷ []
 running (taken o a j b) = round_of o a (Exchanged j b false) ∷ []
 running (answered o a j b) = round_of o a (Exchanged j b false) ∷ []
 running (collected o a j b) = round_of o a (Exchanged j b true) ∷ []
-running (withdrawn o a) = round_of o a TakenBack ∷ []
+running (withdrawn o a) = round_of o a EndWithdrawn ∷ []
 
 -- all rounds of a slot
 abbrev pub rounds : Cell → List Round

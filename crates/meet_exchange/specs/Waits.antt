@@ -41,9 +41,9 @@ module _ {T : Type 0} (mark : T → ℕ) (v : SeatView) (k r a : ℕ) where
 -- ## From turn to turn
 
 -- what is left of a limit after so many turns
-abbrev pub left_after : (limit : Option ℕ) → (turns : ℕ) → Option ℕ
-left_after None turns = None
-left_after (Some most) turns = Some (most - turns)
+abbrev pub more_after : (limit : Option ℕ) → (turns : ℕ) → Option ℕ
+more_after None turns = None
+more_after (Some most) turns = Some (most - turns)
 
 module _ (v : SeatView) (a n first : ℕ) (limit : Option ℕ) where
   -- its offer stands, since so many looks
@@ -60,22 +60,23 @@ module _ (v : SeatView) (a n first : ℕ) (limit : Option ℕ) where
 
 module _ {T : Type 0} (mark : T → ℕ) (v : SeatView) (a n first : ℕ) (limit : Option ℕ) where
   -- it tries a slot, with this left of its limit
-  abbrev pub IsTrying : (left : Option ℕ) → SeatView → T → ℕ → Type 0
-  IsTrying left s x k = (mark x ≡ a) × (turns : ℕ) × (left ≡ left_after limit turns) × IsWithin limit turns
+  abbrev pub IsTrying : (more : Option ℕ) → SeatView → T → ℕ → Type 0
+  IsTrying more s x k = (mark x ≡ a) × (turns : ℕ) × (more ≡ more_after limit turns)
+      × IsWithin limit turns
       × HasCome v a n first limit s k turns [] []
 
   -- its offer stands; in a slot above 0 its looks were counted
-  abbrev pub IsWaiting : (left : Option ℕ) → PendingView → (counted : ℕ) → Type 0
-  IsWaiting left p counted = (turns : ℕ) × (looks : ℕ) × (left ≡ left_after limit (turns + looks))
+  abbrev pub IsWaiting : (more : Option ℕ) → PendingView → (counted : ℕ) → Type 0
+  IsWaiting more p counted = (turns : ℕ) × (looks : ℕ) × (more ≡ more_after limit (turns + looks))
       × (0 < p.slot → counted ≡ looks) × HasPosted v a n first limit p turns looks
 
-  abbrev pub IsGoing : (left : Option ℕ) → Going T → Type 0
-  IsGoing left (Tries s x k) = IsTrying left s x k
-  IsGoing left (Waits p counted) = IsWaiting left p counted
-  IsGoing left (Stays p) = HasStayed v a n first limit p
+  abbrev pub IsGoing : (more : Option ℕ) → Going T → Type 0
+  IsGoing more (Tries s x k) = IsTrying more s x k
+  IsGoing more (Waits p counted) = IsWaiting more p counted
+  IsGoing more (Stays p) = HasStayed v a n first limit p
 
   abbrev pub GoesOn : Next T → Type 0
-  GoesOn (Goes going left) = IsGoing left going
+  GoesOn (Goes going more) = IsGoing more going
   GoesOn (Ends end) = EndsAs mark v a n first limit end
 
 module _ {T : Type 0} (z : TableId) (slots : ℕ) where
@@ -86,5 +87,5 @@ module _ {T : Type 0} (z : TableId) (slots : ℕ) where
   IsIn (Stays p) = (p.seat.arena ≡ z) × (p.slot < slots)
 
   abbrev pub StaysIn : Next T → Type 0
-  StaysIn (Goes going left) = IsIn going
+  StaysIn (Goes going more) = IsIn going
   StaysIn (Ends end) = Unit {0}

@@ -21,7 +21,7 @@ pub enum Gathered<T> {
 
 /// What a withdrawal came to.
 #[derive(Debug, Drop)]
-pub enum Returned<T> {
+pub enum TakenBack<T> {
     /// The seat's own item is back.
     Back(Seat<T>, T),
     /// Another seat has taken it, and its own can be collected, now or soon.
@@ -81,7 +81,7 @@ impl<T: Marked> Arena<T> {
     }
 
     /// Takes this seat's item back, unless another seat has taken it. One step, and no memory.
-    pub fn withdraw(&self, pending: Pending<T>) -> Returned<T>
+    pub fn withdraw(&self, pending: Pending<T>) -> TakenBack<T>
         requires place { pending.seat.arena ≡ self.now.id }
         requires slot { pending.slot < self.now.slots }
         ensures { Withdraws T.mark_of pending.seat pending.slot pending.round pending.mark result }
@@ -97,9 +97,9 @@ impl<T: Marked> Arena<T> {
             Ok(item) => {
                 let deed = SlotDeed::Withdrawn;
                 seat.list.push_reserved(Part { slot, round, deed });
-                Returned::Back(Seat::new(seat), item)
+                TakenBack::Back(Seat::new(seat), item)
             }
-            Err(_) => Returned::Late(Pending::new(Offer {
+            Err(_) => TakenBack::Late(Pending::new(Offer {
                 inner: seat,
                 slot,
                 round,

@@ -22,7 +22,7 @@ mod words;
 
 pub use arena::Arena;
 pub use closing::{CloseFault, Closed};
-pub use endings::{Gathered, Returned};
+pub use endings::{Gathered, TakenBack};
 pub use left::{LeftIn, Standing};
 pub use offers::Offered;
 pub use records::{Part, Round, RoundEnd, SlotDeed};

@@ -2,12 +2,12 @@
 
 ghost use Rattle.std.specs.Prelude.{◌≡◌, ◌≢◌, ◌<◌, ◌≤◌, ◌↔◌, ◌+◌, ◌%◌, ℕ, IsTrue, Option};
 ghost use Rattle.meet_exchange.specs.Waits.{IsIn, StaysIn, IsGoing, IsTrying, IsWaiting, HasStayed, EndsAs, GoesOn};
-ghost use Rattle.meet_exchange.specs.Waits.{Gathers, left_after, seat_after};
+ghost use Rattle.meet_exchange.specs.Waits.{Gathers, more_after, seat_after};
 ghost use Rattle.meet_exchange.specs.Ways.{patience};
 ghost use Rattle.meet_exchange.specs.Seats.{SeatView};
 
 use crate::arena::Arena;
-use crate::endings::{Gathered, Returned};
+use crate::endings::{Gathered, TakenBack};
 use crate::offers::Offered;
 use crate::seats::{Pending, Seat};
 use crate::words::{ANSWERED, FREE, POSTED, code};
@@ -75,20 +75,20 @@ fn pass_turn(slot: usize, turn: u64) {
 }
 
 /// One turn less, where there is a limit.
-fn less(left: Option<u64>) -> Option<u64>
-    ensures { result ≡ left_after left 1 }
+fn less(more: Option<u64>) -> Option<u64>
+    ensures { result ≡ more_after more 1 }
 {
-    match left {
+    match more {
         Some(turns) => Some(turns.saturating_sub(1)),
         None => None,
     }
 }
 
 /// Whether a limit is reached.
-fn is_reached(left: Option<u64>) -> bool
-    ensures { IsTrue result ↔ (left ≡ Some 0) }
+fn is_reached(more: Option<u64>) -> bool
+    ensures { IsTrue result ↔ (more ≡ Some 0) }
 {
-    match left {
+    match more {
         Some(turns) => turns == 0,
         None => false,
     }
@@ -117,13 +117,13 @@ impl<T: Marked> Arena<T> {
         ensures end { EndsAs T.mark_of seat (T.mark_of item) self.now.slots first_slot limit result }
         ensures place { (seat_after result).arena ≡ self.now.id }
     {
-        let mut left = limit;
+        let mut more = limit;
         let mut going = Going::Tries(seat, item, first_slot);
         for _ in rt.forever() {
-            match self.turn(going, left) {
+            match self.turn(going, more) {
                 Next::Goes(next, turns) => {
                     going = next;
-                    left = turns;
+                    more = turns;
                 }
                 Next::Ends(end) => return end,
             }
@@ -132,29 +132,29 @@ impl<T: Marked> Arena<T> {
     }
 
     /// One turn, with so many left.
-    fn turn(&self, going: Going<T>, left: Option<u64>) -> Next<T>
+    fn turn(&self, going: Going<T>, more: Option<u64>) -> Next<T>
         requires place { IsIn self.now.id self.now.slots going }
         ensures place { StaysIn self.now.id self.now.slots result }
         ensures goes { (v : SeatView) (a first : ℕ) (limit : Option ℕ)
-            → IsGoing T.mark_of v a self.now.slots first limit left going
+            → IsGoing T.mark_of v a self.now.slots first limit more going
             → GoesOn T.mark_of v a self.now.slots first limit result }
     {
         match going {
             Going::Tries(seat, item, slot) => {
-                self.await_others(slot, left);
-                self.try_slot(seat, item, slot, left)
+                self.await_others(slot, more);
+                self.try_slot(seat, item, slot, more)
             }
-            Going::Waits(pending, turns) => self.wait_on(pending, turns, left),
-            Going::Stays(pending) => self.stay(pending, left),
+            Going::Waits(pending, turns) => self.wait_on(pending, turns, more),
+            Going::Stays(pending) => self.stay(pending, more),
         }
     }
 
     /// Looks at a slot in which others are at work until they are done and one of them may have come back, or so many
     /// times: their exchange is over soon. At a limit of 0 it doesn't look.
-    fn await_others(&self, slot: usize, left: Option<u64>)
+    fn await_others(&self, slot: usize, more: Option<u64>)
         requires { slot < self.now.slots }
     {
-        if is_reached(left) {
+        if is_reached(more) {
             return;
         }
         let mut calm = CALM;
@@ -180,23 +180,23 @@ impl<T: Marked> Arena<T> {
     }
 
     /// Offers the item in the slot.
-    fn try_slot(&self, seat: Seat<T>, item: T, slot: usize, left: Option<u64>) -> Next<T>
+    fn try_slot(&self, seat: Seat<T>, item: T, slot: usize, more: Option<u64>) -> Next<T>
         requires place { seat.arena ≡ self.now.id }
         requires slot { slot < self.now.slots }
         ensures place { StaysIn self.now.id self.now.slots result }
         ensures goes { (v : SeatView) (a first : ℕ) (limit : Option ℕ)
-            → IsTrying T.mark_of v a self.now.slots first limit left seat item slot
+            → IsTrying T.mark_of v a self.now.slots first limit more seat item slot
             → GoesOn T.mark_of v a self.now.slots first limit result }
     {
         match self.offer(seat, slot, item) {
-            Offered::Posted(pending) => Next::Goes(Going::Waits(pending, 0), left),
+            Offered::Posted(pending) => Next::Goes(Going::Waits(pending, 0), more),
             Offered::Swapped(seat, other) => Next::Ends(Exchanged::Swapped(seat, other)),
             Offered::Contended(seat, item, _) => {
-                let left = less(left);
-                if is_reached(left) {
+                let more = less(more);
+                if is_reached(more) {
                     return Next::Ends(Exchanged::TimedOut(seat, item));
                 }
-                Next::Goes(Going::Tries(seat, item, self.slot_after(slot)), left)
+                Next::Goes(Going::Tries(seat, item, self.slot_after(slot)), more)
             }
             Offered::Worn(seat, item) => Next::Ends(Exchanged::Worn(seat, item)),
             Offered::Memory(seat, item) => Next::Ends(Exchanged::Memory(seat, item)),
@@ -228,64 +228,64 @@ impl<T: Marked> Arena<T> {
     }
 
     /// Looks for an answer, unless the offer has stood for long enough.
-    fn wait_on(&self, pending: Pending<T>, turns: u64, left: Option<u64>) -> Next<T>
+    fn wait_on(&self, pending: Pending<T>, turns: u64, more: Option<u64>) -> Next<T>
         requires place { pending.seat.arena ≡ self.now.id }
         requires slot { pending.slot < self.now.slots }
         ensures place { StaysIn self.now.id self.now.slots result }
         ensures goes { (v : SeatView) (a first : ℕ) (limit : Option ℕ)
-            → IsWaiting T.mark_of v a self.now.slots first limit left pending turns
+            → IsWaiting T.mark_of v a self.now.slots first limit more pending turns
             → GoesOn T.mark_of v a self.now.slots first limit result }
     {
-        if is_reached(left) {
-            return self.time_out(pending, left);
+        if is_reached(more) {
+            return self.time_out(pending, more);
         }
         if pending.slot() > 0 && turns >= PATIENCE {
-            return self.move_on(pending, left);
+            return self.move_on(pending, more);
         }
         match self.gather(pending, turns) {
             Gathered::Got(seat, other) => Next::Ends(Exchanged::Swapped(seat, other)),
             Gathered::NotYet(pending) => {
-                Next::Goes(Going::Waits(pending, turns.saturating_add(1)), less(left))
+                Next::Goes(Going::Waits(pending, turns.saturating_add(1)), less(more))
             }
         }
     }
 
     /// Takes the item back, as the limit is reached.
-    fn time_out(&self, pending: Pending<T>, left: Option<u64>) -> Next<T>
+    fn time_out(&self, pending: Pending<T>, more: Option<u64>) -> Next<T>
         requires place { pending.seat.arena ≡ self.now.id }
         requires slot { pending.slot < self.now.slots }
-        requires limit { left ≡ Some 0 }
+        requires limit { more ≡ Some 0 }
         ensures place { StaysIn self.now.id self.now.slots result }
         ensures goes { (v : SeatView) (a first counted : ℕ) (limit : Option ℕ)
-            → IsWaiting T.mark_of v a self.now.slots first limit left pending counted
+            → IsWaiting T.mark_of v a self.now.slots first limit more pending counted
             → GoesOn T.mark_of v a self.now.slots first limit result }
     {
         match self.withdraw(pending) {
-            Returned::Back(seat, item) => Next::Ends(Exchanged::TimedOut(seat, item)),
-            Returned::Late(pending) => Next::Goes(Going::Stays(pending), left),
+            TakenBack::Back(seat, item) => Next::Ends(Exchanged::TimedOut(seat, item)),
+            TakenBack::Late(pending) => Next::Goes(Going::Stays(pending), more),
         }
     }
 
     /// Takes the item back, to try it in the slot of half the number.
-    fn move_on(&self, pending: Pending<T>, left: Option<u64>) -> Next<T>
+    fn move_on(&self, pending: Pending<T>, more: Option<u64>) -> Next<T>
         requires place { pending.seat.arena ≡ self.now.id }
         requires slot { pending.slot < self.now.slots }
         requires above { 0 < pending.slot }
-        requires limit { left ≢ Some 0 }
+        requires limit { more ≢ Some 0 }
         ensures place { StaysIn self.now.id self.now.slots result }
         ensures goes { (v : SeatView) (a first counted : ℕ) (limit : Option ℕ) → patience ≤ counted
-            → IsWaiting T.mark_of v a self.now.slots first limit left pending counted
+            → IsWaiting T.mark_of v a self.now.slots first limit more pending counted
             → GoesOn T.mark_of v a self.now.slots first limit result }
     {
         let slot = pending.slot();
         match self.withdraw(pending) {
-            Returned::Back(seat, item) => Next::Goes(Going::Tries(seat, item, slot / 2), left),
-            Returned::Late(pending) => Next::Goes(Going::Stays(pending), left),
+            TakenBack::Back(seat, item) => Next::Goes(Going::Tries(seat, item, slot / 2), more),
+            TakenBack::Late(pending) => Next::Goes(Going::Stays(pending), more),
         }
     }
 
     /// Looks for the answer of a seat that has taken the item.
-    fn stay(&self, pending: Pending<T>, left: Option<u64>) -> Next<T>
+    fn stay(&self, pending: Pending<T>, more: Option<u64>) -> Next<T>
         requires place { pending.seat.arena ≡ self.now.id }
         requires slot { pending.slot < self.now.slots }
         ensures place { StaysIn self.now.id self.now.slots result }
@@ -296,7 +296,7 @@ impl<T: Marked> Arena<T> {
         // Who took the item answers it at once, or doesn't run.
         match self.gather(pending, PAUSES) {
             Gathered::Got(seat, other) => Next::Ends(Exchanged::Swapped(seat, other)),
-            Gathered::NotYet(pending) => Next::Goes(Going::Stays(pending), left),
+            Gathered::NotYet(pending) => Next::Goes(Going::Stays(pending), more),
         }
     }
 }

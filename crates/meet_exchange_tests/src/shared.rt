@@ -3,7 +3,7 @@
 ghost use Rattle.std.specs.Prelude.{◌≡◌, ◌<◌};
 ghost use Rattle.meet_exchange.specs.Seats.{AreNew};
 
-use meet_exchange::{Arena, Gathered, Offered, Pending, Returned, Seat};
+use meet_exchange::{Arena, Gathered, Offered, Pending, Seat, TakenBack};
 use std::alloc::Global;
 use std::process::Abort;
 use std::test::*;
@@ -175,8 +175,8 @@ pub fn is_late(rt: &impl Abort, arena: &Arena<u64>, pending: Pending<u64>) -> Pe
     ensures slot { result.slot ≡ pending.slot }
 {
     match arena.withdraw(pending) {
-        Returned::Late(pending) => pending,
-        Returned::Back(_, _) => panic!(rt; "back"),
+        TakenBack::Late(pending) => pending,
+        TakenBack::Back(_, _) => panic!(rt; "back"),
     }
 }
 
@@ -226,11 +226,11 @@ pub fn withdraws(
 {
     let slot = pending.slot();
     match arena.withdraw(pending) {
-        Returned::Back(seat, back) => {
+        TakenBack::Back(seat, back) => {
             assert_eq!(rt; (back, arena.word(slot)), (item, word));
             seat
         }
-        Returned::Late(_) => panic!(rt; "late"),
+        TakenBack::Late(_) => panic!(rt; "late"),
     }
 }
 

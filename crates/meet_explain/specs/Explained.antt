@@ -2,7 +2,7 @@
 use Rattle.std.specs.Prelude.{◌≡◌, ℕ, Bool, true, Option, List, [], ◌++◌, Result, IfOk}
 use Rattle.std.specs.Io.KnownBytes.{Appends}
 use Rattle.meet_run.specs.declared.text.faults.RunFault.{RunFault}
-use Rattle.meet_run.specs.Traces.{IsFoundIn}
+use Rattle.meet_run.specs.Tracing.Traces.{IsFoundIn}
 
 -- of these lines this is told: the line that `check` finds, and behind it more; of a legal trace nothing more
 pub record IsTold (lines : List (List ℕ)) (legal : Bool) (text : List ℕ) : Type 0 where

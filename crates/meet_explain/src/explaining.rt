@@ -1,7 +1,7 @@
 //! What is said of a trace.
 
 ghost use Rattle.std.specs.Prelude.{IfOk, IfSome};
-ghost use Rattle.meet_run.specs.Reading.{lines_of};
+ghost use Rattle.meet_run.specs.Texts.Reading.{lines_of};
 ghost use Rattle.meet_explain.specs.Explained.{IsTold, IsExplained, ExplainEnds};
 
 use crate::faulty::push_faulty;
@@ -135,11 +135,11 @@ fn explain_text<W: Write>(alloc: Global, text: &[u8], writer: &mut W) -> Result<
     }
 }
 
-/// Reads a trace, of either format, and writes the line that `check` finds. Where the trace is legal that is all, and the
-/// answer is true. Else the answer is false, and behind that line stand the record that can't stand, with the number of
-/// its line; each record that may come in its place; and where the place stands there: its line from the front, the open
-/// tickets that were met or cut, and the flagged seats. It refuses BadTrace with the line that can't be read, ReadFault,
-/// WriteFault and Memory.
+/// Reads a trace, of either format, and writes the line that `check` finds. Where the trace is legal that is all, and
+/// the answer is true. Else the answer is false, and behind that line stand the record that can't stand, with the
+/// number of its line; each record that may come in its place; and where the place stands there: its line from the
+/// front, the open tickets that were met or cut, and the flagged seats. It refuses BadTrace with the line that can't be
+/// read, ReadFault, WriteFault and Memory.
 pub fn explain_trace<R: Read, W: Write>(
     alloc: Global,
     reader: &mut R,

@@ -38,8 +38,8 @@ struct Day<'a> {
     left: &'a [Found],
 }
 
-/// A shop and its seats, at the second try where there was no memory at first: then the gates and the blank ledgers came
-/// back.
+/// A shop and its seats, at the second try where there was no memory at first: then the gates and the blank ledgers
+/// came back.
 fn made<N: Ledgers>(
     rt: &impl Abort,
     alloc: Global,

@@ -32,7 +32,7 @@ use Rattle.meet_history.specs.declared.one_thread.verbs.Verb.{Verb}
 use Rattle.meet_history.specs.declared.one_thread.verbs.Verb.TheVariants.{Put, Offer, Take, Poll, Transfer as TransferItem}
 use Rattle.meet_history.specs.declared.one_thread.verbs.Verb.TheVariants.{Try, Follow, Cancel, Expire}
 use Rattle.meet_history.specs.declared.one_thread.verbs.Verb.TheVariants.{Interrupt as InterruptSeat}
-use Rattle.meet_history.specs.declared.one_thread.verbs.Verb.TheVariants.{Drain, Size, Room, Peek, Consumers, Checkpoint}
+use Rattle.meet_history.specs.declared.one_thread.verbs.Verb.TheVariants.{Drain, Look, Checkpoint}
 use Rattle.meet_history.specs.declared.one_thread.replies.Outcome.TheVariants.{Late}
 use Rattle.meet_history.specs.declared.one_thread.setup.Setup.{Setup}
 use Rattle.meet_history.specs.Served.{serves, serves_synchronous}
@@ -458,10 +458,7 @@ module _ (setup : Setup) (p : Place) (seat : ℕ) where
       ∙ ap (λ d. record { seat = seat; ticket = ticket; deed = d } ∷ []) (sym is)
   only_deed (InterruptSeat j) ticket deed is allowed used admitted = only_interrupt j ticket deed is allowed admitted
   only_deed (Drain _) ticket deed is allowed used admitted = elim is [ ]
-  only_deed Size ticket deed is allowed used admitted = elim is [ ]
-  only_deed Room ticket deed is allowed used admitted = elim is [ ]
-  only_deed Peek ticket deed is allowed used admitted = elim is [ ]
-  only_deed Consumers ticket deed is allowed used admitted = elim is [ ]
+  only_deed (Look _) ticket deed is allowed used admitted = elim is [ ]
   only_deed Checkpoint ticket deed is allowed used admitted = elim is [ ]
 
 -- one call after another, from any place

@@ -20,7 +20,7 @@ use Rattle.meet_book.specs.Received.{Received}
 use Rattle.meet_queues.specs.Queues.{QueueOfKind}
 use Rattle.meet_book.specs.Draining.{seat_refusal, drain_refusal_by, TakingStep, Polls, AreNumbered}
 use Rattle.meet_core.specs.QueueRecords.{queue_record}
-use Rattle.meet_core.specs.QueueSteps.{QueueStep, queue_refusal, queue_owed, queue_available, queue_left}
+use Rattle.meet_core.specs.QueueSteps.{QueueStep, queue_refusal, queue_owed, queue_available, queue_unspent}
 use Rattle.meet_core.specs.SeatCounts.{queue-count}
 use Rattle.meet_history.specs.OneThread.{Place, Turn, joined, immediate, refused, request_refusal, take, told, polls, drain, drain_refusal, silent}
 use Rattle.meet_history.specs.Stepping.{reply_of, back_of}
@@ -56,7 +56,7 @@ module _ (setup : Setup) (seat gone : ℕ) (cut : Bool) where
 
   -- what the polls of a drain do
   abbrev Poll_of : QueueOfKind → QueueAnswer ℕ → QueueOfKind → Type 0
-  Poll_of = TakingStep (λ old answer new. (new.kind ≡ old.kind) × QueueStep (λ m. m) old.kind old.queue seat Poll answer new.queue) (λ any. queue_available any.queue) (λ any. queue_left any.queue) (λ any. queue_owed any.queue) (λ any. queue_refusal any.queue seat Poll) (λ answer. queue_record (λ m. m) seat Poll answer)
+  Poll_of = TakingStep (λ old answer new. (new.kind ≡ old.kind) × QueueStep (λ m. m) old.kind old.queue seat Poll answer new.queue) (λ any. queue_available any.queue) (λ any. queue_unspent any.queue) (λ any. queue_owed any.queue) (λ any. queue_refusal any.queue seat Poll) (λ answer. queue_record (λ m. m) seat Poll answer)
 
   -- they are one thread's polls, and leave kind and seats
   pub record ArePolls (old : Queue ℕ) (written : ℕ) (got : List (QueueAnswer ℕ × Received Deed)) (new : QueueOfKind) : Type 0 where
@@ -64,7 +64,7 @@ module _ (setup : Setup) (seat gone : ℕ) (cut : Bool) where
     pub kind : new.kind ≡ setup.kind
     pub count : count_of new.queue ≡ setup.seats
 
-  pub are-polls : (old new : QueueOfKind) (written : ℕ) (got : List (QueueAnswer ℕ × Received Deed)) → old.kind ≡ setup.kind → count_of old.queue ≡ setup.seats → (0 < length got → queue_refusal old.queue seat Poll ≡ None) → length got ≤ queue_left old.queue → (0 < length got → written + queue_owed old.queue + length got + 1 ≤ setup.cap) → AreNumbered (gone + written) got → Polls Poll_of (λ answer. queue_record (λ m. m) seat Poll answer) old got new → ArePolls old.queue written got new
+  pub are-polls : (old new : QueueOfKind) (written : ℕ) (got : List (QueueAnswer ℕ × Received Deed)) → old.kind ≡ setup.kind → count_of old.queue ≡ setup.seats → (0 < length got → queue_refusal old.queue seat Poll ≡ None) → length got ≤ queue_unspent old.queue → (0 < length got → written + queue_owed old.queue + length got + 1 ≤ setup.cap) → AreNumbered (gone + written) got → Polls Poll_of (λ answer. queue_record (λ m. m) seat Poll answer) old got new → ArePolls old.queue written got new
   are-polls old new written [] kind count none left fits numbered same =
       let still : written ≡ written + 0 = omega arith in
       record {
@@ -75,7 +75,7 @@ module _ (setup : Setup) (seat gone : ℕ) (cut : Bool) where
   are-polls old new written (one ∷ got) kind count none left fits numbered (mid, (step, takes), is, more) =
       let made_step : QueueStep (λ m. m) setup.kind old.queue seat Poll one.0 mid.queue = subst (λ k. QueueStep (λ m. m) k old.queue seat Poll one.0 mid.queue) kind step.1 in
       let first : take setup (place_at old.queue written) seat immediate ≡ told_turn one.0 one.1 mid.queue (written + 1) = queue-poll old.queue mid.queue written one.0 one.1 (admitted old.queue written count (none (omega arith)) (omega (arith, fits (omega arith)))) made_step is numbered.0 in
-      let rest : ArePolls mid.queue (written + 1) got new = are-polls mid new (written + 1) got (step.0 ∙ kind) (queue-count (λ m. m) old.kind old.queue seat Poll one.0 mid.queue step.1 ∙ count) (λ some. takes.free (omega (arith, left, takes.left, some))) (omega (arith, left, takes.left)) (λ some. omega (arith, fits (omega arith), takes.owed)) (let next : gone + written + 1 ≡ gone + (written + 1) = omega arith in subst (λ n. AreNumbered n got) next numbered.1) more in
+      let rest : ArePolls mid.queue (written + 1) got new = are-polls mid new (written + 1) got (step.0 ∙ kind) (queue-count (λ m. m) old.kind old.queue seat Poll one.0 mid.queue step.1 ∙ count) (λ some. takes.free (omega (arith, left, takes.tickets, some))) (omega (arith, left, takes.tickets)) (λ some. omega (arith, fits (omega arith), takes.owed)) (let next : gone + written + 1 ≡ gone + (written + 1) = omega arith in subst (λ n. AreNumbered n got) next numbered.1) more in
       let further : written + 1 + length got ≡ written + length (one ∷ got) = omega arith in
       record {
         turns = ap (λ t. joined t (λ q. polls setup q seat (length got))) first
@@ -87,19 +87,19 @@ module _ (setup : Setup) (seat gone : ℕ) (cut : Bool) where
 
   -- what is known of a drain that isn't refused
   pub record MayDrain (q : Queue ℕ) (k : ℕ) (full : Bool) : Type 0 where
-    pub left : k ≤ queue_left q
+    pub tickets : k ≤ queue_unspent q
     pub free : 0 < k → queue_refusal q seat Poll ≡ None
     pub fits : 0 < k → full ≡ false
 
-  enough : (q : Queue ℕ) (k : ℕ) (full : Bool) → cond full (Some HistoryFull) None ≡ None → nat_lt (queue_left q) (suc k) ≡ false → queue_refusal q seat Poll ≡ None → MayDrain q (suc k) full
+  enough : (q : Queue ℕ) (k : ℕ) (full : Bool) → cond full (Some HistoryFull) None ≡ None → nat_lt (queue_unspent q) (suc k) ≡ false → queue_refusal q seat Poll ≡ None → MayDrain q (suc k) full
   enough q k true none are is = cc
-  enough q k false none are is = record { left = omega (arith, ltb-false (queue_left q) (suc k) are); free = λ some. is; fits = λ some. refl }
+  enough q k false none are is = record { tickets = omega (arith, ltb-false (queue_unspent q) (suc k) are); free = λ some. is; fits = λ some. refl }
 
-  pub may-drain : (q : Queue ℕ) (k : ℕ) (full : Bool) → drain_refusal_by (queue_refusal q seat Poll) (queue_left q) k full ≡ None → MayDrain q k full
-  may-drain q zero full none = record { left = omega arith; free = λ some. absurd (omega arith); fits = λ some. absurd (omega arith) }
-  may-drain q (suc k) full none = by_first (queue_refusal q seat Poll) refl (nat_lt (queue_left q) (suc k)) refl none
+  pub may-drain : (q : Queue ℕ) (k : ℕ) (full : Bool) → drain_refusal_by (queue_refusal q seat Poll) (queue_unspent q) k full ≡ None → MayDrain q k full
+  may-drain q zero full none = record { tickets = omega arith; free = λ some. absurd (omega arith); fits = λ some. absurd (omega arith) }
+  may-drain q (suc k) full none = by_first (queue_refusal q seat Poll) refl (nat_lt (queue_unspent q) (suc k)) refl none
     where
-      by_first : (first : Option Refusal) → queue_refusal q seat Poll ≡ first → (few : Bool) → nat_lt (queue_left q) (suc k) ≡ few → option_map_or Some (seat_refusal first) (cond few (Some TicketsSpent) (cond full (Some HistoryFull) None)) ≡ None → MayDrain q (suc k) full
+      by_first : (first : Option Refusal) → queue_refusal q seat Poll ≡ first → (few : Bool) → nat_lt (queue_unspent q) (suc k) ≡ few → option_map_or Some (seat_refusal first) (cond few (Some TicketsSpent) (cond full (Some HistoryFull) None)) ≡ None → MayDrain q (suc k) full
       by_first (Some Memory) is few are none = cc
       by_first (Some HistoryFull) is few are none = cc
       by_first (Some SeatOpen) is few are none = cc
@@ -120,10 +120,10 @@ module _ (setup : Setup) (seat gone : ℕ) (cut : Bool) where
       by_first None is true are none = cc
       by_first None is false are none = enough q k full none are is
       by_first (Some TicketsSpent) is true are none = cc
-      by_first (Some TicketsSpent) is false are none = absurd (not-spent q seat (omega (arith, ltb-false (queue_left q) (suc k) are)) is)
+      by_first (Some TicketsSpent) is false are none = absurd (not-spent q seat (omega (arith, ltb-false (queue_unspent q) (suc k) are)) is)
 
   -- the book's reason against a drain is that of the place
-  pub drain_refusal-is : (q : Queue ℕ) (cap written k : ℕ) → cap ≡ setup.cap → count_of q ≡ setup.seats → drain_refusal_by (queue_refusal q seat Poll) (queue_left q) k (nat_lt cap (written + queue_owed q + (k + 1))) ≡ drain_refusal setup (place_at q written) seat k
+  pub drain_refusal-is : (q : Queue ℕ) (cap written k : ℕ) → cap ≡ setup.cap → count_of q ≡ setup.seats → drain_refusal_by (queue_refusal q seat Poll) (queue_unspent q) k (nat_lt cap (written + queue_owed q + (k + 1))) ≡ drain_refusal setup (place_at q written) seat k
   drain_refusal-is q cap written k same count =
       ap (λ n. drain_refusal_by (refusal_of n q.next (seats_of q) seat) (last_ticket + 1 - q.next) k (nat_lt cap (written + owed_of n (seats_of q).holds + (k + 1)))) count
       ∙ ap (λ n. drain_refusal_by (refusal_of setup.seats q.next (seats_of q) seat) (last_ticket + 1 - q.next) k (nat_lt n (written + owed_of setup.seats (seats_of q).holds + (k + 1)))) same
@@ -141,10 +141,10 @@ module _ (setup : Setup) (seat gone : ℕ) (cut : Bool) where
     pub kind : new.kind ≡ setup.kind
     pub count : count_of new.queue ≡ setup.seats
 
-  pub drained : (old new : QueueOfKind) (cap written k : ℕ) (got : List (QueueAnswer ℕ × Received Deed)) → cap ≡ setup.cap → count_of old.queue ≡ setup.seats → old.kind ≡ setup.kind → drain_refusal_by (queue_refusal old.queue seat Poll) (queue_left old.queue) k (nat_lt cap (written + queue_owed old.queue + (k + 1))) ≡ None → length got ≡ k → AreNumbered (gone + written) got → Polls Poll_of (λ answer. queue_record (λ m. m) seat Poll answer) old got new → IsDrained old.queue written k got new
+  pub drained : (old new : QueueOfKind) (cap written k : ℕ) (got : List (QueueAnswer ℕ × Received Deed)) → cap ≡ setup.cap → count_of old.queue ≡ setup.seats → old.kind ≡ setup.kind → drain_refusal_by (queue_refusal old.queue seat Poll) (queue_unspent old.queue) k (nat_lt cap (written + queue_owed old.queue + (k + 1))) ≡ None → length got ≡ k → AreNumbered (gone + written) got → Polls Poll_of (λ answer. queue_record (λ m. m) seat Poll answer) old got new → IsDrained old.queue written k got new
   drained old new cap written k got same count kind none long numbered steps =
       let may : MayDrain old.queue k (nat_lt cap (written + queue_owed old.queue + (k + 1))) = may-drain old.queue k (nat_lt cap (written + queue_owed old.queue + (k + 1))) none in
-      let are : ArePolls old.queue written got new = are-polls old new written got kind count (λ some. may.free (omega (arith, long, some))) (omega (arith, long, may.left))
+      let are : ArePolls old.queue written got new = are-polls old new written got kind count (λ some. may.free (omega (arith, long, some))) (omega (arith, long, may.tickets))
       (λ some. omega (arith, long, same, ltb-false cap (written + queue_owed old.queue + (k + 1)) (may.fits (omega (arith, long, some))))) numbered steps in
       record {
         turn = drain-made (place_at old.queue written) k (sym (drain_refusal-is old.queue cap written k same count) ∙ none)

@@ -25,7 +25,7 @@ use Rattle.meet_tickets.proofs.Line.Sides.{HasOneSide, partner-other, HasOneSide
 use Rattle.meet_tickets.proofs.Line.Admitted.{IsAdmitted, IsAdmitted-from}
 use Rattle.meet_history.specs.declared.one_thread.verbs.Call.{Call}
 use Rattle.meet_history.specs.declared.one_thread.verbs.Verb.{Verb}
-use Rattle.meet_history.specs.declared.one_thread.verbs.Verb.TheVariants.{Put, Offer, Take, Poll, Transfer as TransferItem, Try, Follow, Cancel, Expire, Interrupt as InterruptSeat, Drain, Size, Room, Peek, Consumers, Checkpoint}
+use Rattle.meet_history.specs.declared.one_thread.verbs.Verb.TheVariants.{Put, Offer, Take, Poll, Transfer as TransferItem, Try, Follow, Cancel, Expire, Interrupt as InterruptSeat, Drain, Look, Checkpoint}
 use Rattle.meet_history.specs.declared.one_thread.setup.Setup.{Setup}
 use Rattle.meet_history.specs.declared.one_thread.replies.Outcome.{Outcome}
 use Rattle.meet_history.specs.declared.one_thread.replies.Outcome.TheVariants.{Refused, Late, Drained}
@@ -253,10 +253,7 @@ turn_legal setup last p seat Cancel ready = withdraw_legal setup last p seat Can
 turn_legal setup last p seat Expire ready = withdraw_legal setup last p seat Expired (p.seats.holds seat) ready (λ t is there. (is, there)) refl
 turn_legal setup last p seat (InterruptSeat target) ready = interrupt_legal setup last p seat target ready
 turn_legal setup last p seat (Drain most) ready = drain_legal setup last p seat (min most (count_on Giver p.seats.line)) ready
-turn_legal setup last p seat Size ready = IsLegalTurn-silent setup last p seat _ ready
-turn_legal setup last p seat Room ready = IsLegalTurn-silent setup last p seat _ ready
-turn_legal setup last p seat Peek ready = IsLegalTurn-silent setup last p seat _ ready
-turn_legal setup last p seat Consumers ready = IsLegalTurn-silent setup last p seat _ ready
+turn_legal setup last p seat (Look probe) ready = IsLegalTurn-silent setup last p seat _ ready
 turn_legal setup last p seat Checkpoint ready = checkpoint_legal setup last p seat ready
 
 -- so are the turns of a list of calls

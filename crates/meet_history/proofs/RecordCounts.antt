@@ -12,7 +12,7 @@ use Rattle.meet_tickets.specs.Meeting.{count_on}
 use Rattle.meet_tickets.specs.BySeat.{entry_of}
 use Rattle.meet_history.specs.declared.one_thread.verbs.Call.{Call}
 use Rattle.meet_history.specs.declared.one_thread.verbs.Verb.{Verb}
-use Rattle.meet_history.specs.declared.one_thread.verbs.Verb.TheVariants.{Put, Offer, Take, Poll, Transfer as TransferItem, Try, Follow, Cancel, Expire, Interrupt as InterruptSeat, Drain, Size, Room, Peek, Consumers, Checkpoint}
+use Rattle.meet_history.specs.declared.one_thread.verbs.Verb.TheVariants.{Put, Offer, Take, Poll, Transfer as TransferItem, Try, Follow, Cancel, Expire, Interrupt as InterruptSeat, Drain, Look, Checkpoint}
 use Rattle.meet_history.specs.declared.one_thread.setup.Setup.{Setup}
 use Rattle.meet_history.specs.declared.one_thread.replies.Outcome.TheVariants.{Drained}
 use Rattle.meet_history.specs.OneThread.{Place, Turn, Form, immediate, waiting, put_form, offer_form, silent, refused, joined, checkpoint, checkpoint_refusal, folded, stepped, request_refusal, request, give, take, give_deed, take_deed, follow, withdraw, interrupt, interrupt_refusal, polls, drain, drain_refusal, turn_of, turn, turns}
@@ -87,10 +87,7 @@ verb-counted setup p seat Cancel = withdraw-counted setup p seat Cancelled (p.se
 verb-counted setup p seat Expire = withdraw-counted setup p seat Expired (p.seats.holds seat)
 verb-counted setup p seat (InterruptSeat target) = interrupt-counted setup p seat target
 verb-counted setup p seat (Drain most) = drain-counted setup p seat (min most (count_on Giver p.seats.line))
-verb-counted setup p seat Size = still (p.gone + p.records)
-verb-counted setup p seat Room = still (p.gone + p.records)
-verb-counted setup p seat Peek = still (p.gone + p.records)
-verb-counted setup p seat Consumers = still (p.gone + p.records)
+verb-counted setup p seat (Look probe) = still (p.gone + p.records)
 verb-counted setup p seat Checkpoint = checkpoint-counted setup p seat
 
 -- a turn adds as many records as it writes

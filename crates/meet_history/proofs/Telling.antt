@@ -36,7 +36,7 @@ use Rattle.meet_core.specs.declared.answers.Followed.{Followed}
 use Rattle.meet_core.specs.declared.answers.Followed.TheVariants.{Done as WasMet, Got as HasGot, Interrupted as WasCut, NotYet}
 use Rattle.meet_core.specs.declared.answers.TakenBack.{TakenBack}
 use Rattle.meet_core.specs.declared.answers.TakenBack.TheVariants.{Back, Late as TooLate}
-use Rattle.meet_core.specs.declared.answers.Interrupted.{Interrupted as Struck}
+use Rattle.meet_core.specs.declared.answers.Interrupted.{Interrupted as WasInterrupted}
 use Rattle.meet_core.specs.declared.answers.Interrupted.TheVariants.{Cut as CutOff, Flagged}
 use Rattle.meet_book.specs.Booking.{record_of_receipt}
 use Rattle.meet_book.specs.Received.{Received}
@@ -104,7 +104,7 @@ module _ (setup : Setup) (q : Queue ℕ) (gone : ℕ) (cut : Bool) (count seat :
         ap (λ o. option_map_or (refused p seat) o (stepped setup p seat p.next own item)) none
         ∙ ap (λ d. stepped setup p seat p.next d item) is
         ∙ ap (λ n. stepped setup p seat n deed item) (sym uses.used)
-        ∙ stepped-is t deed item back (uses.next ∙ sym (ap (λ b. cond b (q.next + 1) q.next) asks)) (uses.left ∙ after) tells
+        ∙ stepped-is t deed item back (uses.next ∙ sym (ap (λ b. cond b (q.next + 1) q.next) asks)) (uses.seats_are ∙ after) tells
 
     -- the deed of a give: alone, by its form, and met
     give-alone : (form : Form) (mark : ℕ) → partner (end_of setup.kind.order) here.line Giver ≡ None → give_deed setup.kind here seat form mark ≡ give_alone setup.kind here seat form mark
@@ -197,9 +197,9 @@ module _ (setup : Setup) (q : Queue ℕ) (gone : ℕ) (cut : Bool) (count seat :
     poll-told (PollFails t) none (alone, uses) = request-is t _ TakeFails None None _ none (take-alone immediate alone) refl uses refl refl
 
     follow-told : (t : ℕ) (answer : Followed ℕ) → FollowStep q seat t answer new → IsTold (FollowUp t) (ToFollowUp answer) (queue_record (λ m. m) seat (FollowUp t) (ToFollowUp answer))
-    follow-told t WasMet (u, mark, held, leaves) = ap (follow setup p seat) held ∙ stepped-is t Done None None leaves.next leaves.left refl
-    follow-told t (HasGot u item) (held, leaves) = ap (follow setup p seat) held ∙ stepped-is t (Got item u) None None leaves.next leaves.left refl
-    follow-told t (WasCut item) (held, leaves) = ap (follow setup p seat) held ∙ stepped-is t (Withdrawn ByInterrupt) item item leaves.next leaves.left refl
+    follow-told t WasMet (u, mark, held, leaves) = ap (follow setup p seat) held ∙ stepped-is t Done None None leaves.next leaves.seats_are refl
+    follow-told t (HasGot u item) (held, leaves) = ap (follow setup p seat) held ∙ stepped-is t (Got item u) None None leaves.next leaves.seats_are refl
+    follow-told t (WasCut item) (held, leaves) = ap (follow setup p seat) held ∙ stepped-is t (Withdrawn ByInterrupt) item item leaves.next leaves.seats_are refl
     follow-told t NotYet (held, same) = (ap (follow setup p seat) held, same)
 
     -- a withdrawal that comes too late: the seat's ticket doesn't stand in the line
@@ -219,11 +219,11 @@ module _ (setup : Setup) (q : Queue ℕ) (gone : ℕ) (cut : Bool) (count seat :
         ∙ stepped-is t (Withdrawn cause) item item (next ∙ sym (ap (λ b. cond b (q.next + 1) q.next) asks)) left refl
 
     cancel-told : (t : ℕ) (answer : TakenBack ℕ) → queue_refusal q seat (Cancel t) ≡ None → WithdrawStep q seat t answer new → IsTold (Cancel t) (ToWithdrawal answer) (queue_record (λ m. m) seat (Cancel t) (ToWithdrawal answer))
-    cancel-told t (Back item) opened (e, held, found, is, leaves) = taken-back Cancelled t item e refl held found is leaves.next leaves.left
+    cancel-told t (Back item) opened (e, held, found, is, leaves) = taken-back Cancelled t item e refl held found is leaves.next leaves.seats_are
     cancel-told t TooLate opened (none, same) = (late Cancelled t (here.holds seat) opened none, same)
 
     expire-told : (t : ℕ) (answer : TakenBack ℕ) → queue_refusal q seat (Expire t) ≡ None → WithdrawStep q seat t answer new → IsTold (Expire t) (ToWithdrawal answer) (queue_record (λ m. m) seat (Expire t) (ToWithdrawal answer))
-    expire-told t (Back item) opened (e, held, found, is, leaves) = taken-back Expired t item e refl held found is leaves.next leaves.left
+    expire-told t (Back item) opened (e, held, found, is, leaves) = taken-back Expired t item e refl held found is leaves.next leaves.seats_are
     expire-told t TooLate opened (none, same) = (late Expired t (here.holds seat) opened none, same)
 
     -- an interrupt names the ticket that it cuts, and else none
@@ -233,13 +233,13 @@ module _ (setup : Setup) (q : Queue ℕ) (gone : ℕ) (cut : Bool) (count seat :
         ∙ ap (λ n. stepped setup p seat n (InterruptDeed j) None) is
         ∙ stepped-is t (InterruptDeed j) None None next left refl
 
-    interrupt-told : (j : ℕ) (answer : Struck) → interrupt_refusal setup p seat j ≡ None → InterruptStep q j answer new → IsTold (Interrupt j) (ToInterrupt answer) (queue_record (λ m. m) seat (Interrupt j) (ToInterrupt answer))
+    interrupt-told : (j : ℕ) (answer : WasInterrupted) → interrupt_refusal setup p seat j ≡ None → InterruptStep q j answer new → IsTold (Interrupt j) (ToInterrupt answer) (queue_record (λ m. m) seat (Interrupt j) (ToInterrupt answer))
     interrupt-told j (CutOff t) none (e, found, ticket, leaves) =
         struck j t none (ap (λ o. option_map_or (λ (f : Entry ℕ). f.ticket) o 0) found ∙ sym ticket) leaves.next
-        (leaves.left ∙ sym (ap (λ o. option_map_or (cut_off here j) o (flagged here j true)) found))
+        (leaves.seats_are ∙ sym (ap (λ o. option_map_or (cut_off here j) o (flagged here j true)) found))
     interrupt-told j Flagged none (nobody, leaves) =
         struck j 0 none (ap (λ o. option_map_or (λ (f : Entry ℕ). f.ticket) o 0) nobody) leaves.next
-        (leaves.left ∙ sym (ap (λ o. option_map_or (cut_off here j) o (flagged here j true)) nobody))
+        (leaves.seats_are ∙ sym (ap (λ o. option_map_or (cut_off here j) o (flagged here j true)) nobody))
 
     -- an admitted call, whatever it is
     pub call-told : (call : QueueCall ℕ) (answer : QueueAnswer ℕ) → refusal_at setup p seat call ≡ None → queue_refusal q seat call ≡ None → QueueStep (λ m. m) setup.kind q seat call answer new → IsTold call answer (queue_record (λ m. m) seat call answer)

@@ -13,7 +13,7 @@ use Rattle.meet_tickets.specs.declared.records.Cause.TheVariants.{Cancelled, Exp
 use Rattle.meet_tickets.specs.declared.records.Deed.{Deed}
 use Rattle.meet_tickets.specs.declared.records.Deed.TheVariants.{GiveWaits, GiveMeets, GiveFails, GiveKept, TakeWaits, TakeMeets, TakeFails, EntryInterrupted, Done, Got, Withdrawn, Interrupt}
 use Rattle.meet_tickets.specs.Meeting.{end_of, partner}
-use Rattle.meet_tickets.specs.BySeat.{Seats, put_at, entry_of, paired, paired_hold, meets, queued, released, left, interrupted, cut_off, flagged, is_request, seats_after}
+use Rattle.meet_tickets.specs.BySeat.{Seats, put_at, entry_of, paired, paired_hold, meets, queued, released, withdrawn, interrupted, cut_off, flagged, is_request, seats_after}
 use Rattle.meet_tickets.proofs.Line.Sides.{partner-there, All-unmet, All-without_first}
 use Rattle.meet_tickets.proofs.Tellings.Whereabouts.{put_at_there}
 
@@ -77,8 +77,8 @@ IsWithin-queued count s i t item waits there within = record {
 IsWithin-released : (count : ℕ) (s : Seats ℕ) (i : ℕ) → IsWithin count s → IsWithin count (released s i)
 IsWithin-released count s i within = record { lined = within.lined; beyond = put_free count s.holds i within.beyond }
 
-IsWithin-left : (count : ℕ) (s : Seats ℕ) (i t : ℕ) → IsWithin count s → IsWithin count (left s i t)
-IsWithin-left count s i t within = record { lined = All-without_first (λ f. f.seat < count) t s.line within.lined; beyond = put_free count s.holds i within.beyond }
+IsWithin-withdrawn : (count : ℕ) (s : Seats ℕ) (i t : ℕ) → IsWithin count s → IsWithin count (withdrawn s i t)
+IsWithin-withdrawn count s i t within = record { lined = All-without_first (λ f. f.seat < count) t s.line within.lined; beyond = put_free count s.holds i within.beyond }
 
 -- each deed leaves it so, if its request is of a seat of the place
 pub IsWithin-after : (k : Kind) (count : ℕ) (s : Seats ℕ) (i t : ℕ) (deed : Deed) → (is_request deed ≡ true → i < count) → IsWithin count s → IsWithin count (seats_after k s i t deed)
@@ -92,7 +92,7 @@ IsWithin-after k count s i t TakeFails there within = within
 IsWithin-after k count s i t (EntryInterrupted side) there within = record { lined = within.lined; beyond = within.beyond }
 IsWithin-after k count s i t Done there within = IsWithin-released count s i within
 IsWithin-after k count s i t (Got m u) there within = IsWithin-released count s i within
-IsWithin-after k count s i t (Withdrawn Cancelled) there within = IsWithin-left count s i t within
-IsWithin-after k count s i t (Withdrawn Expired) there within = IsWithin-left count s i t within
+IsWithin-after k count s i t (Withdrawn Cancelled) there within = IsWithin-withdrawn count s i t within
+IsWithin-after k count s i t (Withdrawn Expired) there within = IsWithin-withdrawn count s i t within
 IsWithin-after k count s i t (Withdrawn Interrupted) there within = IsWithin-released count s i within
 IsWithin-after k count s i t (Interrupt j) there within = IsWithin-interrupted count s j within

@@ -31,8 +31,10 @@ use Rattle.meet_history.specs.declared.one_thread.verbs.Verb.{Verb}
 use Rattle.meet_history.specs.declared.one_thread.verbs.Verb.TheVariants.{Put, Offer, Take, Poll}
 use Rattle.meet_history.specs.declared.one_thread.verbs.Verb.TheVariants.{Transfer as TransferItem, Try, Follow}
 use Rattle.meet_history.specs.declared.one_thread.verbs.Verb.TheVariants.{Cancel, Expire, Interrupt as InterruptSeat}
-use Rattle.meet_history.specs.declared.one_thread.verbs.Verb.TheVariants.{Drain, Size, Room, Peek, Consumers}
+use Rattle.meet_history.specs.declared.one_thread.verbs.Verb.TheVariants.{Drain, Look}
 use Rattle.meet_history.specs.declared.one_thread.verbs.Verb.TheVariants.{Checkpoint}
+use Rattle.meet_history.specs.declared.one_thread.verbs.Probe.{Probe}
+use Rattle.meet_history.specs.declared.one_thread.verbs.Probe.TheVariants.{Size, Room, Peek, Consumers}
 use Rattle.meet_history.specs.declared.one_thread.setup.Setup.{Setup}
 use Rattle.meet_history.specs.declared.one_thread.replies.Reply.{Reply}
 use Rattle.meet_history.specs.declared.one_thread.replies.Outcome.{Outcome}
@@ -42,7 +44,7 @@ use Rattle.meet_history.specs.declared.one_thread.replies.Outcome.TheVariants.{L
 use Rattle.meet_history.specs.declared.one_thread.replies.Outcome.TheVariants.{Refused}
 use Rattle.meet_history.specs.declared.one_thread.replies.Answer.TheVariants.{Waits, Kept, Gave, Got as GotItem}
 use Rattle.meet_history.specs.declared.one_thread.replies.Answer.TheVariants.{Fails, Done as Finished}
-use Rattle.meet_history.specs.declared.one_thread.replies.Answer.TheVariants.{Withdrawn as TakenBack}
+use Rattle.meet_history.specs.declared.one_thread.replies.Answer.TheVariants.{Withdrawn as WasWithdrawn}
 
 -- where the place is
 pub record Place : Type 0 where
@@ -85,10 +87,10 @@ told n t (GiveKept m) back = Recorded n t Kept
 told n t TakeWaits back = Recorded n t Waits
 told n t (TakeMeets m u) back = Recorded n t (GotItem m u)
 told n t TakeFails back = Recorded n t (Fails back)
-told n t (EntryInterrupted side) back = Recorded n t (TakenBack Interrupted back)
+told n t (EntryInterrupted side) back = Recorded n t (WasWithdrawn Interrupted back)
 told n t Done back = Recorded n t Finished
 told n t (Got m u) back = Recorded n t (GotItem m u)
-told n t (Withdrawn cause) back = Recorded n t (TakenBack cause back)
+told n t (Withdrawn cause) back = Recorded n t (WasWithdrawn cause back)
 told n t (Interrupt j) back = InterruptedSeat n j (named t)
 
 -- one record is written, whose step the place makes; a request uses its ticket
@@ -241,6 +243,14 @@ put_form order = if keeps order then keeping else waiting
 abbrev pub offer_form : Order → Form
 offer_form order = if keeps order then keeping else immediate
 
+-- what a look sees (Collection.size, BlockingQueue.remainingCapacity, Queue.peek, and getWaitingConsumerCount of
+-- LinkedTransferQueue)
+abbrev pub seen : Setup → Place → Probe → Outcome
+seen setup p Size = Count (size_of setup.kind.order p.seats.line)
+seen setup p Room = Count (remaining_of setup.kind.order)
+seen setup p Peek = Peeked (peek_of setup.kind.order p.seats.line)
+seen setup p Consumers = Count (count_on Taker p.seats.line)
+
 -- the turn of each verb
 abbrev pub turn_of : Setup → Place → (seat : ℕ) → Verb → Turn
 turn_of setup p seat (Put m) = give setup p seat (put_form setup.kind.order) m
@@ -254,10 +264,7 @@ turn_of setup p seat Cancel = withdraw setup p seat Cancelled (p.seats.holds sea
 turn_of setup p seat Expire = withdraw setup p seat Expired (p.seats.holds seat)
 turn_of setup p seat (InterruptSeat target) = interrupt setup p seat target
 turn_of setup p seat (Drain most) = drain setup p seat (min most (count_on Giver p.seats.line))
-turn_of setup p seat Size = silent p seat (Count (size_of setup.kind.order p.seats.line))
-turn_of setup p seat Room = silent p seat (Count (remaining_of setup.kind.order))
-turn_of setup p seat Peek = silent p seat (Peeked (peek_of setup.kind.order p.seats.line))
-turn_of setup p seat Consumers = silent p seat (Count (count_on Taker p.seats.line))
+turn_of setup p seat (Look probe) = silent p seat (seen setup p probe)
 turn_of setup p seat Checkpoint = checkpoint setup p seat
 
 -- one call's turn

@@ -4,13 +4,14 @@ use Rattle.meet_tickets.specs.declared.places.Order.{Order}
 use Rattle.meet_tickets.specs.Meeting.{keeps}
 use Rattle.meet_history.specs.declared.one_thread.verbs.Verb.{Verb}
 use Rattle.meet_history.specs.declared.one_thread.verbs.Verb.TheVariants.{Transfer as TransferItem, Try, Drain}
-use Rattle.meet_history.specs.declared.one_thread.verbs.Verb.TheVariants.{Consumers, Checkpoint}
+use Rattle.meet_history.specs.declared.one_thread.verbs.Verb.TheVariants.{Look, Checkpoint}
+use Rattle.meet_history.specs.declared.one_thread.verbs.Probe.TheVariants.{Consumers}
 
 -- a synchronous place serves all verbs but those that LinkedTransferQueue alone has
 abbrev pub serves_synchronous : Verb → Bool
 serves_synchronous (TransferItem n) = false
 serves_synchronous (Try n) = false
-serves_synchronous Consumers = false
+serves_synchronous (Look Consumers) = false
 serves_synchronous verb = true
 
 -- a place that keeps items, as LinkedTransferQueue does, serves all

@@ -13,7 +13,7 @@ mod pieces;
 pub use checker::{CheckFault, Checker, Standing, Why, check};
 pub use ground::Ground;
 pub use one_thread::{
-    Answer, Call, Outcome, Reply, Run, Setup, Stepper, Verb, calls_have_one_deed, is_served,
+    Answer, Call, Outcome, Probe, Reply, Run, Setup, Stepper, Verb, calls_have_one_deed, is_served,
     legal_histories_are_made, one_thread_is_recorded, run_all,
 };
 pub use pieces::Piece;

@@ -12,4 +12,4 @@ pub use laws::{calls_have_one_deed, legal_histories_are_made, one_thread_is_reco
 pub use replies::{Answer, Outcome, Reply};
 pub use setup::Setup;
 pub use stepper::Stepper;
-pub use verbs::{Call, Verb, is_served};
+pub use verbs::{Call, Probe, Verb, is_served};

@@ -3,7 +3,7 @@
 use meet_tickets::{Entry, OpenCut, OpenPair, SeatNo};
 
 /// A piece of a base.
-#[derive(Drop)]
+#[derive(Debug, Drop)]
 pub enum Piece {
     /// An entry of the line.
     Stands(Entry<u64>),

@@ -5,8 +5,8 @@ ghost use Rattle.meet_history.specs.Served.{serves};
 ghost use Rattle.meet_tickets.specs.declared.places.Order.TheVariants.{Transfer};
 
 use meet_history::{
-    Answer, Call, CheckFault, Checker, Outcome, Reply, Run, Setup, Standing, Verb, Why, check,
-    is_served, run_all,
+    Answer, Call, CheckFault, Checker, Outcome, Probe, Reply, Run, Setup, Standing, Verb, Why,
+    check, is_served, run_all,
 };
 use meet_tickets::{Base, Deed, Kind, Order, Record, SeatNo, Ticket};
 use std::alloc::Global;
@@ -147,7 +147,7 @@ fn what_a_place_serves(rt: HostRuntime) {
     assert!(rt; setup.kind == fair && setup.seats == 64 && setup.first == 1 && setup.cap == 1_000);
     assert!(rt; Setup::new(fair, 65_537, 1, 1_000).is_none());
     assert!(rt; is_served(setup.kind.order, Verb::Drain(3)));
-    assert!(rt; !is_served(setup.kind.order, Verb::Consumers));
+    assert!(rt; !is_served(setup.kind.order, Verb::Look(Probe::Consumers)));
 }
 
 #[test]

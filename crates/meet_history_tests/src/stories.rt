@@ -4,7 +4,9 @@ ghost use Rattle.std.specs.Prelude.{All, IsTrue};
 ghost use Rattle.meet_history.specs.Served.{serves};
 
 use crate::calls::{found, kind_of, seat};
-use meet_history::{Answer, Call, Outcome, Reply, Run, Setup, Standing, Verb, is_served, run_all};
+use meet_history::{
+    Answer, Call, Outcome, Probe, Reply, Run, Setup, Standing, Verb, is_served, run_all,
+};
 use meet_tickets::{Cause, Order, SeatNo};
 use std::alloc::Global;
 use std::process::Abort;
@@ -366,11 +368,11 @@ fn what_is_kept(rt: HostRuntime) {
     let probes = Story {
         order: Order::Transfer,
         asked: &[
-            (0, Ask::Plain(Verb::Size)),
-            (0, Ask::Plain(Verb::Room)),
+            (0, Ask::Plain(Verb::Look(Probe::Size))),
+            (0, Ask::Plain(Verb::Look(Probe::Room))),
             (1, TAKE),
-            (0, Ask::Plain(Verb::Size)),
-            (0, Ask::Plain(Verb::Consumers)),
+            (0, Ask::Plain(Verb::Look(Probe::Size))),
+            (0, Ask::Plain(Verb::Look(Probe::Consumers))),
         ],
         told: &[
             (0, Told::Count(0)),

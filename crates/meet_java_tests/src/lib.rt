@@ -1,5 +1,5 @@
-//! What the documentation of Java's classes says of each call, at the queues for threads: split calls, and whole ones of
-//! one thread and of two.
+//! What the documentation of Java's classes says of each call, at the queues for threads: split calls, and whole ones
+//! of one thread and of two.
 #![tactic(auto)]
 
 #[cfg(test)]

@@ -174,13 +174,13 @@ fn cut<G: Fresh + Sync, N: Ledgers + Send + Sync, R: Threads + Wait + Clock + Sy
     call: Call,
     back: Option<u64>,
 ) -> Both<N> {
-    let (came, struck) = thread::join(
+    let (came, interrupted) = thread::join(
         rt,
         move || called(rt, shop, caller, call),
         move || answer(rt, shop, other, Ask::Interrupt(0)),
     );
     let (first, told) = came;
-    let (second, why) = struck;
+    let (second, why) = interrupted;
     let given = if told == Told::WasCut(back) {
         1
     } else if told == Told::Stopped(back) {

@@ -1,5 +1,6 @@
 -- The text of calls that overlap: a line that names the place, and then a line a call.
-use Rattle.std.specs.Prelude.{ℕ, ◌+◌, ◌-◌, ◌^◌, min, Option, Some, None, List, [], ◌∷◌, ◌++◌, codes, decimal, if◌then◌else◌}
+use Rattle.std.specs.Prelude.{ℕ, ◌+◌, ◌-◌, ◌^◌, min, Option, Some, None, List, [], ◌∷◌, ◌++◌, codes, decimal}
+use Rattle.std.specs.Prelude.{if◌then◌else◌}
 use Rattle.meet_tickets.specs.declared.places.Order.{Order}
 use Rattle.meet_tickets.specs.declared.places.Kind.{Kind}
 use Rattle.meet_tickets.specs.Meeting.{keeps}
@@ -11,10 +12,10 @@ use Rattle.meet_overlap.specs.declared.calls.Returned.{Returned}
 use Rattle.meet_overlap.specs.declared.calls.Verb.{Verb}
 use Rattle.meet_overlap.specs.declared.calls.Verb.TheVariants.{Keep, Give, Take, Interrupt}
 use Rattle.meet_overlap.specs.declared.search.Stuck.{Stuck}
-use Rattle.meet_run.specs.Spelling.{place_text}
+use Rattle.meet_run.specs.Scripts.Spelling.{place_text}
 
--- what is called, with its item or the seat that it interrupts; a transfer queue keeps what is put, and what waits for a
--- taker is transferred there
+-- what is called, with its item or the seat that it interrupts; a transfer queue keeps what is put, and what waits for
+-- a taker is transferred there
 abbrev pub verb_text : Order → Verb → List ℕ
 verb_text o (Keep m) = codes "put " ++ decimal m
 verb_text o (Give Now m) = (if keeps o then codes "try " else codes "offer ") ++ decimal m
@@ -71,4 +72,5 @@ stuck_text (Some call) = codes "refused line " ++ decimal (min (call + 2) (2 ^ 6
 -- how far so many calls were explained
 abbrev pub refused_text : Stuck → (count : ℕ) → List ℕ
 refused_text stuck count =
-    stuck_text stuck.call ++ (codes ", explained " ++ decimal stuck.explained) ++ (codes " of " ++ decimal count) ++ codes "\n"
+    stuck_text stuck.call ++ (codes ", explained " ++ decimal stuck.explained) ++ (codes " of " ++ decimal count)
+    ++ codes "\n"

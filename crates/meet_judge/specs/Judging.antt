@@ -8,7 +8,7 @@ use Rattle.meet_overlap.specs.declared.calls.Call.{Call}
 use Rattle.meet_overlap.specs.declared.search.Stuck.{Stuck}
 use Rattle.meet_overlap.specs.Explaining.{Explains}
 use Rattle.meet_run.specs.declared.text.faults.RunFault.{RunFault}
-use Rattle.meet_run.specs.TraceWording.{trace_text}
+use Rattle.meet_run.specs.Tracing.TraceWording.{trace_text}
 use Rattle.meet_judge.specs.CallText.{calls_text, refused_text}
 
 -- the text is that of calls, a history explains them, and its trace is written

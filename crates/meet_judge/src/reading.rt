@@ -6,6 +6,7 @@ ghost use Rattle.meet_judge.specs.CallText.{calls_text};
 use crate::writing::{push_call, push_calls};
 use meet_overlap::{Answer, Call, Calls, Patience, Returned, Verb};
 use meet_run::RunFault;
+use meet_run::script::first_line::{behind_prefix, read_order};
 use meet_run::text::faults::{at_line, cut_short};
 use meet_run::text::words::read_number;
 use meet_tickets::{Kind, Order, Refusal, SeatNo};
@@ -33,12 +34,7 @@ fn word(line: &[u8]) -> (&[u8], &[u8]) {
 
 /// The place that the first line names.
 fn read_kind(line: &[u8]) -> Option<Kind> {
-    let order = match line {
-        b"calls 1 fair" => Order::Fair,
-        b"calls 1 unfair" => Order::Unfair,
-        b"calls 1 transfer" => Order::Transfer,
-        _ => return None,
-    };
+    let order = read_order(behind_prefix(b"calls 1 ", line)?)?;
     Some(Kind { order, bound: None })
 }
 

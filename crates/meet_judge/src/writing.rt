@@ -2,7 +2,8 @@
 
 ghost use Rattle.std.specs.Prelude.{◌≡◌, ◌++◌, OnOk};
 ghost use Rattle.meet_overlap.specs.declared.calls.Verb.TheVariants.{Give, Take};
-ghost use Rattle.meet_judge.specs.CallText.{verb_text, answer_text, seen_text, end_text, told_text, call_text, calls_text};
+ghost use Rattle.meet_judge.specs.CallText.{verb_text, answer_text, seen_text, end_text, told_text, call_text};
+ghost use Rattle.meet_judge.specs.CallText.{calls_text};
 ghost use Rattle.meet_judge.specs.CallText.{stuck_text, refused_text};
 
 use meet_overlap::{Answer, Call, Patience, Returned, Stuck, Verb};

@@ -6,7 +6,7 @@ use Rattle.std.specs.Option.{option_or, option_map_or}
 use Rattle.meet_tickets.specs.declared.records.Record.{Record}
 use Rattle.meet_tickets.specs.declared.records.Cause.{Cause}
 use Rattle.meet_tickets.specs.declared.records.Deed.{Deed}
-use Rattle.meet_tickets.specs.declared.fates.Fate.TheVariants.{Never, Paired, Collected, Withdrawn as TakenBack, Cut, Kept, Waiting}
+use Rattle.meet_tickets.specs.declared.fates.Fate.TheVariants.{Never, Paired, Collected, Withdrawn as WasWithdrawn, Cut, Kept, Waiting}
 use Rattle.meet_tickets.specs.declared.records.Deed.TheVariants.{GiveWaits, GiveMeets, GiveFails, GiveKept, TakeWaits, TakeMeets, TakeFails, EntryInterrupted, Done, Got, Withdrawn, Interrupt}
 use Rattle.meet_tickets.specs.BySeat.{is_request}
 use Rattle.meet_tickets.specs.Fates.{request_of, partner_in, has_learned, withdrawal_of, was_cut, waits_first, fate_asked, fate, named_by, meets_it, tells_of_meeting, withdrawn_by, interrupts}
@@ -41,11 +41,11 @@ none_found {X} p (x ∷ xs) = by_test (p x) (none_found p xs)
 -- whose request neither failed nor was refused
 settled_heard : (history : List (Record Deed)) (t : ℕ) (d : Deed) → request_of history t ≡ Some d →
     fate_settled (told_in history t) d ≡ option_map_or (λ u. if has_learned history t then Collected u else Paired u) (partner_in history t)
-    (option_map_or (λ cause. TakenBack cause) (withdrawal_of history t)
+    (option_map_or (λ cause. WasWithdrawn cause) (withdrawal_of history t)
     (if was_cut history t then Cut else (if waits_first d then Waiting else Kept)))
 settled_heard history t d e =
     ap (λ o. option_map_or (λ u. if has_learned history t then Collected u else Paired u) (option_or o (option_map (λ (r : Record Deed). r.ticket) (find (meets_it t) history)))
-    (option_map_or (λ cause. TakenBack cause) (withdrawal_of history t)
+    (option_map_or (λ cause. WasWithdrawn cause) (withdrawal_of history t)
     (if was_cut history t then Cut else (if waits_first d then Waiting else Kept)))) (sym (ap (option_and_then named_by) e))
 
 asked_heard : (history : List (Record Deed)) (t : ℕ) (d : Deed) → request_of history t ≡ Some d → fate_told_asked (told_in history t) d ≡ fate_asked history t d

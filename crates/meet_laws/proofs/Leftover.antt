@@ -7,7 +7,7 @@ use Rattle.std.proofs.lemmas.List.{length-map}
 use Rattle.std.proofs.lemmas.List.Sums.{length-filter}
 use Rattle.meet_tickets.specs.declared.fates.Fate.{Fate}
 use Rattle.meet_tickets.specs.declared.fates.Fate.TheVariants.{Never, Failed, EntryRefused, Paired, Collected}
-use Rattle.meet_tickets.specs.declared.fates.Fate.TheVariants.{Withdrawn as TakenBack, Cut, Kept as KeptFate, Waiting, Past}
+use Rattle.meet_tickets.specs.declared.fates.Fate.TheVariants.{Withdrawn as WasWithdrawn, Cut, Kept as KeptFate, Waiting, Past}
 use Rattle.meet_tickets.specs.declared.records.Record.{Record}
 use Rattle.meet_tickets.specs.declared.records.Cause.TheVariants.{Interrupted}
 use Rattle.meet_tickets.specs.declared.places.Side.TheVariants.{Giver, Taker}
@@ -95,7 +95,7 @@ waited_standing Failed s e = absurd (cc)
 waited_standing EntryRefused s e = absurd (cc)
 waited_standing (Paired u) s e = absurd (cc)
 waited_standing (Collected u) s e = absurd (cc)
-waited_standing (TakenBack c) s e = absurd (cc)
+waited_standing (WasWithdrawn c) s e = absurd (cc)
 waited_standing Cut s e = let same : Ready ≡ s = cc in inr (refl, ap stands_kept (sym same))
 waited_standing KeptFate s e = absurd (cc)
 waited_standing Waiting s e = let same : Offered ≡ s = cc in inl (refl, ap stands_kept (sym same))
@@ -107,7 +107,7 @@ kept_standing Failed s e = absurd (cc)
 kept_standing EntryRefused s e = absurd (cc)
 kept_standing (Paired u) s e = absurd (cc)
 kept_standing (Collected u) s e = absurd (cc)
-kept_standing (TakenBack c) s e = absurd (cc)
+kept_standing (WasWithdrawn c) s e = absurd (cc)
 kept_standing Cut s e = absurd (cc)
 kept_standing KeptFate s e = let same : Kept ≡ s = cc in (refl, ap stands_kept (sym same))
 kept_standing Waiting s e = absurd (cc)
@@ -123,7 +123,7 @@ met_standing t (Paired u) s e = by_test (u == t) refl e
     by_test true is f = let same : Ready ≡ s = cc in (ap Paired (eqb-true u t is), ap stands_kept (sym same))
     by_test false is f = absurd (cc)
 met_standing t (Collected u) s e = absurd (cc)
-met_standing t (TakenBack c) s e = absurd (cc)
+met_standing t (WasWithdrawn c) s e = absurd (cc)
 met_standing t Cut s e = absurd (cc)
 met_standing t KeptFate s e = absurd (cc)
 met_standing t Waiting s e = absurd (cc)

@@ -13,7 +13,7 @@ use Rattle.meet_tickets.specs.declared.records.Record.{Record}
 use Rattle.meet_tickets.specs.declared.records.Deed.{Deed}
 use Rattle.meet_tickets.specs.Fates.{withdrawn_by, withdrawal_of, was_cut, interrupts}
 use Rattle.meet_laws.specs.Erasing.{is_gone, is_left, erase}
-use Rattle.meet_laws.specs.Gone.{ends_early, gone_tickets, is_among, stays, left_among}
+use Rattle.meet_laws.specs.Gone.{ends_early, gone_tickets, is_among, stays, staying_among}
 
 -- what a search found
 found_among : (xs : List ℕ) (x : ℕ) (r : Result ℕ ℕ) → MatchResult r (λ i. (i < length xs) × (get_or xs i 0 ≡ x)) (λ i. (i ≤ length xs) × ((k : ℕ) → k < i → get_or xs k 0 < x) × ((k : ℕ) → i ≤ k → k < length xs → x < get_or xs k 0)) → is_ok r ≡ is_among xs x
@@ -88,7 +88,7 @@ and_comm false true = refl
 and_comm false false = refl
 
 -- what is left by the list is what is left
-pub erased_by : (records : List (Record Deed)) (gone sorted : List ℕ) → gone ≡ gone_tickets records → IsPermutation gone sorted → left_among sorted records ≡ erase records
+pub erased_by : (records : List (Record Deed)) (gone sorted : List ℕ) → gone ≡ gone_tickets records → IsPermutation gone sorted → staying_among sorted records ≡ erase records
 erased_by records gone sorted is same = ap (λ p. filter p records) (fun_ext each)
   where
     each : (r : Record Deed) → (stays r.deed && not (is_among sorted r.ticket)) ≡ is_left (is_gone records) r

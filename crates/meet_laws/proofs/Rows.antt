@@ -6,7 +6,7 @@ use Rattle.std.specs.Option.{option_or, option_map_or}
 use Rattle.std.proofs.lemmas.Bool.{true≢false, false≢true, eqb-true, eq-eqb, ltb-true, lt-ltb}
 use Rattle.meet_tickets.specs.declared.fates.Fate.{Fate}
 use Rattle.meet_tickets.specs.declared.fates.Fate.TheVariants.{Never, Failed, EntryRefused, Paired, Collected}
-use Rattle.meet_tickets.specs.declared.fates.Fate.TheVariants.{Withdrawn as TakenBack, Cut, Kept, Waiting, Past}
+use Rattle.meet_tickets.specs.declared.fates.Fate.TheVariants.{Withdrawn as WasWithdrawn, Cut, Kept, Waiting, Past}
 use Rattle.meet_tickets.specs.declared.places.Kind.{Kind}
 use Rattle.meet_tickets.specs.declared.records.Record.{Record}
 use Rattle.meet_tickets.specs.declared.records.Cause.{Cause}
@@ -289,7 +289,7 @@ learned_fate (Gives m) u = refl
 learned_fate (Keeps m) u = refl
 learned_fate Takes u = refl
 
-left_fate : (j : Joining) (c : Cause) → fate_of (record (only_asked (deed_of j)) { back = Some c }) ≡ TakenBack c
+left_fate : (j : Joining) (c : Cause) → fate_of (record (only_asked (deed_of j)) { back = Some c }) ≡ WasWithdrawn c
 left_fate (Gives m) c = refl
 left_fate (Keeps m) c = refl
 left_fate Takes c = refl
@@ -299,7 +299,7 @@ cut_fate (Gives m) = refl
 cut_fate (Keeps m) = refl
 cut_fate Takes = refl
 
-returned_fate : (j : Joining) (c : Cause) → fate_of (record (only_cut j) { back = Some c }) ≡ TakenBack c
+returned_fate : (j : Joining) (c : Cause) → fate_of (record (only_cut j) { back = Some c }) ≡ WasWithdrawn c
 returned_fate (Gives m) c = refl
 returned_fate (Keeps m) c = refl
 returned_fate Takes c = refl
@@ -442,14 +442,14 @@ module _ (history : List (Record Deed)) (on : Speaks history) (t : ℕ) where
   same_cause : (c d : Cause) → Some c ≡ Some d → c ≡ d
   same_cause c d e = cc
 
-  back_fate : (c : Cause) → here.back ≡ Some c → Course here → fate_of here ≡ TakenBack c
+  back_fate : (c : Cause) → here.back ≡ Some c → Course here → fate_of here ≡ WasWithdrawn c
   back_fate c is (unasked e) = absurd (none_back c here blank is e refl)
   back_fate c is (has_asked d request e) = absurd (none_back c here (only_asked d) is e refl)
   back_fate c is (has_met j u e) = absurd (none_back c here (only_met j u) is e refl)
   back_fate c is (has_learned j u waits e) = absurd (none_back c here (record (only_met j u) { learned = true }) is e refl)
-  back_fate c is (has_left j d l waits e) = ap fate_of e ∙ left_fate j d ∙ ap TakenBack (same_cause d c (sym (ap (λ (x : Said). x.back) e) ∙ is))
+  back_fate c is (has_left j d l waits e) = ap fate_of e ∙ left_fate j d ∙ ap WasWithdrawn (same_cause d c (sym (ap (λ (x : Said). x.back) e) ∙ is))
   back_fate c is (was_cut j waits e) = absurd (none_back c here (only_cut j) is e refl)
-  back_fate c is (has_returned j waits e) = ap fate_of e ∙ returned_fate j Interrupted ∙ ap TakenBack (same_cause Interrupted c (sym (ap (λ (x : Said). x.back) e) ∙ is))
+  back_fate c is (has_returned j waits e) = ap fate_of e ∙ returned_fate j Interrupted ∙ ap WasWithdrawn (same_cause Interrupted c (sym (ap (λ (x : Said). x.back) e) ∙ is))
 
   still_cut_fate : here.cut ≡ true → ((c : Cause) → HasWithdrawn history t c → ⊥) → Course here → fate_of here ≡ Cut
   still_cut_fate is absent (unasked e) = absurd (true≢false (sym is ∙ ap (λ (x : Said). x.cut) e))
@@ -479,7 +479,7 @@ module _ (history : List (Record Deed)) (on : Speaks history) (t : ℕ) where
   row_fate EntryRefused h = let a = asked_here is_refused refused_asks h in refused_fate here a.0 a.1 a.2
   row_fate (Paired u) h = paired_fate u (met_here u h.0) h.1
   row_fate (Collected u) h = collected_fate u (met_here u h.0) h.1
-  row_fate (TakenBack c) w = back_fate c (withdrawn_here c w) (course_of history on t)
+  row_fate (WasWithdrawn c) w = back_fate c (withdrawn_here c w) (course_of history on t)
   row_fate Cut h = still_cut_fate (cut_here h.1 h.0) h.2 (course_of history on t)
   row_fate Kept h = let a = asked_here is_kept_deed kept_asks h.0 in untouched_fate a.0 a.1 h.1 (course_of history on t) ∙ kept_fate a.0 a.2
   row_fate Waiting h = let a = asked_here waits_first waits_asks h.0 in untouched_fate a.0 a.1 h.1 (course_of history on t) ∙ waits_fate a.0 a.2

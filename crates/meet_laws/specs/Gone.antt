@@ -23,5 +23,5 @@ abbrev pub stays : Deed → Bool
 stays deed = not (interrupts deed) && not (is_refused deed)
 
 -- the records that are left where these tickets are gone
-abbrev pub left_among : List ℕ → List (Record Deed) → List (Record Deed)
-left_among gone records = filter (λ r. stays r.deed && not (is_among gone r.ticket)) records
+abbrev pub staying_among : List ℕ → List (Record Deed) → List (Record Deed)
+staying_among gone records = filter (λ r. stays r.deed && not (is_among gone r.ticket)) records

@@ -6,7 +6,7 @@ use Rattle.meet_tickets.specs.declared.records.Deed.{Deed}
 use Rattle.meet_tickets.specs.declared.records.Deed.TheVariants.{GiveFails, TakeFails, EntryInterrupted}
 use Rattle.meet_tickets.specs.declared.fates.Fate.{Fate}
 use Rattle.meet_tickets.specs.declared.fates.Fate.TheVariants.{Never, Failed, EntryRefused, Paired, Collected}
-use Rattle.meet_tickets.specs.declared.fates.Fate.TheVariants.{Withdrawn as TakenBack, Cut, Kept, Waiting}
+use Rattle.meet_tickets.specs.declared.fates.Fate.TheVariants.{Withdrawn as WasWithdrawn, Cut, Kept, Waiting}
 use Rattle.meet_tickets.specs.Fates.{request_of, meets_it, has_learned, withdrawal_of, was_cut, named_by, waits_first}
 use Rattle.meet_laws.specs.declared.fates.Told.{Told}
 
@@ -24,7 +24,7 @@ told_in history t = record {
 abbrev pub fate_settled : Told → Deed → Fate
 fate_settled x deed =
     option_map_or (λ u. if x.learned then Collected u else Paired u) (option_or (named_by deed) x.met)
-    (option_map_or (λ cause. TakenBack cause) x.back
+    (option_map_or (λ cause. WasWithdrawn cause) x.back
     (if x.cut then Cut else (if waits_first deed then Waiting else Kept)))
 
 abbrev pub fate_told_asked : Told → Deed → Fate

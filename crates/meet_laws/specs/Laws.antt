@@ -6,7 +6,7 @@ use Rattle.std.specs.Prelude.{[], ◌∷◌, ◌++◌, Contains}
 use Rattle.std.specs.Option.{option_map_or}
 use Rattle.meet_tickets.specs.declared.fates.Fate.{Fate}
 use Rattle.meet_tickets.specs.declared.fates.Fate.TheVariants.{Never, Failed, EntryRefused, Paired, Collected}
-use Rattle.meet_tickets.specs.declared.fates.Fate.TheVariants.{Withdrawn as TakenBack, Cut, Kept, Waiting, Past}
+use Rattle.meet_tickets.specs.declared.fates.Fate.TheVariants.{Withdrawn as WasWithdrawn, Cut, Kept, Waiting, Past}
 use Rattle.meet_tickets.specs.declared.places.End.{End}
 use Rattle.meet_tickets.specs.declared.places.End.TheVariants.{Front, Back}
 use Rattle.meet_tickets.specs.declared.places.Kind.{Kind}
@@ -29,10 +29,10 @@ MayMove waited Never Kept = Unit {0}
 MayMove waited Never Waiting = Unit {0}
 MayMove waited Waiting (Paired u) = Unit {0}
 MayMove waited Waiting Cut = Unit {0}
-MayMove waited Waiting (TakenBack Cancelled) = Unit {0}
-MayMove waited Waiting (TakenBack Expired) = Unit {0}
+MayMove waited Waiting (WasWithdrawn Cancelled) = Unit {0}
+MayMove waited Waiting (WasWithdrawn Expired) = Unit {0}
 MayMove waited Kept (Paired u) = Unit {0}
-MayMove waited Cut (TakenBack Interrupted) = Unit {0}
+MayMove waited Cut (WasWithdrawn Interrupted) = Unit {0}
 MayMove true (Paired u) (Collected v) = u ≡ v
 MayMove waited before after = ⊥
 

@@ -2,7 +2,7 @@
 use Rattle.std.specs.Prelude.{◌≡◌, ◌⊎◌, ◌↔◌, ℕ, ◌<◌, Bool, true, false, Some, List, Contains, ◌++◌}
 use Rattle.meet_tickets.specs.declared.fates.Fate.{Fate}
 use Rattle.meet_tickets.specs.declared.fates.Fate.TheVariants.{Never, Failed, EntryRefused, Paired, Collected}
-use Rattle.meet_tickets.specs.declared.fates.Fate.TheVariants.{Withdrawn as TakenBack, Cut, Kept, Waiting, Past}
+use Rattle.meet_tickets.specs.declared.fates.Fate.TheVariants.{Withdrawn as WasWithdrawn, Cut, Kept, Waiting, Past}
 use Rattle.meet_tickets.specs.declared.records.Record.{Record}
 use Rattle.meet_tickets.specs.declared.records.Cause.{Cause}
 use Rattle.meet_tickets.specs.declared.records.Deed.{Deed}
@@ -54,7 +54,7 @@ IsFate history t Failed = Has fails history t
 IsFate history t EntryRefused = Has is_refused history t
 IsFate history t (Paired u) = HasMet history t u × (Has tells_of_meeting history t → ⊥)
 IsFate history t (Collected u) = HasMet history t u × Has tells_of_meeting history t
-IsFate history t (TakenBack cause) = HasWithdrawn history t cause
+IsFate history t (WasWithdrawn cause) = HasWithdrawn history t cause
 IsFate history t Cut = (0 < t) × Has interrupts history t × ((cause : Cause) → HasWithdrawn history t cause → ⊥)
 IsFate history t Kept = Has is_kept_deed history t × IsUntouched history t
 IsFate history t Waiting = Has waits_first history t × IsUntouched history t

@@ -3,7 +3,7 @@ use Rattle.std.specs.Prelude.{◌≡◌, ℕ, ◌+◌, ◌&&◌, Bool, true, fal
 use Rattle.std.specs.Option.{option_map_or}
 use Rattle.meet_tickets.specs.declared.fates.Fate.{Fate}
 use Rattle.meet_tickets.specs.declared.fates.Fate.TheVariants.{Failed, EntryRefused, Paired, Collected}
-use Rattle.meet_tickets.specs.declared.fates.Fate.TheVariants.{Withdrawn as TakenBack, Cut, Waiting}
+use Rattle.meet_tickets.specs.declared.fates.Fate.TheVariants.{Withdrawn as WasWithdrawn, Cut, Waiting}
 use Rattle.meet_tickets.specs.declared.places.Side.{Side}
 use Rattle.meet_tickets.specs.declared.places.Side.TheVariants.{Giver, Taker}
 use Rattle.meet_tickets.specs.declared.records.Record.{Record}
@@ -39,7 +39,7 @@ is_delivered fate = false
 abbrev pub is_returned : Fate → Bool
 is_returned Failed = true
 is_returned EntryRefused = true
-is_returned (TakenBack cause) = true
+is_returned (WasWithdrawn cause) = true
 is_returned fate = false
 
 -- it is in the place, and its giver is still there

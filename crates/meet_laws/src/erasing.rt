@@ -4,7 +4,7 @@ ghost use Rattle.std.specs.Prelude.{◌≡◌, ◌++◌, ◌∷◌, [], ◌&&◌
 ghost use Rattle.std.specs.List.Sorted.{IsNonDecreasing, IsPermutation};
 ghost use Rattle.meet_tickets.specs.declared.refusals.Refusal.TheVariants.{Memory};
 ghost use Rattle.meet_laws.specs.Erasing.{erase};
-ghost use Rattle.meet_laws.specs.Gone.{ends_early, gone_tickets, is_among, stays, left_among};
+ghost use Rattle.meet_laws.specs.Gone.{ends_early, gone_tickets, is_among, stays, staying_among};
 
 use meet_tickets::{Deed, Record, Refusal};
 use std::alloc::Global;
@@ -76,29 +76,29 @@ fn may_stay(entry: &Record<Deed>, gone: &[u64]) -> bool
 }
 
 /// The records that are left where these tickets, which rise, are gone. The only refusal is Memory.
-fn left_of(
+fn staying_of(
     alloc: Global,
     records: &[Record<Deed>],
     gone: &[u64],
 ) -> Result<Vec<Record<Deed>>, Refusal>
     requires rising { IsNonDecreasing gone.now }
-    ensures left { IfOk result (λ left. left.items ≡ left_among gone.now records.now) }
+    ensures staying { IfOk result (λ staying. staying.items ≡ staying_among gone.now records.now) }
     ensures memory { IfErr result (λ why. why ≡ Memory) }
 {
-    let mut left = Vec::new(alloc);
+    let mut staying = Vec::new(alloc);
     for entry in records {
-        push_where(&mut left, *entry, may_stay(entry, gone))?;
+        push_where(&mut staying, *entry, may_stay(entry, gone))?;
     }
-    Ok(left)
+    Ok(staying)
 }
 
 /// What is left of these records without those of tickets that were cut or taken back, the interrupts, and the requests
 /// that were refused at their entry. The only refusal is Memory. It reads the records twice, and sorts the tickets that
 /// are gone.
 pub fn erase(alloc: Global, records: &[Record<Deed>]) -> Result<Vec<Record<Deed>>, Refusal>
-    ensures erased { IfOk result (λ left. left.items ≡ erase records.now) }
+    ensures erased { IfOk result (λ staying. staying.items ≡ erase records.now) }
     ensures memory { IfErr result (λ why. why ≡ Memory) }
 {
     let gone = in_order(gone_tickets(alloc, records)?);
-    left_of(alloc, records, gone.as_slice())
+    staying_of(alloc, records, gone.as_slice())
 }

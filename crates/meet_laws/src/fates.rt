@@ -33,75 +33,11 @@ struct Told {
     cut: bool,
 }
 
-/// The ticket that a request names as its partner.
-fn named_by(deed: &Deed) -> Option<Ticket>
-    ensures { result ≡ named_by deed.now }
-{
-    match deed {
-        Deed::GiveMeets(_, partner) => Some(*partner),
-        Deed::TakeMeets(_, partner) => Some(*partner),
-        _ => None,
-    }
-}
-
-/// Whether a deed tells a ticket that it was met.
-fn tells_of_meeting(deed: &Deed) -> bool
-    ensures { result ≡ tells_of_meeting deed.now }
-{
-    matches!(deed, Deed::Done | Deed::Got(_, _))
-}
-
-/// Why a deed takes its ticket back, if it does.
-fn withdrawn_by(deed: &Deed) -> Option<Cause>
-    ensures { result ≡ withdrawn_by deed.now }
-{
-    match deed {
-        Deed::Withdrawn(cause) => Some(*cause),
-        _ => None,
-    }
-}
-
-/// Whether a deed interrupts a seat.
-fn interrupts(deed: &Deed) -> bool
-    ensures { result ≡ interrupts deed.now }
-{
-    matches!(deed, Deed::Interrupt(_))
-}
-
 /// Whether a record is of this ticket.
 fn is_of(entry: &Record<Deed>, ticket: Ticket) -> bool
     ensures { result ≡ (entry.now.ticket == ticket) }
 {
     entry.ticket == ticket
-}
-
-/// Whether a record is a request that meets this ticket.
-fn meets_it(entry: &Record<Deed>, ticket: Ticket) -> bool
-    ensures { result ≡ meets_it ticket entry.now }
-{
-    match named_by(&entry.deed) {
-        Some(partner) => partner == ticket,
-        None => false,
-    }
-}
-
-/// Why a record takes this ticket back, if it does.
-fn reason(entry: &Record<Deed>, ticket: Ticket) -> Option<Cause>
-    ensures { result ≡ (if is_some (withdrawn_by entry.now.deed) && (entry.now.ticket == ticket)
-        then withdrawn_by entry.now.deed else None) }
-{
-    if is_of(entry, ticket) {
-        withdrawn_by(&entry.deed)
-    } else {
-        None
-    }
-}
-
-/// Whether a record cuts this ticket.
-fn cuts(entry: &Record<Deed>, ticket: Ticket) -> bool
-    ensures { result ≡ (interrupts entry.now.deed && nat_lt 0 ticket && (entry.now.ticket == ticket)) }
-{
-    interrupts(&entry.deed) && ticket.number() > 0 && is_of(entry, ticket)
 }
 
 /// What was there, or else this where it passes.
@@ -121,14 +57,14 @@ fn hear(told: Told, ticket: Ticket, entry: Record<Deed>) -> Told
 {
     let own = is_of(&entry, ticket);
     let asks = entry.deed.is_request() & own;
-    let tells = tells_of_meeting(&entry.deed) & own;
-    let meets = meets_it(&entry, ticket);
+    let tells = entry.deed.tells_of_meeting() & own;
+    let meets = entry.meets(ticket);
     Told {
         asked: first_of(told.asked, entry.deed, asks),
         met: first_of(told.met, entry.ticket, meets),
         learned: told.learned | tells,
-        back: told.back.or(reason(&entry, ticket)),
-        cut: told.cut | cuts(&entry, ticket),
+        back: told.back.or(entry.takes_back(ticket)),
+        cut: told.cut | entry.cuts(ticket),
     }
 }
 
@@ -305,7 +241,7 @@ fn waits_first(deed: &Deed) -> bool
 fn settled(told: &Told, deed: &Deed) -> Fate
     ensures { result ≡ fate_settled told.now deed.now }
 {
-    match named_by(deed).or(told.met) {
+    match deed.partner().or(told.met) {
         Some(partner) => {
             if told.learned {
                 Fate::Collected(partner)

@@ -15,8 +15,12 @@ use Rattle.meet_line.specs.Runs.{occurs, IsDistinct}
 use Rattle.meet_line.specs.Rolled.{Placed, Rolled, StandsAt, IsFound, bucket_count, first_key}
 use Rattle.meet_line.specs.Stored.{slot_at, entries_of, keys_in, AreHeld, Holds, IsStored, fellows, IsLookedAt}
 use Rattle.meet_line.proofs.Occurs.{occurs-append, occurs-same, occurs-other, absent-head, absent-tail, distinct-middle, distinct-less, distinct-push}
-use Rattle.meet_line.proofs.Removals.{all_pairs_rest}
 use Rattle.meet_line.proofs.Removed.{without_first-none}
+
+-- what holds of all pairs holds of those behind the first
+pub all_pairs_rest : {X : Type 0} (R : X → X → Type 0) (xs ys : List X) → ys ≡ drop 1 xs → AllPairs R xs → AllPairs R ys
+all_pairs_rest R [] ys rest pairs = subst (AllPairs R) (sym rest) pairs
+all_pairs_rest R (x ∷ xs) ys rest pairs = subst (AllPairs R) (sym rest) (λ i j d below within. pairs (suc i) (suc j) d (omega arith) (omega arith))
 
 -- a list without its element between others
 remove-middle : {X : Type 0} (front : List X) (x : X) (rest : List X) → remove (front ++ x ∷ rest) (length front) ≡ front ++ rest

@@ -1,4 +1,3 @@
-pub mod Lined
 pub mod Nodes
 pub mod Rolled
 pub mod Runs

@@ -8,21 +8,17 @@
 #![tactic(auto)]
 
 mod bucket_table;
-mod fair;
+mod end_line;
 mod itemless;
 mod line;
 mod linked;
-mod list_fair;
-mod list_stack;
 mod meeting;
+mod met_at;
 mod nodes;
 mod roll;
-mod stack;
 
-pub use fair::FairLine;
+pub use end_line::{EndLine, FairLine, StackLine};
 pub use itemless::let_go_none;
 pub use line::Line;
-pub use list_fair::ListFair;
-pub use list_stack::ListStack;
 pub use meeting::{is_alone, meet};
-pub use stack::StackLine;
+pub use met_at::{First, Last, MetAt};

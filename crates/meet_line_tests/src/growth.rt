@@ -4,9 +4,10 @@
 ghost use Rattle.std.specs.Prelude.{◌≡◌, ◌≤◌};
 ghost use Rattle.meet_tickets.specs.Limits.{most_seats};
 
+use crate::list_line::{ListFair, ListStack};
 use crate::parcels::{Parcel, first_serial, join, meets_in_order, seat, ticket};
 use meet_core::SeatTable;
-use meet_line::{FairLine, Line, ListFair, ListStack, StackLine};
+use meet_line::{FairLine, Line, StackLine};
 use meet_tickets::Refusal;
 use std::alloc::Global;
 use std::process::Abort;

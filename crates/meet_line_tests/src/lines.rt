@@ -1,7 +1,8 @@
 //! What every line does, in either order.
 
+use crate::list_line::{ListFair, ListStack};
 use crate::parcels::{Parcel, first_serial, join, meets_in_order, serial, ticket};
-use meet_line::{FairLine, Line, ListFair, ListStack, StackLine};
+use meet_line::{FairLine, Line, StackLine};
 use meet_tickets::Entry;
 use std::alloc::Global;
 use std::process::Abort;

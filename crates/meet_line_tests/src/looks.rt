@@ -2,8 +2,9 @@
 
 ghost use Rattle.std.specs.Prelude.{◌≡◌, ◌<◌, ◌≤◌, ◌^◌};
 
+use crate::list_line::{ListFair, ListStack};
 use crate::parcels::{Parcel, join, meets_in_order, serial, ticket};
-use meet_line::{FairLine, Line, ListFair, ListStack, StackLine};
+use meet_line::{FairLine, Line, StackLine};
 use std::alloc::Global;
 use std::process::Abort;
 

@@ -1,5 +1,6 @@
 -- What the search by memory finds.
-use Rattle.std.specs.Prelude.{◌≡◌, ℕ, ◌+◌, ◌<◌, ◌≤◌, true, Some, List, [], ◌∷◌, ◌++◌, length, slice_get, slice_index_or, All, IsSomeAnd, ◌⊎◌}
+use Rattle.std.specs.Prelude.{◌≡◌, ℕ, ◌+◌, ◌<◌, ◌≤◌, true, Some, List, [], ◌∷◌, ◌++◌, length, slice_get, slice_index_or}
+use Rattle.std.specs.Prelude.{All, IsSomeAnd, ◌⊎◌}
 use Rattle.meet_tickets.specs.declared.places.Kind.{Kind}
 use Rattle.meet_tickets.specs.declared.records.Record.{Record}
 use Rattle.meet_tickets.specs.declared.records.Deed.{Deed}
@@ -96,7 +97,8 @@ pub record IsNoted (k : Kind) (calls : List Call) (w then : World) (old new : Li
   pub noted : new ≡ old ++ event.entry ∷ []
 
 -- events of these records lead there
-pub record IsRunThere (k : Kind) (calls : List Call) (w : World) (history : List (Record Deed)) (v : World) : Type 0 where
+pub record IsRunThere (k : Kind) (calls : List Call) (w : World) (history : List (Record Deed)) (v : World)
+    : Type 0 where
   pub run : List Event
   pub is : IsRunTo k calls w run v
   pub records : records_of run ≡ history
@@ -123,8 +125,8 @@ abbrev pub IsGone : (seat : ℕ) → List (Entry ℕ) → Type 0
 IsGone i [] = Unit {0}
 IsGone i (e ∷ line) = (e.waits ≡ true → e.seat ≡ i → ⊥) × IsGone i line
 
--- the call of this number began and was met or cut, and hasn't ended; no other call waits by its ticket, nor in the line
--- for its seat
+-- the call of this number began and was met or cut, and hasn't ended; no other call waits by its ticket, nor in the
+-- line for its seat
 pub record IsSettled (calls : List Call) (w : World) : Type 0 where
   pub number : ℕ
   pub call : Call
@@ -146,4 +148,5 @@ pub record IsMisled (calls : List Call) (w : World) : Type 0 where
   pub alone : (other : ℕ) → w.stages other ≡ Open (number + 1) → other ≡ number
   pub settled : IsSettledBy (number + 1) (w.moment.seats.holds call.seat)
   pub gone : IsGone call.seat w.moment.seats.line
-  pub misled : (line : List (Entry ℕ)) (d : Deed) → ending_of line call.verb (w.moment.seats.holds call.seat) ≡ Some d → Tells call d → ⊥
+  pub misled : (line : List (Entry ℕ)) (d : Deed) → ending_of line call.verb (w.moment.seats.holds call.seat) ≡ Some d
+      → Tells call d → ⊥

@@ -40,4 +40,5 @@ pub record IsOrderlyExplained (k : Kind) (calls : List Call) (events : List Even
   pub legal : IsLegal k (records_of events)
   pub by : AreBy calls events
   pub ordered : AreOrdered calls events by
-  pub formed : (number : ℕ) (call : Call) → slice_get calls number ≡ Some call → Remains call Ahead (dealt number events)
+  pub formed : (number : ℕ) (call : Call) → slice_get calls number ≡ Some call
+      → Remains call Ahead (dealt number events)

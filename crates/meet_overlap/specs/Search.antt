@@ -124,7 +124,8 @@ is_held t hold = option_map_or (λ u. u == t) (open_ticket hold) false
 -- the next deed of a call, by how far it is
 abbrev pub deed_of : Kind → Seats ℕ → Call → Stage → Option Deed
 deed_of k s call Ahead = request_of k s call.seat call.verb
-deed_of k s call (Open t) = if is_held t (s.holds call.seat) then ending_of s.line call.verb (s.holds call.seat) else None
+deed_of k s call (Open t) =
+    if is_held t (s.holds call.seat) then ending_of s.line call.verb (s.holds call.seat) else None
 deed_of k s call Over = None
 
 -- the ticket of a request: the next, or for an interrupt the one that is cut

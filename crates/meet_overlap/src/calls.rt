@@ -76,9 +76,9 @@ pub enum Stage {
     Over,
 }
 
-/// Calls that were seen at a place of a kind. They may overlap, and stand in any order; where they stand by their begins
-/// they are judged fastest.
-#[derive(Drop)]
+/// Calls that were seen at a place of a kind. They may overlap, and stand in any order; where they stand by their
+/// begins they are judged fastest.
+#[derive(Debug, Drop)]
 pub struct Calls {
     pub kind: Kind,
     pub list: Vec<Call>,

@@ -14,7 +14,8 @@ pub enum Fault {
     Limit,
     /// There are more calls than tickets.
     TicketsSpent,
-    /// A way was found that can't be written down as a history. It was never seen, and no proof says that it can't come.
+    /// A way was found that can't be written down as a history. It was never seen, and no proof says that it can't
+    /// come.
     Unsure,
 }
 

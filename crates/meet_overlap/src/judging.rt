@@ -90,8 +90,8 @@ fn written(
 
 /// Judges calls that overlap at a place of this kind: a history that explains them, which `check` of meet_history finds
 /// legal; or how far the search came, where no history explains them. It makes at most so many moves, each the next
-/// record of one call. It refuses Memory, Limit where these moves were not enough, and TicketsSpent where there are more
-/// calls than tickets.
+/// record of one call. It refuses Memory, Limit where these moves were not enough, and TicketsSpent where there are
+/// more calls than tickets.
 pub fn judge(
     alloc: Global,
     kind: Kind,

@@ -1,7 +1,8 @@
 //! What a record leaves of a place.
 
 ghost use Rattle.std.specs.Prelude.{◌≡◌, OnOk};
-ghost use Rattle.meet_tickets.specs.BySeat.{Moment, queued, meets, released, left, interrupted, paired_hold, entry_of, moment_after};
+ghost use Rattle.meet_tickets.specs.BySeat.{Moment, queued, meets, released, withdrawn, interrupted, paired_hold};
+ghost use Rattle.meet_tickets.specs.BySeat.{entry_of, moment_after};
 ghost use Rattle.meet_overlap.specs.Places.{scene};
 
 use crate::place::{Place, entry, hold, leave, leave_met, partner, put_flag, put_hold};
@@ -17,7 +18,8 @@ fn queue(
     item: Option<u64>,
     waits: bool,
 ) -> Result<(), AllocError>
-    ensures { OnOk result (scene place.new ≡ record { last = ticket; seats = queued (scene place.old).seats seat ticket item waits }) }
+    ensures { OnOk result (scene place.new
+        ≡ record { last = ticket; seats = queued (scene place.old).seats seat ticket item waits }) }
 {
     place.last = ticket.number();
     place.line.push(Entry {
@@ -53,7 +55,8 @@ fn meet(
     item: Option<u64>,
     side: Side,
 ) -> Result<(), AllocError>
-    ensures { OnOk result (scene place.new ≡ record { last = ticket; seats = meets kind (scene place.old).seats ticket item side }) }
+    ensures { OnOk result (scene place.new
+        ≡ record { last = ticket; seats = meets kind (scene place.old).seats ticket item side }) }
 {
     place.last = ticket.number();
     let Some(met) = partner(kind, &place.line, side) else {
@@ -72,14 +75,16 @@ fn meet(
 
 /// A seat's ticket ends. The only error is want of memory.
 fn release(place: &mut Place, seat: SeatNo) -> Result<(), AllocError>
-    ensures { OnOk result (scene place.new ≡ record { last = place.old.last; seats = released (scene place.old).seats seat }) }
+    ensures { OnOk result (scene place.new
+        ≡ record { last = place.old.last; seats = released (scene place.old).seats seat }) }
 {
     put_hold(&mut place.holds, seat, Hold::Free)
 }
 
 /// A seat's ticket leaves the line and ends. The only error is want of memory.
 fn withdraw(place: &mut Place, seat: SeatNo, ticket: Ticket) -> Result<(), AllocError>
-    ensures { OnOk result (scene place.new ≡ record { last = place.old.last; seats = left (scene place.old).seats seat ticket }) }
+    ensures { OnOk result (scene place.new
+        ≡ record { last = place.old.last; seats = withdrawn (scene place.old).seats seat ticket }) }
 {
     leave(&mut place.line, ticket);
     put_hold(&mut place.holds, seat, Hold::Free)
@@ -100,7 +105,8 @@ pub(crate) fn entry_held(place: &Place, seat: SeatNo) -> Option<Entry<u64>>
 
 /// A seat is interrupted: its ticket is cut, or the seat is flagged. The only error is want of memory.
 fn interrupt(place: &mut Place, target: SeatNo) -> Result<(), AllocError>
-    ensures { OnOk result (scene place.new ≡ record { last = place.old.last; seats = interrupted (scene place.old).seats target }) }
+    ensures { OnOk result (scene place.new
+        ≡ record { last = place.old.last; seats = interrupted (scene place.old).seats target }) }
 {
     match entry_held(place, target) {
         Some(cut) => {

@@ -1,6 +1,7 @@
 //! The next event of a call, and the next call that has one.
 
-ghost use Rattle.std.specs.Prelude.{◌≡◌, ◌<◌, length, slice_index_or, None, MatchOption, IfOk, IfSome, IfNone, IsTrue, IsSomeAnd};
+ghost use Rattle.std.specs.Prelude.{◌≡◌, ◌<◌, length, slice_index_or, None, MatchOption, IfOk, IfSome, IfNone, IsTrue};
+ghost use Rattle.std.specs.Prelude.{IsSomeAnd};
 ghost use Rattle.meet_overlap.specs.Known.{HasNoPlay, HasNonePlayed, LeadsOn, AreLeast};
 ghost use Rattle.meet_overlap.specs.Places.{scene, world_of};
 ghost use Rattle.meet_overlap.specs.Plays.{own_ticket, play_ticket};

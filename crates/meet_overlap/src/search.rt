@@ -50,8 +50,8 @@ fn stuck_at(calls: &[Call], reached: &Reached) -> Stuck {
     }
 }
 
-/// Whether it is known that this world leads nowhere: a call should have ended, or was met so as it doesn't answer, or the
-/// world was seen before.
+/// Whether it is known that this world leads nowhere: a call should have ended, or was met so as it doesn't answer, or
+/// the world was seen before.
 fn leads_nowhere(kind: Kind, calls: &[Call], reached: &Reached, seen: &Seen) -> bool
     requires { AreBarren kind calls.now seen.now.worlds.items }
     ensures { IsTrue result → IsBarren kind calls.now (world_of reached.now) }

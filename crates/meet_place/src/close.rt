@@ -38,9 +38,9 @@ pub enum CloseFault<O: Object, G, N: Ledgers> {
     /// Fewer seats were given back than were made. The place and the seats come back.
     SeatMissing {
         /// How many were given back.
-        have: usize,
+        have: u64,
         /// How many were made.
-        made: usize,
+        made: u64,
         place: Place<O, G, N>,
         seats: Vec<Back<O::Deed, N>>,
     },
@@ -151,7 +151,7 @@ where
         ensures fault { IfErr result (λ fault. FaultFits O.gone_of self seats.items fault) }
     {
         let made = self.seats();
-        let have = seats.len();
+        let have = seats.len() as u64;
         if have < made {
             return Err(CloseFault::SeatMissing {
                 have,
@@ -160,7 +160,7 @@ where
                 seats,
             });
         }
-        let Some(room) = SeatRoom::new(alloc, have) else {
+        let Some(room) = SeatRoom::new(alloc, seats.len()) else {
             return Err(CloseFault::Memory { place: self, seats });
         };
         let (gates, shared) = self.into_shared();

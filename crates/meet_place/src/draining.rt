@@ -43,13 +43,13 @@ fn hand_out<A, D: Copy>(
     ensures capacity { vec_capacity list.new ≡ vec_capacity list.old }
 {
     let mut answers = empty;
-    let mut left = got.into_iter();
-    while let Some(one) = left.next() {
+    let mut rest = got.into_iter();
+    while let Some(one) = rest.next() {
         let (answer, receipt) = one;
         answers.push_reserved(answer);
         list.push_reserved(receipt);
     }
-    left.destroy_empty();
+    rest.destroy_empty();
     answers
 }
 
@@ -75,11 +75,11 @@ impl<O: Drains, N: Ledgers> Shared<O, N> {
             ≡ min (min max (vec_capacity empty.polled)) (O.available_of self.old.object)) }
         ensures polls { IfOk result (λ answers. DrainedAs (λ got. TakingPolls
             (λ old answer new. O.steps old seat.old.number O.poll answer new) (O.record_of seat.old.number O.poll)
-            (λ o. O.refusal_of o seat.old.number O.poll) O.available_of O.left_of O.owed_of
+            (λ o. O.refusal_of o seat.old.number O.poll) O.available_of O.unspent_of O.owed_of
             self.old.object got self.new.object × AreNumbered (O.gone_of self.old.base + length self.old.records) got)
             seat.old.list seat.new.list answers.items) }
         ensures why { IfErr result (λ refused. IsWhy (book_drain_refusal
-            (O.refusal_of self.old.object seat.old.number O.poll) (O.left_of self.old.object)
+            (O.refusal_of self.old.object seat.old.number O.poll) (O.unspent_of self.old.object)
             (O.owed_of self.old.object) self.old
             (min (min max (vec_capacity empty.polled)) (O.available_of self.old.object))) refused.why) }
         ensures back { IfErr result (λ refused. refused.back ≡ empty) }
@@ -186,10 +186,10 @@ impl<O: Drains, G: Gate, N: Ledgers> Place<O, G, N> {
             × (length answers.items ≡ min max (O.available_of old))
             × DrainedAs (λ got. TakingPolls (λ before answer after. O.steps before seat.old.number O.poll answer after)
             (O.record_of seat.old.number O.poll) (λ o. O.refusal_of o seat.old.number O.poll) O.available_of
-            O.left_of O.owed_of old got new × AreNumbered last got) seat.old.list seat.new.list answers.items) }
+            O.unspent_of O.owed_of old got new × AreNumbered last got) seat.old.list seat.new.list answers.items) }
         ensures why { IfErr result (λ why. (why ≡ Memory) ⊎ ((book : Booked O O.Base O.Deed) × (k : ℕ) × (k ≤ max)
             × IsBookOf O.seat_count_of N.parts N.cap book × (seat.old.number < N.parts)
-            × IsWhy (book_drain_refusal (O.refusal_of book.object seat.old.number O.poll) (O.left_of book.object)
+            × IsWhy (book_drain_refusal (O.refusal_of book.object seat.old.number O.poll) (O.unspent_of book.object)
             (O.owed_of book.object) book k) why)) }
         ensures same { IfErr result (λ _. seat.new.list ≡ seat.old.list) }
     {
@@ -224,10 +224,10 @@ impl<O: Drains, G: Gate, N: Ledgers> Place<O, G, N> {
             × (length answers.items ≡ min max (O.available_of old))
             × DrainedAs (λ got. TakingPolls (λ before answer after. O.steps before seat.old.number O.poll answer after)
             (O.record_of seat.old.number O.poll) (λ o. O.refusal_of o seat.old.number O.poll) O.available_of
-            O.left_of O.owed_of old got new × AreNumbered last got) seat.old.list seat.new.list answers.items) }
+            O.unspent_of O.owed_of old got new × AreNumbered last got) seat.old.list seat.new.list answers.items) }
         ensures why { IfErr result (λ why. (why ≡ Memory) ⊎ ((book : Booked O O.Base O.Deed) × (k : ℕ) × (k ≤ max)
             × IsBookOf O.seat_count_of N.parts N.cap book × (seat.old.number < N.parts)
-            × IsWhy (book_drain_refusal (O.refusal_of book.object seat.old.number O.poll) (O.left_of book.object)
+            × IsWhy (book_drain_refusal (O.refusal_of book.object seat.old.number O.poll) (O.unspent_of book.object)
             (O.owed_of book.object) book k) why)) }
         ensures same { IfErr result (λ _. seat.new.list ≡ seat.old.list) }
     {

@@ -5,7 +5,6 @@ ghost use Rattle.meet_tickets.specs.declared.refusals.Refusal.TheVariants.{Memor
 ghost use Rattle.meet_place.specs.Backs.{is_back, missing_of};
 
 use crate::ledgers::Ledgers;
-use crate::place::seat_of;
 use crate::seats::Back;
 use meet_tickets::{MOST_SEATS, Refusal, SeatNo};
 use std::alloc::Global;
@@ -21,18 +20,18 @@ fn is_back<D: Copy, N: Ledgers>(seats: &[Back<D, N>], number: u64) -> bool
 /// seat. The only refusal is Memory.
 pub fn missing_seats<D: Copy, N: Ledgers>(
     alloc: Global,
-    made: usize,
+    made: u64,
     seats: &[Back<D, N>],
 ) -> Result<Vec<SeatNo>, Refusal>
     ensures missing { IfOk result (λ list. list.items ≡ missing_of made seats.now) }
     ensures memory { IfErr result (λ why. why ≡ Memory) }
 {
     let mut list = Vec::new(alloc);
-    for number in 0..made.min(MOST_SEATS as usize) {
-        if is_back(seats, number as u64) {
+    for number in 0..made.min(MOST_SEATS) {
+        if is_back(seats, number) {
             continue;
         }
-        if list.push(seat_of(number)).is_err() {
+        if list.push(SeatNo::new(number).unwrap()).is_err() {
             return Err(Refusal::Memory);
         }
     }

@@ -147,12 +147,12 @@ impl<O: Object, G: Drop, N: Ledgers> Place<O, G, N> {
 
 impl<O: Object, G, N: Ledgers> Place<O, G, N> {
     /// How many seats there are.
-    pub fn seats(&self) -> usize
+    pub fn seats(&self) -> u64
         ensures count { result ≡ self.now }
         ensures parts { result ≡ N.parts }
         ensures limit { result ≤ most_seats }
     {
-        self.gates.len()
+        self.gates.len() as u64
     }
 
     /// Takes the lock, once no other thread has it, and holds it until the guard is let go. A step is short, so it

@@ -81,10 +81,10 @@ where
         shared.look_after(seat)
     }
 
-    /// Looks at the seat's own list. Where more receipts lie there than may, and the book may be more than half full, it
-    /// takes the lock once, folds the records away where the book is, which count for the seat then, and lets go of the
-    /// seat's receipts for all that is folded away. It takes no memory but for the base. It is refused as the book's
-    /// `cut` is, and the receipts are let go then too.
+    /// Looks at the seat's own list. Where more receipts lie there than may, and the book may be more than half full,
+    /// it takes the lock once, folds the records away where the book is, which count for the seat then, and lets go of
+    /// the seat's receipts for all that is folded away. It takes no memory but for the base. It is refused as the
+    /// book's `cut` is, and the receipts are let go then too.
     pub fn tend<R: Wait>(&self, rt: &R, seat: &mut Seat<O::Deed, N>) -> Result<(), Refusal>
         ensures few { length seat.old.list ≤ may_lie N.cap N.parts → IsOk result × (seat.new ≡ seat.old) }
         ensures tended { IfOk result (λ _. (seat.new ≡ seat.old) ⊎ ((book : Booked O O.Base O.Deed)

@@ -111,7 +111,7 @@ enum Ending {
     /// It has so many records, lists and things that were left, the first of which is this sum.
     Closed(usize, usize, Option<u64>),
     /// So many seats of so many were given back.
-    Missing(usize, usize),
+    Missing(u64, u64),
 }
 
 /// Closes a place.

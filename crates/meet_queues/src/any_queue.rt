@@ -8,7 +8,7 @@ ghost use Rattle.meet_core.specs.Queue.{seats_of, count_of};
 ghost use Rattle.meet_tickets.specs.Bases.{no_base, IsBaseOf};
 ghost use Rattle.meet_tickets.specs.Limits.{most_seats, last_ticket};
 ghost use Rattle.meet_core.specs.Seen.{moment_of_queue};
-ghost use Rattle.meet_core.specs.QueueSteps.{LeadsTo, queue_owed, queue_available, queue_left};
+ghost use Rattle.meet_core.specs.QueueSteps.{LeadsTo, queue_owed, queue_available, queue_unspent};
 ghost use Rattle.meet_core.specs.QueueRoom.{roomy, roomy-leads, roomless, roomy-fresh};
 ghost use Rattle.meet_core.specs.QueueSteps.{QueueStep, queue_refusal, queue_need, queue_room};
 ghost use Rattle.meet_core.specs.QueueRecords.{queue_record};
@@ -304,7 +304,7 @@ impl Drains for AnyQueue {
 
     ghost available_of = { λ any. queue_available any.queue };
 
-    ghost left_of = { λ any. queue_left any.queue };
+    ghost unspent_of = { λ any. queue_unspent any.queue };
 
     ghost poll_fits = { refl };
 

@@ -64,8 +64,8 @@ pub fn taken_back(back: TakenBack<Parcel>) -> Told {
     }
 }
 
-pub fn interrupted(struck: Interrupted) -> Told {
-    match struck {
+pub fn interrupted(interrupted: Interrupted) -> Told {
+    match interrupted {
         Interrupted::Cut(own) => Told::Cut(own.number()),
         Interrupted::Flagged => Told::Flagged,
     }

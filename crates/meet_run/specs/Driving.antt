@@ -4,8 +4,8 @@ use Rattle.std.specs.Io.KnownBytes.{Appends}
 use Rattle.meet_drive.specs.Driven.{IsDriven}
 use Rattle.meet_drive.specs.declared.outcome.Drive.{Drive}
 use Rattle.meet_run.specs.declared.text.faults.RunFault.{RunFault}
-use Rattle.meet_run.specs.Wording.{last_line}
-use Rattle.meet_run.specs.Writing.{AppendsPrefix}
+use Rattle.meet_run.specs.Scripts.Wording.{last_line}
+use Rattle.meet_run.specs.Texts.Writing.{AppendsPrefix}
 
 -- its lines: how many items the takers counted, the sum of these, how many pairs the history tells of, and the line
 -- that ends a script

@@ -1,6 +1,6 @@
-//! Texts of a meeting place, in four rooms: what all texts have in common (`text`); scripts, one thread's calls and their
-//! replies (`script`); traces, a place's records (`trace`); and what came of threads that are driven (`driving`). What a
-//! call answers and what a record may be, it has from `meet_history`.
+//! Texts of a meeting place, in four rooms: what all texts have in common (`text`); scripts, one thread's calls and
+//! their replies (`script`); traces, a place's records (`trace`); and what came of threads that are driven (`driving`).
+//! What a call answers and what a record may be, it has from `meet_history`.
 #![tactic(auto)]
 
 mod driving;

@@ -2,8 +2,8 @@
 
 use crate::asks::Told;
 use meet_sync::{
-    Answer, Asked, Back, End, Ended, FollowedUp, Ledgers, Pending, Seat, SeatRefused, Struck,
-    Withdrawn,
+    Answer, Asked, Back, End, Ended, Followed, Interrupted, Ledgers, Pending, Seat, SeatRefused,
+    TakenBack,
 };
 use meet_tickets::Deed;
 
@@ -70,34 +70,36 @@ pub fn whole<N: Ledgers>(whole: Result<Ended<u64, N>, SeatRefused<u64, N>>) -> C
 }
 
 /// What came of a follow-up.
-pub fn followed<N: Ledgers>(followed: FollowedUp<u64, N>) -> Came<N> {
+pub fn followed<N: Ledgers>(followed: Followed<u64, N>) -> Came<N> {
     match followed {
-        FollowedUp::Done(seat) => (Back::Free(seat), Told::Done),
-        FollowedUp::Got(seat, with, item) => (Back::Free(seat), Told::Got(with.number(), item)),
-        FollowedUp::Interrupted(seat, back) => (Back::Free(seat), Told::WasCut(back)),
-        FollowedUp::NotYet(pending) => (Back::Held(pending), Told::NotYet),
+        Followed::Done(seat) => (Back::Free(seat), Told::Done),
+        Followed::Got(seat, with, item) => (Back::Free(seat), Told::Got(with.number(), item)),
+        Followed::Interrupted(seat, back) => (Back::Free(seat), Told::WasCut(back)),
+        Followed::NotYet(pending) => (Back::Held(pending), Told::NotYet),
     }
 }
 
 /// What came of a cancel or an expiry.
-pub fn withdrawn<N: Ledgers>(withdrawn: Withdrawn<u64, N>) -> Came<N> {
+pub fn withdrawn<N: Ledgers>(withdrawn: TakenBack<u64, N>) -> Came<N> {
     match withdrawn {
-        Withdrawn::Back(seat, back) => (Back::Free(seat), Told::Back(back)),
-        Withdrawn::Late(pending) => (Back::Held(pending), Told::Late),
+        TakenBack::Back(seat, back) => (Back::Free(seat), Told::Back(back)),
+        TakenBack::Late(pending) => (Back::Held(pending), Told::Late),
     }
 }
 
-fn hit<N: Ledgers>(struck: Struck<N>) -> Came<N> {
-    match struck {
-        Struck::Cut(seat, ticket) => (Back::Free(seat), Told::Cut(ticket.number())),
-        Struck::Flagged(seat) => (Back::Free(seat), Told::Flagged),
+fn hit<N: Ledgers>(interrupted: Interrupted<N>) -> Came<N> {
+    match interrupted {
+        Interrupted::Cut(seat, ticket) => (Back::Free(seat), Told::Cut(ticket.number())),
+        Interrupted::Flagged(seat) => (Back::Free(seat), Told::Flagged),
     }
 }
 
 /// What came of an interrupt.
-pub fn struck<N: Ledgers>(struck: Result<Struck<N>, SeatRefused<u64, N>>) -> Came<N> {
-    match struck {
-        Ok(struck) => hit(struck),
+pub fn interrupted<N: Ledgers>(
+    interrupted: Result<Interrupted<N>, SeatRefused<u64, N>>,
+) -> Came<N> {
+    match interrupted {
+        Ok(interrupted) => hit(interrupted),
         Err(why) => refused(why),
     }
 }

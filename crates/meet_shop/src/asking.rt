@@ -1,6 +1,6 @@
 //! A seat asks a queue, whatever its order.
 
-use crate::answers::{Came, asked, followed, struck, withdrawn};
+use crate::answers::{Came, asked, followed, interrupted, withdrawn};
 use crate::asks::{Ask, Told};
 use crate::shops::Shop;
 use meet_sync::{Back, Gate, Ledgers, Pending, Request, Seat};
@@ -35,7 +35,7 @@ fn answer_free<G: Gate, N: Ledgers, R: Wait>(
         Ask::Take => asked(shop.request(rt, seat, Request::Take)),
         Ask::Poll => asked(shop.request(rt, seat, Request::Poll)),
         Ask::Interrupt(target) => match SeatNo::new(target) {
-            Some(target) => struck(shop.interrupt(rt, seat, target)),
+            Some(target) => interrupted(shop.interrupt(rt, seat, target)),
             None => (Back::Free(seat), Told::Unasked),
         },
         Ask::Follow => (Back::Free(seat), Told::Unasked),

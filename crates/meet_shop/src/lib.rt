@@ -1,5 +1,5 @@
-//! What tests and soaks of queues for threads have in common: numbers go through a queue whose order each of them chooses,
-//! and stories tell what seats ask of it.
+//! What tests and soaks of queues for threads have in common: numbers go through a queue whose order each of them
+//! chooses, and stories tell what seats ask of it.
 #![tactic(auto)]
 
 mod answers;

@@ -77,10 +77,10 @@ pub fn obeys(alloc: Global, chronicle: &Chronicle<u64>, kind: Kind) -> Result<()
     if chronicle.records.len() <= FEW && tally != counted(chronicle) {
         return Err(Unlike::Counted(tally));
     }
-    if let Ok(left) = chronicle.erased(alloc) {
-        let is_legal = check(alloc, kind, &Base::empty(alloc), left.as_slice()).is_ok();
-        if left.len() > chronicle.records.len() || !is_legal {
-            return Err(Unlike::Erased(left.len()));
+    if let Ok(staying) = chronicle.erased(alloc) {
+        let is_legal = check(alloc, kind, &Base::empty(alloc), staying.as_slice()).is_ok();
+        if staying.len() > chronicle.records.len() || !is_legal {
+            return Err(Unlike::Erased(staying.len()));
         }
     }
     Ok(())

@@ -11,7 +11,7 @@ use Rattle.meet_tickets.specs.declared.records.Deed.{Deed}
 use Rattle.meet_tickets.specs.BySeat.{is_request}
 use Rattle.meet_tickets.specs.Fates.{request_of, meets_it, named_by, tells_of_meeting, has_learned, withdrawn_by, withdrawal_of, interrupts, was_cut, waits_first, fate}
 use Rattle.meet_tickets.specs.declared.fates.Fate.{Fate}
-use Rattle.meet_tickets.specs.declared.fates.Fate.TheVariants.{Never, Paired, Collected, Withdrawn as TakenBack, Cut, Kept, Waiting}
+use Rattle.meet_tickets.specs.declared.fates.Fate.TheVariants.{Never, Paired, Collected, Withdrawn as WasWithdrawn, Cut, Kept, Waiting}
 use Rattle.meet_tickets.specs.declared.records.Deed.TheVariants.{GiveWaits, GiveMeets, GiveFails, GiveKept, TakeWaits, TakeMeets, TakeFails, EntryInterrupted, Done, Got, Withdrawn, Interrupt}
 use Rattle.meet_tickets.proofs.Told.Said.{Said, said, said_after, said_of_others, fate_is, fate_asked_of}
 use Rattle.meet_sum.specs.FatesCounted.{with_fate, numbers_of}
@@ -56,8 +56,8 @@ pub story_more : (history : List (Record Deed)) (r : Record Deed) (t : ℕ) (x :
     l ≡ (x.learned || (tells_of_meeting r.deed && (r.ticket == t))) →
     b ≡ option_or x.back (if is_some (withdrawn_by r.deed) && (r.ticket == t) then withdrawn_by r.deed else None) →
     k ≡ (x.cut || (interrupts r.deed && nat_lt 0 t && (r.ticket == t))) →
-    o ≡ option_or x.left (if takes_out t r then Some (1 + length history) else None) →
-    ◌≡◌ {A = Story} (record { asked = a; came = n; met = m; learned = l; back = b; cut = k; left = o }) (story_in (history ++ r ∷ []) t)
+    o ≡ option_or x.went (if takes_out t r then Some (1 + length history) else None) →
+    ◌≡◌ {A = Story} (record { asked = a; came = n; met = m; learned = l; back = b; cut = k; went = o }) (story_in (history ++ r ∷ []) t)
 story_more history r t x e a n m l b k o ea en em el eb ek eo = λ i. record {
   asked = (ea ∙ ap (λ (y : Story). option_or y.asked (if asks_for t r then Some (asked_by r) else None)) e ∙ sym (asked-push history r t)) i;
   came = (en ∙ ap (λ (y : Story). option_or y.came (if asks_for t r then Some (1 + length history) else None)) e ∙ sym (position-push (asks_for t) 1 history r)) i;
@@ -65,7 +65,7 @@ story_more history r t x e a n m l b k o ea en em el eb ek eo = λ i. record {
   learned = (el ∙ ap (λ (y : Story). y.learned || (tells_of_meeting r.deed && (r.ticket == t))) e ∙ sym (ap (λ (y : Said). y.learned) (said_after history r t))) i;
   back = (eb ∙ ap (λ (y : Story). option_or y.back (if is_some (withdrawn_by r.deed) && (r.ticket == t) then withdrawn_by r.deed else None)) e ∙ sym (ap (λ (y : Said). y.back) (said_after history r t))) i;
   cut = (ek ∙ ap (λ (y : Story). y.cut || (interrupts r.deed && nat_lt 0 t && (r.ticket == t))) e ∙ sym (ap (λ (y : Said). y.cut) (said_after history r t))) i;
-  left = (eo ∙ ap (λ (y : Story). option_or y.left (if takes_out t r then Some (1 + length history) else None)) e ∙ sym (position-push (takes_out t) 1 history r)) i;
+  went = (eo ∙ ap (λ (y : Story). option_or y.went (if takes_out t r then Some (1 + length history) else None)) e ∙ sym (position-push (takes_out t) 1 history r)) i;
 }
 
 or-none : {A : Type 0} (o : Option A) → option_or o None ≡ o
@@ -89,7 +89,7 @@ story_of_others history r t n unnamed = λ i. record {
   learned = ap (λ (y : Said). y.learned) same i;
   back = ap (λ (y : Said). y.back) same i;
   cut = ap (λ (y : Said). y.cut) same i;
-  left = (position-push (takes_out t) 1 history r ∙ ap (λ b. option_or (position_from (takes_out t) 1 history) (cond b (Some (1 + length history)) None)) takes ∙ or-none (position_from (takes_out t) 1 history)) i;
+  went = (position-push (takes_out t) 1 history r ∙ ap (λ b. option_or (position_from (takes_out t) 1 history) (cond b (Some (1 + length history)) None)) takes ∙ or-none (position_from (takes_out t) 1 history)) i;
 }
   where
     same : said (history ++ r ∷ []) t ≡ said history t
@@ -138,12 +138,12 @@ pub fate-told : (c : FateCounts) (history : List (Record Deed)) (t : ℕ) → wi
 fate-told c history t = by (find (asks_for t) history) refl ∙ ap (with_fate c) (sym (fate_is history t))
   where
     unmet : Fate → Fate
-    unmet last = option_map_or (λ cause. TakenBack cause) (withdrawal_of history t) (if was_cut history t then Cut else last)
+    unmet last = option_map_or (λ cause. WasWithdrawn cause) (withdrawal_of history t) (if was_cut history t then Cut else last)
 
     -- whom its request names, or who named it
     whole : Option ℕ → Deed → Fate
     whole named d = option_map_or (λ u. if has_learned history t then Collected u else Paired u) (option_or named (option_map (λ (r : Record Deed). r.ticket) (find (meets_it t) history)))
-        (option_map_or (λ cause. TakenBack cause) (withdrawal_of history t) (if was_cut history t then Cut else (if waits_first d then Waiting else Kept)))
+        (option_map_or (λ cause. WasWithdrawn cause) (withdrawal_of history t) (if was_cut history t then Cut else (if waits_first d then Waiting else Kept)))
 
     named : (d : Deed) → request_of history t ≡ Some d → whole (named_by d) d ≡ whole (option_and_then named_by (request_of history t)) d
     named d is = ap (λ o. whole o d) (sym (ap (option_and_then named_by) is))

@@ -12,13 +12,13 @@ use Rattle.meet_history.specs.declared.checker.Why.{Why}
 use Rattle.meet_history.specs.Pushing.{HasTaken, SeenWith, IsStandingOf}
 use Rattle.meet_run.specs.declared.trace.check.ReadTrace.{ReadTrace}
 use Rattle.meet_run.specs.declared.text.faults.RunFault.{RunFault}
-use Rattle.meet_run.specs.Reading.{lines_of}
-use Rattle.meet_run.specs.Traces.{IsRead, IsReadWith, IsFoundIn, IsUnreadTrace, IsVerdictOf, NamesLine, trace_fault_in}
-use Rattle.meet_run.specs.TraceWording.{illegal_line}
-use Rattle.meet_run.specs.Wording.{last_line}
-use Rattle.meet_run.specs.Writing.{AppendsPrefix}
-use Rattle.meet_run.proofs.Ran.{appends-nothing}
-use Rattle.meet_run.proofs.TraceReading.{found-lines}
+use Rattle.meet_run.specs.Texts.Reading.{lines_of}
+use Rattle.meet_run.specs.Tracing.Traces.{IsRead, IsReadWith, IsFoundIn, IsUnreadTrace, IsVerdictOf, NamesLine, trace_fault_in}
+use Rattle.meet_run.specs.Tracing.TraceWording.{illegal_line}
+use Rattle.meet_run.specs.Scripts.Wording.{last_line}
+use Rattle.meet_run.specs.Texts.Writing.{AppendsPrefix}
+use Rattle.meet_run.proofs.Scripts.Ran.{appends-nothing}
+use Rattle.meet_run.proofs.Tracing.TraceReading.{found-lines}
 use Rattle.meet_sum.specs.declared.sums.Sums.{Sums}
 use Rattle.meet_sum.specs.Summing.{IsSummed, IsSaid, SumBreaks, SumEnds}
 use Rattle.meet_sum.specs.Sums.{AreSums}

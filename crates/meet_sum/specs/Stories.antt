@@ -10,7 +10,7 @@ use Rattle.meet_tickets.specs.declared.records.Deed.TheVariants.{GiveWaits, Give
 use Rattle.meet_tickets.specs.declared.records.Deed.TheVariants.{TakeMeets, TakeFails}
 use Rattle.meet_tickets.specs.declared.fates.Fate.{Fate}
 use Rattle.meet_tickets.specs.declared.fates.Fate.TheVariants.{Never, Failed, EntryRefused, Paired, Collected}
-use Rattle.meet_tickets.specs.declared.fates.Fate.TheVariants.{Withdrawn as TakenBack, Cut, Kept, Waiting}
+use Rattle.meet_tickets.specs.declared.fates.Fate.TheVariants.{Withdrawn as WasWithdrawn, Cut, Kept, Waiting}
 use Rattle.meet_tickets.specs.Bases.{Based}
 use Rattle.meet_tickets.specs.BySeat.{is_request}
 use Rattle.meet_tickets.specs.Fates.{meets_it, has_learned, withdrawn_by, withdrawal_of, interrupts, was_cut}
@@ -54,7 +54,7 @@ story_in history t = record {
   learned = has_learned history t;
   back = withdrawal_of history t;
   cut = was_cut history t;
-  left = position_from (takes_out t) 1 history;
+  went = position_from (takes_out t) 1 history;
 }
 
 -- the tickets that a base and the records since name as requested, each once and rising: those of the base's entries,
@@ -72,7 +72,7 @@ fate_met learned = if learned then Collected 0 else Paired 0
 abbrev pub fate_stood : Story → (first : Fate) → Fate
 fate_stood s first =
     if s.met then fate_met s.learned
-    else option_map_or (λ cause. TakenBack cause) s.back (if s.cut then Cut else first)
+    else option_map_or (λ cause. WasWithdrawn cause) s.back (if s.cut then Cut else first)
 
 -- the fate of a ticket with this story, whose request came to this at once
 abbrev pub fate_asked : Story → AtOnce → Fate

@@ -1,5 +1,6 @@
 -- What is said of a trace whose sums are asked for.
-use Rattle.std.specs.Prelude.{◌≡◌, ℕ, ◌+◌, Bool, true, false, Option, Some, None, Result, Ok, Err, List, [], ◌++◌, length}
+use Rattle.std.specs.Prelude.{◌≡◌, ℕ, ◌+◌, Bool, true, false, Option, Some, None, Result, Ok, Err, List, [], ◌++◌}
+use Rattle.std.specs.Prelude.{length}
 use Rattle.std.specs.Io.KnownBytes.{Appends}
 use Rattle.meet_tickets.specs.declared.places.Kind.{Kind}
 use Rattle.meet_tickets.specs.declared.records.Deed.{Deed}
@@ -9,9 +10,9 @@ use Rattle.meet_tickets.specs.declared.refusals.Refusal.TheVariants.{Memory, Bad
 use Rattle.meet_tickets.specs.Bases.{Based, IsWellFormed, IsLegalOn}
 use Rattle.meet_history.specs.Standings.{standing_on}
 use Rattle.meet_run.specs.declared.text.faults.RunFault.{RunFault}
-use Rattle.meet_run.specs.Traces.{IsTraceOn, IsFoundIn, trace_fault_in}
-use Rattle.meet_run.specs.Wording.{last_line}
-use Rattle.meet_run.specs.Writing.{AppendsPrefix}
+use Rattle.meet_run.specs.Tracing.Traces.{IsTraceOn, IsFoundIn, trace_fault_in}
+use Rattle.meet_run.specs.Scripts.Wording.{last_line}
+use Rattle.meet_run.specs.Texts.Writing.{AppendsPrefix}
 use Rattle.meet_sum.specs.declared.sums.Sums.{Sums}
 use Rattle.meet_sum.specs.Sums.{AreSums}
 use Rattle.meet_sum.specs.SumTexts.{sums_text}

@@ -22,7 +22,7 @@ joins how = false
 -- the record that asked for it, or the beginning for one of the base, to that which took it out, or to the last
 abbrev pub stay_told : (opened all : ℕ) → Story → Option ℕ
 stay_told opened all s = option_and_then
-    (λ a. if joins a.how then Some ((unwrap_or s.left all - opened) - (unwrap_or s.came 0 - opened)) else None) s.asked
+    (λ a. if joins a.how then Some ((unwrap_or s.went all - opened) - (unwrap_or s.came 0 - opened)) else None) s.asked
 
 -- the ticket and the seat of a story, and how long it stood in the line
 pub record IsStay (opened all : ℕ) (s : Story) (wait : Wait) : Type 0 where

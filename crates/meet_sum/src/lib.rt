@@ -1,8 +1,8 @@
-//! What a legal trace holds, as sums: how many records have which deed and how many tickets which fate, the longest line,
-//! the longest wait in it, and what each seat did.
+//! What a legal trace holds, as sums: how many records have which deed and how many tickets which fate, the longest
+//! line, the longest wait in it, and what each seat did.
 //!
-//! `specs/` says each of these by the list of the records; the code goes over the records with a table that has the story
-//! of each ticket.
+//! `specs/` says each of these by the list of the records; the code goes over the records with a table that has the
+//! story of each ticket.
 #![tactic(auto)]
 
 mod deeds;

@@ -186,8 +186,8 @@ fn entered(alloc: Global, base: &Base, records: &[Record<Deed>]) -> Result<Vec<u
     Ok(tickets)
 }
 
-/// The tickets that a base and the records since name as requested, each once and rising. Those of a legal trace without
-/// a base come so, and take no sorting.
+/// The tickets that a base and the records since name as requested, each once and rising. Those of a legal trace
+/// without a base come so, and take no sorting.
 pub(crate) fn requested(
     alloc: Global,
     base: &Base,

@@ -1,6 +1,7 @@
 //! What each seat did.
 
-ghost use Rattle.std.specs.Prelude.{◌≡◌, ℕ, ◌+◌, ◌<◌, ◌≤◌, ◌^◌, ◌∷◌, ◌++◌, [], List, Some, length, slice_get, slice_set, IfOk, vec_len, if◌then◌else◌};
+ghost use Rattle.std.specs.Prelude.{◌≡◌, ℕ, ◌+◌, ◌<◌, ◌≤◌, ◌^◌, ◌∷◌, ◌++◌, [], List, Some, length, slice_get};
+ghost use Rattle.std.specs.Prelude.{slice_set, IfOk, vec_len, if◌then◌else◌};
 ghost use Rattle.meet_tickets.specs.declared.records.Deed.{Deed};
 ghost use Rattle.meet_tickets.specs.declared.records.Record.{Record};
 ghost use Rattle.meet_tickets.specs.Limits.{most_seats};
@@ -161,8 +162,8 @@ fn count_all(sums: &mut Vec<SeatSum>, more: &[Record<Deed>])
     }
 }
 
-/// What each seat did by the records that open a base and those since, from seat 0 on: all but how long its tickets stood
-/// in the line.
+/// What each seat did by the records that open a base and those since, from seat 0 on: all but how long its tickets
+/// stood in the line.
 pub(crate) fn seats_in(
     alloc: Global,
     before: &[Record<Deed>],

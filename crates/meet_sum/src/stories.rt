@@ -49,7 +49,7 @@ pub struct Story {
     /// Whether it was cut.
     pub cut: bool,
     /// The number of the record that took it out of the line.
-    pub left: Option<u64>,
+    pub went: Option<u64>,
 }
 
 /// What no record tells.
@@ -64,18 +64,7 @@ pub(crate) fn untold(asked: Option<Asked>) -> Story
         learned: false,
         back: None,
         cut: false,
-        left: None,
-    }
-}
-
-/// The ticket that a request names as its partner.
-pub(crate) fn named_by(deed: &Deed) -> Option<Ticket>
-    ensures { result ≡ named_by deed.now }
-{
-    match deed {
-        Deed::GiveMeets(_, partner) => Some(*partner),
-        Deed::TakeMeets(_, partner) => Some(*partner),
-        _ => None,
+        went: None,
     }
 }
 
@@ -106,40 +95,6 @@ fn asked_by(entry: &Record<Deed>) -> Asked
     }
 }
 
-/// Whether a deed tells a ticket that it was met.
-fn tells_of_meeting(deed: &Deed) -> bool
-    ensures { result ≡ tells_of_meeting deed.now }
-{
-    matches!(deed, Deed::Done | Deed::Got(_, _))
-}
-
-/// Why a deed takes its ticket back, if it does.
-fn withdrawn_by(deed: &Deed) -> Option<Cause>
-    ensures { result ≡ withdrawn_by deed.now }
-{
-    match deed {
-        Deed::Withdrawn(cause) => Some(*cause),
-        _ => None,
-    }
-}
-
-/// Whether a deed interrupts a seat.
-fn interrupts(deed: &Deed) -> bool
-    ensures { result ≡ interrupts deed.now }
-{
-    matches!(deed, Deed::Interrupt(_))
-}
-
-/// Whether a record is a request that meets this ticket.
-fn meets_it(entry: &Record<Deed>, ticket: Ticket) -> bool
-    ensures { result ≡ meets_it ticket entry.now }
-{
-    match named_by(&entry.deed) {
-        Some(partner) => partner == ticket,
-        None => false,
-    }
-}
-
 /// Whether a record is the request of this ticket.
 fn asks_for(entry: &Record<Deed>, ticket: Ticket) -> bool
     ensures { result ≡ asks_for ticket entry.now }
@@ -151,35 +106,14 @@ fn asks_for(entry: &Record<Deed>, ticket: Ticket) -> bool
 fn tells(entry: &Record<Deed>, ticket: Ticket) -> bool
     ensures { result ≡ (tells_of_meeting entry.now.deed && (entry.now.ticket == ticket)) }
 {
-    tells_of_meeting(&entry.deed) && entry.ticket == ticket
-}
-
-/// Why a record takes this ticket back, if it does.
-fn reason(entry: &Record<Deed>, ticket: Ticket) -> Option<Cause>
-    ensures { result ≡ (if is_some (withdrawn_by entry.now.deed) && (entry.now.ticket == ticket)
-        then withdrawn_by entry.now.deed else None) }
-{
-    if entry.ticket == ticket {
-        withdrawn_by(&entry.deed)
-    } else {
-        None
-    }
-}
-
-/// Whether a record cuts this ticket.
-fn cuts(entry: &Record<Deed>, ticket: Ticket) -> bool
-    ensures { result ≡ (interrupts entry.now.deed && nat_lt 0 ticket && (entry.now.ticket == ticket)) }
-{
-    interrupts(&entry.deed) && ticket.number() > 0 && entry.ticket == ticket
+    entry.deed.tells_of_meeting() && entry.ticket == ticket
 }
 
 /// Whether a record takes this ticket out of the line.
 fn takes_out(entry: &Record<Deed>, ticket: Ticket) -> bool
     ensures { result ≡ takes_out ticket entry.now }
 {
-    meets_it(entry, ticket)
-        || withdrawn_by(&entry.deed).is_some() && entry.ticket == ticket
-        || cuts(entry, ticket)
+    entry.meets(ticket) || entry.takes_back(ticket).is_some() || entry.cuts(ticket)
 }
 
 /// What was there, or else this where it passes.
@@ -198,15 +132,15 @@ pub(crate) fn hear(story: Story, ticket: Ticket, entry: &Record<Deed>, number: u
         → result ≡ story_in (history ++ entry.now ∷ []) ticket }
 {
     let asks = asks_for(entry, ticket);
-    let meets = meets_it(entry, ticket);
+    let meets = entry.meets(ticket);
     let leaves = takes_out(entry, ticket);
     Story {
         asked: first_of(story.asked, asked_by(entry), asks),
         came: first_of(story.came, number, asks),
         met: story.met | meets,
         learned: story.learned | tells(entry, ticket),
-        back: story.back.or(reason(entry, ticket)),
-        cut: story.cut | cuts(entry, ticket),
-        left: first_of(story.left, number, leaves),
+        back: story.back.or(entry.takes_back(ticket)),
+        cut: story.cut | entry.cuts(ticket),
+        went: first_of(story.went, number, leaves),
     }
 }

@@ -3,10 +3,10 @@
 ghost use Rattle.std.specs.Prelude.{◌≡◌, ℕ, ◌+◌, ◌<◌, ◌^◌, ◌++◌, List, None, IfSome, IfOk, IfErr, IsTrue, length};
 ghost use Rattle.meet_tickets.specs.declared.refusals.Refusal.TheVariants.{Memory};
 ghost use Rattle.meet_history.specs.Pushing.{IsStandingOf};
-ghost use Rattle.meet_run.specs.Reading.{lines_of};
-ghost use Rattle.meet_run.specs.Traces.{IsReadWith};
-ghost use Rattle.meet_run.specs.TraceWording.{illegal_line};
-ghost use Rattle.meet_run.specs.Wording.{last_line};
+ghost use Rattle.meet_run.specs.Texts.Reading.{lines_of};
+ghost use Rattle.meet_run.specs.Tracing.Traces.{IsReadWith};
+ghost use Rattle.meet_run.specs.Tracing.TraceWording.{illegal_line};
+ghost use Rattle.meet_run.specs.Scripts.Wording.{last_line};
 ghost use Rattle.meet_sum.specs.Summing.{IsSaid, IsSummed, SumEnds};
 ghost use Rattle.meet_sum.specs.SumTexts.{sums_text};
 
@@ -111,8 +111,8 @@ fn say(
 /// one it writes the line that `check` finds alone, and the answer is false. Its records are kept until it ends.
 ///
 /// A line that can't be read is BadTrace with its number, as `check` tells it; a read that fails, or an input of 2^32
-/// bytes or more, is ReadFault; where memory is wanted and not there, it is Memory. Then nothing is written. A write that
-/// fails or takes no byte is WriteFault, and a prefix of the text is written.
+/// bytes or more, is ReadFault; where memory is wanted and not there, it is Memory. Then nothing is written. A write
+/// that fails or takes no byte is WriteFault, and a prefix of the text is written.
 pub fn sum_trace<R: Read, W: Write>(
     alloc: Global,
     reader: &mut R,

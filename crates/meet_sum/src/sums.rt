@@ -25,7 +25,7 @@ use meet_tickets::{Base, Deed, Record, Refusal};
 use std::alloc::{AllocError, Global};
 
 /// What a legal history holds.
-#[derive(Drop)]
+#[derive(Debug, Drop)]
 pub struct Sums {
     pub deeds: DeedCounts,
     pub fates: FateCounts,
@@ -121,8 +121,8 @@ fn add_up(
     (fates, wait)
 }
 
-/// The sums of a base and the records since. It takes memory for each ticket, and reads each record five times. The only
-/// refusal is Memory.
+/// The sums of a base and the records since. It takes memory for each ticket, and reads each record five times. The
+/// only refusal is Memory.
 pub fn sum_records(alloc: Global, base: &Base, records: &[Record<Deed>]) -> Result<Sums, Refusal>
     requires entries { length base.now.line + length records.now < 2 ^ 64 }
     requires numbers { base.now.gone + length records.now < 2 ^ 64 }

@@ -1,6 +1,7 @@
 //! What records tell of many tickets: a story for each.
 
-ghost use Rattle.std.specs.Prelude.{◌≡◌, ◌≢◌, ℕ, ◌+◌, ◌<◌, ◌^◌, List, [], ◌∷◌, ◌++◌, length, map, IfOk, OnOk, IsTrue, MatchOption};
+ghost use Rattle.std.specs.Prelude.{◌≡◌, ◌≢◌, ℕ, ◌+◌, ◌<◌, ◌^◌, List, [], ◌∷◌, ◌++◌, length, map, IfOk, OnOk, IsTrue};
+ghost use Rattle.std.specs.Prelude.{MatchOption};
 ghost use Rattle.std.specs.Prelude.{slice_index, vec_len};
 ghost use Rattle.std.specs.List.Sorted.{IsStrictlyIncreasing};
 ghost use Rattle.meet_tickets.specs.declared.records.Deed.{Deed};
@@ -9,7 +10,7 @@ ghost use Rattle.meet_tickets.specs.BySeat.{put_at};
 ghost use Rattle.meet_sum.specs.declared.stories.Story.{Story};
 ghost use Rattle.meet_sum.specs.Stories.{story_in};
 
-use crate::stories::{Asked, Story, hear, named_by, untold};
+use crate::stories::{Asked, Story, hear, untold};
 use meet_tickets::{Deed, Record, Ticket};
 use std::alloc::{AllocError, Global};
 
@@ -102,7 +103,7 @@ fn tell_all(tickets: &[u64], stories: &mut Vec<Story>, entry: &Record<Deed>, num
         → stories.new.items ≡ map (story_in (history ++ entry.now ∷ [])) tickets.now }
 {
     tell(tickets, stories, entry.ticket, entry, number);
-    match named_by(&entry.deed) {
+    match entry.deed.partner() {
         None => {}
         Some(partner) => {
             if partner == entry.ticket {

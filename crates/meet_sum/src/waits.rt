@@ -34,8 +34,8 @@ pub(crate) fn stay(story: &Story, opened: u64, all: u64) -> Option<u64>
                 return None;
             }
             let came = story.came.unwrap_or(0).saturating_sub(opened);
-            let left = story.left.unwrap_or(all).saturating_sub(opened);
-            Some(left.saturating_sub(came))
+            let went = story.went.unwrap_or(all).saturating_sub(opened);
+            Some(went.saturating_sub(came))
         }
     }
 }

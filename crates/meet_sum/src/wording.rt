@@ -3,7 +3,8 @@
 ghost use Rattle.std.specs.Prelude.{◌≡◌, ◌++◌, [], OnOk, if◌then◌else◌};
 ghost use Rattle.meet_sum.specs.SumTexts.{count_line, give_deeds_text, take_deeds_text, end_deeds_text};
 ghost use Rattle.meet_sum.specs.SumTexts.{open_fates_text, ended_fates_text, other_fates_text};
-ghost use Rattle.meet_sum.specs.SumTexts.{longest_line_text, waited_text, wait_text, stay_text, seat_text, seats_text, sums_text};
+ghost use Rattle.meet_sum.specs.SumTexts.{longest_line_text, waited_text, wait_text, stay_text, seat_text, seats_text};
+ghost use Rattle.meet_sum.specs.SumTexts.{sums_text};
 
 use crate::deeds::DeedCounts;
 use crate::fates::FateCounts;

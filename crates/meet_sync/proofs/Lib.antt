@@ -2,6 +2,6 @@ pub mod Askings
 pub mod Awaited
 pub mod Histories
 pub mod Reasons
-pub mod Strikings
+pub mod Interrupting
 pub mod Takings
 pub mod Wholes

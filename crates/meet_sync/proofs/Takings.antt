@@ -59,7 +59,7 @@ pub takes : {T : Type 0} (mark : T → ℕ) (k : Kind) (i : ℕ) (old : Queue T)
 takes mark k i old (Polled (Meets t u item)) new e step fewer is =
     (record { ticket = t; giver = u; item = item }, refl, some_is is)
 takes mark k i old (Polled (Fails t)) new e step fewer is =
-    let same = ap (λ s. count_on Giver s.line) step.1.left in absurd (omega arith)
+    let same = ap (λ s. count_on Giver s.line) step.1.seats_are in absurd (omega arith)
 takes mark k i old answer new e step fewer is = absurd step
 
 -- so does one of a place that is a queue
@@ -87,13 +87,13 @@ numbers last [] h = refl
 numbers last (one ∷ got) (first, rest) = (λ j. first j ∷ numbers (last + 1) got rest j)
 
 module _ {O T : Type 0} (mark : T → ℕ) (i : ℕ) (steps : O → QueueAnswer T → O → Type 0)
-    (record_of : QueueAnswer T → Option (Record Deed)) (refusal_of : O → Option Refusal) (available_of left_of owed_of : O → ℕ)
+    (record_of : QueueAnswer T → Option (Record Deed)) (refusal_of : O → Option Refusal) (available_of unspent_of owed_of : O → ℕ)
     (one_taken : (old : O) (answer : QueueAnswer T) (new : O) (e : Record Deed) → steps old answer new
     → available_of new + 1 ≡ available_of old → record_of answer ≡ Some e
     → (t : Taken T) × (item_told answer ≡ Some t.item) × (e ≡ taken_record mark i t)) where
   -- polls that take take items, each of its own record
   all_taken : (old : O) (got : List (QueueAnswer T × Received Deed)) (new : O)
-      → TakingPolls steps record_of refusal_of available_of left_of owed_of old got new
+      → TakingPolls steps record_of refusal_of available_of unspent_of owed_of old got new
       → (all : List (Taken T)) × (map item_told (map (λ one. one.0) got) ≡ map (λ item. Some item) (map (λ t. t.item) all))
       × (map (λ r. r.entry) (map (λ one. one.1) got) ≡ map (taken_record mark i) all)
       × AllBring (map (λ one. one.0) got)
@@ -111,7 +111,7 @@ module _ {O T : Type 0} (mark : T → ℕ) (i : ℕ) (steps : O → QueueAnswer 
   abbrev Drains : (count_of : O → ℕ) → (seats max : ℕ) → (old new : List (Received Deed)) → List (QueueAnswer T) → Type 0
   Drains count_of seats max old new answers = (before : O) × (after : O) × (last : ℕ) × (count_of before ≡ seats)
       × (length answers ≡ min max (available_of before))
-      × DrainedAs (λ got. TakingPolls steps record_of refusal_of available_of left_of owed_of before got after
+      × DrainedAs (λ got. TakingPolls steps record_of refusal_of available_of unspent_of owed_of before got after
       × AreNumbered last got) old new answers
 
   -- so the answers bring items
@@ -173,18 +173,18 @@ drain_why_by false false true left (suc k) full why there e = last_why (nat_lt l
 drain_why_by false false false left zero full why there e = rw e tt
 drain_why_by false false false left (suc k) full why there e = last_why (nat_lt left (suc k)) full why e
 
-pub drain_why : {O T B D : Type 0} (queue_of : O → Queue T) (seat_count_of left_of owed_of : O → ℕ)
+pub drain_why : {O T B D : Type 0} (queue_of : O → Queue T) (seat_count_of unspent_of owed_of : O → ℕ)
     (refusal_of : O → Option Refusal) (seats cap i most : ℕ) (why : Refusal)
     → ((o : O) → seat_count_of o ≡ count_of (queue_of o)) → ((o : O) → refusal_of o ≡ queue_refusal (queue_of o) i Poll)
     → (why ≡ Memory) ⊎ ((book : Booked O B D) × (k : ℕ) × (k ≤ most) × IsBookOf seat_count_of seats cap book × (i < seats)
-    × IsWhy (book_drain_refusal (refusal_of book.object) (left_of book.object) (owed_of book.object) book k) why)
+    × IsWhy (book_drain_refusal (refusal_of book.object) (unspent_of book.object) (owed_of book.object) book k) why)
     → IsRequestWhy why
-drain_why queue_of seat_count_of left_of owed_of refusal_of seats cap i most why is_count is_refusal (inl e) = rw e tt
-drain_why queue_of seat_count_of left_of owed_of refusal_of seats cap i most why is_count is_refusal
+drain_why queue_of seat_count_of unspent_of owed_of refusal_of seats cap i most why is_count is_refusal (inl e) = rw e tt
+drain_why queue_of seat_count_of unspent_of owed_of refusal_of seats cap i most why is_count is_refusal
     (inr (book, k, few, of, there, e)) =
     let o = book.object in
     let q = queue_of o in
     drain_why_by (nat_le (count_of q) i) (is_open ((seats_of q).holds i)) (nat_lt last_ticket q.next)
-    (left_of o) k (is_book_full book (owed_of o) (k + 1)) why
+    (unspent_of o) k (is_book_full book (owed_of o) (k + 1)) why
     (is_there (count_of q) seats i (sym (is_count o) ∙ of.0) there)
-    (subst (λ first. IsWhy (book_drain_refusal first (left_of o) (owed_of o) book k) why) (is_refusal o) e)
+    (subst (λ first. IsWhy (book_drain_refusal first (unspent_of o) (owed_of o) book k) why) (is_refusal o) e)

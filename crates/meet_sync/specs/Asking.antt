@@ -39,13 +39,13 @@ use Rattle.meet_sync.specs.declared.asked.Answer.{Answer}
 use Rattle.meet_sync.specs.declared.asked.Answer.TheVariants.{Gave, Got, Failed, Kept, EntryInterrupted}
 use Rattle.meet_sync.specs.declared.asked.Asked.{Asked}
 use Rattle.meet_sync.specs.declared.asked.Asked.TheVariants.{Settled, Parked}
-use Rattle.meet_sync.specs.declared.asked.FollowedUp.{FollowedUp}
-use Rattle.meet_sync.specs.declared.asked.FollowedUp.TheVariants.{Done, Got as HasGot, Interrupted as WasCut, NotYet}
-use Rattle.meet_sync.specs.declared.asked.Withdrawn.{Withdrawn}
-use Rattle.meet_sync.specs.declared.asked.Withdrawn.TheVariants.{Back, Late}
+use Rattle.meet_sync.specs.declared.asked.Followed.{Followed}
+use Rattle.meet_sync.specs.declared.asked.Followed.TheVariants.{Done, Got as HasGot, Interrupted as WasCut, NotYet}
+use Rattle.meet_sync.specs.declared.asked.TakenBack.{TakenBack}
+use Rattle.meet_sync.specs.declared.asked.TakenBack.TheVariants.{Back, Late}
 use Rattle.meet_sync.specs.declared.asked.SeatRefused.{SeatRefused}
-use Rattle.meet_sync.specs.declared.asked.Struck.{Struck}
-use Rattle.meet_sync.specs.declared.asked.Struck.TheVariants.{Cut, Flagged}
+use Rattle.meet_sync.specs.declared.asked.Interrupted.{Interrupted}
+use Rattle.meet_sync.specs.declared.asked.Interrupted.TheVariants.{Cut, Flagged}
 
 module _ {T : Type 0} where
   -- the item that a request brings
@@ -163,7 +163,7 @@ module _ {T N : Type 0} where
 
   -- a follow-up ended the ticket with one receipt, whose deed is its answer's, and what comes back has the mark that
   -- the request brought; or nothing was written
-  abbrev pub FollowedAs : (T → ℕ) → PendingView Deed → FollowedUp T N → Type 0
+  abbrev pub FollowedAs : (T → ℕ) → PendingView Deed → Followed T N → Type 0
   FollowedAs mark p (Done s) = FreesSeat p s × Adds p.list s.list (made p.number p.ticket DoneDeed ∷ [])
   FollowedAs mark p (HasGot s u item) =
       FreesSeat p s × Adds p.list s.list (made p.number p.ticket (GotDeed (mark item) u) ∷ [])
@@ -173,21 +173,21 @@ module _ {T N : Type 0} where
 
   -- the ticket was withdrawn for this cause, with one receipt, and what comes back has the mark that the request
   -- brought; or nothing was written
-  abbrev pub WithdrawnAs : (T → ℕ) → PendingView Deed → Cause → Withdrawn T N → Type 0
-  WithdrawnAs mark p cause (Back s back) = FreesSeat p s × (option_map mark back ≡ p.mark)
+  abbrev pub TakenBackAs : (T → ℕ) → PendingView Deed → Cause → TakenBack T N → Type 0
+  TakenBackAs mark p cause (Back s back) = FreesSeat p s × (option_map mark back ≡ p.mark)
       × Adds p.list s.list (made p.number p.ticket (WithdrawnDeed cause) ∷ [])
-  WithdrawnAs mark p cause (Late q) = q ≡ p
+  TakenBackAs mark p cause (Late q) = q ≡ p
 
   -- by this ending, which is no follow-up
-  abbrev pub WithdrawnBy : (T → ℕ) → PendingView Deed → Ending → Withdrawn T N → Type 0
-  WithdrawnBy mark p ToFollow result = ⊥
-  WithdrawnBy mark p ToCancel result = WithdrawnAs mark p Cancelled result
-  WithdrawnBy mark p ToExpire result = WithdrawnAs mark p Expired result
+  abbrev pub TakenBackBy : (T → ℕ) → PendingView Deed → Ending → TakenBack T N → Type 0
+  TakenBackBy mark p ToFollow result = ⊥
+  TakenBackBy mark p ToCancel result = TakenBackAs mark p Cancelled result
+  TakenBackBy mark p ToExpire result = TakenBackAs mark p Expired result
 
 module _ {N : Type 0} where
   -- an interrupt left one receipt, with its target and the ticket that it cut, a number above 0, or 0 where it cut none
-  abbrev pub StruckAs : SeatView Deed → (target : ℕ) → Struck N → Type 0
-  StruckAs seat target (Cut s t) =
+  abbrev pub InterruptedAs : SeatView Deed → (target : ℕ) → Interrupted N → Type 0
+  InterruptedAs seat target (Cut s t) =
       SameSeat seat s × (0 < t) × Adds seat.list s.list (made seat.number t (Interrupt target) ∷ [])
-  StruckAs seat target (Flagged s) =
+  InterruptedAs seat target (Flagged s) =
       SameSeat seat s × Adds seat.list s.list (made seat.number 0 (Interrupt target) ∷ [])

@@ -93,7 +93,7 @@ impl<T: Drop, N: Ledgers> SeatRefused<T, N> {
 
 /// The answer to a follow-up.
 #[derive(Debug, Drop)]
-pub enum FollowedUp<T, N: Ledgers> {
+pub enum Followed<T, N: Ledgers> {
     /// The giver was met.
     Done(Seat<Deed, N>),
     /// The taker was met: the item came from the giver with this ticket.
@@ -106,7 +106,7 @@ pub enum FollowedUp<T, N: Ledgers> {
 
 /// The answer to a cancel or an expiry.
 #[derive(Debug, Drop)]
-pub enum Withdrawn<T, N: Ledgers> {
+pub enum TakenBack<T, N: Ledgers> {
     /// The ticket left the line; a giver's item comes back.
     Back(Seat<Deed, N>, Option<T>),
     /// The ticket was met or cut before, and nothing was written: a follow-up ends it.
@@ -115,7 +115,7 @@ pub enum Withdrawn<T, N: Ledgers> {
 
 /// The answer to an interrupt.
 #[derive(Debug, Drop)]
-pub enum Struck<N: Ledgers> {
+pub enum Interrupted<N: Ledgers> {
     /// This ticket of the target's was cut.
     Cut(Seat<Deed, N>, Ticket),
     /// The target doesn't stand in the line: it is flagged.

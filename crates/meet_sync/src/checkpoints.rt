@@ -57,7 +57,8 @@ impl<O: QueuePlace + Bases, G, N: Ledgers> Queue<O, G, N> {
 }
 
 impl<O: QueuePlace, G, N: Ledgers> Queue<O, G, N> {
-    /// Drops the seat's receipts for records that are folded away by now. It takes no memory.
+    /// Drops the seat's receipts for records that are folded away by now. It waits for the lock alone, and takes no
+    /// memory.
     pub fn trim<R: Wait>(&self, rt: &R, mut seat: Seat<Deed, N>) -> Seat<Deed, N>
         ensures { (gone : ℕ) × Trims gone seat result }
     {

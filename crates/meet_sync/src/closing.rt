@@ -36,9 +36,9 @@ pub enum QueueFault<Q, B, N: Ledgers> {
     /// Fewer seats were given back than were made. The queue and the seats come back.
     SeatMissing {
         /// How many were given back.
-        have: usize,
+        have: u64,
         /// How many were made.
-        made: usize,
+        made: u64,
         queue: Q,
         seats: Vec<Back<Deed, N>>,
     },

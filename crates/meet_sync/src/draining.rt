@@ -34,11 +34,11 @@ fn items_of<T>(answers: Vec<QueueAnswer<T>>, empty: Vec<T>) -> Vec<T>
     ensures count { vec_len result ≡ vec_len answers }
 {
     let mut items = empty;
-    let mut left = answers.into_iter();
-    while let Some(answer) = left.next() {
+    let mut rest = answers.into_iter();
+    while let Some(answer) = rest.next() {
         items.push_reserved(item_of_answer(answer));
     }
-    left.destroy_empty();
+    rest.destroy_empty();
     items
 }
 
@@ -51,8 +51,8 @@ pub struct DrainedItems<T, N: Ledgers> {
     pub items: Vec<T>,
 }
 
-/// A drain of no more items makes room for as many as were asked for, and takes the lock once. Above that it looks first
-/// how many there are, and asks for no more room than is of use. Our choice.
+/// A drain of no more items makes room for as many as were asked for, and takes the lock once. Above that it looks
+/// first how many there are, and asks for no more room than is of use. Our choice.
 const FEW: u64 = 64;
 
 impl<O: QueueDrains, G: Gate, N: Ledgers> Queue<O, G, N> {
@@ -98,8 +98,8 @@ impl<O: QueueDrains, G: Gate, N: Ledgers> Queue<O, G, N> {
 
     /// `BlockingQueue.drainTo`: takes up to `max` items that givers in the line brought, in the order in which polls
     /// would, all under one hold of the lock, each by a recorded poll. Where `max` is above 64 it looks first how many
-    /// there are, and takes no more. It refuses Memory where a list can't grow, else SeatOpen, TicketsSpent, HistoryFull or Memory, the first
-    /// that applies; then nothing was taken.
+    /// there are, and takes no more. It refuses Memory where a list can't grow, else SeatOpen, TicketsSpent,
+    /// HistoryFull or Memory, the first that applies; then nothing was taken.
     pub fn drain<R: Wait>(
         &self,
         rt: &R,

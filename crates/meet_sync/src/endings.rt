@@ -2,46 +2,48 @@
 
 ghost use Rattle.std.specs.Prelude.{◌≡◌};
 ghost use Rattle.meet_tickets.specs.declared.records.Cause.TheVariants.{Cancelled, Expired};
-ghost use Rattle.meet_sync.specs.Asking.{FollowedAs, WithdrawnAs, WithdrawnBy};
+ghost use Rattle.meet_sync.specs.Asking.{FollowedAs, TakenBackAs, TakenBackBy};
 ghost use Rattle.meet_sync.specs.Told.{IsWithdrawal};
 
-use crate::asked::{FollowedUp, Withdrawn};
+use crate::asked::{Followed, TakenBack};
 use crate::queue::{Ending, Queue};
-use meet_core::{Followed, QueueAnswer, QueuePlace, TakenBack};
+use meet_core::{QueueAnswer, QueuePlace};
 use meet_place::{Gate, Ledgers, Pending};
 use meet_tickets::Deed;
 use std::sync::Wait;
 
 impl<O: QueuePlace, G: Gate, N: Ledgers> Queue<O, G, N> {
-    /// Follows an open ticket up: how it ended, or NotYet while it stands in the line. It is never refused.
-    pub fn follow_up<R: Wait>(&self, rt: &R, pending: Pending<Deed, N>) -> FollowedUp<O::Item, N>
+    /// Follows an open ticket up: how it ended, or NotYet while it stands in the line. It waits for the lock alone, and
+    /// is never refused.
+    pub fn follow_up<R: Wait>(&self, rt: &R, pending: Pending<Deed, N>) -> Followed<O::Item, N>
         ensures { FollowedAs O.Item.mark_of pending result }
     {
         let (mut seat, ticket, mark) = pending.into_parts();
-        match self.end(rt, &mut seat, (ticket, mark), Ending::FollowUp) {
-            None => FollowedUp::NotYet(Pending::new(seat, ticket, mark)),
-            Some(answer) => match answer {
-                QueueAnswer::Followed(followed) => match followed {
-                    Followed::Done => FollowedUp::Done(seat),
-                    Followed::Got(with, item) => FollowedUp::Got(seat, with, item),
-                    Followed::Interrupted(back) => FollowedUp::Interrupted(seat, back),
-                    Followed::NotYet => FollowedUp::NotYet(Pending::new(seat, ticket, mark)),
-                },
-                _ => unreachable!(),
-            },
+        let Some(answer) = self.end(rt, &mut seat, (ticket, mark), Ending::FollowUp) else {
+            return Followed::NotYet(Pending::new(seat, ticket, mark));
+        };
+        let QueueAnswer::Followed(followed) = answer else {
+            unreachable!()
+        };
+        match followed {
+            meet_core::Followed::Done => Followed::Done(seat),
+            meet_core::Followed::Got(with, item) => Followed::Got(seat, with, item),
+            meet_core::Followed::Interrupted(back) => Followed::Interrupted(seat, back),
+            meet_core::Followed::NotYet => Followed::NotYet(Pending::new(seat, ticket, mark)),
         }
     }
 
-    /// Takes an open ticket back, or answers Late where it was met or cut before. It is never refused.
-    pub fn cancel<R: Wait>(&self, rt: &R, pending: Pending<Deed, N>) -> Withdrawn<O::Item, N>
-        ensures { WithdrawnAs O.Item.mark_of pending Cancelled result }
+    /// Takes an open ticket back, or answers Late where it was met or cut before, and stays open. It waits for the lock
+    /// alone, and is never refused.
+    pub fn cancel<R: Wait>(&self, rt: &R, pending: Pending<Deed, N>) -> TakenBack<O::Item, N>
+        ensures { TakenBackAs O.Item.mark_of pending Cancelled result }
     {
         self.withdraw(rt, pending, Ending::Cancel)
     }
 
     /// The same, told as an expiry: the ticket's time ran out.
-    pub fn expire<R: Wait>(&self, rt: &R, pending: Pending<Deed, N>) -> Withdrawn<O::Item, N>
-        ensures { WithdrawnAs O.Item.mark_of pending Expired result }
+    pub fn expire<R: Wait>(&self, rt: &R, pending: Pending<Deed, N>) -> TakenBack<O::Item, N>
+        ensures { TakenBackAs O.Item.mark_of pending Expired result }
     {
         self.withdraw(rt, pending, Ending::Expire)
     }
@@ -52,20 +54,20 @@ impl<O: QueuePlace, G: Gate, N: Ledgers> Queue<O, G, N> {
         rt: &R,
         pending: Pending<Deed, N>,
         ending: Ending,
-    ) -> Withdrawn<O::Item, N>
+    ) -> TakenBack<O::Item, N>
         requires withdrawal { IsWithdrawal ending }
-        ensures { WithdrawnBy O.Item.mark_of pending ending result }
+        ensures { TakenBackBy O.Item.mark_of pending ending result }
     {
         let (mut seat, ticket, mark) = pending.into_parts();
-        match self.end(rt, &mut seat, (ticket, mark), ending) {
-            None => Withdrawn::Late(Pending::new(seat, ticket, mark)),
-            Some(answer) => match answer {
-                QueueAnswer::TakenBack(back) => match back {
-                    TakenBack::Back(item) => Withdrawn::Back(seat, item),
-                    TakenBack::Late => Withdrawn::Late(Pending::new(seat, ticket, mark)),
-                },
-                _ => unreachable!(),
-            },
+        let Some(answer) = self.end(rt, &mut seat, (ticket, mark), ending) else {
+            return TakenBack::Late(Pending::new(seat, ticket, mark));
+        };
+        let QueueAnswer::TakenBack(back) = answer else {
+            unreachable!()
+        };
+        match back {
+            meet_core::TakenBack::Back(item) => TakenBack::Back(seat, item),
+            meet_core::TakenBack::Late => TakenBack::Late(Pending::new(seat, ticket, mark)),
         }
     }
 }

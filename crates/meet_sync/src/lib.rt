@@ -15,7 +15,6 @@ mod asked;
 mod chapters;
 mod checkpoints;
 mod closing;
-mod deadline;
 mod draining;
 mod endings;
 mod laws;
@@ -29,7 +28,9 @@ mod tally;
 mod transfer_queue;
 mod whole;
 
-pub use asked::{Answer, Asked, End, Ended, FollowedUp, Request, SeatRefused, Struck, Withdrawn};
+pub use asked::{
+    Answer, Asked, End, Ended, Followed, Interrupted, Request, SeatRefused, TakenBack,
+};
 pub use chapters::Chapter;
 pub use closing::{Chronicle, QueueFault};
 pub use draining::DrainedItems;

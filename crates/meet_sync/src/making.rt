@@ -43,7 +43,7 @@ impl<G> NewQueue<G> {
 
 impl NewQueue<ParkGate> {
     /// What a queue with so many seats is made of, whose threads park. The only refusal is Memory.
-    pub fn parked(alloc: Global, seats: usize) -> Result<Self, Refusal>
+    pub fn parked(alloc: Global, seats: u64) -> Result<Self, Refusal>
         ensures gates { IfOk result (λ parts. vec_len parts.gates ≡ seats) }
         ensures records { IfOk result (λ parts. parts.blanks.records.parts ≡ seats) }
         ensures folds { IfOk result (λ parts. parts.blanks.folds.parts ≡ seats) }
@@ -56,7 +56,7 @@ impl NewQueue<ParkGate> {
 
 impl NewQueue<SpinGate> {
     /// The same of one whose threads look for a wake so many turns before they park.
-    pub fn spinning(alloc: Global, seats: usize, turns: u64) -> Result<Self, Refusal>
+    pub fn spinning(alloc: Global, seats: u64, turns: u64) -> Result<Self, Refusal>
         ensures gates { IfOk result (λ parts. vec_len parts.gates ≡ seats) }
         ensures records { IfOk result (λ parts. parts.blanks.records.parts ≡ seats) }
         ensures folds { IfOk result (λ parts. parts.blanks.folds.parts ≡ seats) }

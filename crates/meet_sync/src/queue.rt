@@ -52,7 +52,7 @@ impl Ending {
 
 impl<O: QueuePlace, G, N: Ledgers> Queue<O, G, N> {
     /// How many seats there are.
-    pub fn seats(&self) -> usize
+    pub fn seats(&self) -> u64
         ensures count { result ≡ self.now }
         ensures parts { result ≡ N.parts }
         ensures limit { result ≤ most_seats }

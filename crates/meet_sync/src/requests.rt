@@ -2,14 +2,12 @@
 
 ghost use Rattle.std.specs.Prelude.{◌≡◌, ◌<◌, ◌≤◌, None, IfOk, IfErr};
 ghost use Rattle.meet_core.specs.QueueSteps.{item_in};
-ghost use Rattle.meet_sync.specs.Asking.{item_of, RefusedAs, AskedAs, StruckAs, AnsweredBy, IsToRequest};
+ghost use Rattle.meet_sync.specs.Asking.{item_of, RefusedAs, AskedAs, InterruptedAs, AnsweredBy, IsToRequest};
 ghost use Rattle.meet_sync.specs.Told.{IsRequestWhy, IsInterruptWhy};
 
-use crate::asked::{Answer, Asked, Request, SeatRefused, Struck};
+use crate::asked::{Answer, Asked, Interrupted, Request, SeatRefused};
 use crate::queue::Queue;
-use meet_core::{
-    Gave, Interrupted, Offered, Polled, Put, QueueAnswer, QueueCall, QueuePlace, Took,
-};
+use meet_core::{Gave, Offered, Polled, Put, QueueAnswer, QueueCall, QueuePlace, Took};
 use meet_place::{Gate, Ledgers, Pending, Seat};
 use meet_tickets::{Deed, Refusal, Refused, SeatNo};
 use std::sync::Wait;
@@ -72,9 +70,11 @@ fn refused_with<T, N: Ledgers>(
 }
 
 impl<O: QueuePlace, G: Gate, N: Ledgers> Queue<O, G, N> {
-    /// Makes a request of a seat of this queue: settled at once, or parked with its ticket open. It refuses Memory
-    /// where its seat's list can't grow, else SeatOpen, TicketsSpent, HistoryFull or Memory, the first that applies;
-    /// then nothing was written, and the seat and the item come back. Where it waits, its ending grows nothing.
+    /// Makes a request of a seat of this queue: settled at once, or parked with its ticket open. It waits for the lock
+    /// alone, never for a partner: a ticket that is parked is followed up, or taken back. It refuses Memory where its
+    /// seat's list can't grow, else SeatOpen, TicketsSpent, HistoryFull or Memory, the first that applies; then nothing
+    /// was written, and the seat and the item come back. Where it waits, its ending grows nothing. A seat, or a parked
+    /// ticket, that is dropped is missing at `close`.
     pub fn request<R: Wait>(
         &self,
         rt: &R,
@@ -106,8 +106,8 @@ impl<O: QueuePlace, G: Gate, N: Ledgers> Queue<O, G, N> {
         rt: &R,
         mut seat: Seat<Deed, N>,
         target: SeatNo,
-    ) -> Result<Struck<N>, SeatRefused<O::Item, N>>
-        ensures struck { IfOk result (λ struck. StruckAs seat target struck) }
+    ) -> Result<Interrupted<N>, SeatRefused<O::Item, N>>
+        ensures interrupted { IfOk result (λ interrupted. InterruptedAs seat target interrupted) }
         ensures there { IfOk result (λ _. target < N.parts) }
         ensures refused { IfErr result (RefusedAs (IsInterruptWhy N.parts target) seat None) }
     {
@@ -123,16 +123,16 @@ impl<O: QueuePlace, G: Gate, N: Ledgers> Queue<O, G, N> {
             Err(refused) => return Err(refused_with(seat, refused)),
         };
         match answer {
-            QueueAnswer::Interrupted(struck) => match struck {
-                Interrupted::Cut(ticket) => {
+            QueueAnswer::Interrupted(interrupted) => match interrupted {
+                meet_core::Interrupted::Cut(ticket) => {
                     // No request has the ticket 0, so a ticket that was cut is above it.
                     if ticket.number() == 0 {
-                        Ok(Struck::Flagged(seat))
+                        Ok(Interrupted::Flagged(seat))
                     } else {
-                        Ok(Struck::Cut(seat, ticket))
+                        Ok(Interrupted::Cut(seat, ticket))
                     }
                 }
-                Interrupted::Flagged => Ok(Struck::Flagged(seat)),
+                meet_core::Interrupted::Flagged => Ok(Interrupted::Flagged(seat)),
             },
             _ => unreachable!(),
         }

@@ -21,7 +21,9 @@ use std::time::Clock;
 pub type SyncQueue<T, L, G, N> = Queue<Dual<T, L>, G, N>;
 
 impl<T: Marked, L: Line<T>, G: Gate, N: Ledgers> Queue<Dual<T, L>, G, N> {
-    /// `SynchronousQueue.put`: gives an item, and waits until it is taken. Refuses as `request`.
+    /// `SynchronousQueue.put`: gives an item, and waits until it is taken, which may be never. It ends with Gave where
+    /// a taker waited there, with Done where one came, and with EntryInterrupted or Interrupted, which bring the item
+    /// back, where its seat was interrupted. Refuses as `request`.
     pub fn put<R: Wait + Clock>(
         &self,
         rt: &R,
@@ -34,7 +36,8 @@ impl<T: Marked, L: Line<T>, G: Gate, N: Ledgers> Queue<Dual<T, L>, G, N> {
         self.ask(rt, seat, Request::Give(item), None)
     }
 
-    /// `SynchronousQueue.offer`: gives an item to a taker that waits, or fails. Refuses as `request`.
+    /// `SynchronousQueue.offer`: gives an item to a taker that waits, and ends with Gave, or fails, and ends with
+    /// Failed, which brings the item back. It doesn't wait. Refuses as `request`.
     pub fn offer<R: Wait + Clock>(
         &self,
         rt: &R,
@@ -47,7 +50,8 @@ impl<T: Marked, L: Line<T>, G: Gate, N: Ledgers> Queue<Dual<T, L>, G, N> {
         self.ask(rt, seat, Request::Offer(item), None)
     }
 
-    /// `SynchronousQueue.offer` with a limit in milliseconds; with a limit of 0 it is `offer`. Refuses as `request`.
+    /// `SynchronousQueue.offer` with a limit in milliseconds; with a limit of 0 it is `offer`. With another it ends as
+    /// `put`, or with TimedOut, which brings the item back. Refuses as `request`.
     pub fn offer_for<R: Wait + Clock>(
         &self,
         rt: &R,

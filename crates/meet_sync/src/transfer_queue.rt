@@ -19,8 +19,8 @@ use std::time::Clock;
 pub type TransferQueue<T, G, N> = Queue<Unbounded<T>, G, N>;
 
 impl<T: Marked, G: Gate, N: Ledgers> Queue<Unbounded<T>, G, N> {
-    /// `LinkedTransferQueue.put`: the item goes to a taker that waits, or is kept in the line, and its giver goes on;
-    /// it never waits, and never fails. Refuses as `request`.
+    /// `LinkedTransferQueue.put`: the item goes to a taker that waits, and the call ends with Gave, or it is kept in
+    /// the line, and the call ends with Kept; it never waits, and never fails. Refuses as `request`.
     pub fn put<R: Wait>(
         &self,
         rt: &R,
@@ -70,7 +70,9 @@ impl<T: Marked, G: Gate, N: Ledgers> Queue<Unbounded<T>, G, N> {
         self.offer(rt, seat, item)
     }
 
-    /// `LinkedTransferQueue.transfer`: gives an item, and waits until it is taken. Refuses as `request`.
+    /// `LinkedTransferQueue.transfer`: gives an item, and waits until it is taken, which may be never. It ends with
+    /// Gave where a taker waited there, with Done where one came, and with EntryInterrupted or Interrupted, which bring
+    /// the item back, where its seat was interrupted. Refuses as `request`.
     pub fn transfer<R: Wait + Clock>(
         &self,
         rt: &R,
@@ -83,7 +85,8 @@ impl<T: Marked, G: Gate, N: Ledgers> Queue<Unbounded<T>, G, N> {
         self.ask(rt, seat, Request::Give(item), None)
     }
 
-    /// `LinkedTransferQueue.tryTransfer`: gives an item to a taker that waits, or fails. Refuses as `request`.
+    /// `LinkedTransferQueue.tryTransfer`: gives an item to a taker that waits, and ends with Gave, or fails, and ends
+    /// with Failed, which brings the item back. It doesn't wait. Refuses as `request`.
     pub fn try_transfer<R: Wait + Clock>(
         &self,
         rt: &R,
@@ -96,8 +99,8 @@ impl<T: Marked, G: Gate, N: Ledgers> Queue<Unbounded<T>, G, N> {
         self.ask(rt, seat, Request::Offer(item), None)
     }
 
-    /// `LinkedTransferQueue.tryTransfer` with a limit in milliseconds; with a limit of 0 it is `try_transfer`. Refuses
-    /// as `request`.
+    /// `LinkedTransferQueue.tryTransfer` with a limit in milliseconds; with a limit of 0 it is `try_transfer`. With
+    /// another it ends as `transfer`, or with TimedOut, which brings the item back. Refuses as `request`.
     pub fn transfer_for<R: Wait + Clock>(
         &self,
         rt: &R,

@@ -1,19 +1,29 @@
 //! The whole calls of a queue: a request, and where it waits, the wait for its ending.
 
-ghost use Rattle.std.specs.Prelude.{◌≡◌, ◌<◌, ⊤, IfOk, IfErr, IfNone};
+ghost use Rattle.std.specs.Prelude.{◌≡◌, ◌<◌, ⊤, None, IfOk, IfErr, IfNone};
 ghost use Rattle.meet_sync.specs.Asking.{item_of, RefusedAs};
 ghost use Rattle.meet_sync.specs.Ending.{EndedAs, MayRunOut, OutcomeOf, NotExpired};
 ghost use Rattle.meet_sync.specs.Told.{IsRequestWhy};
 ghost use Rattle.meet_sync.specs.declared.asked.Request.TheVariants.{Give, Offer, Take, Poll};
 
-use crate::asked::{Asked, End, Ended, FollowedUp, Request, SeatRefused, Withdrawn};
-use crate::deadline::{begun, left_of};
+use crate::asked::{Asked, End, Ended, Followed, Request, SeatRefused, TakenBack};
 use crate::queue::Queue;
+use meet_cells::Deadline;
 use meet_core::QueuePlace;
 use meet_place::{Gate, Ledgers, Pending, Seat, Turn};
 use meet_tickets::Deed;
 use std::sync::Wait;
 use std::time::Clock;
+
+/// How many milliseconds remain of a limit until its deadline; none where there is no limit.
+fn remaining_until<R: Clock>(rt: &R, deadline: Option<Deadline>) -> Option<u64>
+    ensures untimed { IfNone deadline (result ≡ None) }
+{
+    match deadline {
+        None => None,
+        Some(deadline) => Some(deadline.remaining(rt)),
+    }
+}
 
 impl<O: QueuePlace, G: Gate, N: Ledgers> Queue<O, G, N> {
     /// Follows an open ticket up: how it ended, or the ticket as it was.
@@ -27,19 +37,19 @@ impl<O: QueuePlace, G: Gate, N: Ledgers> Queue<O, G, N> {
         ensures again { IfErr result (λ again. again ≡ pending) }
     {
         match self.follow_up(rt, pending) {
-            FollowedUp::Done(seat) => Ok(Ended {
+            Followed::Done(seat) => Ok(Ended {
                 seat,
                 end: End::Done,
             }),
-            FollowedUp::Got(seat, with, item) => Ok(Ended {
+            Followed::Got(seat, with, item) => Ok(Ended {
                 seat,
                 end: End::Got(with, item),
             }),
-            FollowedUp::Interrupted(seat, back) => Ok(Ended {
+            Followed::Interrupted(seat, back) => Ok(Ended {
                 seat,
                 end: End::Interrupted(back),
             }),
-            FollowedUp::NotYet(again) => Err(again),
+            Followed::NotYet(again) => Err(again),
         }
     }
 
@@ -53,33 +63,33 @@ impl<O: QueuePlace, G: Gate, N: Ledgers> Queue<O, G, N> {
         ensures again { IfErr result (λ again. again ≡ pending) }
     {
         match self.expire(rt, pending) {
-            Withdrawn::Back(seat, back) => Ok(Ended {
+            TakenBack::Back(seat, back) => Ok(Ended {
                 seat,
                 end: End::TimedOut(back),
             }),
-            Withdrawn::Late(again) => self.look(rt, again),
+            TakenBack::Late(again) => self.look(rt, again),
         }
     }
 
-    /// One wait at the seat's gate, for as many milliseconds as are left where there is a limit, and a look at how the
+    /// One wait at the seat's gate, for as many milliseconds as remain where there is a limit, and a look at how the
     /// ticket ended; where the time is up, it is withdrawn.
     fn turn<R: Wait + Clock>(
         &self,
         rt: &R,
         pending: Pending<Deed, N>,
-        left: Option<u64>,
+        remaining: Option<u64>,
     ) -> Result<Ended<O::Item, N>, Pending<Deed, N>>
         ensures outcome { IfOk result (λ ended. OutcomeOf O.Item.mark_of pending ended) }
-        ensures untimed { IfNone left (IfOk result (λ ended. NotExpired ended.end)) }
+        ensures untimed { IfNone remaining (IfOk result (λ ended. NotExpired ended.end)) }
         ensures again { IfErr result (λ again. again ≡ pending) }
     {
-        match left {
+        match remaining {
             None => {
                 let _ = self.wait(rt, &pending, None);
                 self.look(rt, pending)
             }
             Some(time) => {
-                if time == 0 || self.wait(rt, &pending, left) == Turn::Elapsed {
+                if time == 0 || self.wait(rt, &pending, remaining) == Turn::Elapsed {
                     self.run_out(rt, pending)
                 } else {
                     self.look(rt, pending)
@@ -99,22 +109,23 @@ impl<O: QueuePlace, G: Gate, N: Ledgers> Queue<O, G, N> {
         ensures outcome { OutcomeOf O.Item.mark_of first result }
         ensures untimed { IfNone limit (NotExpired result.end) }
     {
-        let start = begun(rt, limit);
-        let mut left = limit;
+        let deadline = Deadline::after(rt, limit);
+        let mut remaining = limit;
         let mut pending = first;
         for _ in rt.forever() {
-            match self.turn(rt, pending, left) {
+            match self.turn(rt, pending, remaining) {
                 Ok(ended) => return ended,
                 Err(again) => pending = again,
             }
-            left = left_of(rt, start, limit);
+            remaining = remaining_until(rt, deadline);
         }
         unreachable!()
     }
 
     /// A whole call, of a queue of any kind: a request, and the wait for its ending, for so many milliseconds where
-    /// there is a limit. Put is `BlockingQueue.put`, Give `TransferQueue.transfer`, Offer `TransferQueue.tryTransfer`;
-    /// in a synchronous queue the first two are the same, and the last is its `offer`. Refuses as `request`.
+    /// there is a limit; without one it may wait for ever. Put is `BlockingQueue.put`, Give `TransferQueue.transfer`,
+    /// Offer `TransferQueue.tryTransfer`; in a synchronous queue the first two are the same, and the last is its
+    /// `offer`. Refuses as `request`.
     pub fn ask<R: Wait + Clock>(
         &self,
         rt: &R,
@@ -156,7 +167,8 @@ impl<O: QueuePlace, G: Gate, N: Ledgers> Queue<O, G, N> {
         self.ask(rt, seat, Request::Give(item), Some(limit))
     }
 
-    /// `BlockingQueue.take`: takes an item, and waits until there is one. Refuses as `request`.
+    /// `BlockingQueue.take`: takes an item, and waits until there is one, which may be never. It ends with Got, or with
+    /// EntryInterrupted or Interrupted where its seat was interrupted. Refuses as `request`.
     pub fn take<R: Wait + Clock>(
         &self,
         rt: &R,
@@ -168,7 +180,8 @@ impl<O: QueuePlace, G: Gate, N: Ledgers> Queue<O, G, N> {
         self.ask(rt, seat, Request::Take, None)
     }
 
-    /// `Queue.poll`: takes an item from a giver that is there, or fails. Refuses as `request`.
+    /// `Queue.poll`: takes an item from a giver that is there, and ends with Got, or fails, and ends with Failed. It
+    /// doesn't wait. Refuses as `request`.
     pub fn poll<R: Wait + Clock>(
         &self,
         rt: &R,
@@ -180,7 +193,8 @@ impl<O: QueuePlace, G: Gate, N: Ledgers> Queue<O, G, N> {
         self.ask(rt, seat, Request::Poll, None)
     }
 
-    /// `BlockingQueue.poll` with a limit in milliseconds; with a limit of 0 it is `poll`. Refuses as `request`.
+    /// `BlockingQueue.poll` with a limit in milliseconds; with a limit of 0 it is `poll`. With another it ends as
+    /// `take`, or with TimedOut. Refuses as `request`.
     pub fn poll_for<R: Wait + Clock>(
         &self,
         rt: &R,

@@ -8,7 +8,7 @@ use meet_core::{QueueLeaves, QueuePlace};
 use meet_line::FairLine;
 use meet_shop::{Idle, gates, two_backs, two_seats};
 use meet_sync::{
-    Asked, Back, Blanks, Chapter, Chronicle, FollowedUp, Ledgers, NewQueue, Pending, Queue,
+    Asked, Back, Blanks, Chapter, Chronicle, Followed, Ledgers, NewQueue, Pending, Queue,
     QueueFault, Request, Seat, SyncQueue,
 };
 use meet_tickets::{Base, Deed, Record, SeatNo, Ticket};
@@ -85,7 +85,7 @@ fn gets_7<O: QueuePlace<Item = u64>, N: Ledgers, R: Abort + Wait>(
     pending: Pending<Deed, N>,
 ) -> Seat<Deed, N> {
     match queue.follow_up(rt, pending) {
-        FollowedUp::Got(seat, _, 7) => seat,
+        Followed::Got(seat, _, 7) => seat,
         _ => panic!(rt; "the take wasn't met"),
     }
 }
@@ -117,8 +117,8 @@ fn first_chapter<O: QueuePlace<Item = u64> + Bases, N: Ledgers, R: Abort + Wait>
     (seat, chapter)
 }
 
-/// What is handed out once seat 1 waits to take: the record of that, behind the first. The list of the chapter before is
-/// used again.
+/// What is handed out once seat 1 waits to take: the record of that, behind the first. The list of the chapter before
+/// is used again.
 fn second_chapter<O: QueuePlace<Item = u64> + Bases, N: Ledgers, R: Abort + Wait>(
     rt: &R,
     queue: &Queue<O, Idle, N>,

@@ -128,8 +128,8 @@ fn what_is_kept_is_left(rt: HostRuntime) -> Result<(), Fail> {
 
 /// How many seats were given back at first, and of how many; and what was left once all were.
 struct Late {
-    have: usize,
-    made: usize,
+    have: u64,
+    made: u64,
     chronicle: Chronicle<u64>,
 }
 

@@ -6,8 +6,8 @@ ghost use Rattle.meet_place.specs.Ledgers.{AreOf};
 use meet_line::Line;
 use meet_shop::{Ask, Found, Idle, Seats, gates, given, seated};
 use meet_sync::{
-    Answer, Asked, Back, Blanks, Chronicle, FairLine, FollowedUp, Ledgers, Left, LeftStanding,
-    NewQueue, Pending, Request, Seat, SeatRefused, StackLine, Struck, SyncQueue,
+    Answer, Asked, Back, Blanks, Chronicle, FairLine, Followed, Interrupted, Ledgers, Left,
+    LeftStanding, NewQueue, Pending, Request, Seat, SeatRefused, StackLine, SyncQueue,
 };
 use meet_tickets::{Deed, Marked, SeatNo};
 use std::alloc::Global;
@@ -70,10 +70,10 @@ fn asked<N: Ledgers>(asked: Asked<Seal, N>) -> Came<N> {
     }
 }
 
-fn struck<N: Ledgers>(struck: Struck<N>) -> Came<N> {
-    match struck {
-        Struck::Cut(seat, _) => (Back::Free(seat), None),
-        Struck::Flagged(seat) => (Back::Free(seat), None),
+fn interrupted<N: Ledgers>(interrupted: Interrupted<N>) -> Came<N> {
+    match interrupted {
+        Interrupted::Cut(seat, _) => (Back::Free(seat), None),
+        Interrupted::Flagged(seat) => (Back::Free(seat), None),
     }
 }
 
@@ -96,7 +96,7 @@ fn interrupts<L: Line<Seal>, N: Ledgers, R: Wait>(
     target: SeatNo,
 ) -> Came<N> {
     match queue.interrupt(rt, seat, target) {
-        Ok(came) => struck(came),
+        Ok(came) => interrupted(came),
         Err(why) => refused(why),
     }
 }
@@ -107,10 +107,10 @@ fn follows<L: Line<Seal>, N: Ledgers, R: Wait>(
     pending: Pending<Deed, N>,
 ) -> Came<N> {
     match queue.follow_up(rt, pending) {
-        FollowedUp::Done(seat) => (Back::Free(seat), None),
-        FollowedUp::Got(seat, _, item) => (Back::Free(seat), Some(broken(item))),
-        FollowedUp::Interrupted(seat, back) => (Back::Free(seat), broken_if_there(back)),
-        FollowedUp::NotYet(pending) => (Back::Held(pending), None),
+        Followed::Done(seat) => (Back::Free(seat), None),
+        Followed::Got(seat, _, item) => (Back::Free(seat), Some(broken(item))),
+        Followed::Interrupted(seat, back) => (Back::Free(seat), broken_if_there(back)),
+        Followed::NotYet(pending) => (Back::Held(pending), None),
     }
 }
 

@@ -117,8 +117,8 @@ abbrev pub flagged : {X : Type 0} → Seats X → ℕ → Bool → Seats X
 flagged s i flag = record s { flags = put_at s.flags i flag }
 
 -- the seat's ticket leaves the line and ends
-abbrev pub left : {X : Type 0} → Seats X → (seat ticket : ℕ) → Seats X
-left s i t = record (released s i) { line = without_first (λ e. e.ticket == t) s.line }
+abbrev pub withdrawn : {X : Type 0} → Seats X → (seat ticket : ℕ) → Seats X
+withdrawn s i t = record (released s i) { line = without_first (λ e. e.ticket == t) s.line }
 
 -- the target's entry leaves the line, and awaits its follow-up
 abbrev pub cut_off : {X : Type 0} → Seats X → (target : ℕ) → Entry X → Seats X
@@ -171,8 +171,8 @@ seats_after k s i t TakeFails = s
 seats_after k s i t (EntryInterrupted side) = flagged s i false
 seats_after k s i t Done = released s i
 seats_after k s i t (Got m u) = released s i
-seats_after k s i t (Withdrawn Cancelled) = left s i t
-seats_after k s i t (Withdrawn Expired) = left s i t
+seats_after k s i t (Withdrawn Cancelled) = withdrawn s i t
+seats_after k s i t (Withdrawn Expired) = withdrawn s i t
 seats_after k s i t (Withdrawn Interrupted) = released s i
 seats_after k s i t (Interrupt j) = interrupted s j
 

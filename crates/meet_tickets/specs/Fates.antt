@@ -13,7 +13,7 @@ use Rattle.meet_tickets.specs.declared.records.Deed.TheVariants.{TakeMeets, Take
 use Rattle.meet_tickets.specs.declared.records.Deed.TheVariants.{Withdrawn, Interrupt}
 use Rattle.meet_tickets.specs.declared.fates.Fate.{Fate}
 use Rattle.meet_tickets.specs.declared.fates.Fate.TheVariants.{Never, Failed, EntryRefused, Paired, Collected}
-use Rattle.meet_tickets.specs.declared.fates.Fate.TheVariants.{Withdrawn as TakenBack, Cut, Kept, Waiting, Past}
+use Rattle.meet_tickets.specs.declared.fates.Fate.TheVariants.{Withdrawn as WasWithdrawn, Cut, Kept, Waiting, Past}
 use Rattle.meet_tickets.specs.declared.lines.Entry.{Entry}
 use Rattle.meet_tickets.specs.declared.places.Side.{Side}
 use Rattle.meet_tickets.specs.declared.places.Side.TheVariants.{Giver, Taker}
@@ -85,7 +85,7 @@ fate_asked history t TakeFails = Failed
 fate_asked history t (EntryInterrupted side) = EntryRefused
 fate_asked history t deed =
     option_map_or (λ u. if has_learned history t then Collected u else Paired u) (partner_in history t)
-    (option_map_or (λ cause. TakenBack cause) (withdrawal_of history t)
+    (option_map_or (λ cause. WasWithdrawn cause) (withdrawal_of history t)
     (if was_cut history t then Cut else (if waits_first deed then Waiting else Kept)))
 
 -- the fate of a ticket

@@ -30,7 +30,7 @@ impl<T> Entry<T> {
 }
 
 /// What a seat has open: at most one ticket.
-#[derive(Drop)]
+#[derive(Debug, Drop)]
 pub enum Hold<T> {
     /// Nothing is open.
     Free,

@@ -26,8 +26,8 @@ use Rattle.pool_core.specs.declared.answers.Executed.TheVariants.{Handed, Starte
 use Rattle.pool_core.specs.declared.answers.Executed.TheVariants.{Dropped, DroppedOldest}
 use Rattle.pool_core.specs.declared.answers.Ready.{Ready}
 use Rattle.pool_core.specs.declared.answers.Ready.TheVariants.{Run, Waits, Exit}
-use Rattle.pool_core.specs.declared.answers.FollowedUp.{FollowedUp}
-use Rattle.pool_core.specs.declared.answers.FollowedUp.TheVariants.{Run as FollowRun, Exit as FollowExit, NotYet}
+use Rattle.pool_core.specs.declared.answers.Followed.{Followed}
+use Rattle.pool_core.specs.declared.answers.Followed.TheVariants.{Run as FollowRun, Exit as FollowExit, NotYet}
 use Rattle.pool_core.specs.declared.answers.IdleEnd.{IdleEnd}
 use Rattle.pool_core.specs.declared.answers.IdleEnd.TheVariants.{Exit as IdleExits, Stay, Late}
 use Rattle.pool_core.specs.Pools.{stage_of, owed, kept_tasks}
@@ -39,7 +39,7 @@ use Rattle.meet_tickets.specs.Limits.{last_ticket, most_kept}
 -- a step of a pool: which deed, by whom, at which ticket
 pub record Step {X : Type 0} (old : Shown X) (seat ticket : ℕ) (deed : PoolDeed X) (new : Shown X) : Type 0 where
   pub allowed : Allows old.settings old.pool seat ticket deed
-  pub left : new.pool ≡ after old.settings old.pool seat ticket deed
+  pub pool_is : new.pool ≡ after old.settings old.pool seat ticket deed
   pub used : new.next ≡ old.next + draws (stage_of old.settings old.pool seat) deed
   pub newest : 0 < draws (stage_of old.settings old.pool seat) deed → ticket + 1 ≡ new.next
   pub settings : new.settings ≡ old.settings
@@ -108,7 +108,7 @@ ready_deed Waits = WaitsDeed
 ready_deed Exit = Exits
 
 -- of an answer to `follow`, and of one that writes none
-abbrev pub FollowStep : {X : Type 0} → Shown X → (seat ticket : ℕ) → FollowedUp X → Shown X → Type 0
+abbrev pub FollowStep : {X : Type 0} → Shown X → (seat ticket : ℕ) → Followed X → Shown X → Type 0
 FollowStep old i t (FollowRun u job) new = Step old i t (Runs u job) new
 FollowStep old i t FollowExit new = Step old i t Exits new
 FollowStep old i t NotYet new = (stage_of old.settings old.pool i ≡ Waiting t) × (new ≡ old)

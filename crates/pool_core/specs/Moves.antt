@@ -7,15 +7,16 @@ use Rattle.pool_core.specs.declared.calls.PoolCall.{PoolCall}
 use Rattle.pool_core.specs.declared.calls.PoolCall.TheVariants.{Execute, ShutDown, ShutDownNow, Ready, Follow, Finish}
 use Rattle.pool_core.specs.declared.calls.PoolCall.TheVariants.{IdleEnd, Leave, StartFailed}
 use Rattle.pool_core.specs.declared.calls.PoolAnswer.{PoolAnswer}
-use Rattle.pool_core.specs.declared.calls.PoolAnswer.TheVariants.{Executed, WasShut, Returned, BeReady, Followed}
+use Rattle.pool_core.specs.declared.calls.PoolAnswer.TheVariants.{Executed, WasShut, Returned, BeReady}
+use Rattle.pool_core.specs.declared.calls.PoolAnswer.TheVariants.{Followed as ToFollow}
 use Rattle.pool_core.specs.declared.calls.PoolAnswer.TheVariants.{Finished, Idled, Left, NotStarted}
 use Rattle.pool_core.specs.declared.answers.Executed.{Executed as ExecuteAnswer}
 use Rattle.pool_core.specs.declared.answers.Executed.TheVariants.{Handed, Started, Kept, KeptStart, Aborted, CallerRuns}
 use Rattle.pool_core.specs.declared.answers.Executed.TheVariants.{Dropped, DroppedOldest}
 use Rattle.pool_core.specs.declared.answers.Ready.{Ready as ReadyAnswer}
 use Rattle.pool_core.specs.declared.answers.Ready.TheVariants.{Run, Waits, Exit}
-use Rattle.pool_core.specs.declared.answers.FollowedUp.{FollowedUp}
-use Rattle.pool_core.specs.declared.answers.FollowedUp.TheVariants.{Run as FollowRun, Exit as FollowExit, NotYet}
+use Rattle.pool_core.specs.declared.answers.Followed.{Followed}
+use Rattle.pool_core.specs.declared.answers.Followed.TheVariants.{Run as FollowRun, Exit as FollowExit, NotYet}
 use Rattle.pool_core.specs.declared.answers.IdleEnd.TheVariants.{Exit as IdleExits, Stay, Late}
 use Rattle.pool_core.specs.declared.answers.IdleEnd.{IdleEnd as IdleAnswer}
 use Rattle.pool_core.specs.Pools.{Pool, kept_tasks, task_at, is_there, worker_of}
@@ -131,7 +132,7 @@ module _ {X : Type 0} where
   ReadyMoves w Exit old new = Ends w old new
 
   -- to its `follow`
-  abbrev pub FollowMoves : (w : ℕ) → FollowedUp X → Jobs X → Jobs X → Type 0
+  abbrev pub FollowMoves : (w : ℕ) → Followed X → Jobs X → Jobs X → Type 0
   FollowMoves w (FollowRun u job) old new = Own w job old new ⊎ First w job old new
   FollowMoves w FollowExit old new = Ends w old new
   FollowMoves w NotYet old new = new ≡ old
@@ -153,7 +154,7 @@ module _ {X : Type 0} where
   Moves w ShutDown WasShut old new = new ≡ old
   Moves w ShutDownNow (Returned jobs) old new = Empties (length jobs.items) old new
   Moves w Ready (BeReady t answer) old new = ReadyMoves w answer old new
-  Moves w Follow (Followed t answer) old new = FollowMoves w answer old new
+  Moves w Follow (ToFollow t answer) old new = FollowMoves w answer old new
   Moves w (Finish a) (Finished t) old new = new ≡ old
   Moves w IdleEnd (Idled t answer) old new = IdleMoves w answer old new
   Moves w Leave Left old new = Ends w old new

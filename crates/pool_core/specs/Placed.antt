@@ -12,10 +12,11 @@ use Rattle.pool_core.specs.declared.calls.PoolCall.{PoolCall}
 use Rattle.pool_core.specs.declared.calls.PoolCall.TheVariants.{Execute, ShutDown, ShutDownNow, Ready, Follow, Finish}
 use Rattle.pool_core.specs.declared.calls.PoolCall.TheVariants.{IdleEnd, Leave, StartFailed}
 use Rattle.pool_core.specs.declared.calls.PoolAnswer.{PoolAnswer}
-use Rattle.pool_core.specs.declared.calls.PoolAnswer.TheVariants.{Executed, WasShut, Returned, BeReady, Followed}
+use Rattle.pool_core.specs.declared.calls.PoolAnswer.TheVariants.{Executed, WasShut, Returned, BeReady}
+use Rattle.pool_core.specs.declared.calls.PoolAnswer.TheVariants.{Followed as ToFollow}
 use Rattle.pool_core.specs.declared.calls.PoolAnswer.TheVariants.{Finished, Idled, Left, NotStarted}
-use Rattle.pool_core.specs.declared.answers.FollowedUp.{FollowedUp}
-use Rattle.pool_core.specs.declared.answers.FollowedUp.TheVariants.{Run as FollowRun, Exit as FollowExit, NotYet}
+use Rattle.pool_core.specs.declared.answers.Followed.{Followed}
+use Rattle.pool_core.specs.declared.answers.Followed.TheVariants.{Run as FollowRun, Exit as FollowExit, NotYet}
 use Rattle.pool_core.specs.declared.answers.IdleEnd.TheVariants.{Exit as IdleExits, Stay, Late}
 use Rattle.pool_core.specs.declared.answers.IdleEnd.{IdleEnd as IdleAnswer}
 use Rattle.pool_core.specs.Shown.{Shown}
@@ -31,7 +32,7 @@ PoolStep old i (Execute job) (Executed t answer) new = Step old i t (execute_dee
 PoolStep old i ShutDown WasShut new = Step old i 0 ShutDownDeed new
 PoolStep old i ShutDownNow (Returned jobs) new = ReturnStep old i jobs.items new
 PoolStep old i Ready (BeReady t answer) new = Step old i t (ready_deed answer) new
-PoolStep old i Follow (Followed t answer) new = FollowStep old i t answer new
+PoolStep old i Follow (ToFollow t answer) new = FollowStep old i t answer new
 PoolStep old i (Finish a) (Finished t) new = Step old i t (FinishedDeed a) new
 PoolStep old i IdleEnd (Idled t answer) new = IdleStep old i t answer new
 PoolStep old i Leave Left new = Step old i 0 Leaves new
@@ -80,7 +81,7 @@ abbrev pub recorded : (seat ticket : ℕ) → PoolDeed ℕ → Option (Record (P
 recorded i t deed = Some (record { seat = i; ticket = t; deed = deed })
 
 -- the record of an answer to `follow`, and to `idle_end`
-abbrev pub follow_record : {X : Type 0} → (X → ℕ) → (seat ticket : ℕ) → FollowedUp X → Option (Record (PoolDeed ℕ))
+abbrev pub follow_record : {X : Type 0} → (X → ℕ) → (seat ticket : ℕ) → Followed X → Option (Record (PoolDeed ℕ))
 follow_record mark i t (FollowRun u job) = recorded i t (Runs u (mark job))
 follow_record mark i t FollowExit = recorded i t Exits
 follow_record mark i t NotYet = None
@@ -96,7 +97,7 @@ pool_record mark i (Execute job) (Executed t answer) = recorded i t (tagged_deed
 pool_record mark i ShutDown WasShut = recorded i 0 ShutDownDeed
 pool_record mark i ShutDownNow (Returned jobs) = recorded i 0 (ShutDownNowDeed (length jobs.items))
 pool_record mark i Ready (BeReady t answer) = recorded i t (tagged_deed mark (ready_deed answer))
-pool_record mark i Follow (Followed t answer) = follow_record mark i t answer
+pool_record mark i Follow (ToFollow t answer) = follow_record mark i t answer
 pool_record mark i (Finish a) (Finished t) = recorded i t (FinishedDeed a)
 pool_record mark i IdleEnd (Idled t answer) = idle_record i t answer
 pool_record mark i Leave Left = recorded i 0 Leaves
@@ -104,7 +105,7 @@ pool_record mark i StartFailed (NotStarted t job) = recorded i t StartFailedDeed
 pool_record mark i call answer = None
 
 -- a record is of the seat that called
-own-follow : {X : Type 0} (mark : X → ℕ) (i t : ℕ) (answer : FollowedUp X)
+own-follow : {X : Type 0} (mark : X → ℕ) (i t : ℕ) (answer : Followed X)
     → MatchOption (follow_record mark i t answer) ⊤ (λ r. r.seat ≡ i)
 own-follow mark i t (FollowRun u job) = refl
 own-follow mark i t FollowExit = refl
@@ -121,7 +122,7 @@ own-record mark i (Execute job) (Executed t answer) = refl
 own-record mark i (Execute job) WasShut = tt
 own-record mark i (Execute job) (Returned jobs) = tt
 own-record mark i (Execute job) (BeReady t answer) = tt
-own-record mark i (Execute job) (Followed t answer) = tt
+own-record mark i (Execute job) (ToFollow t answer) = tt
 own-record mark i (Execute job) (Finished t) = tt
 own-record mark i (Execute job) (Idled t answer) = tt
 own-record mark i (Execute job) Left = tt
@@ -130,7 +131,7 @@ own-record mark i ShutDown (Executed t answer) = tt
 own-record mark i ShutDown WasShut = refl
 own-record mark i ShutDown (Returned jobs) = tt
 own-record mark i ShutDown (BeReady t answer) = tt
-own-record mark i ShutDown (Followed t answer) = tt
+own-record mark i ShutDown (ToFollow t answer) = tt
 own-record mark i ShutDown (Finished t) = tt
 own-record mark i ShutDown (Idled t answer) = tt
 own-record mark i ShutDown Left = tt
@@ -139,7 +140,7 @@ own-record mark i ShutDownNow (Executed t answer) = tt
 own-record mark i ShutDownNow WasShut = tt
 own-record mark i ShutDownNow (Returned jobs) = refl
 own-record mark i ShutDownNow (BeReady t answer) = tt
-own-record mark i ShutDownNow (Followed t answer) = tt
+own-record mark i ShutDownNow (ToFollow t answer) = tt
 own-record mark i ShutDownNow (Finished t) = tt
 own-record mark i ShutDownNow (Idled t answer) = tt
 own-record mark i ShutDownNow Left = tt
@@ -148,7 +149,7 @@ own-record mark i Ready (Executed t answer) = tt
 own-record mark i Ready WasShut = tt
 own-record mark i Ready (Returned jobs) = tt
 own-record mark i Ready (BeReady t answer) = refl
-own-record mark i Ready (Followed t answer) = tt
+own-record mark i Ready (ToFollow t answer) = tt
 own-record mark i Ready (Finished t) = tt
 own-record mark i Ready (Idled t answer) = tt
 own-record mark i Ready Left = tt
@@ -157,7 +158,7 @@ own-record mark i Follow (Executed t answer) = tt
 own-record mark i Follow WasShut = tt
 own-record mark i Follow (Returned jobs) = tt
 own-record mark i Follow (BeReady t answer) = tt
-own-record mark i Follow (Followed t answer) = own-follow mark i t answer
+own-record mark i Follow (ToFollow t answer) = own-follow mark i t answer
 own-record mark i Follow (Finished t) = tt
 own-record mark i Follow (Idled t answer) = tt
 own-record mark i Follow Left = tt
@@ -166,7 +167,7 @@ own-record mark i (Finish a) (Executed t answer) = tt
 own-record mark i (Finish a) WasShut = tt
 own-record mark i (Finish a) (Returned jobs) = tt
 own-record mark i (Finish a) (BeReady t answer) = tt
-own-record mark i (Finish a) (Followed t answer) = tt
+own-record mark i (Finish a) (ToFollow t answer) = tt
 own-record mark i (Finish a) (Finished t) = refl
 own-record mark i (Finish a) (Idled t answer) = tt
 own-record mark i (Finish a) Left = tt
@@ -175,7 +176,7 @@ own-record mark i IdleEnd (Executed t answer) = tt
 own-record mark i IdleEnd WasShut = tt
 own-record mark i IdleEnd (Returned jobs) = tt
 own-record mark i IdleEnd (BeReady t answer) = tt
-own-record mark i IdleEnd (Followed t answer) = tt
+own-record mark i IdleEnd (ToFollow t answer) = tt
 own-record mark i IdleEnd (Finished t) = tt
 own-record mark i IdleEnd (Idled t answer) = own-idle i t answer
 own-record mark i IdleEnd Left = tt
@@ -184,7 +185,7 @@ own-record mark i Leave (Executed t answer) = tt
 own-record mark i Leave WasShut = tt
 own-record mark i Leave (Returned jobs) = tt
 own-record mark i Leave (BeReady t answer) = tt
-own-record mark i Leave (Followed t answer) = tt
+own-record mark i Leave (ToFollow t answer) = tt
 own-record mark i Leave (Finished t) = tt
 own-record mark i Leave (Idled t answer) = tt
 own-record mark i Leave Left = refl
@@ -193,7 +194,7 @@ own-record mark i StartFailed (Executed t answer) = tt
 own-record mark i StartFailed WasShut = tt
 own-record mark i StartFailed (Returned jobs) = tt
 own-record mark i StartFailed (BeReady t answer) = tt
-own-record mark i StartFailed (Followed t answer) = tt
+own-record mark i StartFailed (ToFollow t answer) = tt
 own-record mark i StartFailed (Finished t) = tt
 own-record mark i StartFailed (Idled t answer) = tt
 own-record mark i StartFailed Left = tt
@@ -236,7 +237,7 @@ pub roomy-steps : {X : Type 0} (old : Shown X) (room i : ℕ) (call : PoolCall X
 roomy-steps old room i (Execute job) (Executed t answer) new some step = (
   record {
     allowed = step.0.allowed;
-    left = step.0.left;
+    pool_is = step.0.pool_is;
     used = step.0.used;
     newest = step.0.newest;
     settings = step.0.settings;
@@ -246,7 +247,7 @@ roomy-steps old room i (Execute job) (Executed t answer) new some step = (
 roomy-steps old room i (Execute job) WasShut new some step = absurd step
 roomy-steps old room i (Execute job) (Returned jobs) new some step = absurd step
 roomy-steps old room i (Execute job) (BeReady t answer) new some step = absurd step
-roomy-steps old room i (Execute job) (Followed t answer) new some step = absurd step
+roomy-steps old room i (Execute job) (ToFollow t answer) new some step = absurd step
 roomy-steps old room i (Execute job) (Finished t) new some step = absurd step
 roomy-steps old room i (Execute job) (Idled t answer) new some step = absurd step
 roomy-steps old room i (Execute job) Left new some step = absurd step

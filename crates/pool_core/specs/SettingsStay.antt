@@ -9,8 +9,8 @@ use Rattle.pool_core.specs.declared.calls.PoolCall.{PoolCall}
 use Rattle.pool_core.specs.declared.calls.PoolCall.TheVariants as call
 use Rattle.pool_core.specs.declared.calls.PoolAnswer.{PoolAnswer}
 use Rattle.pool_core.specs.declared.calls.PoolAnswer.TheVariants as answer
-use Rattle.pool_core.specs.declared.answers.FollowedUp.{FollowedUp}
-use Rattle.pool_core.specs.declared.answers.FollowedUp.TheVariants as followed
+use Rattle.pool_core.specs.declared.answers.Followed.{Followed}
+use Rattle.pool_core.specs.declared.answers.Followed.TheVariants as followed
 use Rattle.pool_core.specs.declared.answers.IdleEnd.{IdleEnd}
 use Rattle.pool_core.specs.declared.answers.IdleEnd.TheVariants as idle
 
@@ -19,7 +19,7 @@ abbrev pub seats_with : Settings → ℕ
 seats_with s = s.sizes.callers + s.sizes.maximum
 
 module _ {X : Type 0} where
-  follow-stays : (old new : Shown X) (i t : ℕ) (a : FollowedUp X) → FollowStep old i t a new
+  follow-stays : (old new : Shown X) (i t : ℕ) (a : Followed X) → FollowStep old i t a new
       → new.settings ≡ old.settings
   follow-stays old new i t (followed.Run u job) step = step.settings
   follow-stays old new i t followed.Exit step = step.settings

@@ -14,7 +14,7 @@ ghost use Rattle.pool_core.specs.Moves.{IsMade, roomy-made};
 ghost use Rattle.pool_core.specs.Fresh.{fresh-owes};
 ghost use Rattle.pool_core.specs.SettingsStay.{seats_with, seats-stay};
 
-use crate::answers::{Executed, FollowedUp, IdleEnd, Ready};
+use crate::answers::{Executed, Followed, IdleEnd, Ready};
 use crate::base::PoolBase;
 use crate::calls::{PoolAnswer, PoolCall};
 use crate::deeds::PoolDeed;
@@ -313,14 +313,14 @@ fn ready_deed<J: Marked>(answer: &Ready<J>) -> PoolDeed<u64>
 fn follow_record<J: Marked>(
     seat: SeatNo,
     ticket: Ticket,
-    answer: &FollowedUp<J>,
+    answer: &Followed<J>,
 ) -> Option<Record<PoolDeed<u64>>>
     ensures { result ≡ follow_record J.mark_of seat ticket answer.now }
 {
     match answer {
-        FollowedUp::Run(own, job) => recorded(seat, ticket, PoolDeed::Runs(*own, job.mark())),
-        FollowedUp::Exit => recorded(seat, ticket, PoolDeed::Exits),
-        FollowedUp::NotYet => None,
+        Followed::Run(own, job) => recorded(seat, ticket, PoolDeed::Runs(*own, job.mark())),
+        Followed::Exit => recorded(seat, ticket, PoolDeed::Exits),
+        Followed::NotYet => None,
     }
 }
 

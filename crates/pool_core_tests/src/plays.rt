@@ -7,7 +7,7 @@ ghost use Rattle.meet_tickets.specs.Limits.{most_records};
 use meet_book::Book;
 use meet_tickets::{Refusal, SeatNo};
 use pool_core::{
-    Executed, FollowedUp, IdleEnd, Policy, PoolAnswer, PoolCall, PoolCore, PoolQueue, Ready, Sizes,
+    Executed, Followed, IdleEnd, Policy, PoolAnswer, PoolCall, PoolCore, PoolQueue, Ready, Sizes,
 };
 use std::alloc::Global;
 use std::process::Abort;
@@ -103,11 +103,11 @@ fn told_ready(answer: Ready<u64>) -> Told {
 }
 
 /// What a worker that waited is told.
-fn told_follow(answer: FollowedUp<u64>) -> Told {
+fn told_follow(answer: Followed<u64>) -> Told {
     match answer {
-        FollowedUp::Run(_, job) => Told::Run(job),
-        FollowedUp::Exit => Told::Exit,
-        FollowedUp::NotYet => Told::NotYet,
+        Followed::Run(_, job) => Told::Run(job),
+        Followed::Exit => Told::Exit,
+        Followed::NotYet => Told::NotYet,
     }
 }
 

@@ -365,7 +365,7 @@ where
         sizes: Sizes::fixed(callers, workers),
         queue: PoolQueue::Unbounded,
         policy: Policy::Abort,
-        gates: ParkGate::many(alloc, workers as usize)?,
+        gates: ParkGate::many(alloc, workers)?,
         starter: ThreadStarter::new(),
         blanks: Blanks::new(callers + workers),
     };

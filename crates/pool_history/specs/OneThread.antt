@@ -25,7 +25,8 @@ use Rattle.pool_core.specs.Histories.{nobody}
 use Rattle.pool_core.specs.Placed.{PoolStep, pool_refusal, pool_need, pool_record}
 use Rattle.pool_history.specs.declared.one_thread.verbs.PoolRequest.{PoolRequest}
 use Rattle.pool_history.specs.declared.one_thread.verbs.PoolVerb.{PoolVerb}
-use Rattle.pool_history.specs.declared.one_thread.verbs.PoolVerb.TheVariants.{Execute as ExecuteJob, Ready as BeReadyNow}
+use Rattle.pool_history.specs.declared.one_thread.verbs.PoolVerb.TheVariants.{Execute as ExecuteJob}
+use Rattle.pool_history.specs.declared.one_thread.verbs.PoolVerb.TheVariants.{Ready as BeReadyNow}
 use Rattle.pool_history.specs.declared.one_thread.verbs.PoolVerb.TheVariants.{Follow as FollowUp, Finish as FinishJob}
 use Rattle.pool_history.specs.declared.one_thread.verbs.PoolVerb.TheVariants.{Idle, Leave as LeaveNow, Failed, Now}
 use Rattle.pool_history.specs.declared.one_thread.verbs.PoolVerb.TheVariants.{ShutDown as ShutNow, Counters as CountNow}
@@ -150,7 +151,8 @@ replies_to t i call answer =
     told i (length t.written + 1) (silent answer) (record_of i call answer) ∷ jobs_back i answer
 
 -- a call is answered: the pool makes its step, and the answer's record is written
-pub record IsAnswered (old : Thread) (i : ℕ) (call : PoolCall ℕ) (replies : List PoolReply) (new : Thread) : Type 0 where
+pub record IsAnswered (old : Thread) (i : ℕ) (call : PoolCall ℕ) (replies : List PoolReply) (new : Thread)
+    : Type 0 where
   pub answer : PoolAnswer ℕ
   pub step : PoolStep old.pool i call answer new.pool
   pub said : replies ≡ replies_to old i call answer

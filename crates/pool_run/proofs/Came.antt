@@ -1,8 +1,8 @@
 -- How far a text was read, line by line: what the lines so far read as, and which are left.
 use Rattle.std.proofs.Common.{◌≡◌, ℕ, ◌+◌, List, [], ◌∷◌, ◌++◌, Option, Some, None, refl, sym, ap, ◌∙◌, subst, append_assoc, append-nil}
 use Rattle.std.specs.Prelude.{IfSome}
-use Rattle.meet_run.specs.Reading.{lines_of, Listed, listed, Both, no_more, faulty_at, with_item}
-use Rattle.meet_run.proofs.ScriptLemmas.{listed-end, listed-more, listed-fault}
+use Rattle.meet_run.specs.Texts.Reading.{lines_of, Listed, listed, Both, no_more, faulty_at, with_item}
+use Rattle.meet_run.proofs.Scripts.ScriptLemmas.{listed-end, listed-more, listed-fault}
 
 -- what holds of a value that is known
 pub known : {X : Type 0} (Q : X → Type 0) (o : Option X) (x : X) → o ≡ Some x → IfSome o Q → Q x

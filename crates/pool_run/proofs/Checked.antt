@@ -6,10 +6,10 @@ use Rattle.std.specs.Io.KnownBytes.{Appends}
 use Rattle.meet_tickets.specs.declared.records.Record.{Record}
 use Rattle.meet_tickets.specs.declared.refusals.Refusal.TheVariants.{BadTrace, WriteFault}
 use Rattle.meet_run.specs.declared.text.faults.RunFault.{RunFault}
-use Rattle.meet_run.specs.Reading.{lines_of, Both}
-use Rattle.meet_run.specs.Traces.{IsUnreadTrace}
-use Rattle.meet_run.specs.Writing.{AppendsPrefix}
-use Rattle.meet_run.proofs.Ran.{appends-nothing}
+use Rattle.meet_run.specs.Texts.Reading.{lines_of, Both}
+use Rattle.meet_run.specs.Tracing.Traces.{IsUnreadTrace}
+use Rattle.meet_run.specs.Texts.Writing.{AppendsPrefix}
+use Rattle.meet_run.proofs.Scripts.Ran.{appends-nothing}
 use Rattle.pool_core.specs.declared.deeds.PoolDeed.{PoolDeed}
 use Rattle.pool_core.specs.declared.settings.Settings.{Settings}
 use Rattle.pool_core.specs.declared.answers.Counters.{Counters}

@@ -4,8 +4,8 @@ use Rattle.std.specs.Prelude.{IfSome, MatchOption}
 use Rattle.meet_tickets.specs.declared.refusals.Refusal.{Refusal}
 use Rattle.meet_tickets.specs.declared.refusals.Refusal.TheVariants.{Memory, ReadFault}
 use Rattle.meet_run.specs.declared.text.faults.RunFault.{RunFault}
-use Rattle.meet_run.specs.Reading.{lines_of, Both}
-use Rattle.meet_run.proofs.Ran.{appends-nothing}
+use Rattle.meet_run.specs.Texts.Reading.{lines_of, Both}
+use Rattle.meet_run.proofs.Scripts.Ran.{appends-nothing}
 use Rattle.pool_core.specs.declared.settings.Settings.{Settings}
 use Rattle.pool_run.specs.FirstLines.{settings_of}
 use Rattle.pool_run.specs.Scripts.{IsHeadless, TextEnds}

@@ -9,10 +9,10 @@ use Rattle.meet_tickets.specs.declared.records.Record.{Record}
 use Rattle.meet_tickets.specs.declared.refusals.Refusal.{Refusal}
 use Rattle.meet_tickets.specs.declared.refusals.Refusal.TheVariants.{Memory, BadLine, BadSizes, PolicyNeedsBuffer, ReadFault, WriteFault}
 use Rattle.meet_tickets.specs.Refusals.{IsWhy}
-use Rattle.meet_run.specs.Reading.{lines_of}
-use Rattle.meet_run.specs.Writing.{AppendsPrefix, IsPrefix}
-use Rattle.meet_run.proofs.Ran.{appends-nothing}
-use Rattle.meet_run.proofs.WritingLemmas.{appends-more, prefix-more}
+use Rattle.meet_run.specs.Texts.Reading.{lines_of}
+use Rattle.meet_run.specs.Texts.Writing.{AppendsPrefix, IsPrefix}
+use Rattle.meet_run.proofs.Scripts.Ran.{appends-nothing}
+use Rattle.meet_run.proofs.Texts.WritingLemmas.{appends-more, prefix-more}
 use Rattle.pool_core.specs.declared.deeds.PoolDeed.{PoolDeed}
 use Rattle.pool_core.specs.declared.settings.Settings.{Settings}
 use Rattle.pool_core.specs.Calls.{settings_refusal}

@@ -3,7 +3,7 @@ use Rattle.std.proofs.Common.{◌≡◌, ℕ, ◌+◌, ◌<◌, List, [], ◌∷
 use Rattle.std.specs.List.{flat_map}
 use Rattle.std.proofs.lemmas.Grind.{flat_map-append}
 use Rattle.std.proofs.lemmas.List.{take_more, flat_map_more}
-use Rattle.meet_run.specs.Reading.{lines_of, Both}
+use Rattle.meet_run.specs.Texts.Reading.{lines_of, Both}
 use Rattle.pool_core.specs.declared.settings.Settings.{Settings}
 use Rattle.pool_history.specs.declared.one_thread.replies.PoolReply.{PoolReply}
 use Rattle.pool_history.specs.declared.one_thread.verbs.PoolRequest.{PoolRequest}

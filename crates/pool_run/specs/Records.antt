@@ -7,9 +7,9 @@ use Rattle.pool_core.specs.declared.deeds.PoolDeed.{PoolDeed}
 use Rattle.pool_core.specs.declared.deeds.PoolDeed.TheVariants.{Handed, Started, Kept, KeptStart, Aborted, CallerRuns}
 use Rattle.pool_core.specs.declared.deeds.PoolDeed.TheVariants.{Dropped, DroppedOldest, Runs, Waits, Exits, Finished}
 use Rattle.pool_core.specs.declared.deeds.PoolDeed.TheVariants.{IdleExit, Leaves, StartFailed, ShutDown, ShutDownNow}
-use Rattle.meet_run.specs.Words.{word_of, rest_of, number_spelled}
-use Rattle.meet_run.specs.Grammar.{◌>>=◌, seat_of}
-use Rattle.meet_run.specs.TraceGrammar.{ticket_in, ticket_of}
+use Rattle.meet_run.specs.Texts.Words.{word_of, rest_of, number_spelled}
+use Rattle.meet_run.specs.Scripts.Grammar.{◌>>=◌, seat_of}
+use Rattle.meet_run.specs.Tracing.TraceGrammar.{ticket_in, ticket_of}
 
 -- the deed of a word that stands alone
 unfoldable pub bare_deed_of : (word : List ℕ) → Option (PoolDeed ℕ)

@@ -6,8 +6,8 @@ use Rattle.pool_history.specs.declared.one_thread.verbs.PoolVerb.{PoolVerb}
 use Rattle.pool_history.specs.declared.one_thread.verbs.PoolVerb.TheVariants.{Execute, Ready, Follow, Finish, Idle}
 use Rattle.pool_history.specs.declared.one_thread.verbs.PoolVerb.TheVariants.{Leave, Failed, ShutDown, Now, Counters}
 use Rattle.pool_history.specs.declared.one_thread.verbs.PoolVerb.TheVariants.{Checkpoint}
-use Rattle.meet_run.specs.Words.{word_of, rest_of, number_spelled}
-use Rattle.meet_run.specs.Grammar.{◌>>=◌, seat_of}
+use Rattle.meet_run.specs.Texts.Words.{word_of, rest_of, number_spelled}
+use Rattle.meet_run.specs.Scripts.Grammar.{◌>>=◌, seat_of}
 
 -- the verb of a word that stands alone
 unfoldable pub bare_verb_of : (word : List ℕ) → Option PoolVerb

@@ -9,8 +9,8 @@ use Rattle.meet_tickets.specs.declared.refusals.Refusal.TheVariants.{Memory, Bad
 use Rattle.meet_tickets.specs.declared.refusals.Refusal.TheVariants.{ReadFault, WriteFault}
 use Rattle.meet_tickets.specs.Refusals.{IsWhy}
 use Rattle.meet_run.specs.declared.text.faults.RunFault.{RunFault}
-use Rattle.meet_run.specs.Reading.{Listed, listed}
-use Rattle.meet_run.specs.Writing.{AppendsPrefix}
+use Rattle.meet_run.specs.Texts.Reading.{Listed, listed}
+use Rattle.meet_run.specs.Texts.Writing.{AppendsPrefix}
 use Rattle.pool_core.specs.declared.deeds.PoolDeed.{PoolDeed}
 use Rattle.pool_core.specs.declared.settings.Settings.{Settings}
 use Rattle.pool_core.specs.Calls.{settings_refusal}

@@ -15,7 +15,7 @@ use Rattle.pool_history.specs.declared.one_thread.verbs.PoolVerb.{PoolVerb}
 use Rattle.pool_history.specs.declared.one_thread.verbs.PoolVerb.TheVariants.{Execute, Ready, Follow, Finish, Idle}
 use Rattle.pool_history.specs.declared.one_thread.verbs.PoolVerb.TheVariants.{Leave, Failed, ShutDown, Now, Counters}
 use Rattle.pool_history.specs.declared.one_thread.verbs.PoolVerb.TheVariants.{Checkpoint}
-use Rattle.meet_run.specs.Spelling.{place_text}
+use Rattle.meet_run.specs.Scripts.Spelling.{place_text}
 use Rattle.pool_run.specs.Requests.{request_of}
 use Rattle.pool_run.specs.FirstLines.{settings_of, pool_head_of}
 

@@ -1,11 +1,12 @@
 //! What is found of a pool's trace.
 
-ghost use Rattle.std.specs.Prelude.{◌≡◌, ◌+◌, ◌^◌, ◌<◌, ◌≤◌, ◌↔◌, ◌++◌, [], None, Err, IsTrue, IfSome, IfOk, IfErr, OnOk};
+ghost use Rattle.std.specs.Prelude.{◌≡◌, ◌+◌, ◌^◌, ◌<◌, ◌≤◌, ◌↔◌, ◌++◌, [], None, Err, IsTrue, IfSome, IfOk, IfErr};
+ghost use Rattle.std.specs.Prelude.{OnOk};
 ghost use Rattle.std.specs.Vec.{vec_capacity};
 ghost use Rattle.meet_tickets.specs.declared.refusals.Refusal.TheVariants.{Memory};
-ghost use Rattle.meet_run.specs.Reading.{UsesTurns, EndsInTurns, lines_of};
-ghost use Rattle.meet_run.specs.Running.{CannotRead};
-ghost use Rattle.meet_run.specs.Traces.{IsUnreadTrace, IsTraceFault};
+ghost use Rattle.meet_run.specs.Texts.Reading.{UsesTurns, EndsInTurns, lines_of};
+ghost use Rattle.meet_run.specs.Scripts.Running.{CannotRead};
+ghost use Rattle.meet_run.specs.Tracing.Traces.{IsUnreadTrace, IsTraceFault};
 ghost use Rattle.pool_core.specs.Calls.{settings_refusal};
 ghost use Rattle.pool_core.specs.Histories.{no_base};
 ghost use Rattle.pool_history.specs.declared.checker.PoolFault.TheVariants.{Memory as NoMemory};
@@ -169,13 +170,13 @@ fn find_trace<R: Read>(
     if turns == 0 {
         return Err(cut_short(Refusal::ReadFault));
     }
-    let mut left = turns;
+    let mut rest = turns;
     let mut line = match Vec::with_capacity(alloc, LONGEST_LINE) {
         Ok(line) => line,
         Err(_) => return Err(cut_short(Refusal::Memory)),
     };
-    match next_pool_head(reader, &mut left, &mut line) {
-        Next::Read(settings) => find_records(alloc, reader, &mut left, &mut line, settings),
+    match next_pool_head(reader, &mut rest, &mut line) {
+        Next::Read(settings) => find_records(alloc, reader, &mut rest, &mut line, settings),
         Next::Ended => Err(at_line(Refusal::BadTrace, 1)),
         Next::Faulty => Err(at_line(Refusal::BadTrace, 1)),
         Next::Broken => Err(cut_short(Refusal::ReadFault)),

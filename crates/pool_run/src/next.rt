@@ -2,8 +2,8 @@
 
 ghost use Rattle.std.specs.Prelude.{◌+◌, ◌≤◌};
 ghost use Rattle.std.specs.Vec.{vec_capacity};
-ghost use Rattle.meet_run.specs.Reading.{UsesTurns};
-ghost use Rattle.meet_run.specs.Running.{IsNext, IfRead};
+ghost use Rattle.meet_run.specs.Texts.Reading.{UsesTurns};
+ghost use Rattle.meet_run.specs.Scripts.Running.{IsNext, IfRead};
 ghost use Rattle.pool_run.specs.FirstLines.{settings_of, pool_head_of};
 ghost use Rattle.pool_run.specs.Records.{pool_record_at};
 ghost use Rattle.pool_run.specs.Requests.{request_of};

@@ -58,7 +58,7 @@ fn numbered_deed(word: &[u8], number: u64) -> Option<PoolDeed<u64>>
 }
 
 /// The deed of a word with two numbers behind it: a worker or a ticket, and a job.
-#[tactic(auto, unfolding(crate::specs::Records::paired_deed_of, meet_run::specs::TraceGrammar::ticket_in))]
+#[tactic(auto, unfolding(crate::specs::Records::paired_deed_of, meet_run::specs::Tracing::TraceGrammar::ticket_in))]
 fn paired_deed(word: &[u8], number: u64, job: u64) -> Option<PoolDeed<u64>>
     ensures { result ≡ paired_deed_of word.now number job }
 {
@@ -89,7 +89,7 @@ fn tripled_deed(word: &[u8], ticket: Ticket, oldest: u64, job: u64) -> Option<Po
 }
 
 /// The deed of a word and its first number, the next word, and the rest of the line: nothing, or a space and a number.
-#[tactic(auto, unfolding(crate::specs::Records::deed_behind_one, meet_run::specs::TraceGrammar::ticket_in))]
+#[tactic(auto, unfolding(crate::specs::Records::deed_behind_one, meet_run::specs::Tracing::TraceGrammar::ticket_in))]
 fn read_deed_behind_one(
     word: &[u8],
     first: u64,

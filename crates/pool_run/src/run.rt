@@ -5,9 +5,9 @@ ghost use Rattle.std.specs.Io.KnownBytes.{Appends};
 ghost use Rattle.std.specs.Vec.{vec_capacity};
 ghost use Rattle.meet_tickets.specs.Refusals.{IsWhy};
 ghost use Rattle.meet_tickets.specs.declared.refusals.Refusal.TheVariants.{Memory, WriteFault};
-ghost use Rattle.meet_run.specs.Reading.{lines_of, UsesTurns, EndsInTurns};
-ghost use Rattle.meet_run.specs.Running.{CannotRead, IsCutShort};
-ghost use Rattle.meet_run.specs.Writing.{AppendsPrefix};
+ghost use Rattle.meet_run.specs.Texts.Reading.{lines_of, UsesTurns, EndsInTurns};
+ghost use Rattle.meet_run.specs.Scripts.Running.{CannotRead, IsCutShort};
+ghost use Rattle.meet_run.specs.Texts.Writing.{AppendsPrefix};
 ghost use Rattle.pool_history.specs.OneThread.{IsTurn};
 ghost use Rattle.pool_run.specs.Scripts.{replies_text, closing, IsScriptFault, RunsTo, ScriptEnds};
 
@@ -146,13 +146,13 @@ pub fn run_pool_within<R: Read, W: Write>(
     if turns == 0 {
         return Err(cut_short(Refusal::ReadFault));
     }
-    let mut left = turns;
+    let mut rest = turns;
     let mut line = match Vec::with_capacity(alloc, LONGEST_LINE) {
         Ok(line) => line,
         Err(_) => return Err(cut_short(Refusal::Memory)),
     };
-    match next_settings(reader, &mut left, &mut line) {
-        Next::Read(settings) => run_requests(alloc, reader, writer, &mut left, &mut line, settings),
+    match next_settings(reader, &mut rest, &mut line) {
+        Next::Read(settings) => run_requests(alloc, reader, writer, &mut rest, &mut line, settings),
         Next::Ended => Err(at_line(Refusal::BadLine, 1)),
         Next::Faulty => Err(at_line(Refusal::BadLine, 1)),
         Next::Broken => Err(cut_short(Refusal::ReadFault)),

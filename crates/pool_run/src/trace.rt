@@ -4,9 +4,9 @@ ghost use Rattle.std.specs.Prelude.{◌≡◌, ◌+◌, ◌^◌, ◌<◌, ◌≤
 ghost use Rattle.std.specs.Io.KnownBytes.{Appends};
 ghost use Rattle.std.specs.List.{flat_map};
 ghost use Rattle.std.specs.Vec.{vec_capacity};
-ghost use Rattle.meet_run.specs.Reading.{UsesTurns, EndsInTurns, lines_of};
-ghost use Rattle.meet_run.specs.Running.{CannotRead, IsCutShort};
-ghost use Rattle.meet_run.specs.Writing.{AppendsPrefix};
+ghost use Rattle.meet_run.specs.Texts.Reading.{UsesTurns, EndsInTurns, lines_of};
+ghost use Rattle.meet_run.specs.Scripts.Running.{CannotRead, IsCutShort};
+ghost use Rattle.meet_run.specs.Texts.Writing.{AppendsPrefix};
 ghost use Rattle.pool_run.specs.Scripts.{pool_trace_text, TracesTo, TraceEnds, AreMade, IsUnmadeBy, IsScriptFault};
 ghost use Rattle.pool_run.specs.Wording.{pool_record_line};
 

@@ -8,8 +8,8 @@ use Rattle.pool_core.specs.declared.calls.PoolCall.TheVariants as call
 use Rattle.pool_core.specs.declared.calls.PoolAnswer.TheVariants as answer
 use Rattle.pool_core.specs.declared.answers.Ready.{Ready}
 use Rattle.pool_core.specs.declared.answers.Ready.TheVariants as ready
-use Rattle.pool_core.specs.declared.answers.FollowedUp.{FollowedUp}
-use Rattle.pool_core.specs.declared.answers.FollowedUp.TheVariants as followed
+use Rattle.pool_core.specs.declared.answers.Followed.{Followed}
+use Rattle.pool_core.specs.declared.answers.Followed.TheVariants as followed
 use Rattle.pool_core.specs.declared.answers.IdleEnd.{IdleEnd}
 use Rattle.pool_core.specs.declared.answers.IdleEnd.TheVariants as idle
 use Rattle.pool_core.specs.declared.deeds.PoolDeed.{PoolDeed}
@@ -64,7 +64,7 @@ module _ {C : Type 0} (old new : SeatView (PoolDeed ℕ)) (t : ℕ) (number : ne
   ready_fits ready.Exit next.Gone adds is = tt
   ready_fits ready.Exit (next.Refused seat) adds is = absurd is
 
-  pub follow_fits : (a : FollowedUp ℕ) (n : Next C (SeatView (PoolDeed ℕ)))
+  pub follow_fits : (a : Followed ℕ) (n : Next C (SeatView (PoolDeed ℕ)))
       → Adds old.list new.list (option_to_list (pool_record (λ x. x) old.number call.Follow (answer.Followed t a)))
       → FollowNext new a n → NextFits old n
   follow_fits (followed.Run u tag) (next.Run seat job) adds is = (

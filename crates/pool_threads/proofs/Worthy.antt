@@ -13,7 +13,7 @@ use Rattle.pool_core.specs.declared.calls.PoolAnswer.{PoolAnswer}
 use Rattle.pool_core.specs.declared.calls.PoolAnswer.TheVariants as answer
 use Rattle.pool_core.specs.declared.answers.Executed.TheVariants as executed
 use Rattle.pool_core.specs.declared.answers.Ready.TheVariants as ready
-use Rattle.pool_core.specs.declared.answers.FollowedUp.TheVariants as followed
+use Rattle.pool_core.specs.declared.answers.Followed.TheVariants as followed
 use Rattle.pool_core.specs.declared.answers.IdleEnd.TheVariants as idle
 use Rattle.pool_core.specs.declared.deeds.PoolDeed.{PoolDeed}
 use Rattle.pool_core.specs.declared.deeds.PoolDeed.TheVariants.{Runs, Finished}

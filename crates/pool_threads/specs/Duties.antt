@@ -9,8 +9,8 @@ use Rattle.pool_threads.specs.declared.home.Duty.TheVariants as duty
 use Rattle.pool_threads.specs.Worthy.{EndsRunning}
 
 module _ {C : Type 0} where
-  -- to be ready and leave takes one receipt, to record an answer and leave two, to be handed a job and record its answer
-  -- and leave three
+  -- to be ready and leave takes one receipt, to record an answer and leave two, to be handed a job and record its
+  -- answer and leave three
   abbrev pub DutyFits : Duty C (SeatView (PoolDeed ℕ)) → Type 0
   DutyFits (duty.BeReady seat) = 0 < seat.room
   DutyFits (duty.Run seat job) = (2 ≤ seat.room) × EndsRunning seat.list job.tag

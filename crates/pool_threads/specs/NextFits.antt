@@ -3,8 +3,8 @@ use Rattle.std.specs.Prelude.{◌≡◌, ℕ, ⊤, ◌≤◌}
 use Rattle.meet_place.specs.Seats.{SeatView}
 use Rattle.pool_core.specs.declared.answers.Ready.{Ready}
 use Rattle.pool_core.specs.declared.answers.Ready.TheVariants.{Run, Waits, Exit}
-use Rattle.pool_core.specs.declared.answers.FollowedUp.{FollowedUp}
-use Rattle.pool_core.specs.declared.answers.FollowedUp.TheVariants.{Run as FollowRun, Exit as FollowExit, NotYet}
+use Rattle.pool_core.specs.declared.answers.Followed.{Followed}
+use Rattle.pool_core.specs.declared.answers.Followed.TheVariants.{Run as FollowRun, Exit as FollowExit, NotYet}
 use Rattle.pool_core.specs.declared.answers.IdleEnd.{IdleEnd}
 use Rattle.pool_core.specs.declared.answers.IdleEnd.TheVariants.{Exit as IdleExits, Stay, Late}
 use Rattle.pool_core.specs.declared.deeds.PoolDeed.{PoolDeed}
@@ -32,7 +32,7 @@ module _ {C : Type 0} where
     ReadyNext old answer n = ⊥
 
     -- to `follow`
-    abbrev pub FollowNext : S → FollowedUp ℕ → Next C S → Type 0
+    abbrev pub FollowNext : S → Followed ℕ → Next C S → Type 0
     FollowNext old (FollowRun ticket tag) (next.Run seat job) = (seat ≡ old) × (job.tag ≡ tag)
     FollowNext old NotYet (next.Stays seat) = seat ≡ old
     FollowNext old FollowExit next.Gone = ⊤

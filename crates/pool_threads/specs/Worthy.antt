@@ -30,7 +30,8 @@ is_finished (Finished answer) = true
 is_finished deed = false
 
 -- each answer that stays stands right behind a receipt that stays; `before` says whether one stays in front of the list
-abbrev pub stay_together : (stays : Received (PoolDeed ℕ) → Bool) → (before : Bool) → List (Received (PoolDeed ℕ)) → Bool
+abbrev pub stay_together : (stays : Received (PoolDeed ℕ) → Bool) → (before : Bool)
+    → List (Received (PoolDeed ℕ)) → Bool
 stay_together stays before [] = true
 stay_together stays before (r ∷ rs) =
     (not (is_finished r.entry.deed && stays r) || before) && stay_together stays (stays r) rs

@@ -72,7 +72,8 @@ impl<W: Work, C: Drop, G: Gate + Drop, S: Drop, N: PoolLedgers> Pool<W, C, G, S,
         }
     }
 
-    /// Drops the seat's receipts for records that are folded away by now. It takes no memory.
+    /// Drops the seat's receipts for records that are folded away by now. It waits for the lock alone, and takes no
+    /// memory.
     pub fn trim<R: Wait>(&self, rt: &R, mut seat: Seat<PoolDeed<u64>, N>) -> Seat<PoolDeed<u64>, N>
         ensures { (gone : ℕ) × Trims gone seat result }
     {

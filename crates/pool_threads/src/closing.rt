@@ -176,8 +176,8 @@ fn unclosed<W: Work, C, G, S, N: PoolLedgers>(
     let have = seats.len();
     if have < made && here < made - have {
         PoolFault::SeatMissing {
-            have: have + here,
-            made,
+            have: (have + here) as u64,
+            made: made as u64,
             pool,
             seats,
         }
@@ -187,7 +187,8 @@ fn unclosed<W: Work, C, G, S, N: PoolLedgers>(
 }
 
 impl<W: Work, C: Drop, G: Gate + Drop, S: Drop, N: PoolLedgers> Pool<W, C, G, S, N> {
-    /// Shuts the pool down: no more jobs are taken, and workers that find none end.
+    /// `ThreadPoolExecutor.shutdown`: no more jobs are taken, and workers that find none end. It waits for the lock
+    /// alone, and does no harm when repeated.
     pub fn shutdown<R: Wait>(
         &self,
         rt: &R,
@@ -214,7 +215,8 @@ impl<W: Work, C: Drop, G: Gate + Drop, S: Drop, N: PoolLedgers> Pool<W, C, G, S,
         }
     }
 
-    /// Shuts the pool down, and takes all kept jobs out, in their order.
+    /// `ThreadPoolExecutor.shutdownNow`: shuts the pool down, and takes all kept jobs out, in their order. It waits for
+    /// the lock alone.
     pub fn shutdown_now<R: Wait>(
         &self,
         rt: &R,
@@ -249,13 +251,15 @@ impl<W: Work, C: Drop, G: Gate + Drop, S: Drop, N: PoolLedgers> Pool<W, C, G, S,
         }
     }
 
-    /// What the pool shows of itself.
+    /// What the pool shows of itself: its workers, the jobs that run, are kept and were done, and the most workers that
+    /// there were. It waits for the lock alone.
     pub fn counters<R: Wait>(&self, rt: &R) -> Counters {
         let shared = hold(rt, &self.home.shared);
         shared.probe().counters()
     }
 
-    /// Waits until the pool is shut down and has no worker.
+    /// `ThreadPoolExecutor.awaitTermination` without a limit: waits until the pool is shut down and has no worker,
+    /// which may be never.
     pub fn await_end<R: Wait>(&self, rt: &R) {
         let guard = self
             .home

@@ -117,8 +117,8 @@ impl<W: Work, C: Drop, G, N: PoolLedgers> Home<W, C, G, N> {
         next
     }
 
-    /// Records what a worker's job answered, and that it is ready for the next, under one hold of the lock: what it does
-    /// then; none where it has gone, or a step is refused.
+    /// Records what a worker's job answered, and that it is ready for the next, under one hold of the lock: what it
+    /// does then; none where it has gone, or a step is refused.
     fn step_twice<R: Wait>(
         &self,
         rt: &R,

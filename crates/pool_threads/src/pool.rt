@@ -159,8 +159,10 @@ impl<W: Work, C: Call<W> + Drop, G: Gate + Drop, S: Starter, N: PoolLedgers> Poo
         }
     }
 
-    /// Hands a job in. It refuses Memory, what the core refuses, or NoThread, which leaves the job's own record; the
-    /// job comes back exactly where that says that a worker was started with it, and else it is kept.
+    /// `ThreadPoolExecutor.execute`: hands a job in. It waits for the lock alone. Where a new worker is needed it
+    /// makes its thread; where the policy has the caller run the job, it runs here, and its answer is told. It refuses
+    /// Memory, what the core refuses, or NoThread, which leaves the job's own record; the job comes back exactly where
+    /// that says that a worker was started with it, and else it is kept.
     pub fn execute<R>(
         &self,
         rt: &R,

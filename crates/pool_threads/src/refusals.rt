@@ -104,9 +104,9 @@ pub enum PoolFault<W: Work, C, G, S, N: PoolLedgers> {
     /// Fewer seats were given back, or lie in the pool, than were made. The pool and the seats come back.
     SeatMissing {
         /// How many were given back, or lie in the pool.
-        have: usize,
+        have: u64,
         /// How many were made.
-        made: usize,
+        made: u64,
         pool: Pool<W, C, G, S, N>,
         seats: Vec<Back<PoolDeed<u64>, N>>,
     },
@@ -142,7 +142,7 @@ impl<W: Work, C, G, S, N: PoolLedgers> PoolFault<W, C, G, S, N> {
 
     /// The numbers of those of so many callers' seats that weren't given back, in rising order; none where no seat is
     /// missing. The only refusal is Memory.
-    pub fn missing(&self, alloc: Global, callers: usize) -> Result<Vec<SeatNo>, Refusal>
+    pub fn missing(&self, alloc: Global, callers: u64) -> Result<Vec<SeatNo>, Refusal>
         ensures numbers { IfOk result (λ list. list.items ≡ missing_in callers self.now) }
         ensures memory { IfErr result (λ why. why ≡ NoMemory) }
     {

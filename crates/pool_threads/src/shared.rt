@@ -24,8 +24,8 @@ use std::mem;
 
 /// The book of a pool's core, beside the jobs that lie in the pool, and the seats of the workers that aren't there. The
 /// jobs are those that the core knows by their tags, and the seats are of those workers that it knows to be absent. The
-/// core's settings are those that the pool was made with. They lie in the order that is written here: what each call of a
-/// worker touches lies together, and away from the lock's word.
+/// core's settings are those that the pool was made with. They lie in the order that is written here: what each call of
+/// a worker touches lies together, and away from the lock's word.
 #[derive(Drop)]
 #[repr(C)]
 pub struct PoolShared<W: Work, C, N: PoolLedgers> {

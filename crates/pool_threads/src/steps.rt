@@ -12,7 +12,7 @@ use crate::ledgers::PoolLedgers;
 use crate::moving::{put_back, run, take};
 use crate::shared::PoolShared;
 use crate::worth::WorkerSeat;
-use pool_core::{FollowedUp, IdleEnd, PoolAnswer, PoolCall, Ready};
+use pool_core::{Followed, IdleEnd, PoolAnswer, PoolCall, Ready};
 use std::collections::VecDeque;
 
 /// A step that a worker makes.
@@ -219,7 +219,7 @@ fn after_follow<C: Drop, S: Drop>(
     seats: &mut Vec<Option<S>>,
     w: usize,
     seat: S,
-    answer: FollowedUp<u64>,
+    answer: Followed<u64>,
 ) -> Next<C, S>
     requires moves { (new : Jobs ℕ)
         × FollowMoves w answer (tags_of kept.old.items given.old.items (away seats.old.items)) new }
@@ -229,12 +229,12 @@ fn after_follow<C: Drop, S: Drop>(
         → tags_of kept.new.items given.new.items (away seats.new.items) ≡ new }
 {
     match answer {
-        FollowedUp::Run(_, tag) => {
+        Followed::Run(_, tag) => {
             let _ = tag; // the moves speak of it
             Next::Run(seat, run(kept, given, w))
         }
-        FollowedUp::NotYet => Next::Stays(seat),
-        FollowedUp::Exit => {
+        Followed::NotYet => Next::Stays(seat),
+        Followed::Exit => {
             put_back(seats, w, seat);
             Next::Gone
         }

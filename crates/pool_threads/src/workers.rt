@@ -46,7 +46,8 @@ impl<W: Work, C, G, N: PoolLedgers> Worker<W, C, G, N> {
 }
 
 impl<W: Work, C: Call<W> + Drop, G: Gate + Drop, N: PoolLedgers> Worker<W, C, G, N> {
-    /// Works, from its start to its end. Then it lets the pool go.
+    /// Works, from its start to its end: it runs jobs, and between them waits at its gate, until the pool is shut down
+    /// and no job is left, or its keep-alive ran out and it isn't needed. Then it lets the pool go.
     pub fn run<R: Wait + Clock>(self, rt: &R) {
         let Worker { home, seat } = self;
         home.serve(rt, seat);

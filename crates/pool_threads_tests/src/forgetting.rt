@@ -1,5 +1,5 @@
-//! A pool that lives long: its records are folded away between jobs, and its worker lets go of the receipts for them. No
-//! contract says that it does.
+//! A pool that lives long: its records are folded away between jobs, and its worker lets go of the receipts for them.
+//! No contract says that it does.
 
 ghost use Rattle.std.specs.Prelude.{◌≡◌, ◌+◌, vec_len};
 ghost use Rattle.meet_place.specs.Ledgers.{AreOf};

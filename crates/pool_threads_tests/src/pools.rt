@@ -92,7 +92,7 @@ pub(crate) type Parts = NewPool<ParkGate, ThreadStarter>;
 pub(crate) type Backs<N> = Vec<Back<PoolDeed<u64>, N>>;
 
 /// How many seats a pool has, and how many were made.
-pub(crate) type Seats = (usize, usize);
+pub(crate) type Seats = (u64, u64);
 
 /// The parts of a pool of so many callers, and of a worker for each gate, which keeps whatever comes.
 pub(crate) fn parts_of(callers: u64, gates: Vec<ParkGate>) -> Parts

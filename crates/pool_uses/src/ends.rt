@@ -29,7 +29,7 @@ fn unclosed<N, C, R, G, S>(
     rt: &R,
     alloc: Global,
     pool: Ours<C, G, S, N>,
-) -> (Ours<C, G, S, N>, (usize, usize))
+) -> (Ours<C, G, S, N>, (u64, u64))
 where
     N: PoolLedgers,
     C: Drop,
@@ -52,11 +52,7 @@ where
 }
 
 /// Closes a pool without its caller's seat, and then with it: how many seats it had, and were made, the first time.
-fn play_missing<N, R>(
-    rt: &R,
-    alloc: Global,
-    parts: NewPool<ParkGate, ThreadStarter>,
-) -> (usize, usize)
+fn play_missing<N, R>(rt: &R, alloc: Global, parts: NewPool<ParkGate, ThreadStarter>) -> (u64, u64)
 where
     N: PoolLedgers,
     R: Abort + Wait + Copy,
@@ -78,7 +74,7 @@ fn without_its_seat<R: Abort + Wait + Copy>(
     rt: &R,
     alloc: Global,
     parts: NewPool<ParkGate, ThreadStarter>,
-) -> (usize, usize)
+) -> (u64, u64)
     requires one_each { IsOneEach parts.sizes parts.blanks (vec_len parts.gates) }
 {
     play_missing::<Brand, R>(rt, alloc, parts)

@@ -259,7 +259,7 @@ where
         queue,
         policy,
     } = settings;
-    let gates = ParkGate::many(alloc, sizes.maximum as usize).map_err(|_| "memory")?;
+    let gates = ParkGate::many(alloc, sizes.maximum).map_err(|_| "memory")?;
     let Some(parts) = sizes.callers.checked_add(sizes.maximum) else {
         return Err("too many seats");
     };

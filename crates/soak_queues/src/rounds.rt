@@ -1,6 +1,6 @@
 //! A round: a queue, workers that make calls of chance, and one that interrupts them until they are done. Then the
-//! queue is closed, its records are checked once more, every item is looked for, and the calls are to have their records
-//! in the order in which they were made.
+//! queue is closed, its records are checked once more, every item is looked for, and the calls are to have their
+//! records in the order in which they were made.
 
 ghost use Rattle.std.specs.Prelude.{◌≡◌, None, IfOk, vec_len};
 ghost use Rattle.meet_tickets.specs.Bases.{IsWellFormed};

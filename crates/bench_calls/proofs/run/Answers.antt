@@ -1,3 +1,4 @@
+-- Proof of `run`, src/main.rt. Does what a text asks for, and writes the line of what is found.
 use Rattle.bench_calls.proofs.AskedLemmas.{read-ends, unread-ends}
 use Rattle.bench_calls.proofs.run.Goals as goal
 

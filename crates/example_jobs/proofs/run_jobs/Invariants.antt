@@ -1,3 +1,4 @@
+-- What stays true from turn to turn of `run_jobs`, src/main.rt.
 use Rattle.meet_tickets.specs.Limits.{most_records}
 use Rattle.example_jobs.proofs.run_jobs.Given as goal
 

@@ -4,7 +4,7 @@ ghost use Rattle.std.specs.Prelude.{◌≡◌, ◌<◌, IfOk, IfErr};
 ghost use Rattle.example_one_thread.specs.Came.{Came, Stands};
 
 use crate::swapped::parcels::Parcel;
-use meet_exchange::{Arena, Gathered, Pending, Returned, Seat};
+use meet_exchange::{Arena, Gathered, Pending, Seat, TakenBack};
 
 /// Ends an offer without waiting: the parcel of another seat that answered, or the own one back. Where another seat
 /// took that and its own isn't there yet, the offer stands.
@@ -22,8 +22,8 @@ pub fn end_offer(
     match arena.collect(pending) {
         Gathered::Got(seat, parcel) => Ok((seat, parcel)),
         Gathered::NotYet(pending) => match arena.withdraw(pending) {
-            Returned::Back(seat, parcel) => Ok((seat, parcel)),
-            Returned::Late(pending) => Err(pending),
+            TakenBack::Back(seat, parcel) => Ok((seat, parcel)),
+            TakenBack::Late(pending) => Err(pending),
         },
     }
 }

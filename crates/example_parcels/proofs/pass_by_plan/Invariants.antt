@@ -1,3 +1,4 @@
+-- What stays true from turn to turn of `pass_by_plan`, src/main.rt.
 use Rattle.example_parcels.proofs.pass_by_plan.Given as goal
 
 -- the ledgers of the queue that is made

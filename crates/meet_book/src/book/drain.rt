@@ -17,10 +17,10 @@ impl<O: Drains> Book<O> {
     /// Why a drain of k items is refused, Memory aside: the first that applies.
     fn drain_refusal(&self, seat: SeatNo, k: u64) -> Option<Refusal>
         ensures first { result ≡ book_drain_refusal (O.refusal_of self.now.object seat O.poll)
-            (O.left_of self.now.object) (O.owed_of self.now.object) self.now k }
+            (O.unspent_of self.now.object) (O.owed_of self.now.object) self.now k }
         ensures fits { IfNone result (0 < k → length self.now.records + O.owed_of self.now.object + k < self.now.cap) }
         ensures free { IfNone result (0 < k → O.refusal_of self.now.object seat O.poll ≡ None) }
-        ensures left { IfNone result (k ≤ O.left_of self.now.object) }
+        ensures tickets { IfNone result (k ≤ O.unspent_of self.now.object) }
     {
         match self.object.admit_poll(seat) {
             Ok(()) | Err(Refusal::TicketsSpent) => {}
@@ -32,8 +32,8 @@ impl<O: Drains> Book<O> {
         if self.object.tickets_left() < k {
             return Some(Refusal::TicketsSpent);
         }
-        let left = self.cap - self.records.len() as u64 - self.object.owed();
-        if left <= k {
+        let free = self.cap - self.records.len() as u64 - self.object.owed();
+        if free <= k {
             Some(Refusal::HistoryFull)
         } else {
             None
@@ -53,16 +53,16 @@ impl<O: Drains> Book<O> {
         ensures count { IfOk result (λ got. length got.items ≡ min max (O.available_of self.old.object)) }
         ensures polls { IfOk result (λ got. TakingPolls (λ old answer new.
             O.steps old seat O.poll answer new) (O.record_of seat O.poll) (λ o. O.refusal_of o seat O.poll)
-            O.available_of O.left_of O.owed_of self.old.object got.items self.new.object) }
+            O.available_of O.unspent_of O.owed_of self.old.object got.items self.new.object) }
         ensures records { IfOk result (λ got. self.new.records ≡ self.old.records
             ++ map (λ one. one.1.entry) got.items) }
         ensures places { IfOk result (λ got. AreNumbered (O.gone_of self.old.base + length self.old.records)
             got.items) }
         ensures admitted { IfOk result (λ _. book_drain_refusal (O.refusal_of self.old.object seat O.poll)
-            (O.left_of self.old.object) (O.owed_of self.old.object) self.old
+            (O.unspent_of self.old.object) (O.owed_of self.old.object) self.old
             (min max (O.available_of self.old.object)) ≡ None) }
         ensures why { IfErr result (IsWhy (book_drain_refusal (O.refusal_of self.old.object seat O.poll)
-            (O.left_of self.old.object) (O.owed_of self.old.object) self.old
+            (O.unspent_of self.old.object) (O.owed_of self.old.object) self.old
             (min max (O.available_of self.old.object)))) }
         ensures unchanged { IfErr result (λ _. self.new ≡ record self.old { room = self.new.room }) }
         ensures room { length self.old.records + self.old.room ≤ length self.new.records + self.new.room }
@@ -70,7 +70,7 @@ impl<O: Drains> Book<O> {
         ensures cap { self.new.cap ≡ self.old.cap }
         ensures base { self.new.base ≡ self.old.base }
         ensures none { min max (O.available_of self.old.object) ≡ 0
-            → book_drain_refusal (O.refusal_of self.old.object seat O.poll) (O.left_of self.old.object)
+            → book_drain_refusal (O.refusal_of self.old.object seat O.poll) (O.unspent_of self.old.object)
             (O.owed_of self.old.object) self.old 0 ≡ None → IsOk result }
     {
         let k = max.min(self.object.available());
@@ -109,16 +109,16 @@ impl<O: Drains> Book<O> {
             ≡ min (min max (vec_capacity empty)) (O.available_of self.old.object)) }
         ensures polls { IfOk result (λ got. TakingPolls (λ old answer new. O.steps old seat O.poll answer new)
             (O.record_of seat O.poll) (λ o. O.refusal_of o seat O.poll)
-            O.available_of O.left_of O.owed_of self.old.object got.items self.new.object) }
+            O.available_of O.unspent_of O.owed_of self.old.object got.items self.new.object) }
         ensures records { IfOk result (λ got. self.new.records ≡ self.old.records
             ++ map (λ one. one.1.entry) got.items) }
         ensures places { IfOk result (λ got. AreNumbered (O.gone_of self.old.base + length self.old.records)
             got.items) }
         ensures admitted { IfOk result (λ _. book_drain_refusal (O.refusal_of self.old.object seat O.poll)
-            (O.left_of self.old.object) (O.owed_of self.old.object) self.old
+            (O.unspent_of self.old.object) (O.owed_of self.old.object) self.old
             (min (min max (vec_capacity empty)) (O.available_of self.old.object)) ≡ None) }
         ensures why { IfErr result (λ refused. IsWhy (book_drain_refusal (O.refusal_of self.old.object seat O.poll)
-            (O.left_of self.old.object) (O.owed_of self.old.object) self.old
+            (O.unspent_of self.old.object) (O.owed_of self.old.object) self.old
             (min (min max (vec_capacity empty)) (O.available_of self.old.object))) refused.why) }
         ensures back { IfErr result (λ refused. refused.back ≡ empty) }
         ensures unchanged { IfErr result (λ _. self.new ≡ record self.old { room = self.new.room }) }
@@ -128,7 +128,7 @@ impl<O: Drains> Book<O> {
         ensures base { self.new.base ≡ self.old.base }
         ensures enough { O.owed_of self.old.object
             + min (min max (vec_capacity empty)) (O.available_of self.old.object) ≤ self.old.room
-            → book_drain_refusal (O.refusal_of self.old.object seat O.poll) (O.left_of self.old.object)
+            → book_drain_refusal (O.refusal_of self.old.object seat O.poll) (O.unspent_of self.old.object)
             (O.owed_of self.old.object) self.old
             (min (min max (vec_capacity empty)) (O.available_of self.old.object)) ≡ None → IsOk result }
     {
@@ -156,13 +156,13 @@ impl<O: Drains> Book<O> {
         requires empty { empty.items ≡ [] }
         requires list { k ≤ vec_capacity empty }
         requires there { k ≤ O.available_of self.old.object }
-        requires left { k ≤ O.left_of self.old.object }
+        requires tickets { k ≤ O.unspent_of self.old.object }
         requires free { O.refusal_of self.old.object seat O.poll ≡ None }
         requires fits { length self.old.records + O.owed_of self.old.object + k < self.old.cap }
         ensures count { IfOk result (λ got. length got.items ≡ k) }
         ensures polls { IfOk result (λ got. TakingPolls (λ old answer new. O.steps old seat O.poll answer new)
             (O.record_of seat O.poll) (λ o. O.refusal_of o seat O.poll)
-            O.available_of O.left_of O.owed_of self.old.object got.items self.new.object) }
+            O.available_of O.unspent_of O.owed_of self.old.object got.items self.new.object) }
         ensures records { IfOk result (λ got. self.new.records ≡ self.old.records
             ++ map (λ one. one.1.entry) got.items) }
         ensures places { IfOk result (λ got. AreNumbered (O.gone_of self.old.base + length self.old.records)
@@ -211,13 +211,13 @@ fn poll_all<O: Drains, W: Watch>(
     requires room { count ≤ vec_capacity empty }
     requires few { gone + length records.old.items + count < 2 ^ 64 }
     requires there { count ≤ O.available_of object.old }
-    requires left { count ≤ O.left_of object.old }
+    requires tickets { count ≤ O.unspent_of object.old }
     requires free { O.refusal_of object.old seat O.poll ≡ None }
     requires places { vec_len records.old + count ≤ vec_capacity records.old }
     ensures count { length result.items ≡ count }
     ensures polls { TakingPolls (λ old answer new. O.steps old seat O.poll answer new)
         (O.record_of seat O.poll) (λ o. O.refusal_of o seat O.poll)
-        O.available_of O.left_of O.owed_of object.old result.items object.new }
+        O.available_of O.unspent_of O.owed_of object.old result.items object.new }
     ensures records { records.new.items ≡ records.old.items ++ map (λ one. one.1.entry) result.items }
     ensures places { AreNumbered (gone + length records.old.items) result.items }
     ensures len { vec_len records.new ≡ vec_len records.old + count }
@@ -252,7 +252,7 @@ fn poll_one<O: Drains>(
     ensures place { result.1.place ≡ gone + length records.old.items + 1 }
     ensures leads { (base : O.Base) → O.leads base records.old.items object.old
         → O.leads base records.new.items object.new }
-    ensures takes { TakesOne O.available_of O.left_of O.owed_of
+    ensures takes { TakesOne O.available_of O.unspent_of O.owed_of
         (λ o. O.refusal_of o seat O.poll) (O.record_of seat O.poll result.0) object.old object.new }
     ensures spare { O.spare object.old ≤ O.spare object.new }
     ensures capacity { vec_capacity records.new ≡ vec_capacity records.old }

@@ -80,8 +80,8 @@ pub fn make_call<T: Marked, L: Line<T>>(
             records::of_withdrawal(seat, ticket, Cause::Expired, back)
         }
         QueueCall::Interrupt(target) => {
-            let struck = queue.interrupt(target).unwrap();
-            records::of_interrupt(seat, target, struck)
+            let interrupted = queue.interrupt(target).unwrap();
+            records::of_interrupt(seat, target, interrupted)
         }
     }
 }

@@ -113,10 +113,10 @@ pub(crate) fn of_withdrawal<T>(
 }
 
 /// The answer to an interrupt, whose record names the ticket that was cut, or 0.
-pub(crate) fn of_interrupt<T>(seat: SeatNo, target: SeatNo, struck: Interrupted) -> Answered<T>
-    ensures { result ≡ (QueueAnswer.Interrupted struck, Some (interrupt_record seat target struck)) }
+pub(crate) fn of_interrupt<T>(seat: SeatNo, target: SeatNo, interrupted: Interrupted) -> Answered<T>
+    ensures { result ≡ (QueueAnswer.Interrupted interrupted, Some (interrupt_record seat target interrupted)) }
 {
-    let ticket = match &struck {
+    let ticket = match &interrupted {
         Interrupted::Cut(ticket) => *ticket,
         Interrupted::Flagged => Ticket::new(0).unwrap(),
     };
@@ -125,5 +125,5 @@ pub(crate) fn of_interrupt<T>(seat: SeatNo, target: SeatNo, struck: Interrupted)
         ticket,
         deed: Deed::Interrupt(target),
     };
-    (QueueAnswer::Interrupted(struck), Some(entry))
+    (QueueAnswer::Interrupted(interrupted), Some(entry))
 }

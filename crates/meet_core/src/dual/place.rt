@@ -11,7 +11,7 @@ ghost use Rattle.meet_core.specs.Left.{left_in};
 ghost use Rattle.meet_core.specs.LeftTold.{AreLeftOn};
 ghost use Rattle.meet_core.specs.Seen.{moment_of_queue};
 ghost use Rattle.meet_core.specs.QueueSteps.{DualStep, LeadsTo, kind_of, queue_refusal, queue_need, queue_room};
-ghost use Rattle.meet_core.specs.QueueSteps.{queue_owed, queue_available, queue_left};
+ghost use Rattle.meet_core.specs.QueueSteps.{queue_owed, queue_available, queue_unspent};
 ghost use Rattle.meet_core.specs.QueueRoom.{roomy, roomy-refusal, roomy-leads, roomy-steps, roomless, roomy-fresh};
 ghost use Rattle.meet_core.specs.QueueRoom.{own-record};
 ghost use Rattle.meet_core.specs.SeatCounts.{dual-count};
@@ -135,7 +135,7 @@ impl<T: Marked, L: Line<T>> Drains for Dual<T, L> {
 
     ghost available_of = { λ q. queue_available q };
 
-    ghost left_of = { λ q. queue_left q };
+    ghost unspent_of = { λ q. queue_unspent q };
 
     ghost poll_fits = { refl };
 

@@ -4,7 +4,7 @@ ghost use Rattle.std.specs.Prelude.{◌≡◌, ◌≢◌, ℕ, ◌+◌, ◌<◌,
 ghost use Rattle.std.specs.Prelude.{IfSome, IfNone};
 ghost use Rattle.std.specs.Prelude.{MatchOption, All, true, false, is_some, if◌then◌else◌};
 ghost use Rattle.meet_tickets.specs.Meeting.{partner, kept_count, IsAlone};
-ghost use Rattle.meet_tickets.specs.BySeat.{queued, open_ticket, entry_of, left};
+ghost use Rattle.meet_tickets.specs.BySeat.{queued, open_ticket, entry_of, withdrawn};
 ghost use Rattle.meet_tickets.specs.Limits.{last_ticket};
 ghost use Rattle.meet_tickets.specs.declared.refusals.Refusal.TheVariants.{TicketsSpent};
 ghost use Rattle.meet_tickets.specs.declared.lines.Hold.TheVariants.{Free};
@@ -29,7 +29,7 @@ impl<T: Marked, L: Line<T>> Meetings<T, L> {
     /// Uses up the next ticket, and changes nothing else. The only refusal is TicketsSpent, exactly where none is left.
     pub fn spend(&mut self) -> Result<Ticket, Refusal>
         ensures ticket { IfOk result (λ ticket. ticket ≡ self.old.next) }
-        ensures left { IsOk result ↔ (self.old.next ≤ last_ticket) }
+        ensures tickets { IsOk result ↔ (self.old.next ≤ last_ticket) }
         ensures next { OnOk result (self.new ≡ record self.old { last = self.old.next; next = self.old.next + 1 }) }
         ensures why { IfErr result (λ why. why ≡ TicketsSpent) }
         ensures unchanged { OnErr result (self.new ≡ self.old) }
@@ -153,7 +153,8 @@ impl<T: Marked, L: Line<T>> Meetings<T, L> {
     pub(super) fn withdraw(&mut self, seat: SeatNo) -> Option<Entry<T>>
         requires { seat < count_of self.old }
         ensures entry { result ≡ entry_of self.old.line ((seats_of self.old).holds seat) }
-        ensures left { IfSome result (λ entry. Leaves self.old self.new (left (seats_of self.old) seat entry.ticket)) }
+        ensures leaves { IfSome result
+            (λ entry. Leaves self.old self.new (withdrawn (seats_of self.old) seat entry.ticket)) }
         ensures places { places_of self.new ≡ places_of self.old }
         ensures waited { IfSome result (λ entry. entry.waits ≡ true) }
         ensures apart { IfSome result (λ entry. All (λ e. e.ticket ≢ entry.ticket) self.new.line) }

@@ -10,7 +10,7 @@ use meet_line::FairLine;
 use meet_shop::{Idle, gates};
 use meet_sync::{
     Asked, Back, Blanks, Chapter, Chronicle, Ledgers, NewQueue, Pending, Queue, Request, Seat,
-    SyncQueue, Withdrawn,
+    SyncQueue, TakenBack,
 };
 use meet_tickets::{Deed, Record, Refusal};
 use std::alloc::Global;
@@ -147,7 +147,7 @@ fn lives<O: QueuePlace<Item = u64> + Bases, N: Ledgers, R: Abort + Wait>(
     has(rt, &chapter, 9, 1);
     has(rt, &looks(rt, queue), 10, 0);
     match queue.cancel(rt, pending) {
-        Withdrawn::Back(second, _) => (seat, second),
+        TakenBack::Back(second, _) => (seat, second),
         _ => panic!(rt; "it doesn't come back"),
     }
 }

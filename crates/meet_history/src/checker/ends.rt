@@ -13,8 +13,8 @@ use std::alloc::Global;
 
 impl Checker {
     /// The base that stands for the base that the checker began with and all records that were pushed: a history that
-    /// goes on from here begins with it. Where a fault was found it is that fault; Memory where memory is wanted and not
-    /// there, and then the same may be asked again.
+    /// goes on from here begins with it. Where a fault was found it is that fault; Memory where memory is wanted and
+    /// not there, and then the same may be asked again.
     pub fn base(&self, alloc: Global) -> Result<Base, CheckFault>
         ensures base { IfOk result (IsBaseOf (moment_at self.now.place) self.now.count) }
         ensures sound { OnOk result (self.now.fault ≡ None) }

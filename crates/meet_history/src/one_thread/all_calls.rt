@@ -13,7 +13,7 @@ use meet_tickets::{Base, Deed, Record, Refusal};
 use std::alloc::Global;
 
 /// What came of one thread's calls.
-#[derive(Drop)]
+#[derive(Debug, Drop)]
 pub struct Run {
     /// The replies, in order.
     pub replies: Vec<Reply>,

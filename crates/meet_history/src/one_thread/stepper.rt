@@ -8,7 +8,7 @@ ghost use Rattle.meet_history.specs.Stepping.{reply_of, unrecorded, back_of};
 ghost use Rattle.meet_tickets.specs.declared.refusals.Refusal.TheVariants.{Memory};
 
 use super::replies::push_reserved;
-use super::{Call, Outcome, Reply, Setup, Verb};
+use super::{Call, Outcome, Probe, Reply, Setup, Verb};
 use crate::checker::Standing;
 use meet_book::{Book, Receipt};
 use meet_queues::{AnyQueue, QueueAnswer, QueueCall};
@@ -90,24 +90,14 @@ fn unrecorded(call: &QueueCall<u64>) -> Outcome
     }
 }
 
-/// The reply to a probe that counts.
-fn counted(seat: SeatNo, number: u64) -> Reply
-    ensures { result ≡ record { seat = seat; outcome = Outcome.Count number } }
-{
-    Reply {
-        seat,
-        outcome: Outcome::Count(number),
-    }
-}
-
 impl Stepper {
     ghost use Rattle.meet_tickets.specs.Bases.{IsWellFormed, IsLegalOn};
     ghost use Rattle.meet_core.specs.QueueSteps.{queue_need, queue_refusal};
-    ghost use Rattle.meet_history.specs.OneThread.{start, turn, turn_of, standing_of};
+    ghost use Rattle.meet_history.specs.OneThread.{seen, start, turn, turn_of, standing_of};
     ghost use Rattle.meet_history.specs.Served.{serves, IsOne, IsAnswered};
     ghost use Rattle.meet_history.specs.Stepping.{place_of, HasWritten, Takes, TakesTurn, LacksMemory, HasRoom};
     ghost use Rattle.meet_history.specs.Stepping.{StaysButForRoom};
-    ghost use Rattle.meet_history.specs.declared.one_thread.verbs.Verb.TheVariants.{Checkpoint};
+    ghost use Rattle.meet_history.specs.declared.one_thread.verbs.Verb.TheVariants.{Checkpoint, Look};
     ghost use Rattle.meet_history.specs.Stepping.{turn_of_call, refusal_at};
     ghost use Rattle.meet_history.specs.Limits.{IsInLimits};
 
@@ -154,6 +144,20 @@ impl Stepper {
         }
     }
 
+    /// What a look at the place sees.
+    fn look(&self, probe: Probe) -> Outcome
+        requires served { IsTrue (serves self.now.setup.kind.order (Look probe)) }
+        ensures { result ≡ seen self.now.setup (place_of self.now) probe }
+    {
+        let queue = self.book.probe();
+        match probe {
+            Probe::Size => Outcome::Count(queue.size()),
+            Probe::Room => Outcome::Count(queue.remaining_capacity()),
+            Probe::Peek => Outcome::Peeked(queue.peek_mark()),
+            Probe::Consumers => Outcome::Count(queue.waiting_consumers()),
+        }
+    }
+
     /// The reply to a call that has one.
     fn reply(&mut self, call: Call) -> Result<Reply, Refusal>
         requires served { IsTrue (serves self.old.setup.kind.order call.verb) }
@@ -190,13 +194,10 @@ impl Stepper {
                 None => Ok(refused(seat, Refusal::NotOpen)),
             },
             Verb::Interrupt(target) => self.make(seat, QueueCall::Interrupt(target)),
-            Verb::Size => Ok(counted(seat, self.book.probe().size())),
-            Verb::Room => Ok(counted(seat, self.book.probe().remaining_capacity())),
-            Verb::Peek => Ok(Reply {
+            Verb::Look(probe) => Ok(Reply {
                 seat,
-                outcome: Outcome::Peeked(self.book.probe().peek_mark()),
+                outcome: self.look(probe),
             }),
-            Verb::Consumers => Ok(counted(seat, self.book.probe().waiting_consumers())),
             _ => unreachable!(),
         }
     }

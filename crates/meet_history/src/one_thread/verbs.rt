@@ -37,6 +37,15 @@ pub enum Verb {
     Interrupt(SeatNo),
     /// `BlockingQueue.drainTo` with this many items at most.
     Drain(u64),
+    /// A look at the place, which changes nothing.
+    Look(Probe),
+    /// The records so far are folded away.
+    Checkpoint,
+}
+
+/// What a look at a place asks.
+#[derive(Clone, Copy, PartialEq, Eq, Debug)]
+pub enum Probe {
     /// `Collection.size`.
     Size,
     /// `BlockingQueue.remainingCapacity`.
@@ -45,8 +54,6 @@ pub enum Verb {
     Peek,
     /// `LinkedTransferQueue.getWaitingConsumerCount`.
     Consumers,
-    /// The records so far are folded away.
-    Checkpoint,
 }
 
 /// Whether a place of this order serves the verb: a transfer queue serves all, a synchronous queue all but those that
@@ -54,5 +61,9 @@ pub enum Verb {
 pub fn is_served(order: Order, verb: Verb) -> bool
     ensures { result ≡ serves order verb }
 {
-    order.keeps() || !matches!(verb, Verb::Transfer(_) | Verb::Try(_) | Verb::Consumers)
+    order.keeps()
+        || !matches!(
+            verb,
+            Verb::Transfer(_) | Verb::Try(_) | Verb::Look(Probe::Consumers)
+        )
 }

@@ -2,10 +2,10 @@
 
 ghost use Rattle.std.specs.Prelude.{◌≡◌, IfSome};
 ghost use Rattle.std.specs.Option.{option_map};
-ghost use Rattle.meet_run.specs.Words.{word_of, rest_of, behind};
+ghost use Rattle.meet_run.specs.Texts.Words.{word_of, rest_of, behind};
 ghost use Rattle.meet_history.specs.Limits.{IsInLimits};
-ghost use Rattle.meet_run.specs.Grammar.{order_of, option_value, option_in, written_in, may_have, setup_at_end};
-ghost use Rattle.meet_run.specs.Grammar.{setup_in, setup_of};
+ghost use Rattle.meet_run.specs.Scripts.Grammar.{order_of, option_value, option_in, written_in, may_have, setup_at_end};
+ghost use Rattle.meet_run.specs.Scripts.Grammar.{setup_in, setup_of};
 
 use crate::text::reading::LONGEST_LINE;
 use crate::text::words::{read_number, split_word};
@@ -22,8 +22,8 @@ pub struct Options {
 }
 
 /// The order of a place by its word.
-#[tactic(auto, unfolding(crate::specs::Grammar::order_of))]
-pub(crate) fn read_order(word: &[u8]) -> Option<Order>
+#[tactic(auto, unfolding(crate::specs::Scripts::Grammar::order_of))]
+pub fn read_order(word: &[u8]) -> Option<Order>
     ensures { result ≡ order_of word.now }
 {
     if word == b"fair".as_slice() {
@@ -45,7 +45,7 @@ pub fn behind_prefix<'a>(prefix: &[u8], text: &'a [u8]) -> Option<&'a [u8]>
 }
 
 /// An option's number, from 1 to `most`, and the rest of its line.
-#[tactic(auto, unfolding(crate::specs::Grammar::option_value))]
+#[tactic(auto, unfolding(crate::specs::Scripts::Grammar::option_value))]
 fn read_value(most: u64, text: &[u8]) -> Option<(Option<u64>, &[u8])>
     ensures { option_map (λ found. (found.0, found.1.now)) result
         ≡ option_value most (word_of text.now) (rest_of text.now) }
@@ -60,7 +60,7 @@ fn read_value(most: u64, text: &[u8]) -> Option<(Option<u64>, &[u8])>
 }
 
 /// An option by its name with a space on either side: its number, if it stands there, and the rest of its line.
-#[tactic(auto, unfolding(crate::specs::Grammar::option_in))]
+#[tactic(auto, unfolding(crate::specs::Scripts::Grammar::option_in))]
 pub fn read_option<'a>(name: &[u8], most: u64, rest: &'a [u8]) -> Option<(Option<u64>, &'a [u8])>
     ensures { option_map (λ found. (found.0, found.1.now)) result ≡ option_in name.now most rest.now }
 {
@@ -71,7 +71,7 @@ pub fn read_option<'a>(name: &[u8], most: u64, rest: &'a [u8]) -> Option<(Option
 }
 
 /// The options of a first line, each at most once and in this order, and the rest of the line.
-#[tactic(auto, unfolding(crate::specs::Grammar::written_in))]
+#[tactic(auto, unfolding(crate::specs::Scripts::Grammar::written_in))]
 fn read_options(rest: &[u8]) -> Option<(Options, &[u8])>
     ensures { option_map (λ found. (found.0, found.1.now)) result ≡ written_in rest.now }
 {
@@ -96,7 +96,7 @@ pub(crate) fn may_have_bound(order: Order, bound: Option<u64>) -> bool
 }
 
 /// The place, where nothing is left of the line, and it may have that bound.
-#[tactic(auto, unfolding(crate::specs::Grammar::setup_at_end))]
+#[tactic(auto, unfolding(crate::specs::Scripts::Grammar::setup_at_end))]
 fn finish_setup(order: Order, options: Options, rest: &[u8]) -> Option<Setup>
     ensures { result ≡ setup_at_end order options rest.now }
 {
@@ -115,7 +115,7 @@ fn finish_setup(order: Order, options: Options, rest: &[u8]) -> Option<Setup>
 }
 
 /// The place of a first line, however long.
-#[tactic(auto, unfolding(crate::specs::Grammar::setup_in))]
+#[tactic(auto, unfolding(crate::specs::Scripts::Grammar::setup_in))]
 fn read_long_setup(line: &[u8]) -> Option<Setup>
     ensures { result ≡ setup_in line.now }
 {
@@ -126,7 +126,7 @@ fn read_long_setup(line: &[u8]) -> Option<Setup>
 }
 
 /// The place of a script's first line, or none where the line is at fault.
-#[tactic(auto, unfolding(crate::specs::Grammar::setup_of))]
+#[tactic(auto, unfolding(crate::specs::Scripts::Grammar::setup_of))]
 pub fn read_setup(line: &[u8]) -> Option<Setup>
     ensures read { result ≡ setup_of line.now }
     ensures fits { IfSome result IsInLimits }

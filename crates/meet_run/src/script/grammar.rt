@@ -1,17 +1,18 @@
 //! What the lines of a script say.
 
 ghost use Rattle.std.specs.Prelude.{◌≡◌, IfSome};
-ghost use Rattle.meet_run.specs.Spelling.{FitsCall};
-ghost use Rattle.meet_run.specs.Grammar.{seat_of, bare_verb_of, interrupt_of, numbered_verb_of, verb_of, verb_behind};
-ghost use Rattle.meet_run.specs.Grammar.{call_in, served_call, call_of};
+ghost use Rattle.meet_run.specs.Scripts.Spelling.{FitsCall};
+ghost use Rattle.meet_run.specs.Scripts.Grammar.{seat_of, bare_verb_of, interrupt_of, numbered_verb_of, verb_of};
+ghost use Rattle.meet_run.specs.Scripts.Grammar.{verb_behind};
+ghost use Rattle.meet_run.specs.Scripts.Grammar.{call_in, served_call, call_of};
 
 use crate::text::reading::LONGEST_LINE;
 use crate::text::words::{read_number, split_word};
-use meet_history::{Call, Verb, is_served};
+use meet_history::{Call, Probe, Verb, is_served};
 use meet_tickets::{Order, SeatNo};
 
 /// The verb of a word that stands alone.
-#[tactic(auto, unfolding(crate::specs::Grammar::bare_verb_of))]
+#[tactic(auto, unfolding(crate::specs::Scripts::Grammar::bare_verb_of))]
 fn bare_verb(word: &[u8]) -> Option<Verb>
     ensures { result ≡ bare_verb_of word.now }
 {
@@ -26,13 +27,13 @@ fn bare_verb(word: &[u8]) -> Option<Verb>
     } else if word == b"expire".as_slice() {
         Some(Verb::Expire)
     } else if word == b"size".as_slice() {
-        Some(Verb::Size)
+        Some(Verb::Look(Probe::Size))
     } else if word == b"room".as_slice() {
-        Some(Verb::Room)
+        Some(Verb::Look(Probe::Room))
     } else if word == b"peek".as_slice() {
-        Some(Verb::Peek)
+        Some(Verb::Look(Probe::Peek))
     } else if word == b"consumers".as_slice() {
-        Some(Verb::Consumers)
+        Some(Verb::Look(Probe::Consumers))
     } else if word == b"checkpoint".as_slice() {
         Some(Verb::Checkpoint)
     } else {
@@ -41,7 +42,7 @@ fn bare_verb(word: &[u8]) -> Option<Verb>
 }
 
 /// The interrupt of the seat with this number.
-#[tactic(auto, unfolding(crate::specs::Grammar::interrupt_of, crate::specs::Grammar::seat_in))]
+#[tactic(auto, unfolding(crate::specs::Scripts::Grammar::interrupt_of, crate::specs::Scripts::Grammar::seat_in))]
 fn interrupt(number: u64) -> Option<Verb>
     ensures { result ≡ interrupt_of number }
 {
@@ -50,7 +51,7 @@ fn interrupt(number: u64) -> Option<Verb>
 }
 
 /// The verb of a word with a number behind it.
-#[tactic(auto, unfolding(crate::specs::Grammar::numbered_verb_of))]
+#[tactic(auto, unfolding(crate::specs::Scripts::Grammar::numbered_verb_of))]
 fn numbered_verb(word: &[u8], number: u64) -> Option<Verb>
     ensures { result ≡ numbered_verb_of word.now number }
 {
@@ -72,7 +73,7 @@ fn numbered_verb(word: &[u8], number: u64) -> Option<Verb>
 }
 
 /// The verb of a word and the rest of its line: nothing, or a space and a number.
-#[tactic(auto, unfolding(crate::specs::Grammar::verb_of))]
+#[tactic(auto, unfolding(crate::specs::Scripts::Grammar::verb_of))]
 fn read_verb(word: &[u8], rest: &[u8]) -> Option<Verb>
     ensures { result ≡ verb_of word.now rest.now }
 {
@@ -86,7 +87,7 @@ fn read_verb(word: &[u8], rest: &[u8]) -> Option<Verb>
 }
 
 /// The verb behind a line's first word.
-#[tactic(auto, unfolding(crate::specs::Grammar::verb_behind))]
+#[tactic(auto, unfolding(crate::specs::Scripts::Grammar::verb_behind))]
 fn read_verb_behind(rest: &[u8]) -> Option<Verb>
     ensures { result ≡ verb_behind rest.now }
 {
@@ -100,7 +101,7 @@ fn read_verb_behind(rest: &[u8]) -> Option<Verb>
 }
 
 /// The seat of a word.
-#[tactic(auto, unfolding(crate::specs::Grammar::seat_of, crate::specs::Grammar::seat_in))]
+#[tactic(auto, unfolding(crate::specs::Scripts::Grammar::seat_of, crate::specs::Scripts::Grammar::seat_in))]
 pub fn read_seat(word: &[u8]) -> Option<SeatNo>
     ensures { result ≡ seat_of word.now }
 {
@@ -109,7 +110,7 @@ pub fn read_seat(word: &[u8]) -> Option<SeatNo>
 }
 
 /// The call of a line, whatever is served.
-#[tactic(auto, unfolding(crate::specs::Grammar::call_in))]
+#[tactic(auto, unfolding(crate::specs::Scripts::Grammar::call_in))]
 pub(crate) fn read_any_call(line: &[u8]) -> Option<Call>
     ensures { result ≡ call_in line.now }
 {
@@ -120,7 +121,7 @@ pub(crate) fn read_any_call(line: &[u8]) -> Option<Call>
 }
 
 /// The call of a line of a script about a place of this order, or none where the line is at fault.
-#[tactic(auto, unfolding(crate::specs::Grammar::call_of, crate::specs::Grammar::served_call))]
+#[tactic(auto, unfolding(crate::specs::Scripts::Grammar::call_of, crate::specs::Scripts::Grammar::served_call))]
 pub fn read_call(order: Order, line: &[u8]) -> Option<Call>
     ensures read { result ≡ call_of order line.now }
     ensures fits { IfSome result (FitsCall order) }

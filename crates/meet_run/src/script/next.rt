@@ -2,11 +2,11 @@
 
 ghost use Rattle.std.specs.Prelude.{◌≤◌};
 ghost use Rattle.std.specs.Vec.{vec_capacity};
-ghost use Rattle.meet_run.specs.Grammar.{call_of, setup_of};
-ghost use Rattle.meet_run.specs.Reading.{UsesTurns};
-ghost use Rattle.meet_run.specs.Running.{IsNext, IfRead};
+ghost use Rattle.meet_run.specs.Scripts.Grammar.{call_of, setup_of};
+ghost use Rattle.meet_run.specs.Texts.Reading.{UsesTurns};
+ghost use Rattle.meet_run.specs.Scripts.Running.{IsNext, IfRead};
 ghost use Rattle.meet_history.specs.Limits.{IsInLimits};
-ghost use Rattle.meet_run.specs.Spelling.{FitsCall};
+ghost use Rattle.meet_run.specs.Scripts.Spelling.{FitsCall};
 
 use crate::script::first_line::read_setup;
 use crate::script::grammar::read_call;

@@ -6,14 +6,14 @@ ghost use Rattle.std.specs.Io.KnownBytes.{Appends};
 ghost use Rattle.std.specs.Vec.{vec_capacity};
 ghost use Rattle.meet_tickets.specs.declared.refusals.Refusal.TheVariants.{Memory};
 ghost use Rattle.meet_history.specs.OneThread.{start, turn, standing_of};
-ghost use Rattle.meet_run.specs.Reading.{UsesTurns, EndsInTurns};
-ghost use Rattle.meet_run.specs.Script.{fault_of, text_before, output_of, replies_text};
+ghost use Rattle.meet_run.specs.Texts.Reading.{UsesTurns, EndsInTurns};
+ghost use Rattle.meet_run.specs.Scripts.Script.{fault_of, text_before, output_of, replies_text};
 ghost use Rattle.meet_history.specs.Stepping.{Takes, place_of};
 ghost use Rattle.meet_history.specs.Limits.{IsInLimits};
 ghost use Rattle.meet_history.specs.Served.{serves};
-ghost use Rattle.meet_run.specs.Wording.{last_line};
-ghost use Rattle.meet_run.specs.Running.{CannotRead, IsCutShort, IsRunFault, RunsOn, RunEnds};
-ghost use Rattle.meet_run.specs.Writing.{AppendsPrefix};
+ghost use Rattle.meet_run.specs.Scripts.Wording.{last_line};
+ghost use Rattle.meet_run.specs.Scripts.Running.{CannotRead, IsCutShort, IsRunFault, RunsOn, RunEnds};
+ghost use Rattle.meet_run.specs.Texts.Writing.{AppendsPrefix};
 
 use crate::script::next::{next_call, next_setup};
 use crate::text::faults::{RunFault, at_line, cut_short};
@@ -153,13 +153,13 @@ pub fn run_script_within<R: Read, W: Write>(
     if turns == 0 {
         return Err(cut_short(Refusal::ReadFault));
     }
-    let mut left = turns;
+    let mut rest = turns;
     let mut line = match Vec::with_capacity(alloc, LONGEST_LINE) {
         Ok(line) => line,
         Err(_) => return Err(cut_short(Refusal::Memory)),
     };
-    match next_setup(reader, &mut left, &mut line) {
-        Next::Read(setup) => run_calls(alloc, reader, writer, &mut left, &mut line, setup),
+    match next_setup(reader, &mut rest, &mut line) {
+        Next::Read(setup) => run_calls(alloc, reader, writer, &mut rest, &mut line, setup),
         Next::Ended => Err(at_line(Refusal::BadLine, 1)),
         Next::Faulty => Err(at_line(Refusal::BadLine, 1)),
         Next::Broken => Err(cut_short(Refusal::ReadFault)),

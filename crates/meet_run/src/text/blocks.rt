@@ -2,7 +2,7 @@
 
 ghost use Rattle.std.specs.Prelude.{◌≡◌, [], IfOk, OnOk};
 ghost use Rattle.std.specs.Io.KnownBytes.{Keeps, IsAtEnd};
-ghost use Rattle.meet_run.specs.Blocks.{known_of};
+ghost use Rattle.meet_run.specs.Texts.Blocks.{known_of};
 
 use std::alloc::{AllocError, Global};
 use std::io;
@@ -24,11 +24,11 @@ pub struct Blocks<R> {
 
 impl<R> Model for Blocks<R> {
     ghost use Rattle.std.specs.Prelude.{◌<◌, ◌≤◌, slice_range, vec_len};
-    ghost use Rattle.meet_run.specs.Blocks.{Blocked};
+    ghost use Rattle.meet_run.specs.Texts.Blocks.{Blocked};
 
     ghost Value = { Blocked R };
 
-    ghost view = { λ b. record { left = slice_range b.block.items b.at b.end; reader = b.reader } };
+    ghost view = { λ b. record { unread = slice_range b.block.items b.at b.end; reader = b.reader } };
 
     ghost invariant = { λ b. (0 < vec_len b.block) × (b.at ≤ b.end) × (b.end ≤ vec_len b.block) };
 }
@@ -52,9 +52,9 @@ impl<R: Read> Blocks<R> {
 
     /// Reads the next block.
     fn fill(&mut self) -> io::Result<()>
-        requires { self.old.left ≡ [] }
+        requires { self.old.unread ≡ [] }
         ensures known { Keeps (known_of R.remaining self.old) (known_of R.remaining self.new) }
-        ensures end { OnOk result (self.new.left ≡ [] → IsAtEnd (known_of R.remaining self.new)) }
+        ensures end { OnOk result (self.new.unread ≡ [] → IsAtEnd (known_of R.remaining self.new)) }
     {
         self.at = 0;
         self.end = 0;
@@ -66,7 +66,7 @@ impl<R: Read> Blocks<R> {
     #[inline(always)]
     fn ready(&mut self) -> io::Result<()>
         ensures known { Keeps (known_of R.remaining self.old) (known_of R.remaining self.new) }
-        ensures end { OnOk result (self.new.left ≡ [] → IsAtEnd (known_of R.remaining self.new)) }
+        ensures end { OnOk result (self.new.unread ≡ [] → IsAtEnd (known_of R.remaining self.new)) }
     {
         if self.at < self.end {
             return Ok(());

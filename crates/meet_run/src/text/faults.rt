@@ -2,7 +2,7 @@
 
 ghost use Rattle.std.specs.Prelude.{◌≡◌, ◌+◌, ◌≤◌, ◌++◌, Some, None, length, decimal};
 ghost use Rattle.arrayvec.specs.ArrayVec.{array_vec_len};
-ghost use Rattle.meet_run.specs.Faults.{fault_status, status_of, line_text, fault_text, fault_line};
+ghost use Rattle.meet_run.specs.Texts.Faults.{fault_status, status_of, line_text, fault_text, fault_line};
 
 use arrayvec::ArrayVec;
 use itoa::Buffer;
@@ -40,10 +40,10 @@ pub fn at_line(why: Refusal, line: u64) -> RunFault
 #[derive(Clone, Copy)]
 struct InLine(Option<u64>);
 
-#[tactic(auto, unfolding(crate::specs::Faults::line_text))]
+#[tactic(auto, unfolding(crate::specs::Texts::Faults::line_text))]
 impl Display for InLine {
     ghost use Rattle.std.specs.Prelude.{Some};
-    ghost use Rattle.meet_run.specs.Faults.{line_text};
+    ghost use Rattle.meet_run.specs.Texts.Faults.{line_text};
 
     ghost output = { λ fault. Some (line_text fault.0) };
 
@@ -66,7 +66,7 @@ pub struct Report {
 }
 
 /// The exit status of a fault.
-#[tactic(auto, unfolding(crate::specs::Faults::fault_status))]
+#[tactic(auto, unfolding(crate::specs::Texts::Faults::fault_status))]
 fn status_for(why: Refusal) -> u8
     ensures { result ≡ fault_status why }
 {
@@ -86,7 +86,7 @@ fn push_text(line: &mut ArrayVec<u8, ROOM>, text: &[u8])
 }
 
 /// Appends the number of a fault's line, where it has one.
-#[tactic(auto, unfolding(crate::specs::Faults::line_text))]
+#[tactic(auto, unfolding(crate::specs::Texts::Faults::line_text))]
 fn push_line_number(line: &mut ArrayVec<u8, ROOM>, number: Option<u64>)
     requires { array_vec_len line.old ≤ 6 }
     ensures text { line.new.items ≡ line.old.items ++ line_text number }
@@ -101,7 +101,7 @@ fn push_line_number(line: &mut ArrayVec<u8, ROOM>, number: Option<u64>)
 }
 
 /// A fault's line.
-#[tactic(auto, unfolding(crate::specs::Faults::fault_text))]
+#[tactic(auto, unfolding(crate::specs::Texts::Faults::fault_text))]
 fn line_for(fault: RunFault) -> ArrayVec<u8, ROOM>
     ensures { result.items ≡ fault_text fault }
 {
@@ -114,7 +114,7 @@ fn line_for(fault: RunFault) -> ArrayVec<u8, ROOM>
 }
 
 /// How a program ends after this run.
-#[tactic(auto, unfolding(crate::specs::Faults::status_of, crate::specs::Faults::fault_line))]
+#[tactic(auto, unfolding(crate::specs::Texts::Faults::status_of, crate::specs::Texts::Faults::fault_line))]
 pub fn report_of(outcome: &Result<bool, RunFault>) -> Report
     ensures status { result.status ≡ status_of outcome.now }
     ensures line { result.line.items ≡ fault_line outcome.now }

@@ -1,7 +1,7 @@
 //! What the next line of a text is.
 
 ghost use Rattle.std.specs.Prelude.{◌≡◌};
-ghost use Rattle.meet_run.specs.Running.{next_from};
+ghost use Rattle.meet_run.specs.Scripts.Running.{next_from};
 
 use crate::text::reading::LineRead;
 

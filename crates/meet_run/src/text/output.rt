@@ -2,7 +2,7 @@
 
 ghost use Rattle.std.specs.Prelude.{◌≡◌, [], IsOk, OnOk, OnErr, IfErr};
 ghost use Rattle.std.specs.Io.KnownBytes.{Appends};
-ghost use Rattle.meet_run.specs.Writing.{AppendsPrefix, AppendsLess};
+ghost use Rattle.meet_run.specs.Texts.Writing.{AppendsPrefix, AppendsLess};
 
 use meet_tickets::Refusal;
 use std::io::Write;

@@ -2,7 +2,7 @@
 
 ghost use Rattle.std.specs.Prelude.{◌≤◌};
 ghost use Rattle.std.specs.Vec.{vec_capacity};
-ghost use Rattle.meet_run.specs.Reading.{ReadsByte, ReadsLine, UsesTurns, SpendsTurn};
+ghost use Rattle.meet_run.specs.Texts.Reading.{ReadsByte, ReadsLine, UsesTurns, SpendsTurn};
 
 use std::io::Read;
 

@@ -1,8 +1,8 @@
 //! The text of the replies, one line each. Where memory runs out, nothing is said of what was appended.
 
 ghost use Rattle.std.specs.Prelude.{◌≡◌, ◌++◌, OnOk, codes, decimal};
-ghost use Rattle.meet_run.specs.Wording.{with_mark, cause_text, answer_text, cut_text, mark_text, outcome_text};
-ghost use Rattle.meet_run.specs.Wording.{text_of, last_line};
+ghost use Rattle.meet_run.specs.Scripts.Wording.{with_mark, cause_text, answer_text, cut_text, mark_text, outcome_text};
+ghost use Rattle.meet_run.specs.Scripts.Wording.{text_of, last_line};
 
 use itoa::Buffer;
 use meet_history::{Answer, Outcome, Reply, Standing};
@@ -18,7 +18,7 @@ pub fn push_number(out: &mut Vec<u8>, number: u64) -> Result<(), AllocError>
 }
 
 /// Appends a word, and a mark behind it where there is one.
-#[tactic(auto, unfolding(crate::specs::Wording::with_mark))]
+#[tactic(auto, unfolding(crate::specs::Scripts::Wording::with_mark))]
 fn push_with_mark(out: &mut Vec<u8>, word: &[u8], mark: Option<u64>) -> Result<(), AllocError>
     ensures { OnOk result (out.new.items ≡ out.old.items ++ with_mark word.now mark) }
 {
@@ -54,7 +54,7 @@ pub fn push_pair(
 }
 
 /// Why a ticket was withdrawn.
-#[tactic(auto, unfolding(crate::specs::Wording::cause_text))]
+#[tactic(auto, unfolding(crate::specs::Scripts::Wording::cause_text))]
 pub(crate) fn cause_word(cause: Cause) -> &'static [u8]
     ensures { result.now ≡ cause_text cause }
 {
@@ -66,7 +66,7 @@ pub(crate) fn cause_word(cause: Cause) -> &'static [u8]
 }
 
 /// Appends the answer of a recorded request or ending.
-#[tactic(auto, unfolding(crate::specs::Wording::answer_text))]
+#[tactic(auto, unfolding(crate::specs::Scripts::Wording::answer_text))]
 fn push_answer(out: &mut Vec<u8>, answer: Answer) -> Result<(), AllocError>
     ensures { OnOk result (out.new.items ≡ out.old.items ++ answer_text answer) }
 {
@@ -82,7 +82,7 @@ fn push_answer(out: &mut Vec<u8>, answer: Answer) -> Result<(), AllocError>
 }
 
 /// Appends what became of an interrupted seat: its ticket was cut, or it was flagged.
-#[tactic(auto, unfolding(crate::specs::Wording::cut_text))]
+#[tactic(auto, unfolding(crate::specs::Scripts::Wording::cut_text))]
 fn push_cut(out: &mut Vec<u8>, cut: Option<Ticket>) -> Result<(), AllocError>
     ensures { OnOk result (out.new.items ≡ out.old.items ++ cut_text cut) }
 {
@@ -96,7 +96,7 @@ fn push_cut(out: &mut Vec<u8>, cut: Option<Ticket>) -> Result<(), AllocError>
 }
 
 /// Appends the mark of the first item, if there is one.
-#[tactic(auto, unfolding(crate::specs::Wording::mark_text))]
+#[tactic(auto, unfolding(crate::specs::Scripts::Wording::mark_text))]
 fn push_mark(out: &mut Vec<u8>, mark: Option<u64>) -> Result<(), AllocError>
     ensures { OnOk result (out.new.items ≡ out.old.items ++ mark_text mark) }
 {
@@ -117,7 +117,7 @@ pub fn push_seat(out: &mut Vec<u8>, seat: SeatNo, word: &[u8]) -> Result<(), All
 }
 
 /// Appends what came of a seat's call.
-#[tactic(auto, unfolding(crate::specs::Wording::outcome_text))]
+#[tactic(auto, unfolding(crate::specs::Scripts::Wording::outcome_text))]
 fn push_outcome(out: &mut Vec<u8>, seat: SeatNo, outcome: Outcome) -> Result<(), AllocError>
     ensures { OnOk result (out.new.items ≡ out.old.items ++ outcome_text seat outcome) }
 {
@@ -159,7 +159,7 @@ fn push_outcome(out: &mut Vec<u8>, seat: SeatNo, outcome: Outcome) -> Result<(),
 }
 
 /// Appends a reply's line.
-#[tactic(auto, unfolding(crate::specs::Wording::text_of))]
+#[tactic(auto, unfolding(crate::specs::Scripts::Wording::text_of))]
 pub(crate) fn push_reply(out: &mut Vec<u8>, reply: &Reply) -> Result<(), AllocError>
     ensures { OnOk result (out.new.items ≡ out.old.items ++ text_of reply.now) }
 {
@@ -169,7 +169,7 @@ pub(crate) fn push_reply(out: &mut Vec<u8>, reply: &Reply) -> Result<(), AllocEr
 
 /// Appends the line at the end of a script: how many records there are, how many tickets wait in the line, how many
 /// were met or cut and not collected, and how many items are kept.
-#[tactic(auto, unfolding(crate::specs::Wording::last_line))]
+#[tactic(auto, unfolding(crate::specs::Scripts::Wording::last_line))]
 pub fn push_last_line(out: &mut Vec<u8>, records: u64, standing: Standing) -> Result<(), AllocError>
     ensures { OnOk result (out.new.items ≡ out.old.items ++ last_line records standing) }
 {

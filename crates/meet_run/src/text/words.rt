@@ -2,7 +2,7 @@
 
 ghost use Rattle.std.specs.Prelude.{◌≡◌, ◌^◌, ◌<◌, ◌≤◌, true, false, IfSome, IfNone};
 ghost use Rattle.std.specs.Str.Parse.{AllDigits, digits_value};
-ghost use Rattle.meet_run.specs.Words.{word_of, rest_of, number_spelled, BeginsAsNumber};
+ghost use Rattle.meet_run.specs.Texts.Words.{word_of, rest_of, number_spelled, BeginsAsNumber};
 
 /// Cuts a text at its first space: what stands before it, and what is left from it on.
 pub fn split_word(text: &[u8]) -> (&[u8], &[u8])

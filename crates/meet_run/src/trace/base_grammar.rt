@@ -1,12 +1,12 @@
 //! What the lines of a base say in a trace.
 
 ghost use Rattle.std.specs.Prelude.{◌≡◌, IfSome};
-ghost use Rattle.meet_run.specs.TraceSpelling.{FitsHead};
-ghost use Rattle.meet_run.specs.BaseGrammar.{waits_of, giver_entry, entry_of_line, pair_of_line, pair_behind};
-ghost use Rattle.meet_run.specs.BaseGrammar.{cut_of_line};
-ghost use Rattle.meet_run.specs.BaseGrammar.{ticketed_piece, piece_with_ticket, piece_with_seat, piece_behind};
-ghost use Rattle.meet_run.specs.BaseGrammar.{piece_of};
-ghost use Rattle.meet_run.specs.BaseGrammar.{numbers_in, numbers_of, based_head_of};
+ghost use Rattle.meet_run.specs.Tracing.TraceSpelling.{FitsHead};
+ghost use Rattle.meet_run.specs.Tracing.BaseGrammar.{waits_of, giver_entry, entry_of_line, pair_of_line, pair_behind};
+ghost use Rattle.meet_run.specs.Tracing.BaseGrammar.{cut_of_line};
+ghost use Rattle.meet_run.specs.Tracing.BaseGrammar.{ticketed_piece, piece_with_ticket, piece_with_seat, piece_behind};
+ghost use Rattle.meet_run.specs.Tracing.BaseGrammar.{piece_of};
+ghost use Rattle.meet_run.specs.Tracing.BaseGrammar.{numbers_in, numbers_of, based_head_of};
 
 use crate::script::first_line::behind_prefix;
 use crate::script::grammar::read_seat;
@@ -17,7 +17,7 @@ use meet_history::Piece;
 use meet_tickets::{Entry, Kind, OpenCut, OpenPair, SeatNo, Ticket};
 
 /// Whether an entry waits, by its word.
-#[tactic(auto, unfolding(crate::specs::BaseGrammar::waits_of))]
+#[tactic(auto, unfolding(crate::specs::Tracing::BaseGrammar::waits_of))]
 fn read_waits(word: &[u8]) -> Option<bool>
     ensures { result ≡ waits_of word.now }
 {
@@ -31,7 +31,7 @@ fn read_waits(word: &[u8]) -> Option<bool>
 }
 
 /// A giver's entry, by its mark and the rest.
-#[tactic(auto, unfolding(crate::specs::BaseGrammar::giver_entry))]
+#[tactic(auto, unfolding(crate::specs::Tracing::BaseGrammar::giver_entry))]
 fn read_giver(seat: SeatNo, ticket: Ticket, mark: &[u8], rest: &[u8]) -> Option<Entry<u64>>
     ensures { result ≡ giver_entry seat ticket mark.now rest.now }
 {
@@ -51,7 +51,7 @@ fn read_giver(seat: SeatNo, ticket: Ticket, mark: &[u8], rest: &[u8]) -> Option<
 }
 
 /// An entry of the line, by its side's word and the rest.
-#[tactic(auto, unfolding(crate::specs::BaseGrammar::entry_of_line))]
+#[tactic(auto, unfolding(crate::specs::Tracing::BaseGrammar::entry_of_line))]
 fn read_entry(seat: SeatNo, ticket: Ticket, word: &[u8], rest: &[u8]) -> Option<Entry<u64>>
     ensures { result ≡ entry_of_line seat ticket word.now rest.now }
 {
@@ -80,7 +80,7 @@ fn read_entry(seat: SeatNo, ticket: Ticket, word: &[u8], rest: &[u8]) -> Option<
 }
 
 /// One that was met, by its side's word, its partner's word and the rest.
-#[tactic(auto, unfolding(crate::specs::BaseGrammar::pair_of_line))]
+#[tactic(auto, unfolding(crate::specs::Tracing::BaseGrammar::pair_of_line))]
 fn read_pair(
     seat: SeatNo,
     ticket: Ticket,
@@ -108,7 +108,7 @@ fn read_pair(
 }
 
 /// One that was met, by its side's word and the rest.
-#[tactic(auto, unfolding(crate::specs::BaseGrammar::pair_behind))]
+#[tactic(auto, unfolding(crate::specs::Tracing::BaseGrammar::pair_behind))]
 fn read_pair_behind(seat: SeatNo, ticket: Ticket, word: &[u8], rest: &[u8]) -> Option<OpenPair>
     ensures { result ≡ pair_behind seat ticket word.now rest.now }
 {
@@ -122,7 +122,7 @@ fn read_pair_behind(seat: SeatNo, ticket: Ticket, word: &[u8], rest: &[u8]) -> O
 }
 
 /// One that was cut, by its side's word and the rest.
-#[tactic(auto, unfolding(crate::specs::BaseGrammar::cut_of_line))]
+#[tactic(auto, unfolding(crate::specs::Tracing::BaseGrammar::cut_of_line))]
 fn read_cut(seat: SeatNo, ticket: Ticket, word: &[u8], rest: &[u8]) -> Option<OpenCut>
     ensures { result ≡ cut_of_line seat ticket word.now rest.now }
 {
@@ -154,7 +154,7 @@ fn read_cut(seat: SeatNo, ticket: Ticket, word: &[u8], rest: &[u8]) -> Option<Op
 }
 
 /// A piece with a seat and a ticket, by the line's first word, its side's word and the rest.
-#[tactic(auto, unfolding(crate::specs::BaseGrammar::ticketed_piece))]
+#[tactic(auto, unfolding(crate::specs::Tracing::BaseGrammar::ticketed_piece))]
 fn read_ticketed(
     first: &[u8],
     seat: SeatNo,
@@ -179,7 +179,7 @@ fn read_ticketed(
 }
 
 /// A piece with a seat, by what stands behind the ticket.
-#[tactic(auto, unfolding(crate::specs::BaseGrammar::piece_with_ticket))]
+#[tactic(auto, unfolding(crate::specs::Tracing::BaseGrammar::piece_with_ticket))]
 fn read_with_ticket(first: &[u8], seat: SeatNo, ticket: &[u8], rest: &[u8]) -> Option<Piece>
     ensures { result ≡ piece_with_ticket first.now seat ticket.now rest.now }
 {
@@ -194,7 +194,7 @@ fn read_with_ticket(first: &[u8], seat: SeatNo, ticket: &[u8], rest: &[u8]) -> O
 }
 
 /// A piece with a seat, by what stands behind the seat: nothing for a flag.
-#[tactic(auto, unfolding(crate::specs::BaseGrammar::piece_with_seat))]
+#[tactic(auto, unfolding(crate::specs::Tracing::BaseGrammar::piece_with_seat))]
 fn read_with_seat(first: &[u8], seat: &[u8], rest: &[u8]) -> Option<Piece>
     ensures { result ≡ piece_with_seat first.now seat.now rest.now }
 {
@@ -216,7 +216,7 @@ fn read_with_seat(first: &[u8], seat: &[u8], rest: &[u8]) -> Option<Piece>
 }
 
 /// The piece behind a line's first word.
-#[tactic(auto, unfolding(crate::specs::BaseGrammar::piece_behind))]
+#[tactic(auto, unfolding(crate::specs::Tracing::BaseGrammar::piece_behind))]
 fn read_piece_behind(first: &[u8], rest: &[u8]) -> Option<Piece>
     ensures { result ≡ piece_behind first.now rest.now }
 {
@@ -230,7 +230,7 @@ fn read_piece_behind(first: &[u8], rest: &[u8]) -> Option<Piece>
 }
 
 /// The piece of a line of a trace, or none where the line is a record's, or at fault.
-#[tactic(auto, unfolding(crate::specs::BaseGrammar::piece_of))]
+#[tactic(auto, unfolding(crate::specs::Tracing::BaseGrammar::piece_of))]
 pub(crate) fn read_piece(line: &[u8]) -> Option<Piece>
     ensures { result ≡ piece_of line.now }
 {
@@ -242,7 +242,7 @@ pub(crate) fn read_piece(line: &[u8]) -> Option<Piece>
 }
 
 /// A base's numbers, by the first of them and the rest.
-#[tactic(auto, unfolding(crate::specs::BaseGrammar::numbers_in))]
+#[tactic(auto, unfolding(crate::specs::Tracing::BaseGrammar::numbers_in))]
 fn read_both_numbers(first: &[u8], rest: &[u8]) -> Option<(Ticket, Ticket)>
     ensures { result ≡ numbers_in first.now rest.now }
 {
@@ -257,7 +257,7 @@ fn read_both_numbers(first: &[u8], rest: &[u8]) -> Option<(Ticket, Ticket)>
 }
 
 /// The numbers of a base's first line: how many records were folded away, and their greatest ticket.
-#[tactic(auto, unfolding(crate::specs::BaseGrammar::numbers_of))]
+#[tactic(auto, unfolding(crate::specs::Tracing::BaseGrammar::numbers_of))]
 pub(crate) fn read_numbers(line: &[u8]) -> Option<(Ticket, Ticket)>
     ensures { result ≡ numbers_of line.now }
 {
@@ -270,7 +270,7 @@ pub(crate) fn read_numbers(line: &[u8]) -> Option<(Ticket, Ticket)>
 }
 
 /// The kind of place of the first line of a trace that has a base, or none where it is no such line.
-#[tactic(auto, unfolding(crate::specs::BaseGrammar::based_head_of))]
+#[tactic(auto, unfolding(crate::specs::Tracing::BaseGrammar::based_head_of))]
 pub(crate) fn read_based_head(line: &[u8]) -> Option<Kind>
     ensures { result ≡ based_head_of line.now }
 {

@@ -1,11 +1,11 @@
 //! The laws of a base's lines in a trace: what is read is what is spelled. Each is the contract of a function that does
 //! nothing.
 
-ghost use Rattle.meet_run.specs.BaseSpelling.{PiecesHaveOneSpelling, BaseNumbersHaveOneSpelling};
-ghost use Rattle.meet_run.specs.BaseSpelling.{BasedHeadsHaveOneSpelling};
+ghost use Rattle.meet_run.specs.Tracing.BaseSpelling.{PiecesHaveOneSpelling, BaseNumbersHaveOneSpelling};
+ghost use Rattle.meet_run.specs.Tracing.BaseSpelling.{BasedHeadsHaveOneSpelling};
 
-/// A line reads as a piece of a base exactly where it is that piece's one spelling, and the piece's numbers are in their
-/// limits.
+/// A line reads as a piece of a base exactly where it is that piece's one spelling, and the piece's numbers are in
+/// their limits.
 pub fn pieces_have_one_spelling()
     ensures { PiecesHaveOneSpelling }
 {}

@@ -3,9 +3,9 @@
 ghost use Rattle.std.specs.Prelude.{◌≡◌, ◌++◌, ◌∷◌, [], map, OnOk, codes, decimal};
 ghost use Rattle.std.specs.List.{flat_map};
 ghost use Rattle.meet_history.specs.declared.pieces.Piece.TheVariants.{Stands, Met, Cut, Flagged};
-ghost use Rattle.meet_run.specs.TraceSpelling.{side_text};
-ghost use Rattle.meet_run.specs.BaseWording.{placed_text, item_text, standing_text, piece_text, piece_line};
-ghost use Rattle.meet_run.specs.BaseWording.{pieces_of, numbers_line, based_head_line};
+ghost use Rattle.meet_run.specs.Tracing.TraceSpelling.{side_text};
+ghost use Rattle.meet_run.specs.Tracing.BaseWording.{placed_text, item_text, standing_text, piece_text, piece_line};
+ghost use Rattle.meet_run.specs.Tracing.BaseWording.{pieces_of, numbers_line, based_head_line};
 
 use crate::text::wording::{push_numbered, push_pair};
 use crate::trace::wording::{push_place, side_word};
@@ -48,7 +48,7 @@ fn push_standing(out: &mut Vec<u8>, item: Option<u64>, waits: bool) -> Result<()
 }
 
 /// Appends the line of an entry of the line.
-#[tactic(auto, unfolding(crate::specs::BaseWording::piece_line))]
+#[tactic(auto, unfolding(crate::specs::Tracing::BaseWording::piece_line))]
 fn push_entry(out: &mut Vec<u8>, entry: &Entry<u64>) -> Result<(), AllocError>
     ensures { OnOk result (out.new.items ≡ out.old.items ++ piece_line (Stands entry.now)) }
 {
@@ -58,7 +58,7 @@ fn push_entry(out: &mut Vec<u8>, entry: &Entry<u64>) -> Result<(), AllocError>
 }
 
 /// Appends the line of an open ticket that was met.
-#[tactic(auto, unfolding(crate::specs::BaseWording::piece_line))]
+#[tactic(auto, unfolding(crate::specs::Tracing::BaseWording::piece_line))]
 fn push_met(out: &mut Vec<u8>, pair: OpenPair) -> Result<(), AllocError>
     ensures { OnOk result (out.new.items ≡ out.old.items ++ piece_line (Met pair)) }
 {
@@ -69,7 +69,7 @@ fn push_met(out: &mut Vec<u8>, pair: OpenPair) -> Result<(), AllocError>
 }
 
 /// Appends the line of an open ticket that was cut.
-#[tactic(auto, unfolding(crate::specs::BaseWording::piece_line))]
+#[tactic(auto, unfolding(crate::specs::Tracing::BaseWording::piece_line))]
 fn push_cut(out: &mut Vec<u8>, cut: OpenCut) -> Result<(), AllocError>
     ensures { OnOk result (out.new.items ≡ out.old.items ++ piece_line (Cut cut)) }
 {
@@ -79,7 +79,7 @@ fn push_cut(out: &mut Vec<u8>, cut: OpenCut) -> Result<(), AllocError>
 }
 
 /// Appends the line of a flagged seat.
-#[tactic(auto, unfolding(crate::specs::BaseWording::piece_line))]
+#[tactic(auto, unfolding(crate::specs::Tracing::BaseWording::piece_line))]
 fn push_flag(out: &mut Vec<u8>, seat: SeatNo) -> Result<(), AllocError>
     ensures { OnOk result (out.new.items ≡ out.old.items ++ piece_line (Flagged seat)) }
 {
@@ -88,7 +88,7 @@ fn push_flag(out: &mut Vec<u8>, seat: SeatNo) -> Result<(), AllocError>
 }
 
 /// Appends a base's first line.
-#[tactic(auto, unfolding(crate::specs::BaseWording::numbers_line))]
+#[tactic(auto, unfolding(crate::specs::Tracing::BaseWording::numbers_line))]
 fn push_numbers(out: &mut Vec<u8>, base: &Base) -> Result<(), AllocError>
     ensures { OnOk result (out.new.items ≡ out.old.items ++ numbers_line base.now) }
 {
@@ -137,7 +137,7 @@ fn push_flags(out: &mut Vec<u8>, flags: &[SeatNo]) -> Result<(), AllocError>
 }
 
 /// Appends the lines of a base's pieces.
-#[tactic(auto, using(crate::proofs::PieceLines::all_lines))]
+#[tactic(auto, using(crate::proofs::Tracing::PieceLines::all_lines))]
 fn push_pieces(out: &mut Vec<u8>, base: &Base) -> Result<(), AllocError>
     ensures { OnOk result (out.new.items ≡ out.old.items ++ flat_map piece_line (pieces_of base.now)) }
 {
@@ -148,7 +148,7 @@ fn push_pieces(out: &mut Vec<u8>, base: &Base) -> Result<(), AllocError>
 }
 
 /// Appends the first line of a trace that has a base, and the base's lines.
-#[tactic(auto, unfolding(crate::specs::BaseWording::based_head_line))]
+#[tactic(auto, unfolding(crate::specs::Tracing::BaseWording::based_head_line))]
 pub(crate) fn push_base(out: &mut Vec<u8>, kind: Kind, base: &Base) -> Result<(), AllocError>
     ensures { OnOk result (out.new.items ≡ out.old.items
         ++ (based_head_line kind ++ (numbers_line base.now ++ flat_map piece_line (pieces_of base.now)))) }

@@ -4,10 +4,11 @@ ghost use Rattle.std.specs.Prelude.{◌≡◌, ◌+◌, ◌^◌, ◌<◌, ◌≤
 ghost use Rattle.std.specs.Vec.{vec_capacity};
 ghost use Rattle.meet_tickets.specs.Bases.{IsWellFormed};
 ghost use Rattle.meet_tickets.specs.Limits.{last_ticket, most_records};
-ghost use Rattle.meet_run.specs.BasedTraces.{record_from, told_from, told_behind, HasLaid, ArePushedOn, IsChecked};
-ghost use Rattle.meet_run.specs.Keeping.{HasKept};
-ghost use Rattle.meet_run.specs.Reading.{UsesTurns, EndsInTurns, Both, lines_of, listed};
-ghost use Rattle.meet_run.specs.Traces.{NamesLine, IsUnreadTrace};
+ghost use Rattle.meet_run.specs.Tracing.BasedTraces.{record_from, told_from, told_behind, HasLaid, ArePushedOn};
+ghost use Rattle.meet_run.specs.Tracing.BasedTraces.{IsChecked};
+ghost use Rattle.meet_run.specs.Tracing.Keeping.{HasKept};
+ghost use Rattle.meet_run.specs.Texts.Reading.{UsesTurns, EndsInTurns, Both, lines_of, listed};
+ghost use Rattle.meet_run.specs.Tracing.Traces.{NamesLine, IsUnreadTrace};
 
 use crate::text::faults::{RunFault, at_line, cut_short};
 use crate::text::reading::{LONGEST_LINE, LineRead, read_line};
@@ -183,7 +184,7 @@ pub(crate) fn read_based<R: Read>(
         Ok(ground) => ground,
         Err(fault) => return Err(fault),
     };
-    let (base, left, first) = match lay_pieces(reader, turns, line, ground) {
+    let (base, more, first) = match lay_pieces(reader, turns, line, ground) {
         Ok(laid) => laid,
         Err(fault) => return Err(fault),
     };
@@ -192,7 +193,7 @@ pub(crate) fn read_based<R: Read>(
         Err(_) => return Err(cut_short(Refusal::Memory)),
     };
     let gone = base.gone;
-    if !left {
+    if !more {
         return Ok(ReadTrace {
             kind,
             base,

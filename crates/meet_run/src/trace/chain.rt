@@ -2,8 +2,8 @@
 
 ghost use Rattle.std.specs.Prelude.{◌≡◌, ◌<◌, ◌+◌, ◌^◌, ◌∷◌, [], ◌++◌, List, IfOk, IfErr, OnOk};
 ghost use Rattle.meet_tickets.specs.declared.refusals.Refusal.TheVariants.{Memory};
-ghost use Rattle.meet_run.specs.Chapters.{Chapter, IsOf, IsFoundOfAll, HasRead, TellsWrong};
-ghost use Rattle.meet_run.specs.Chapters.{wrong_of, broken_at, wrong_text, broken_line};
+ghost use Rattle.meet_run.specs.Tracing.Chapters.{Chapter, IsOf, IsFoundOfAll, HasRead, TellsWrong};
+ghost use Rattle.meet_run.specs.Tracing.Chapters.{wrong_of, broken_at, wrong_text, broken_line};
 
 use crate::text::wording::{push_last_line, push_numbered};
 use crate::trace::check::ReadTrace;
@@ -148,7 +148,7 @@ impl Chain {
 }
 
 /// Appends what is wrong with a chapter.
-#[tactic(auto, unfolding(crate::specs::Chapters::wrong_text))]
+#[tactic(auto, unfolding(crate::specs::Tracing::Chapters::wrong_text))]
 fn push_wrong(out: &mut Vec<u8>, why: ChapterFault) -> Result<(), AllocError>
     ensures { OnOk result (out.new.items ≡ out.old.items ++ wrong_text why) }
 {
@@ -160,7 +160,7 @@ fn push_wrong(out: &mut Vec<u8>, why: ChapterFault) -> Result<(), AllocError>
 }
 
 /// Appends the line that names the first chapter that can't follow, and why.
-#[tactic(auto, unfolding(crate::specs::Chapters::broken_line))]
+#[tactic(auto, unfolding(crate::specs::Tracing::Chapters::broken_line))]
 fn push_broken(out: &mut Vec<u8>, broken: Broken) -> Result<(), AllocError>
     ensures { OnOk result (out.new.items ≡ out.old.items ++ broken_line broken.chapter broken.why) }
 {

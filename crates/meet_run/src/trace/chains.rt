@@ -6,11 +6,12 @@ ghost use Rattle.std.specs.Prelude.{IfErr, OnOk};
 ghost use Rattle.std.specs.Vec.{vec_capacity};
 ghost use Rattle.meet_tickets.specs.declared.refusals.Refusal.TheVariants.{Memory, ReadFault};
 ghost use Rattle.meet_run.specs.declared.trace.chains.Behind.TheVariants.{End};
-ghost use Rattle.meet_run.specs.Reading.{UsesTurns, EndsInTurns, HasNoEnd, lines_of};
-ghost use Rattle.meet_run.specs.Running.{CannotRead};
-ghost use Rattle.meet_run.specs.Chains.{is_head, parts_of, fault_in_parts, chain_fault_in, IsChainFound, ChainEnds};
-ghost use Rattle.meet_run.specs.Chains.{IsPart, IsChapterRead};
-ghost use Rattle.meet_run.specs.Traces.{NamesLine, IsUnread, IsUnreadTrace, IsTraceFault};
+ghost use Rattle.meet_run.specs.Texts.Reading.{UsesTurns, EndsInTurns, HasNoEnd, lines_of};
+ghost use Rattle.meet_run.specs.Scripts.Running.{CannotRead};
+ghost use Rattle.meet_run.specs.Tracing.Chains.{is_head, parts_of, fault_in_parts, chain_fault_in, IsChainFound};
+ghost use Rattle.meet_run.specs.Tracing.Chains.{ChainEnds};
+ghost use Rattle.meet_run.specs.Tracing.Chains.{IsPart, IsChapterRead};
+ghost use Rattle.meet_run.specs.Tracing.Traces.{NamesLine, IsUnread, IsUnreadTrace, IsTraceFault};
 
 use crate::text::faults::{RunFault, at_line, cut_short};
 use crate::text::output::write_whole;
@@ -159,13 +160,13 @@ fn find_chain<R: Read>(
     if turns == 0 {
         return Err(cut_short(Refusal::ReadFault));
     }
-    let mut left = turns;
+    let mut rest = turns;
     let mut line = match Vec::with_capacity(alloc, LONGEST_LINE) {
         Ok(line) => line,
         Err(_) => return Err(cut_short(Refusal::Memory)),
     };
-    match read_line(reader, &mut left, &mut line) {
-        LineRead::Line => find_chapters(alloc, reader, &mut left, &mut line),
+    match read_line(reader, &mut rest, &mut line) {
+        LineRead::Line => find_chapters(alloc, reader, &mut rest, &mut line),
         LineRead::End => Err(at_line(Refusal::BadTrace, 1)),
         LineRead::TooLong => Err(at_line(Refusal::BadTrace, 1)),
         LineRead::Failed => Err(cut_short(Refusal::ReadFault)),

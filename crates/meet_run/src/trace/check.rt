@@ -5,11 +5,13 @@ ghost use Rattle.std.specs.Vec.{vec_capacity};
 ghost use Rattle.meet_tickets.specs.declared.refusals.Refusal.TheVariants.{Memory};
 ghost use Rattle.meet_history.specs.Pushing.{HasSeen};
 ghost use Rattle.meet_tickets.specs.Bases.{no_base};
-ghost use Rattle.meet_run.specs.Reading.{UsesTurns, EndsInTurns, lines_of};
-ghost use Rattle.meet_run.specs.Running.{CannotRead};
-ghost use Rattle.meet_run.specs.Traces.{records_behind, trace_fault_in, NamesLine, IsFoundIn, CheckEnds, ArePushed};
-ghost use Rattle.meet_run.specs.Keeping.{HasKept};
-ghost use Rattle.meet_run.specs.Traces.{IsRead, IsReadWith, IsReadInto, IsVerdictOf, IsUnreadTrace, IsTraceFault};
+ghost use Rattle.meet_run.specs.Texts.Reading.{UsesTurns, EndsInTurns, lines_of};
+ghost use Rattle.meet_run.specs.Scripts.Running.{CannotRead};
+ghost use Rattle.meet_run.specs.Tracing.Traces.{records_behind, trace_fault_in, NamesLine, IsFoundIn, CheckEnds};
+ghost use Rattle.meet_run.specs.Tracing.Traces.{ArePushed};
+ghost use Rattle.meet_run.specs.Tracing.Keeping.{HasKept};
+ghost use Rattle.meet_run.specs.Tracing.Traces.{IsRead, IsReadWith, IsReadInto, IsVerdictOf, IsUnreadTrace};
+ghost use Rattle.meet_run.specs.Tracing.Traces.{IsTraceFault};
 
 use crate::text::faults::{RunFault, at_line, cut_short};
 use crate::text::next::Next;
@@ -161,16 +163,16 @@ fn read_into<R: Read>(
     if turns == 0 {
         return Err(cut_short(Refusal::ReadFault));
     }
-    let mut left = turns;
+    let mut rest = turns;
     let mut line = match Vec::with_capacity(alloc, LONGEST_LINE) {
         Ok(line) => line,
         Err(_) => return Err(cut_short(Refusal::Memory)),
     };
-    match read_line(reader, &mut left, &mut line) {
+    match read_line(reader, &mut rest, &mut line) {
         LineRead::Line => match read_head(line.as_slice()) {
-            Some(kind) => read_plain(alloc, reader, &mut left, &mut line, kind, kept),
+            Some(kind) => read_plain(alloc, reader, &mut rest, &mut line, kind, kept),
             None => match read_based_head(line.as_slice()) {
-                Some(kind) => read_based(alloc, reader, &mut left, &mut line, kind, kept),
+                Some(kind) => read_based(alloc, reader, &mut rest, &mut line, kind, kept),
                 None => Err(at_line(Refusal::BadTrace, 1)),
             },
         },
@@ -180,8 +182,8 @@ fn read_into<R: Read>(
     }
 }
 
-/// Reads a whole trace, of either format, by at most so many reads; it refuses BadTrace with the line that can't be read,
-/// ReadFault and Memory. It keeps none of the records.
+/// Reads a whole trace, of either format, by at most so many reads; it refuses BadTrace with the line that can't be
+/// read, ReadFault and Memory. It keeps none of the records.
 pub fn read_trace<R: Read>(alloc: Global, reader: &mut R, turns: u64) -> Result<ReadTrace, RunFault>
     ensures read { IfOk result (λ trace. IfSome (R.remaining reader.old) (λ input. IsRead (lines_of input) trace)) }
     ensures bad { IfErr result (λ fault. IfSome (R.remaining reader.old) (λ input.

@@ -6,12 +6,12 @@ ghost use Rattle.std.specs.Vec.{vec_capacity};
 ghost use Rattle.meet_tickets.specs.Bases.{no_base};
 ghost use Rattle.meet_tickets.specs.ByLists.{IsLegal};
 ghost use Rattle.meet_history.specs.Checking.{IsCheckFault};
-ghost use Rattle.meet_run.specs.Erasing.{AreRecords, WritesErased, BeginsErased, EraseEnds, erase_fault_in};
-ghost use Rattle.meet_run.specs.Reading.{UsesTurns, EndsInTurns, lines_of};
-ghost use Rattle.meet_run.specs.Running.{CannotRead, IsCutShort};
-ghost use Rattle.meet_run.specs.TraceWording.{illegal_line};
-ghost use Rattle.meet_run.specs.Writing.{AppendsPrefix};
-ghost use Rattle.meet_run.specs.Traces.{records_behind, NamesLine, IsTrace, IsUnreadTrace, IsTraceFault};
+ghost use Rattle.meet_run.specs.Tracing.Erasing.{AreRecords, WritesErased, BeginsErased, EraseEnds, erase_fault_in};
+ghost use Rattle.meet_run.specs.Texts.Reading.{UsesTurns, EndsInTurns, lines_of};
+ghost use Rattle.meet_run.specs.Scripts.Running.{CannotRead, IsCutShort};
+ghost use Rattle.meet_run.specs.Tracing.TraceWording.{illegal_line};
+ghost use Rattle.meet_run.specs.Texts.Writing.{AppendsPrefix};
+ghost use Rattle.meet_run.specs.Tracing.Traces.{records_behind, NamesLine, IsTrace, IsUnreadTrace, IsTraceFault};
 
 use crate::text::faults::{RunFault, at_line, cut_short};
 use crate::text::next::Next;
@@ -79,13 +79,13 @@ fn read_trace<R: Read>(
     if turns == 0 {
         return Err(cut_short(Refusal::ReadFault));
     }
-    let mut left = turns;
+    let mut rest = turns;
     let mut line = match Vec::with_capacity(alloc, LONGEST_LINE) {
         Ok(line) => line,
         Err(_) => return Err(cut_short(Refusal::Memory)),
     };
-    match next_head(reader, &mut left, &mut line) {
-        Next::Read(kind) => match read_records(alloc, reader, &mut left, &mut line) {
+    match next_head(reader, &mut rest, &mut line) {
+        Next::Read(kind) => match read_records(alloc, reader, &mut rest, &mut line) {
             Ok(records) => Ok((kind, records)),
             Err(fault) => Err(fault),
         },
@@ -108,7 +108,7 @@ fn write_left<W: Write>(
     ensures why { IfErr result IsCutShort }
 {
     match erase(alloc, records) {
-        Ok(left) => write_trace(alloc, kind, left.as_slice(), writer),
+        Ok(staying) => write_trace(alloc, kind, staying.as_slice(), writer),
         Err(_) => Err(Refusal::Memory),
     }
 }

@@ -1,11 +1,12 @@
 //! What the lines of a trace say: its first line names the place, each further one a record.
 
 ghost use Rattle.std.specs.Prelude.{◌≡◌, IfSome};
-ghost use Rattle.meet_run.specs.TraceSpelling.{FitsRecord, FitsHead};
-ghost use Rattle.meet_run.specs.TraceGrammar.{ticket_of, side_of, cause_of, bare_deed_of, marked_deed_of};
-ghost use Rattle.meet_run.specs.TraceGrammar.{worded_deed_of, paired_deed_of, deed_with, deed_of, deed_behind};
-ghost use Rattle.meet_run.specs.TraceGrammar.{record_behind, record_in, record_of, kind_at_end, kind_in, head_in};
-ghost use Rattle.meet_run.specs.TraceGrammar.{head_of};
+ghost use Rattle.meet_run.specs.Tracing.TraceSpelling.{FitsRecord, FitsHead};
+ghost use Rattle.meet_run.specs.Tracing.TraceGrammar.{ticket_of, side_of, cause_of, bare_deed_of, marked_deed_of};
+ghost use Rattle.meet_run.specs.Tracing.TraceGrammar.{worded_deed_of, paired_deed_of, deed_with, deed_of, deed_behind};
+ghost use Rattle.meet_run.specs.Tracing.TraceGrammar.{record_behind, record_in, record_of, kind_at_end, kind_in};
+ghost use Rattle.meet_run.specs.Tracing.TraceGrammar.{head_in};
+ghost use Rattle.meet_run.specs.Tracing.TraceGrammar.{head_of};
 
 use crate::script::first_line::{behind_prefix, may_have_bound, read_option, read_order};
 use crate::script::grammar::read_seat;
@@ -14,7 +15,7 @@ use crate::text::words::{read_number, split_word};
 use meet_tickets::{Cause, Deed, Kind, MOST_KEPT, Order, Record, SeatNo, Side, Ticket};
 
 /// The ticket of a word.
-#[tactic(auto, unfolding(crate::specs::TraceGrammar::ticket_of, crate::specs::TraceGrammar::ticket_in))]
+#[tactic(auto, unfolding(crate::specs::Tracing::TraceGrammar::ticket_of, crate::specs::Tracing::TraceGrammar::ticket_in))]
 pub fn read_ticket(word: &[u8]) -> Option<Ticket>
     ensures { result ≡ ticket_of word.now }
 {
@@ -23,7 +24,7 @@ pub fn read_ticket(word: &[u8]) -> Option<Ticket>
 }
 
 /// A side by its word.
-#[tactic(auto, unfolding(crate::specs::TraceGrammar::side_of))]
+#[tactic(auto, unfolding(crate::specs::Tracing::TraceGrammar::side_of))]
 pub(crate) fn read_side(word: &[u8]) -> Option<Side>
     ensures { result ≡ side_of word.now }
 {
@@ -37,7 +38,7 @@ pub(crate) fn read_side(word: &[u8]) -> Option<Side>
 }
 
 /// Why a ticket was withdrawn, by its word.
-#[tactic(auto, unfolding(crate::specs::TraceGrammar::cause_of))]
+#[tactic(auto, unfolding(crate::specs::Tracing::TraceGrammar::cause_of))]
 fn read_cause(word: &[u8]) -> Option<Cause>
     ensures { result ≡ cause_of word.now }
 {
@@ -53,7 +54,7 @@ fn read_cause(word: &[u8]) -> Option<Cause>
 }
 
 /// The deed of a word that stands alone.
-#[tactic(auto, unfolding(crate::specs::TraceGrammar::bare_deed_of))]
+#[tactic(auto, unfolding(crate::specs::Tracing::TraceGrammar::bare_deed_of))]
 fn bare_deed(word: &[u8]) -> Option<Deed>
     ensures { result ≡ bare_deed_of word.now }
 {
@@ -69,7 +70,7 @@ fn bare_deed(word: &[u8]) -> Option<Deed>
 }
 
 /// The deed of a word with a mark behind it.
-#[tactic(auto, unfolding(crate::specs::TraceGrammar::marked_deed_of))]
+#[tactic(auto, unfolding(crate::specs::Tracing::TraceGrammar::marked_deed_of))]
 fn marked_deed(word: &[u8], mark: u64) -> Option<Deed>
     ensures { result ≡ marked_deed_of word.now mark }
 {
@@ -85,7 +86,7 @@ fn marked_deed(word: &[u8], mark: u64) -> Option<Deed>
 }
 
 /// The deed of a word with one word behind it: a side, a cause, a seat or a mark.
-#[tactic(auto, unfolding(crate::specs::TraceGrammar::worded_deed_of))]
+#[tactic(auto, unfolding(crate::specs::Tracing::TraceGrammar::worded_deed_of))]
 fn read_worded_deed(word: &[u8], value: &[u8]) -> Option<Deed>
     ensures { result ≡ worded_deed_of word.now value.now }
 {
@@ -105,7 +106,7 @@ fn read_worded_deed(word: &[u8], value: &[u8]) -> Option<Deed>
 }
 
 /// The deed of a word with a mark and a partner's ticket behind it.
-#[tactic(auto, unfolding(crate::specs::TraceGrammar::paired_deed_of))]
+#[tactic(auto, unfolding(crate::specs::Tracing::TraceGrammar::paired_deed_of))]
 fn paired_deed(word: &[u8], mark: u64, partner: Ticket) -> Option<Deed>
     ensures { result ≡ paired_deed_of word.now mark partner }
 {
@@ -121,7 +122,7 @@ fn paired_deed(word: &[u8], mark: u64, partner: Ticket) -> Option<Deed>
 }
 
 /// The deed of a word, the word behind it, and the rest of the line: nothing, or a space and a ticket.
-#[tactic(auto, unfolding(crate::specs::TraceGrammar::deed_with))]
+#[tactic(auto, unfolding(crate::specs::Tracing::TraceGrammar::deed_with))]
 fn read_deed_with(word: &[u8], value: &[u8], rest: &[u8]) -> Option<Deed>
     ensures { result ≡ deed_with word.now value.now rest.now }
 {
@@ -136,7 +137,7 @@ fn read_deed_with(word: &[u8], value: &[u8], rest: &[u8]) -> Option<Deed>
 }
 
 /// The deed of a word and the rest of its line.
-#[tactic(auto, unfolding(crate::specs::TraceGrammar::deed_of))]
+#[tactic(auto, unfolding(crate::specs::Tracing::TraceGrammar::deed_of))]
 fn read_deed(word: &[u8], rest: &[u8]) -> Option<Deed>
     ensures { result ≡ deed_of word.now rest.now }
 {
@@ -150,7 +151,7 @@ fn read_deed(word: &[u8], rest: &[u8]) -> Option<Deed>
 }
 
 /// The deed behind a ticket.
-#[tactic(auto, unfolding(crate::specs::TraceGrammar::deed_behind))]
+#[tactic(auto, unfolding(crate::specs::Tracing::TraceGrammar::deed_behind))]
 fn read_deed_behind(rest: &[u8]) -> Option<Deed>
     ensures { result ≡ deed_behind rest.now }
 {
@@ -164,7 +165,7 @@ fn read_deed_behind(rest: &[u8]) -> Option<Deed>
 }
 
 /// The record of a seat, by what stands behind the seat.
-#[tactic(auto, unfolding(crate::specs::TraceGrammar::record_behind))]
+#[tactic(auto, unfolding(crate::specs::Tracing::TraceGrammar::record_behind))]
 fn read_record_behind(seat: SeatNo, rest: &[u8]) -> Option<Record<Deed>>
     ensures { result ≡ record_behind seat rest.now }
 {
@@ -180,7 +181,7 @@ fn read_record_behind(seat: SeatNo, rest: &[u8]) -> Option<Record<Deed>>
 }
 
 /// The record of a line, however long.
-#[tactic(auto, unfolding(crate::specs::TraceGrammar::record_in))]
+#[tactic(auto, unfolding(crate::specs::Tracing::TraceGrammar::record_in))]
 fn read_any_record(line: &[u8]) -> Option<Record<Deed>>
     ensures { result ≡ record_in line.now }
 {
@@ -190,7 +191,7 @@ fn read_any_record(line: &[u8]) -> Option<Record<Deed>>
 }
 
 /// The record of a line of a trace, or none where the line is at fault.
-#[tactic(auto, unfolding(crate::specs::TraceGrammar::record_of))]
+#[tactic(auto, unfolding(crate::specs::Tracing::TraceGrammar::record_of))]
 pub fn read_record(line: &[u8]) -> Option<Record<Deed>>
     ensures read { result ≡ record_of line.now }
     ensures fits { IfSome result FitsRecord }
@@ -202,7 +203,7 @@ pub fn read_record(line: &[u8]) -> Option<Record<Deed>>
 }
 
 /// The kind of a place, where nothing is left of the line, and the place may have that bound.
-#[tactic(auto, unfolding(crate::specs::TraceGrammar::kind_at_end))]
+#[tactic(auto, unfolding(crate::specs::Tracing::TraceGrammar::kind_at_end))]
 fn finish_kind(order: Order, bound: Option<u64>, rest: &[u8]) -> Option<Kind>
     ensures { result ≡ kind_at_end order bound rest.now }
 {
@@ -213,7 +214,7 @@ fn finish_kind(order: Order, bound: Option<u64>, rest: &[u8]) -> Option<Kind>
 }
 
 /// A kind of place: its word, and its bound where it is spelled out.
-#[tactic(auto, unfolding(crate::specs::TraceGrammar::kind_in))]
+#[tactic(auto, unfolding(crate::specs::Tracing::TraceGrammar::kind_in))]
 pub fn read_kind(text: &[u8]) -> Option<Kind>
     ensures { result ≡ kind_in text.now }
 {
@@ -224,7 +225,7 @@ pub fn read_kind(text: &[u8]) -> Option<Kind>
 }
 
 /// The kind of place that a trace's first line names, however long.
-#[tactic(auto, unfolding(crate::specs::TraceGrammar::head_in))]
+#[tactic(auto, unfolding(crate::specs::Tracing::TraceGrammar::head_in))]
 fn read_long_head(line: &[u8]) -> Option<Kind>
     ensures { result ≡ head_in line.now }
 {
@@ -233,7 +234,7 @@ fn read_long_head(line: &[u8]) -> Option<Kind>
 }
 
 /// The kind of place of a trace's first line, or none where the line is at fault.
-#[tactic(auto, unfolding(crate::specs::TraceGrammar::head_of))]
+#[tactic(auto, unfolding(crate::specs::Tracing::TraceGrammar::head_of))]
 pub(crate) fn read_head(line: &[u8]) -> Option<Kind>
     ensures read { result ≡ head_of line.now }
     ensures fits { IfSome result FitsHead }

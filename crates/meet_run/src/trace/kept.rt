@@ -6,7 +6,7 @@ ghost use Rattle.meet_tickets.specs.declared.records.Record.{Record};
 ghost use Rattle.meet_tickets.specs.declared.refusals.Refusal.TheVariants.{Memory};
 ghost use Rattle.meet_history.specs.declared.checker.CheckFault.TheVariants.{Memory as NoMemory};
 ghost use Rattle.meet_history.specs.Pushing.{TakesIn};
-ghost use Rattle.meet_run.specs.Keeping.{HasKept};
+ghost use Rattle.meet_run.specs.Tracing.Keeping.{HasKept};
 
 use meet_history::{CheckFault, Checker};
 use meet_tickets::{Deed, Record, Refusal};

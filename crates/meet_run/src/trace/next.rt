@@ -2,11 +2,11 @@
 
 ghost use Rattle.std.specs.Prelude.{◌≡◌, ◌+◌, ◌≤◌};
 ghost use Rattle.std.specs.Vec.{vec_capacity};
-ghost use Rattle.meet_run.specs.Reading.{UsesTurns};
-ghost use Rattle.meet_run.specs.Running.{IsNext, IfRead};
-ghost use Rattle.meet_run.specs.TraceGrammar.{head_of};
-ghost use Rattle.meet_run.specs.TraceSpelling.{FitsHead};
-ghost use Rattle.meet_run.specs.Traces.{record_at};
+ghost use Rattle.meet_run.specs.Texts.Reading.{UsesTurns};
+ghost use Rattle.meet_run.specs.Scripts.Running.{IsNext, IfRead};
+ghost use Rattle.meet_run.specs.Tracing.TraceGrammar.{head_of};
+ghost use Rattle.meet_run.specs.Tracing.TraceSpelling.{FitsHead};
+ghost use Rattle.meet_run.specs.Tracing.Traces.{record_at};
 
 use crate::text::next::{Next, next_of};
 use crate::text::reading::{LONGEST_LINE, read_line};

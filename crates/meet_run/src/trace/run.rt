@@ -6,13 +6,14 @@ ghost use Rattle.std.specs.List.{flat_map};
 ghost use Rattle.std.specs.Vec.{vec_capacity};
 ghost use Rattle.meet_tickets.specs.declared.refusals.Refusal.TheVariants.{ReadFault};
 ghost use Rattle.meet_history.specs.Limits.{IsInLimits};
-ghost use Rattle.meet_run.specs.Reading.{UsesTurns, EndsInTurns, lines_of};
-ghost use Rattle.meet_run.specs.Running.{CannotRead, IsCutShort, IsRunFault, RunEnds};
-ghost use Rattle.meet_run.specs.Script.{fault_of};
-ghost use Rattle.meet_run.specs.BaseWording.{based_text, run_text, piece_line, numbers_line};
-ghost use Rattle.meet_run.specs.TraceWording.{record_line, trace_text};
-ghost use Rattle.meet_run.specs.Traces.{TracesAll, LeavesRun, TracesOn, IsTraceBehind, HasTrace, WasRun, IsUnread};
-ghost use Rattle.meet_run.specs.Writing.{AppendsPrefix};
+ghost use Rattle.meet_run.specs.Texts.Reading.{UsesTurns, EndsInTurns, lines_of};
+ghost use Rattle.meet_run.specs.Scripts.Running.{CannotRead, IsCutShort, IsRunFault, RunEnds};
+ghost use Rattle.meet_run.specs.Scripts.Script.{fault_of};
+ghost use Rattle.meet_run.specs.Tracing.BaseWording.{based_text, run_text, piece_line, numbers_line};
+ghost use Rattle.meet_run.specs.Tracing.TraceWording.{record_line, trace_text};
+ghost use Rattle.meet_run.specs.Tracing.Traces.{TracesAll, LeavesRun, TracesOn, IsTraceBehind, HasTrace, WasRun};
+ghost use Rattle.meet_run.specs.Tracing.Traces.{IsUnread};
+ghost use Rattle.meet_run.specs.Texts.Writing.{AppendsPrefix};
 
 use crate::script::next::{next_call, next_setup};
 use crate::text::faults::{RunFault, at_line, cut_short};
@@ -138,11 +139,11 @@ fn record_calls<R: Read>(
     requires limits { IsInLimits setup }
     requires room { LONGEST_LINE ≤ vec_capacity line.old }
     requires turns { turns.old + 1 < 2 ^ 64 }
-    ensures records { IfOk result (λ left. IfSome (R.remaining reader.old) (λ rest.
-        LeavesRun setup (lines_of rest) left.cut left.base left.records.items left.fault)) }
+    ensures records { IfOk result (λ traced. IfSome (R.remaining reader.old) (λ rest.
+        LeavesRun setup (lines_of rest) traced.cut traced.base traced.records.items traced.fault)) }
     ensures uses { UsesTurns (R.remaining reader.old) (R.remaining reader.new) turns.old turns.new }
     ensures spent { turns.old ≡ 0 → result ≡ Err ReadFault }
-    ensures ends { IfOk result (λ left. left.fault ≡ None → EndsInTurns (R.remaining reader.old) turns.old) }
+    ensures ends { IfOk result (λ traced. traced.fault ≡ None → EndsInTurns (R.remaining reader.old) turns.old) }
     ensures why { IfErr result IsUnread }
 {
     if *turns == 0 {
@@ -170,19 +171,19 @@ fn record_calls<R: Read>(
 fn write_run<W: Write>(
     alloc: Global,
     kind: Kind,
-    left: &Traced,
+    traced: &Traced,
     writer: &mut W,
 ) -> Result<(), Refusal>
     ensures written { OnOk result (Appends (W.contents writer.old) (W.contents writer.new)
-        (run_text kind left.now.cut left.now.base left.now.records.items)) }
+        (run_text kind traced.now.cut traced.now.base traced.now.records.items)) }
     ensures prefix { AppendsPrefix (W.contents writer.old) (W.contents writer.new)
-        (run_text kind left.now.cut left.now.base left.now.records.items) }
+        (run_text kind traced.now.cut traced.now.base traced.now.records.items) }
     ensures why { IfErr result IsCutShort }
 {
-    if left.cut {
-        write_based(alloc, kind, &left.base, left.records.as_slice(), writer)
+    if traced.cut {
+        write_based(alloc, kind, &traced.base, traced.records.as_slice(), writer)
     } else {
-        write_trace(alloc, kind, left.records.as_slice(), writer)
+        write_trace(alloc, kind, traced.records.as_slice(), writer)
     }
 }
 
@@ -207,15 +208,15 @@ fn trace_calls<R: Read, W: Write>(
     ensures ends { OnOk result (EndsInTurns (R.remaining reader.old) turns.old) }
     ensures faults { IfErr result IsRunFault }
 {
-    let left = match record_calls(alloc, reader, turns, line, setup) {
-        Ok(left) => left,
+    let traced = match record_calls(alloc, reader, turns, line, setup) {
+        Ok(traced) => traced,
         Err(why) => return Err(cut_short(why)),
     };
-    match write_run(alloc, setup.kind, &left, writer) {
+    match write_run(alloc, setup.kind, &traced, writer) {
         Ok(()) => {}
         Err(why) => return Err(cut_short(why)),
     }
-    match left.fault {
+    match traced.fault {
         None => Ok(true),
         Some(number) => Err(at_line(Refusal::BadLine, number)),
     }
@@ -247,13 +248,13 @@ pub fn run_trace_within<R: Read, W: Write>(
     if turns == 0 {
         return Err(cut_short(Refusal::ReadFault));
     }
-    let mut left = turns;
+    let mut rest = turns;
     let mut line = match Vec::with_capacity(alloc, LONGEST_LINE) {
         Ok(line) => line,
         Err(_) => return Err(cut_short(Refusal::Memory)),
     };
-    match next_setup(reader, &mut left, &mut line) {
-        Next::Read(setup) => trace_calls(alloc, reader, writer, &mut left, &mut line, setup),
+    match next_setup(reader, &mut rest, &mut line) {
+        Next::Read(setup) => trace_calls(alloc, reader, writer, &mut rest, &mut line, setup),
         Next::Ended => Err(at_line(Refusal::BadLine, 1)),
         Next::Faulty => Err(at_line(Refusal::BadLine, 1)),
         Next::Broken => Err(cut_short(Refusal::ReadFault)),

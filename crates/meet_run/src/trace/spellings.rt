@@ -1,8 +1,8 @@
 //! The laws of a trace's grammar: what is read is what is spelled. Each is the contract of a function that does
 //! nothing.
 
-ghost use Rattle.meet_run.specs.TraceSpelling.{RecordsHaveOneSpelling, HeadsHaveOneSpelling};
-ghost use Rattle.meet_run.specs.TraceTexts.{TracesHaveOneText, BasedTracesHaveOneText};
+ghost use Rattle.meet_run.specs.Tracing.TraceSpelling.{RecordsHaveOneSpelling, HeadsHaveOneSpelling};
+ghost use Rattle.meet_run.specs.Tracing.TraceTexts.{TracesHaveOneText, BasedTracesHaveOneText};
 
 /// A line reads as a record exactly where it is that record's one spelling, and the record's numbers are in their
 /// limits. So a zero in front, two spaces together, a tab or any other stray byte is a fault.

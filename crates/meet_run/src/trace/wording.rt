@@ -2,9 +2,9 @@
 //! was appended.
 
 ghost use Rattle.std.specs.Prelude.{◌≡◌, ◌++◌, OnOk, codes};
-ghost use Rattle.meet_run.specs.Spelling.{place_text, option_text};
-ghost use Rattle.meet_run.specs.TraceSpelling.{side_text, paired_text, deed_text};
-ghost use Rattle.meet_run.specs.TraceWording.{head_line, record_line, why_text, illegal_line};
+ghost use Rattle.meet_run.specs.Scripts.Spelling.{place_text, option_text};
+ghost use Rattle.meet_run.specs.Tracing.TraceSpelling.{side_text, paired_text, deed_text};
+ghost use Rattle.meet_run.specs.Tracing.TraceWording.{head_line, record_line, why_text, illegal_line};
 
 use crate::text::wording::{cause_word, push_numbered, push_pair};
 use meet_history::Why;
@@ -42,7 +42,7 @@ pub(crate) fn push_place(out: &mut Vec<u8>, kind: Kind) -> Result<(), AllocError
 }
 
 /// Appends a trace's first line.
-#[tactic(auto, unfolding(crate::specs::TraceWording::head_line))]
+#[tactic(auto, unfolding(crate::specs::Tracing::TraceWording::head_line))]
 pub(crate) fn push_head(out: &mut Vec<u8>, kind: Kind) -> Result<(), AllocError>
     ensures { OnOk result (out.new.items ≡ out.old.items ++ head_line kind) }
 {
@@ -97,7 +97,7 @@ fn push_deed(out: &mut Vec<u8>, deed: Deed) -> Result<(), AllocError>
 }
 
 /// Appends a record's line.
-#[tactic(auto, unfolding(crate::specs::TraceWording::record_line))]
+#[tactic(auto, unfolding(crate::specs::Tracing::TraceWording::record_line))]
 pub fn push_record(out: &mut Vec<u8>, entry: Record<Deed>) -> Result<(), AllocError>
     ensures { OnOk result (out.new.items ≡ out.old.items ++ record_line entry) }
 {
@@ -108,7 +108,7 @@ pub fn push_record(out: &mut Vec<u8>, entry: Record<Deed>) -> Result<(), AllocEr
 }
 
 /// Why a record can't come next, as a word.
-#[tactic(auto, unfolding(crate::specs::TraceWording::why_text))]
+#[tactic(auto, unfolding(crate::specs::Tracing::TraceWording::why_text))]
 pub fn why_word(why: Why) -> &'static [u8]
     ensures { result.now ≡ why_text why }
 {
@@ -121,7 +121,7 @@ pub fn why_word(why: Why) -> &'static [u8]
 }
 
 /// Appends the line that names the first record that can't stand, from 1, and why.
-#[tactic(auto, unfolding(crate::specs::TraceWording::illegal_line))]
+#[tactic(auto, unfolding(crate::specs::Tracing::TraceWording::illegal_line))]
 pub fn push_illegal(out: &mut Vec<u8>, number: u64, why: Why) -> Result<(), AllocError>
     ensures { OnOk result (out.new.items ≡ out.old.items ++ illegal_line number why) }
 {

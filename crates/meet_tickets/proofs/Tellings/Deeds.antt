@@ -11,7 +11,7 @@ use Rattle.meet_tickets.specs.declared.places.Side.TheVariants.{Giver, Taker}
 use Rattle.meet_tickets.specs.declared.places.Kind.{Kind}
 use Rattle.meet_tickets.specs.Meeting.{end_of, partner, Finds}
 use Rattle.meet_tickets.specs.ByLists.{State, Pair, IsOpen, IsInLine, IsNew, without, minus, join, wait, meet, closed}
-use Rattle.meet_tickets.specs.BySeat.{Seats, Moment, queued, meets, paired, paired_hold, released, left, cut_off, interrupted, flagged, cut_ticket, entry_of}
+use Rattle.meet_tickets.specs.BySeat.{Seats, Moment, queued, meets, paired, paired_hold, released, withdrawn, cut_off, interrupted, flagged, cut_ticket, entry_of}
 use Rattle.meet_tickets.specs.Agreement.{IsOnly, Holds, Agrees}
 use Rattle.meet_tickets.proofs.Lists.Members.{Contains-unfiltered, Contains-filter, ne_not_eqb, IsDistinct-filter, without_first_is, partner_leaves, Contains-partner, find_in_line}
 use Rattle.meet_tickets.proofs.Tellings.Whereabouts.{InLine, Reached, IsLess, IsLess-without, reached_closed}
@@ -181,7 +181,7 @@ module _ {s : State} (told : Told s) where
 
   -- an open ticket leaves the line
   pub leaves_agree : (i t : ℕ) → IsOpen s i t →
-      Agrees (record (closed s t) { line = without t s.line }) (moment_at s.last (left (seats_of told) i t))
+      Agrees (record (closed s t) { line = without t s.line }) (moment_at s.last (withdrawn (seats_of told) i t))
   leaves_agree i t o = record {
     last = refl;
     line = sym (without_first_is t s.line told.reached.distinct);

@@ -15,7 +15,7 @@ use Rattle.meet_tickets.specs.declared.records.Cause.TheVariants.{Cancelled, Exp
 use Rattle.meet_tickets.specs.declared.records.Deed.{Deed}
 use Rattle.meet_tickets.specs.declared.records.Deed.TheVariants.{GiveWaits, GiveMeets, GiveFails, GiveKept, TakeWaits, TakeMeets, TakeFails, EntryInterrupted, Done, Got, Withdrawn, Interrupt}
 use Rattle.meet_tickets.specs.Meeting.{end_of, Finds}
-use Rattle.meet_tickets.specs.BySeat.{Seats, put_at, entry_of, queued, paired, paired_hold, released, left, cut_off, flagged, interrupted, meets, Allows, seats_after, is_request, Moment, Fits, moment_after, IsLegalBySeatFrom, moment_of}
+use Rattle.meet_tickets.specs.BySeat.{Seats, put_at, entry_of, queued, paired, paired_hold, released, withdrawn, cut_off, flagged, interrupted, meets, Allows, seats_after, is_request, Moment, Fits, moment_after, IsLegalBySeatFrom, moment_of}
 use Rattle.meet_tickets.specs.Bases.{Based, Held, held_in, hold_met, waiting_held, paired_held, cut_held, state_of_base, moment_of_base, IsWellFormed, IsLegalOn}
 use Rattle.meet_tickets.specs.Fates.{request_of, asked_for, asked_on, met_on, opening}
 use Rattle.meet_tickets.specs.Asked.{request_on, Remembers}
@@ -142,8 +142,8 @@ module _ (k : Kind) (asked : ℕ → Option Deed) (s : Seats ℕ) (r : Recalled 
   released_recalled : (i : ℕ) → Recalled asked (released s i)
   released_recalled i = record { line = r.line; holds = put_recalled i Free tt }
 
-  left_recalled : (i t : ℕ) → Recalled asked (left s i t)
-  left_recalled i t = record {
+  withdrawn_recalled : (i t : ℕ) → Recalled asked (withdrawn s i t)
+  withdrawn_recalled i t = record {
     line = All-without_first (IsAsked asked) t s.line r.line;
     holds = put_recalled i Free tt;
   }
@@ -185,8 +185,8 @@ module _ (k : Kind) (asked : ℕ → Option Deed) (s : Seats ℕ) (r : Recalled 
   deed_recalled i t (EntryInterrupted side) new z = record { line = r.line; holds = r.holds }
   deed_recalled i t Done new z = released_recalled i
   deed_recalled i t (Got m u) new z = released_recalled i
-  deed_recalled i t (Withdrawn Cancelled) new z = left_recalled i t
-  deed_recalled i t (Withdrawn Expired) new z = left_recalled i t
+  deed_recalled i t (Withdrawn Cancelled) new z = withdrawn_recalled i t
+  deed_recalled i t (Withdrawn Expired) new z = withdrawn_recalled i t
   deed_recalled i t (Withdrawn Interrupted) new z = released_recalled i
   deed_recalled i t (Interrupt j) new z = interrupted_recalled j
 

@@ -11,7 +11,7 @@ use Rattle.meet_tickets.specs.declared.records.Cause.{Cause}
 use Rattle.meet_tickets.specs.declared.records.Deed.{Deed}
 use Rattle.meet_tickets.specs.declared.records.Deed.TheVariants.{GiveFails, TakeFails, EntryInterrupted}
 use Rattle.meet_tickets.specs.declared.fates.Fate.{Fate}
-use Rattle.meet_tickets.specs.declared.fates.Fate.TheVariants.{Never, Failed, EntryRefused, Paired, Collected, Withdrawn as TakenBack, Cut, Kept, Waiting}
+use Rattle.meet_tickets.specs.declared.fates.Fate.TheVariants.{Never, Failed, EntryRefused, Paired, Collected, Withdrawn as WasWithdrawn, Cut, Kept, Waiting}
 use Rattle.meet_tickets.specs.BySeat.{is_request}
 use Rattle.meet_tickets.specs.Fates.{request_of, named_by, meets_it, tells_of_meeting, has_learned, withdrawn_by, withdrawal_of, interrupts, was_cut, waits_first, fate_asked, fate}
 
@@ -40,7 +40,7 @@ fate_asked_of s TakeFails = Failed
 fate_asked_of s (EntryInterrupted side) = EntryRefused
 fate_asked_of s deed =
     option_map_or (λ u. if s.learned then Collected u else Paired u) (option_or (option_and_then named_by s.asked) s.met)
-    (option_map_or (λ cause. TakenBack cause) s.back (if s.cut then Cut else (if waits_first deed then Waiting else Kept)))
+    (option_map_or (λ cause. WasWithdrawn cause) s.back (if s.cut then Cut else (if waits_first deed then Waiting else Kept)))
 
 -- the fate of a ticket of which this is said
 abbrev pub fate_of : Said → Fate

@@ -7,7 +7,7 @@ use Rattle.meet_tickets.specs.declared.places.Kind.{Kind}
 use Rattle.meet_tickets.specs.declared.records.Record.{Record}
 use Rattle.meet_tickets.specs.declared.records.Cause.TheVariants.{Interrupted}
 use Rattle.meet_tickets.specs.declared.records.Deed.{Deed}
-use Rattle.meet_tickets.specs.declared.records.Deed.TheVariants.{GiveWaits, GiveFails, GiveKept, TakeWaits, TakeMeets, Done, Withdrawn as TakenBack, Interrupt}
+use Rattle.meet_tickets.specs.declared.records.Deed.TheVariants.{GiveWaits, GiveFails, GiveKept, TakeWaits, TakeMeets, Done, Withdrawn as WasWithdrawn, Interrupt}
 use Rattle.meet_tickets.specs.declared.fates.Fate.TheVariants.{Never, Failed, Paired, Collected, Withdrawn, Cut, Kept, Waiting}
 use Rattle.meet_tickets.specs.BySeat.{Fits, IsLegalBySeat, beginning, moment_of}
 use Rattle.meet_tickets.specs.Bases.{Based, no_base, moment_of_base}
@@ -32,7 +32,7 @@ Next k history count r = Fits k (moment_of k beginning (take count history)) r
 
 -- a taker waits, is interrupted and learns so; a giver finds nobody
 abbrev interrupted : List (Record Deed)
-interrupted = of 0 1 TakeWaits ∷ of 1 1 (Interrupt 0) ∷ of 0 1 (TakenBack Interrupted) ∷ of 2 2 (GiveFails 4) ∷ []
+interrupted = of 0 1 TakeWaits ∷ of 1 1 (Interrupt 0) ∷ of 0 1 (WasWithdrawn Interrupted) ∷ of 2 2 (GiveFails 4) ∷ []
 
 -- its records are legal
 interrupted_is_legal : IsLegalBySeat fair interrupted
@@ -44,7 +44,7 @@ interrupted_is_legal = (waits, (cuts, (ends, (fails, tt))))
     cuts : Next fair interrupted 1 (of 1 1 (Interrupt 0))
     cuts = record { above = λ e. absurd (false≢true e); allowed = refl }
 
-    ends : Next fair interrupted 2 (of 0 1 (TakenBack Interrupted))
+    ends : Next fair interrupted 2 (of 0 1 (WasWithdrawn Interrupted))
     ends = record { above = λ e. absurd (false≢true e); allowed = (None, refl) }
 
     fails : Next fair interrupted 3 (of 2 2 (GiveFails 4))

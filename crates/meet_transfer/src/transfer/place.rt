@@ -10,7 +10,7 @@ ghost use Rattle.meet_tickets.specs.declared.records.Record.{Record as Entered};
 ghost use Rattle.meet_core.specs.Left.{left_in};
 ghost use Rattle.meet_core.specs.LeftTold.{AreLeftOn};
 ghost use Rattle.meet_core.specs.Seen.{moment_of_queue};
-ghost use Rattle.meet_core.specs.QueueSteps.{LeadsTo, queue_owed, queue_available, queue_left};
+ghost use Rattle.meet_core.specs.QueueSteps.{LeadsTo, queue_owed, queue_available, queue_unspent};
 ghost use Rattle.meet_transfer.specs.Bounded.{BoundedStep};
 ghost use Rattle.meet_core.specs.QueueSteps.{bounded_kind, queue_refusal, queue_need, queue_room};
 ghost use Rattle.meet_core.specs.QueueRecords.{queue_record};
@@ -137,7 +137,7 @@ impl<T: Marked> Drains for Transfer<T> {
 
     ghost available_of = { λ b. queue_available b.queue };
 
-    ghost left_of = { λ b. queue_left b.queue };
+    ghost unspent_of = { λ b. queue_unspent b.queue };
 
     ghost poll_fits = { refl };
 

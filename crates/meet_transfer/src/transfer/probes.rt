@@ -128,7 +128,7 @@ impl<T: Marked> Transfer<T> {
     /// Uses up the next ticket, and changes nothing else. The only refusal is TicketsSpent, exactly where none is left.
     pub fn draw(&mut self) -> Result<Ticket, Refusal>
         ensures ticket { IfOk result (λ ticket. ticket ≡ self.old.queue.next) }
-        ensures left { IsOk result ↔ (self.old.queue.next ≤ last_ticket) }
+        ensures tickets { IsOk result ↔ (self.old.queue.next ≤ last_ticket) }
         ensures next { OnOk result (self.new ≡ record self.old {
           queue = record self.old.queue { last = self.old.queue.next; next = self.old.queue.next + 1 };
         }) }

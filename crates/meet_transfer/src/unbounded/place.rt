@@ -10,7 +10,7 @@ ghost use Rattle.meet_core.specs.Queue.{count_of};
 ghost use Rattle.meet_core.specs.Left.{left_in};
 ghost use Rattle.meet_core.specs.LeftTold.{AreLeftOn};
 ghost use Rattle.meet_core.specs.Seen.{moment_of_queue};
-ghost use Rattle.meet_core.specs.QueueSteps.{LeadsTo, queue_owed, queue_available, queue_left};
+ghost use Rattle.meet_core.specs.QueueSteps.{LeadsTo, queue_owed, queue_available, queue_unspent};
 ghost use Rattle.meet_core.specs.QueueRoom.{roomy, roomy-leads, roomless, roomy-fresh};
 ghost use Rattle.meet_core.specs.QueueRoom.{roomy-refusal, roomy-queue-steps, own-record};
 ghost use Rattle.meet_core.specs.SeatCounts.{queue-count};
@@ -134,7 +134,7 @@ impl<T: Marked> Drains for Unbounded<T> {
 
     ghost available_of = { λ q. queue_available q };
 
-    ghost left_of = { λ q. queue_left q };
+    ghost unspent_of = { λ q. queue_unspent q };
 
     ghost poll_fits = { refl };
 

@@ -1,6 +1,6 @@
 //! Who may go on after an answer: hints.
 
-use crate::answers::{Executed, FollowedUp, Ready};
+use crate::answers::{Executed, Followed, Ready};
 use crate::calls::PoolAnswer;
 use crate::pool::PoolCore;
 use meet_tickets::SeatNo;
@@ -13,7 +13,7 @@ impl<J> PoolCore<J> {
             PoolAnswer::Executed(_, Executed::Handed(worker)) => self.seat_of(*worker),
             PoolAnswer::WasShut | PoolAnswer::Returned(_) => self.next_cut(),
             PoolAnswer::BeReady(_, Ready::Exit) => self.next_cut(),
-            PoolAnswer::Followed(_, FollowedUp::Exit) => self.next_cut(),
+            PoolAnswer::Followed(_, Followed::Exit) => self.next_cut(),
             _ => None,
         }
     }

@@ -7,7 +7,7 @@ ghost use Rattle.pool_core.specs.Calls.{is_starting, is_jobless, IsHanded, IsHan
 ghost use Rattle.pool_core.specs.declared.stages.Stage.TheVariants.{Absent};
 ghost use Rattle.meet_tickets.specs.declared.refusals.Refusal.TheVariants.{NoSuchSeat, Memory, HistoryFull};
 
-use crate::answers::{FollowedUp, IdleEnd, Ready};
+use crate::answers::{Followed, IdleEnd, Ready};
 use crate::crew::{Crew, set_stage, take_stage};
 use crate::pool::PoolCore;
 use crate::stages::{Stage, Task};
@@ -151,7 +151,7 @@ impl<J> PoolCore<J> {
     }
 
     /// The follow-up of the worker's take.
-    pub fn follow(&mut self, seat: SeatNo) -> Result<(Ticket, FollowedUp<J>), Refusal>
+    pub fn follow(&mut self, seat: SeatNo) -> Result<(Ticket, Followed<J>), Refusal>
         ensures step { IfOk result (λ told. FollowStep self.old seat told.0 told.1 self.new) }
         ensures room { self.old.room ≤ self.new.room }
         ensures admitted { IfOk result (λ _. worker_refusal is_at_queue self.old seat ≡ None) }
@@ -163,15 +163,15 @@ impl<J> PoolCore<J> {
             return Err(Refusal::NotOpen);
         };
         if self.workers.at(worker).is_waiting() {
-            return Ok((take, FollowedUp::NotYet));
+            return Ok((take, Followed::NotYet));
         }
         if self.workers.at(worker).is_cut() {
             set_stage(&mut self.workers, worker, Stage::Absent);
-            return Ok((take, FollowedUp::Exit));
+            return Ok((take, Followed::Exit));
         }
         let Task { ticket, job } = take_handed(&mut self.workers, worker);
         set_stage(&mut self.workers, worker, Stage::Running(ticket));
-        Ok((take, FollowedUp::Run(ticket, job)))
+        Ok((take, Followed::Run(ticket, job)))
     }
 
     /// The keep-alive of a worker's take ran out: where it still stands in the line, the worker ends if there are more

@@ -1,3 +1,5 @@
+-- Proof of `find_disorder`, src/lib.rt. Two of these calls that are in wrong order, exactly where there are such: an
+-- earlier one that had ended before a later one began, and wrote a record that isn't before all of the later one's.
 use Rattle.soak_stamps.proofs.Sweeping.{told, none_told}
 use Rattle.soak_stamps.proofs.find_disorder.Goals as goal
 

@@ -1,3 +1,5 @@
+-- Proof of `first_disorder`, src/lib.rt. Two calls in wrong order among these moments, which are in order of their
+-- stamps.
 use Rattle.std.proofs.Common.{◌∙◌, subst, take, Some}
 use Rattle.std.proofs.lemmas.List.{take_more, take_all, get_or_default}
 use Rattle.soak_stamps.specs.declared.Moment.TheVariants.{Begins}

@@ -1,3 +1,4 @@
+-- What stays true from turn to turn of `first_disorder`, src/lib.rt.
 use Rattle.std.proofs.Common.{take}
 use Rattle.soak_stamps.proofs.Sweeping.{IsBest, AreOrdered}
 use Rattle.soak_stamps.proofs.first_disorder.Given as goal

@@ -1,3 +1,4 @@
+-- Proof of `moments`, src/lib.rt. The moments of these calls, in order of their stamps.
 use Rattle.std.proofs.Common.{rules, subst, take_all}
 use Rattle.std.proofs.lemmas.List.{take_more}
 use Rattle.std.proofs.lemmas.List.Sorted.{IsNonDecreasingBy-from_sort_by_key}

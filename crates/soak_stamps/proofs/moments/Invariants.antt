@@ -1,3 +1,4 @@
+-- What stays true from turn to turn of `moments`, src/lib.rt.
 use Rattle.std.proofs.Common.{take}
 use Rattle.soak_stamps.specs.Orders.{AreMoments}
 use Rattle.soak_stamps.proofs.moments.Given as goal

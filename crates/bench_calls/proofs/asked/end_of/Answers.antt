@@ -1,3 +1,4 @@
+-- Proof of `end_of`, src/asked.rt. Sees that the text ends behind a place and a task: else its third line is at fault.
 use Rattle.bench_calls.specs.Tasks.{task_of}
 use Rattle.bench_calls.specs.Asked.{at_end}
 use Rattle.bench_calls.proofs.AskedLemmas.{asked-fault, ends-there, goes-on, goes-on-faulty}

@@ -1,5 +1,6 @@
+-- Proof of `next_task`, src/asked.rt. Reads the line of a task.
 use Rattle.std.proofs.Common.{◌∙◌, ap}
-use Rattle.meet_run.proofs.NextLemmas.{next-is}
+use Rattle.meet_run.proofs.Texts.NextLemmas.{next-is}
 use Rattle.bench_calls.specs.Tasks.{task_of}
 use Rattle.bench_calls.proofs.TaskLemmas.{task-too_long}
 use Rattle.bench_calls.proofs.asked.next_task.Goals as goal

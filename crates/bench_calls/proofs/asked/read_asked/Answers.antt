@@ -1,4 +1,5 @@
-use Rattle.meet_run.specs.Grammar.{setup_of}
+-- Proof of `read_asked`, src/asked.rt.
+use Rattle.meet_run.specs.Scripts.Grammar.{setup_of}
 use Rattle.bench_calls.specs.Asked.{task_asked, asked_in}
 use Rattle.bench_calls.proofs.AskedLemmas.{asked-fault, asked-behind, first-none, first-faulty}
 use Rattle.bench_calls.proofs.asked.read_asked.Goals as goal

@@ -1,3 +1,4 @@
+-- Proof of `task_behind`, src/asked.rt. Reads what a text asks for behind the line of this place.
 use Rattle.bench_calls.specs.Tasks.{task_of}
 use Rattle.bench_calls.specs.Asked.{at_end, task_asked}
 use Rattle.bench_calls.proofs.AskedLemmas.{asked-fault, asked-behind, first-none, first-faulty}

@@ -1,3 +1,4 @@
+-- Proof of `make_calls`, src/calls.rt. So many calls of a shape on a place of this order, where so many wait at first.
 use Rattle.std.proofs.Common.{◌≡◌, ◌∙◌, ℕ, ◌++◌, ◌∷◌, [], ap, sym, arith, subst, All, IsTrue}
 use Rattle.std.proofs.lemmas.List.Elements.{All-push}
 use Rattle.meet_history.specs.declared.one_thread.verbs.Call.{Call}

@@ -1,3 +1,4 @@
+-- What stays true from turn to turn of `make_calls`, src/calls.rt.
 use Rattle.std.proofs.Common.{◌≡◌, All, IsTrue}
 use Rattle.meet_history.specs.Served.{serves}
 use Rattle.bench_calls.specs.Calls.{calls_of}

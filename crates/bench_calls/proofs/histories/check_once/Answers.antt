@@ -1,3 +1,5 @@
+-- Proof of `check_once`, src/histories.rt. Checks these records, which are legal after this base: what stands at their
+-- end.
 use Rattle.std.proofs.Common.{subst}
 use Rattle.meet_tickets.specs.Bases.{IsLegalOn, state_of_base}
 use Rattle.meet_history.specs.Checking.{IsIllegalAt, IsCheckFault}

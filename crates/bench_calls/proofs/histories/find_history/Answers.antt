@@ -1,3 +1,5 @@
+-- Proof of `find_history`, src/histories.rt. Makes these calls on a place of this setup, `runs` times, and checks what
+-- they write, `checks` times, each at least once.
 use Rattle.std.proofs.Common.{◌≡◌, ◌∙◌, ◌<◌, ◌≤◌, ℕ, ◌+◌, ap, length, arith}
 use Rattle.meet_tickets.specs.Bases.{Based}
 use Rattle.meet_history.specs.Standings.{standing_in, standing_on}

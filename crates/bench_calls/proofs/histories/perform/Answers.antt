@@ -1,3 +1,4 @@
+-- Proof of `perform`, src/histories.rt. Does a task on a place of this setup.
 use Rattle.std.proofs.Common.{◌≡◌, ◌∙◌, subst}
 use Rattle.std.specs.Prelude.{IfOk}
 use Rattle.bench_calls.specs.Findings.{found_of}

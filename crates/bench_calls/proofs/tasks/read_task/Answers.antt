@@ -1,3 +1,4 @@
+-- Proof of `read_task`, src/tasks.rt. The task of a line, or none where the line is at fault.
 use Rattle.bench_calls.proofs.TaskLemmas.{task-fits}
 use Rattle.bench_calls.proofs.tasks.read_task.Goals as goal
 

@@ -1,3 +1,4 @@
+-- What stays true from turn to turn of `pipe_squares`, src/pipeline.rt.
 use Rattle.ibisbookcase.specs.Limits.{most_records}
 use Rattle.example_more.proofs.pipeline.pipe_squares.Given as goal
 

@@ -1,3 +1,4 @@
+-- What stays true from turn to turn of `serve_connections`, src/server.rt.
 use Rattle.ibisbookcase.specs.Limits.{most_records}
 use Rattle.example_more.proofs.server.serve_connections.Given as goal
 

@@ -1,3 +1,4 @@
+-- Proof of `chosen`, src/answering.rt. Those of these deeds that may come next.
 use Rattle.std.proofs.Common.{sym, subst, ◌+◌, take}
 use Rattle.meet_answers.specs.Answers.{AreChosen, MayCome}
 use Rattle.meet_answers.proofs.Choosing.{chosen_next}

@@ -1,3 +1,4 @@
+-- What stays true from turn to turn of `chosen`, src/answering.rt.
 use Rattle.std.proofs.Common.{take}
 use Rattle.meet_answers.specs.Answers.{AreChosen, MayCome}
 use Rattle.meet_answers.proofs.answering.chosen.Given as goal

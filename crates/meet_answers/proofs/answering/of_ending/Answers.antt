@@ -1,3 +1,4 @@
+-- Proof of `of_ending`, src/answering.rt. The endings of a seat's open ticket.
 use Rattle.meet_answers.specs.Answers.{MayCome}
 use Rattle.meet_answers.specs.declared.attempts.Attempt.TheVariants.{End}
 use Rattle.meet_answers.proofs.Covering.{chosen_all, of_ending, ending_own, ending_all}

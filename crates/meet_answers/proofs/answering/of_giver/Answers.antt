@@ -1,3 +1,4 @@
+-- Proof of `of_giver`, src/answering.rt. The answers of a giver.
 use Rattle.meet_answers.specs.Answers.{MayCome}
 use Rattle.meet_answers.specs.declared.attempts.Attempt.TheVariants.{Give}
 use Rattle.meet_answers.proofs.Covering.{chosen_all, of_giver, giver_own, giver_all}

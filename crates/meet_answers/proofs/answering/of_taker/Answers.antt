@@ -1,3 +1,4 @@
+-- Proof of `of_taker`, src/answering.rt. The answers of a taker.
 use Rattle.meet_answers.specs.Answers.{MayCome}
 use Rattle.meet_answers.specs.declared.attempts.Attempt.TheVariants.{Take}
 use Rattle.meet_answers.proofs.Covering.{chosen_all, of_taker, taker_own, taker_all}

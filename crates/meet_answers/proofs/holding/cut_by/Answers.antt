@@ -1,3 +1,5 @@
+-- Proof of `cut_by`, src/holding.rt. The ticket that an interrupt of this seat cuts behind a base; 0 where it doesn't
+-- stand in the line, and is flagged.
 use Rattle.std.proofs.Common.{sym, ap, ◌∙◌}
 use Rattle.std.specs.Option.{option_map_or}
 use Rattle.meet_answers.specs.Holding.{waiting_of}

@@ -1,3 +1,4 @@
+-- Proof of `hold`, src/holding.rt. What a seat has open behind a base.
 use Rattle.std.proofs.Common.{sym, ◌∙◌}
 use Rattle.meet_answers.proofs.Lookups.{hold_told}
 use Rattle.meet_answers.proofs.holding.hold.Goals as goal

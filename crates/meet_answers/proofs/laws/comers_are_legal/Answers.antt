@@ -1,3 +1,5 @@
+-- Proof of `comers_are_legal`, src/laws.rt. What may come next behind a well-formed base is what makes a legal history
+-- there.
 use Rattle.std.proofs.Common.{[]}
 use Rattle.meet_answers.proofs.laws.comers_are_legal.Goals as goal
 

@@ -1,3 +1,4 @@
+-- Proof of `waits`, src/may.rt. The same; then the ticket stands in the line.
 use Rattle.meet_answers.proofs.Lookups.{waiting_stands}
 use Rattle.meet_answers.proofs.may.waits.Goals as goal
 

@@ -1,3 +1,4 @@
+-- Proof of `compare`, src/comparing.rt.
 use Rattle.std.proofs.Common.{◌≡◌, [], ◌∙◌, length, map, arith, ap, refl, ⊎_elim}
 use Rattle.std.specs.Prelude.{slice_get}
 use Rattle.std.proofs.lemmas.Bool.{cases_lt}

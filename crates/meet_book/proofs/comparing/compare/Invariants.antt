@@ -1,3 +1,4 @@
+-- What stays true from turn to turn of `compare`, src/comparing.rt.
 use Rattle.std.proofs.Common.{◌<◌, ℕ, map}
 use Rattle.meet_book.specs.Listed.{IsListed}
 use Rattle.meet_book.proofs.comparing.compare.Given as goal

@@ -1,3 +1,5 @@
+-- Proof of `first_difference`, src/comparing.rt. The first index at which a seat's records and those of its receipts
+-- differ.
 use Rattle.std.proofs.Common.{◌≡◌, ◌≢◌, ℕ, List, ◌⊎◌, inl, inr, ◌+◌, ◌<◌, ◌≤◌, ◌∷◌, [], ◌++◌, ◌∙◌, length, take, drop, get_or, arith, sym, ap, Some, None, length-append}
 use Rattle.std.specs.Prelude.{slice_get}
 use Rattle.std.proofs.lemmas.List.{append-nil, append_assoc}

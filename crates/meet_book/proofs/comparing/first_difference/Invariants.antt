@@ -1,3 +1,4 @@
+-- What stays true from turn to turn of `first_difference`, src/comparing.rt.
 use Rattle.std.proofs.Common.{◌≡◌, ◌≤◌, ◌++◌, length, take, drop}
 use Rattle.meet_book.specs.Listed.{of_seat, entries_since}
 use Rattle.meet_book.proofs.comparing.first_difference.Given as goal

@@ -1,3 +1,5 @@
+-- Proof of `is_whole`, src/comparing.rt. Whether the lists are the records by the receipts' own numbers: each list is
+-- in order, and all the lists together are as long as the records.
 use Rattle.std.proofs.Common.{◌≡◌, ◌+◌, ◌<◌, ◌≤◌, [], ◌∙◌, length, map, get_or, arith, sym, ap, subst, rules, ⊎_elim}
 use Rattle.std.proofs.lemmas.Grind.{common_steps}
 use Rattle.std.proofs.lemmas.Bool.{cases_lt}
@@ -24,7 +26,7 @@ loop-number-preserved g c =
     record {
       fewer = omega (arith, so_far.fewer, more, counted, few.0);
       these = λ same other lt.
-          let before : length records ≡ c.loop-number.left + length (below number records) = omega (arith, same, so_far.fewer, more, counted, few.0) in
+          let before : length records ≡ c.loop-number.unseen + length (below number records) = omega (arith, same, so_far.fewer, more, counted, few.0) in
           let all : length (entries_since gone held) ≡ length (of_seat number records) = omega (arith, same, so_far.fewer, more, counted, few.0) in
           ⊎_elim (λ (less : other < number). so_far.these before other less) (λ (at_least : number ≤ other).
           let this : number ≡ other = omega (arith, lt, at_least) in
@@ -37,7 +39,7 @@ returns g c = λ nothing seat.
     let lists = map g.H.Holds.held c.args.seats.now in
     let number = c.loop-number.number in
     let so_far = c.loop-number.invariant in
-    let none : c.loop-number.left ≡ 0 = grind (arith, rules) in
+    let none : c.loop-number.unseen ≡ 0 = grind (arith, rules) in
     let last : number ≡ length c.args.seats.now = omega arith in
     let as_many : length lists ≡ number = length-map c.args.seats.now g.H.Holds.held ∙ sym last in
     let all = below_and number number records (omega arith) in

@@ -1,3 +1,4 @@
+-- What stays true from turn to turn of `least_from`, src/comparing.rt.
 use Rattle.std.proofs.Common.{take}
 use Rattle.meet_book.proofs.Listing.{IsLeast}
 use Rattle.meet_book.proofs.comparing.least_from.Given as goal

@@ -1,3 +1,4 @@
+-- Proof of `next_since`, src/comparing.rt. The next receipt, from this index, for a record that wasn't folded away.
 use Rattle.std.proofs.Common.{◌≡◌, ◌+◌, ◌<◌, ◌∷◌, ◌∙◌, drop, arith}
 use Rattle.std.proofs.lemmas.Option.{get_or_from_slice_get}
 use Rattle.meet_book.specs.Listed.{entries_since}

@@ -1,3 +1,4 @@
+-- What stays true from turn to turn of `next_since`, src/comparing.rt.
 use Rattle.std.proofs.Common.{◌≡◌, ◌≤◌, drop}
 use Rattle.meet_book.specs.Listed.{entries_since}
 use Rattle.meet_book.proofs.comparing.next_since.Given as goal

@@ -1,3 +1,4 @@
+-- What stays true from turn to turn of `at_unfair_queue`, src/crews.rt.
 use Rattle.meet_tickets.specs.Limits.{most_records}
 use Rattle.meet_crew.proofs.crews.at_unfair_queue.Given as goal
 

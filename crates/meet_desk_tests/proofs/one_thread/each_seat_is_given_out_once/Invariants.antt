@@ -1,3 +1,4 @@
+-- What stays true from turn to turn of `each_seat_is_given_out_once`, src/one_thread.rt.
 use Rattle.meet_tickets.specs.Limits.{most_records}
 use Rattle.meet_desk_tests.proofs.one_thread.each_seat_is_given_out_once.Given as goal
 

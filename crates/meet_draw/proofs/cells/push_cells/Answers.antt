@@ -1,3 +1,4 @@
+-- Proof of `push_cells`, src/cells.rt. Appends so many columns of a row.
 use Rattle.std.proofs.Common.{ap, ◌∙◌, ◌++◌, nat_le, nat_lt, ◌&&◌}
 use Rattle.meet_draw.specs.Cells.{cell, cell_at}
 use Rattle.meet_draw.proofs.Repeats.{ranged-more}

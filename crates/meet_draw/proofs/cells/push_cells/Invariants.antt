@@ -1,3 +1,4 @@
+-- What stays true from turn to turn of `push_cells`, src/cells.rt.
 use Rattle.std.proofs.Common.{◌≡◌, ◌++◌}
 use Rattle.std.specs.List.{flat_map, range_with_len}
 use Rattle.meet_draw.specs.Cells.{cell_at}

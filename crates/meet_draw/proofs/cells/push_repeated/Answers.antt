@@ -1,3 +1,4 @@
+-- Proof of `push_repeated`, src/cells.rt. Appends a sign so many times.
 use Rattle.meet_draw.proofs.Repeats.{repeated-more}
 use Rattle.meet_draw.proofs.cells.push_repeated.Goals as goal
 

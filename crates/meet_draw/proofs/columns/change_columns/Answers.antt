@@ -1,3 +1,4 @@
+-- Proof of `change_columns`, src/columns.rt. Changes what is drawn in each column, by a row of this seat.
 use Rattle.std.proofs.Common.{◌≤◌, List, length, set, ap, sym, subst, ◌≡◌, ◌∙◌}
 use Rattle.std.proofs.lemmas.List.Edits.{map_over_more}
 use Rattle.meet_draw.specs.declared.columns.Column.{Column}

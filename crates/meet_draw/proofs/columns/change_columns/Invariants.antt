@@ -1,3 +1,4 @@
+-- What stays true from turn to turn of `change_columns`, src/columns.rt.
 use Rattle.meet_draw.specs.Columns.{column_after}
 use Rattle.meet_draw.proofs.Changes.{AreChanged}
 use Rattle.meet_draw.proofs.columns.change_columns.Given as goal

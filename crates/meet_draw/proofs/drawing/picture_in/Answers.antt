@@ -1,9 +1,10 @@
+-- Proof of `picture_in`, src/drawing.rt. What is drawn of these bytes, and whether they are a legal trace.
 use Rattle.std.proofs.Common.{◌+◌, List, length, ap, subst, ◌∙◌}
 use Rattle.meet_tickets.specs.declared.records.Deed.{Deed}
 use Rattle.meet_tickets.specs.declared.records.Record.{Record}
 use Rattle.meet_history.specs.Pushing.{HasSeen}
-use Rattle.meet_run.specs.Reading.{lines_of}
-use Rattle.meet_run.specs.Traces.{IsTraceOn}
+use Rattle.meet_run.specs.Texts.Reading.{lines_of}
+use Rattle.meet_run.specs.Tracing.Traces.{IsTraceOn}
 use Rattle.meet_draw.proofs.drawing.picture_in.Goals as goal
 
 pub picture_of-requires-clause-seen : goal.picture_of-requires-clause-seen

@@ -1,3 +1,4 @@
+-- Proof of `rows_of`, src/picture.rt. What is shown of a base and the records behind it.
 use Rattle.std.proofs.Common.{◌+◌, ◌++◌, List, map, arith, ap, refl, ◌∙◌}
 use Rattle.meet_history.specs.declared.pieces.Piece.TheVariants.{Stands, Met, Cut, Flagged}
 use Rattle.meet_draw.specs.declared.rows.Shown.{Shown}

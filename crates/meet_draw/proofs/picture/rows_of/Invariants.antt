@@ -1,3 +1,4 @@
+-- What stays true from turn to turn of `rows_of`, src/picture.rt.
 use Rattle.std.proofs.Common.{◌≡◌, ◌+◌, ◌++◌}
 use Rattle.meet_history.specs.declared.pieces.Piece.TheVariants.{Stands, Met, Cut, Flagged}
 use Rattle.meet_draw.specs.Pictures.{came_from}

@@ -1,3 +1,4 @@
+-- Proof of `count_columns`, src/rows.rt. How many columns rows need, where there may be so many.
 use Rattle.std.proofs.Common.{[], length, ap, ◌∙◌}
 use Rattle.meet_draw.specs.Rows.{columns_behind}
 use Rattle.meet_draw.proofs.Rowing.{columns-more, columns-all}

@@ -1,3 +1,4 @@
+-- What stays true from turn to turn of `count_columns`, src/rows.rt.
 use Rattle.std.proofs.Common.{[]}
 use Rattle.meet_draw.specs.Rows.{columns_behind}
 use Rattle.meet_draw.proofs.Rowing.{AreLeading}

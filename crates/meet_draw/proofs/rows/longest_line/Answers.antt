@@ -1,3 +1,4 @@
+-- Proof of `longest_line`, src/rows.rt. How long the longest line of rows is, without its end.
 use Rattle.std.proofs.Common.{◌-◌, ◌++◌, List, ℕ, length, max, ap, ◌∙◌}
 use Rattle.meet_draw.specs.Rows.{line_in}
 use Rattle.meet_draw.proofs.Rowing.{long-more, long-all}

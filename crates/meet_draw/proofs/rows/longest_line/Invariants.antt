@@ -1,3 +1,4 @@
+-- What stays true from turn to turn of `longest_line`, src/rows.rt.
 use Rattle.meet_draw.proofs.Rowing.{IsLongest}
 use Rattle.meet_draw.proofs.rows.longest_line.Given as goal
 

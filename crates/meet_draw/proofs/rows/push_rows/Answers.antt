@@ -1,3 +1,4 @@
+-- Proof of `push_rows`, src/rows.rt. Appends rows, from no column on.
 use Rattle.std.proofs.Common.{[], ◌++◌}
 use Rattle.meet_draw.specs.Rows.{rows_text}
 use Rattle.meet_draw.proofs.Rowing.{row-more, rows-all}

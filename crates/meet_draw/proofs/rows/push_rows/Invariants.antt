@@ -1,3 +1,4 @@
+-- What stays true from turn to turn of `push_rows`, src/rows.rt.
 use Rattle.std.proofs.Common.{[], ◌++◌}
 use Rattle.meet_draw.specs.Rows.{rows_text}
 use Rattle.meet_draw.proofs.Rowing.{AreLeft}

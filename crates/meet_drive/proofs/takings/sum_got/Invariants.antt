@@ -1,3 +1,4 @@
+-- What stays true from turn to turn of `sum_got`, src/takings.rt.
 use Rattle.std.proofs.Common.{◌≡◌, take}
 use Rattle.meet_drive.specs.Driven.{sum_got}
 use Rattle.meet_drive.proofs.takings.sum_got.Given as goal

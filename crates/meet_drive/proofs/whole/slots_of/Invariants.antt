@@ -1,3 +1,4 @@
+-- What stays true from turn to turn of `slots_of`, src/whole.rt.
 use Rattle.std.proofs.Common.{◌≡◌, ◌+◌, ◌≤◌, vec_len}
 use Rattle.std.specs.Vec.{vec_capacity}
 use Rattle.std.specs.Vec.Iter.{into_iter_len}

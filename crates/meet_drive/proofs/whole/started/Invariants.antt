@@ -1,3 +1,4 @@
+-- What stays true from turn to turn of `started`, src/whole.rt.
 use Rattle.meet_drive.proofs.whole.started.Given as goal
 
 -- the ledger of the queue that is made

@@ -1,3 +1,5 @@
+-- Proof of `told`, src/whole.rt. What a history tells of a drive of so many givers and takers of so many items each,
+-- whose takers counted so.
 use Rattle.std.proofs.Common.{◌≡◌, ◌++◌, refl, subst, rules, arith}
 use Rattle.meet_tickets.specs.Bases.{Based, IsLegalOn, IsWellFormed}
 use Rattle.meet_tickets.specs.Fates.{opening}

@@ -1,3 +1,4 @@
+-- Proof of `deal`, src/arena.rt. The seats of a new arena: each gets one of the maker's trails.
 use Rattle.std.proofs.Common.{rules, arith, ◌≡◌, ◌<◌, ◌+◌, ◌-◌, ◌∷◌, [], List, length, refl, sym, ap, ◌∙◌, subst}
 use Rattle.meet_exchange.specs.declared.views.Trail.{Trail}
 use Rattle.meet_exchange.specs.Rule.{top, others, fresh, fresh_from}

@@ -1,3 +1,4 @@
+-- What stays true from turn to turn of `deal`, src/arena.rt.
 use Rattle.std.proofs.Common.{◌≡◌, ◌≤◌, ◌-◌, [], vec_len, vec_capacity, length}
 use Rattle.meet_exchange.specs.Rule.{fresh_from}
 use Rattle.meet_exchange.specs.Seats.{AreNew}

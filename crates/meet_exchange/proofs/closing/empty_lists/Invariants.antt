@@ -1,3 +1,4 @@
+-- What stays true from turn to turn of `empty_lists`, src/closing.rt.
 use Rattle.std.proofs.Common.{◌≡◌, ◌≤◌, List, [], length, map, replicate, vec_len, vec_capacity}
 use Rattle.meet_exchange.specs.declared.records.Part.{Part}
 use Rattle.meet_exchange.proofs.closing.empty_lists.Given as goal

@@ -1,3 +1,4 @@
+-- Proof of `gather`, src/closing.rt. Joins the trails of all seats in one token, and puts their lists in order.
 use Rattle.std.proofs.Common.{arith, ◌≡◌, ◌+◌, ◌-◌, ◌⊎◌, take, vec_len, inl, ◌∷◌, ◌++◌, [], ℕ, List, length, map, set, sym, ap, ◌∙◌, subst}
 use Rattle.std.proofs.lemmas.List.{append-nil}
 use Rattle.meet_exchange.specs.declared.records.Part.{Part}

@@ -1,3 +1,4 @@
+-- What stays true from turn to turn of `gather`, src/closing.rt.
 use Rattle.std.proofs.Common.{◌≡◌, ◌+◌, ◌⊎◌, ℕ, List, [], length, map, vec_len}
 use Rattle.meet_exchange.specs.declared.records.Part.{Part}
 use Rattle.meet_exchange.specs.Rebuild.{posts_of}

@@ -1,3 +1,4 @@
+-- Proof of `put`, src/closing.rt. Puts a list at its seat's number.
 use Rattle.std.proofs.lemmas.List.{map-set}
 use Rattle.meet_exchange.proofs.closing.put.Goals as goal
 

@@ -1,3 +1,4 @@
+-- Proof of `take_left`, src/left.rt. Takes each item that is still there, by rising slot.
 use Rattle.std.proofs.Common.{arith, ◌≡◌, ◌<◌, ◌+◌, ◌∙◌, ℕ, suc, ap, sym, subst, Bool, true, false, get_or, length, List}
 use lib.ListN.{get_elem?}
 use Rattle.std.specs.Mem.Slots.{slots_items, slots_filled, slots_len, slots_counts}

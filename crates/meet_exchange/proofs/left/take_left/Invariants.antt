@@ -1,3 +1,4 @@
+-- What stays true from turn to turn of `take_left`, src/left.rt.
 use Rattle.std.proofs.Common.{◌≡◌, ℕ, ◌+◌, ◌-◌, ◌<◌, ◌≤◌, false, get_or, vec_len, vec_capacity}
 use Rattle.std.specs.Mem.Slots.{slots_filled, slots_len, slots_items}
 use Rattle.std.specs.Mem.Slots.Ownership.{Filled}

@@ -1,3 +1,5 @@
+-- Proof of `add_posts`, src/rebuild.rt. A blank round for each post of a list in the slot; or none, where memory is
+-- short.
 use Rattle.std.proofs.Common.{arith, ◌≡◌, ◌+◌, ◌++◌, ◌∷◌, [], suc, List, drop, get_or, ap, sym, ◌∙◌}
 use Rattle.std.proofs.Math.Seq.{drop-cons}
 use Rattle.meet_exchange.specs.declared.records.Part.{Part}

@@ -1,3 +1,4 @@
+-- What stays true from turn to turn of `add_posts`, src/rebuild.rt.
 use Rattle.std.proofs.Common.{◌≡◌, ◌++◌, drop, replicate}
 use Rattle.meet_exchange.specs.Rounds.{in_slot}
 use Rattle.meet_exchange.specs.Rebuild.{blank, posts_among}

@@ -1,3 +1,4 @@
+-- What stays true from turn to turn of `blanks`, src/rebuild.rt.
 use Rattle.std.proofs.Common.{◌≡◌, ◌<◌, ◌≤◌, ℕ, length, map, replicate, vec_len, vec_capacity}
 use Rattle.meet_exchange.specs.Rebuild.{blank, posts_of}
 use Rattle.meet_exchange.specs.Closed.{back_lists, entry_at}

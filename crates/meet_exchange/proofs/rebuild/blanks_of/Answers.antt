@@ -1,3 +1,5 @@
+-- Proof of `blanks_of`, src/rebuild.rt. As many blank rounds as the seats posted in the slot; or none, where memory is
+-- short.
 use Rattle.std.proofs.Common.{◌+◌, ◌++◌, drop, ap, sym, ◌∙◌}
 use Rattle.meet_exchange.specs.Rounds.{in_slot}
 use Rattle.meet_exchange.specs.Rebuild.{posts_among, posts_of}

@@ -1,3 +1,4 @@
+-- What stays true from turn to turn of `blanks_of`, src/rebuild.rt.
 use Rattle.std.proofs.Common.{◌≡◌, ◌++◌, drop, replicate}
 use Rattle.meet_exchange.specs.Rebuild.{blank, posts_of}
 use Rattle.meet_exchange.specs.Closed.{back_lists}

@@ -1,3 +1,4 @@
+-- Proof of `fill_all`, src/rebuild.rt. Fills the rounds of all slots in.
 use Rattle.std.proofs.Common.{arith, ◌≡◌, ◌<◌, [], ℕ, List, length, length-set, map, set, get_or, get_or-set_other, get_or-set_same, le_refl, sym, ap, ◌∙◌, subst}
 use Rattle.std.proofs.lemmas.List.{map-set, length-map, get_or-map}
 use Rattle.std.specs.Vec.{with_items}

@@ -1,3 +1,4 @@
+-- What stays true from turn to turn of `fill_all`, src/rebuild.rt.
 use Rattle.std.proofs.Common.{◌≡◌, ◌<◌, ◌≤◌, ℕ, length, map}
 use Rattle.meet_exchange.specs.Rebuild.{rebuilt_from}
 use Rattle.meet_exchange.specs.Closed.{numbered, entry_at}

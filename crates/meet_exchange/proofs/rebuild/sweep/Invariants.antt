@@ -1,3 +1,4 @@
+-- What stays true from turn to turn of `sweep`, src/rebuild.rt.
 use Rattle.std.proofs.Common.{◌≡◌, drop, map}
 use Rattle.meet_exchange.specs.Rebuild.{writer, swept}
 use Rattle.meet_exchange.specs.Closed.{numbered}

@@ -1,3 +1,4 @@
+-- What stays true from turn to turn of `sweep_list`, src/rebuild.rt.
 use Rattle.std.proofs.Common.{◌≡◌, drop}
 use Rattle.meet_exchange.specs.Rebuild.{writer, all_written}
 use Rattle.meet_exchange.specs.Rounds.{in_slot}

@@ -1,3 +1,4 @@
+-- Proof of `claim`, src/steps.rt. Claims a slot that was seen free, and returns the word that it found.
 use Rattle.std.proofs.Common.{rules, arith, ap, ◌+◌, ◌*◌}
 use Rattle.meet_exchange.proofs.Keeping.{claims}
 use Rattle.meet_exchange.proofs.steps.claim.Goals as goal

@@ -1,3 +1,5 @@
+-- Proof of `collect`, src/steps.rt. Takes the item that answers a posted one and clears the slot, or returns the word
+-- that it found.
 use Rattle.std.proofs.Common.{arith, ap, sym, ◌∙◌, Some, None}
 use Rattle.meet_exchange.specs.declared.views.Duty.TheVariants.{Gathered}
 use Rattle.meet_exchange.specs.declared.views.InHand.TheVariants.{At}

@@ -1,3 +1,4 @@
+-- Proof of `post`, src/steps.rt. Puts the item into a claimed slot, and posts it.
 use Rattle.std.proofs.Common.{arith, ap, sym, ◌∙◌, Some, None}
 use Rattle.meet_exchange.specs.Words.{word_of}
 use Rattle.meet_exchange.proofs.Holding.{after_exchange}

@@ -1,3 +1,4 @@
+-- Proof of `withdraw`, src/steps.rt. Takes a posted item back and clears the slot, or returns the word that it found.
 use Rattle.std.proofs.Common.{arith, ap, sym, ◌∙◌, Some, None}
 use Rattle.meet_exchange.specs.declared.views.Duty.TheVariants.{TookBack}
 use Rattle.meet_exchange.specs.declared.views.InHand.TheVariants.{At}

@@ -1,3 +1,4 @@
+-- What stays true from turn to turn of `first_two`, src/shared.rt.
 use Rattle.meet_exchange.specs.Seats.{AreNew}
 use Rattle.meet_exchange_tests.proofs.shared.first_two.Given as goal
 

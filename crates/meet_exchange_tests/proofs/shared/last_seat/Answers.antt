@@ -1,3 +1,4 @@
+-- Proof of `last_seat`, src/shared.rt. Takes the last of an arena's new seats out.
 use Rattle.std.proofs.Common.{subst}
 use Rattle.meet_exchange.specs.Seats.{AreNew}
 use Rattle.meet_exchange.proofs.Deals.{new_last}

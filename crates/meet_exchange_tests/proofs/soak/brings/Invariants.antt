@@ -1,3 +1,4 @@
+-- What stays true from turn to turn of `brings`, src/soak.rt.
 use Rattle.std.proofs.Common.{◌≡◌}
 use Rattle.meet_exchange_tests.proofs.soak.brings.Given as goal
 

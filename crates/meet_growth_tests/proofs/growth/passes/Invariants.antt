@@ -1,3 +1,4 @@
+-- What stays true from turn to turn of `passes`, src/growth.rt.
 use Rattle.meet_growth_tests.proofs.growth.passes.Given as goal
 
 abbrev pub ghosts-lives-N-Ledger : goal.ghosts-lives-N-Ledger

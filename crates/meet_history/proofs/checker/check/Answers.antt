@@ -1,3 +1,5 @@
+-- Proof of `check`, src/checker.rt. Whether these records are a legal history of a place of this kind after this base,
+-- and then where its tickets and items are.
 use Rattle.std.proofs.Common.{◌≡◌, ◌∙◌, ◌+◌, ap, sym, subst, take, drop, ◌++◌, ◌∷◌, [], take-append-drop}
 use Rattle.std.proofs.lemmas.List.{take_all, take_more}
 use Rattle.meet_history.specs.Pushing.{HasSeen}

@@ -1,3 +1,4 @@
+-- What stays true from turn to turn of `check`, src/checker.rt.
 use Rattle.std.proofs.Common.{◌≡◌, None, take}
 use Rattle.meet_history.specs.Pushing.{HasSeen}
 use Rattle.meet_history.proofs.checker.check.Given as goal

@@ -1,3 +1,4 @@
+-- Proof of `is_above_flags`, src/ground.rt. Whether a seat is above those that are flagged.
 use Rattle.std.proofs.Common.{nat_lt, sym, ◌∙◌}
 use Rattle.meet_history.proofs.LastDecides.{last-rises}
 use Rattle.meet_history.proofs.ground.is_above_flags.Goals as goal

@@ -1,3 +1,4 @@
+-- Proof of `is_above_line`, src/ground.rt. Whether a ticket is above those of a line.
 use Rattle.std.proofs.Common.{nat_lt, sym, ◌∙◌}
 use Rattle.meet_history.proofs.LastDecides.{last-rises}
 use Rattle.meet_history.proofs.ground.is_above_line.Goals as goal

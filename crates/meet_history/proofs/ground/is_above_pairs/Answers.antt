@@ -1,3 +1,4 @@
+-- Proof of `is_above_pairs`, src/ground.rt. Whether a ticket is above those that were met.
 use Rattle.std.proofs.Common.{nat_lt, sym, ◌∙◌}
 use Rattle.meet_history.proofs.LastDecides.{last-rises}
 use Rattle.meet_history.proofs.ground.is_above_pairs.Goals as goal

@@ -1,3 +1,4 @@
+-- Proof of `is_of_side`, src/ground.rt. Whether a line's entries are of this side: givers, or takers.
 use Rattle.std.proofs.Common.{if◌then◌else◌, not, sym, ap, ◌∙◌}
 use Rattle.meet_history.proofs.LastDecides.{last-sides}
 use Rattle.meet_history.proofs.ground.is_of_side.Goals as goal

@@ -2,7 +2,8 @@
 
 ghost use Rattle.std.specs.Prelude.{◌≡◌, ℕ, ◌<◌, ◌↔◌, ◌==◌, length, true, Option, IsTrue, IsSome};
 ghost use Rattle.std.specs.Option.{option_map_or};
-ghost use Rattle.meet_tickets.specs.BySeat.{entry_of, without_first, released, left, interrupted, cut_ticket, Allows};
+ghost use Rattle.meet_tickets.specs.BySeat.{entry_of, without_first, released, withdrawn, interrupted, cut_ticket};
+ghost use Rattle.meet_tickets.specs.BySeat.{Allows};
 ghost use Rattle.meet_tickets.specs.BySeat.{seats_after};
 ghost use Rattle.meet_tickets.specs.declared.lines.Hold.TheVariants.{Waiting, Handed, Served, Cut};
 ghost use Rattle.meet_tickets.specs.declared.records.Deed.TheVariants.{Withdrawn};
@@ -84,7 +85,7 @@ impl CheckedPlace {
         requires { seat < length self.old.table.holds }
         ensures allowed { IsTrue result ↔ (((moment_at self.old).seats.holds seat ≡ Waiting ticket)
             × IsSome (entry_of self.old.line ((moment_at self.old).seats.holds seat))) }
-        ensures seats { IsTrue result → (moment_at self.new).seats ≡ left (moment_at self.old).seats seat ticket }
+        ensures seats { IsTrue result → (moment_at self.new).seats ≡ withdrawn (moment_at self.old).seats seat ticket }
         ensures last { self.new.last ≡ self.old.last }
         ensures kind { self.new.kind ≡ self.old.kind }
     {

@@ -1,3 +1,4 @@
+-- What stays true from turn to turn of `calls_of`, src/stories.rt.
 use Rattle.std.proofs.Common.{All, IsTrue}
 use Rattle.meet_history.specs.Served.{serves}
 use Rattle.meet_history_tests.proofs.stories.calls_of.Given as goal

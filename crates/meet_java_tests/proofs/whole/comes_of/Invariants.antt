@@ -1,3 +1,4 @@
+-- What stays true from turn to turn of `comes_of`, src/whole.rt.
 use Rattle.meet_java_tests.proofs.whole.comes_of.Given as goal
 
 abbrev pub ghosts-dealing-N-Ledger : goal.ghosts-dealing-N-Ledger

@@ -1,3 +1,4 @@
+-- Proof of `judge_text`, src/judging.rt. Judges these bytes as the text of calls.
 use Rattle.std.proofs.Common.{subst, length, List}
 use Rattle.std.specs.Io.KnownBytes.{Appends}
 use Rattle.meet_tickets.specs.declared.records.Deed.{Deed}

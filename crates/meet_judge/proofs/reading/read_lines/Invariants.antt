@@ -1,3 +1,4 @@
+-- What stays true from turn to turn of `read_lines`, src/reading.rt.
 use Rattle.std.proofs.Common.{◌≡◌, length}
 use Rattle.meet_judge.proofs.reading.read_lines.Given as goal
 

@@ -1,3 +1,4 @@
+-- Proof of `push_call`, src/writing.rt. Appends a call's line.
 use Rattle.std.proofs.Common.{◌∙◌, ap, ◌++◌}
 use Rattle.std.specs.Prelude.{codes, decimal}
 use Rattle.meet_judge.specs.CallText.{verb_text, seen_text, end_text, told_text}

@@ -1,5 +1,6 @@
+-- Proof of `push_calls`, src/writing.rt. Appends the text of calls at a place, whole.
 use Rattle.std.specs.Prelude.{codes}
-use Rattle.meet_run.specs.Spelling.{place_text}
+use Rattle.meet_run.specs.Scripts.Spelling.{place_text}
 use Rattle.meet_judge.proofs.Lines.{one_more}
 use Rattle.meet_judge.proofs.writing.push_calls.Goals as goal
 

@@ -1,7 +1,8 @@
+-- What stays true from turn to turn of `push_calls`, src/writing.rt.
 use Rattle.std.proofs.Common.{◌≡◌, ◌++◌, take}
 use Rattle.std.specs.Prelude.{codes}
 use Rattle.meet_judge.specs.CallText.{lines_text}
-use Rattle.meet_run.specs.Spelling.{place_text}
+use Rattle.meet_run.specs.Scripts.Spelling.{place_text}
 use Rattle.meet_judge.proofs.writing.push_calls.Given as goal
 
 -- the lines of the calls so far

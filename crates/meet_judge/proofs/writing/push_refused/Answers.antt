@@ -1,3 +1,4 @@
+-- Proof of `push_refused`, src/writing.rt. Appends how far so many calls can be explained.
 use Rattle.std.proofs.Common.{◌++◌}
 use Rattle.std.specs.Prelude.{codes, decimal}
 use Rattle.meet_judge.specs.CallText.{stuck_text}

@@ -1,3 +1,4 @@
+-- What stays true from turn to turn of `gone_tickets`, src/erasing.rt.
 use Rattle.std.proofs.Common.{◌≡◌, take}
 use Rattle.meet_laws.specs.Gone.{gone_tickets}
 use Rattle.meet_laws.proofs.erasing.gone_tickets.Given as goal

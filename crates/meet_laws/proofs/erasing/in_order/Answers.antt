@@ -1,3 +1,4 @@
+-- Proof of `in_order`, src/erasing.rt. These tickets in rising order.
 use Rattle.std.proofs.lemmas.List.Sorted.{IsNonDecreasingBy-from_sort}
 use Rattle.meet_laws.proofs.erasing.in_order.Goals as goal
 

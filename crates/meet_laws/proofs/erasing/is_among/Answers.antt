@@ -1,3 +1,4 @@
+-- Proof of `is_among`, src/erasing.rt. Whether a ticket is among these, which rise.
 use Rattle.std.proofs.Common.{◌∙◌}
 use Rattle.meet_laws.proofs.Looked.{is_found}
 use Rattle.meet_laws.proofs.erasing.is_among.Goals as goal

@@ -1,3 +1,4 @@
+-- Proof of `hear`, src/fates.rt. What is told of a ticket once this record is heard too.
 use Rattle.std.proofs.Common.{◌∙◌, ◌&&◌, ◌||◌, ap, Some, None, if◌then◌else◌}
 use Rattle.std.specs.Option.{option_or}
 use Rattle.meet_tickets.specs.BySeat.{is_request}
@@ -12,7 +13,7 @@ returns c =
     let x = c.args.told in
     λ history e. told_more history r t x e _ _ _ _ _
     (c.first_of.ensures ∙ ap (λ b. option_or x.asked (if b then Some r.deed else None)) (ap (λ b. b && c.is_of-own.result) c.is_request.ensures ∙ ap (λ b. is_request r.deed && b) c.is_of-own.ensures))
-    (c.first_of-2.ensures ∙ ap (λ b. option_or x.met (if b then Some r.ticket else None)) c.meets_it-meets.ensures)
+    (c.first_of-2.ensures ∙ ap (λ b. option_or x.met (if b then Some r.ticket else None)) c.meets-meets.ensures)
     (ap (λ b. x.learned || (b && c.is_of-own.result)) c.tells_of_meeting.ensures ∙ ap (λ b. x.learned || (tells_of_meeting r.deed && b)) c.is_of-own.ensures)
-    (c.or.ensures ∙ ap (option_or x.back) c.reason.ensures)
+    (c.or.ensures ∙ ap (option_or x.back) c.takes_back.ensures)
     (ap (λ b. x.cut || b) c.cuts.ensures)

@@ -1,3 +1,4 @@
+-- What stays true from turn to turn of `hear_all`, src/fates.rt.
 use Rattle.std.proofs.Common.{◌≡◌, ◌++◌, take, List}
 use Rattle.meet_tickets.specs.declared.records.Record.{Record}
 use Rattle.meet_tickets.specs.declared.records.Deed.{Deed}

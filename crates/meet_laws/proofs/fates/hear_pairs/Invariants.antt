@@ -1,3 +1,4 @@
+-- What stays true from turn to turn of `hear_pairs`, src/fates.rt.
 use Rattle.std.proofs.Common.{◌≡◌, ◌++◌, take, List}
 use Rattle.std.specs.List.{flat_map}
 use Rattle.meet_tickets.specs.declared.records.Record.{Record}

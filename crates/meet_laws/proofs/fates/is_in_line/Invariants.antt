@@ -1,3 +1,4 @@
+-- What stays true from turn to turn of `is_in_line`, src/fates.rt.
 use Rattle.std.proofs.Common.{◌≡◌, ◌==◌, take, map}
 use Rattle.std.specs.List.{list_any}
 use Rattle.meet_laws.proofs.fates.is_in_line.Given as goal

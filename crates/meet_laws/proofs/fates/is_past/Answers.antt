@@ -1,3 +1,4 @@
+-- Proof of `is_past`, src/fates.rt. Whether a ticket is of the time before a base, and none of its entries'.
 use Rattle.std.proofs.Common.{◌∙◌, ap, sym, not, ◌&&◌, ◌==◌}
 use Rattle.std.specs.Prelude.{nat_lt, nat_le}
 use Rattle.meet_tickets.specs.Bases.{Based}

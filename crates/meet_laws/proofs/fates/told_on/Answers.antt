@@ -1,3 +1,4 @@
+-- Proof of `told_on`, src/fates.rt. What a base and the records since tell of a ticket.
 use Rattle.std.proofs.Common.{◌∙◌, ◌++◌, [], ap, map}
 use Rattle.std.specs.List.{flat_map}
 use Rattle.std.proofs.lemmas.List.{append_assoc}

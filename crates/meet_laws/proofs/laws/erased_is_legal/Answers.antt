@@ -1,3 +1,4 @@
+-- Proof of `erased_is_legal`, src/laws.rt.
 use Rattle.meet_laws.proofs.Erased.{is_erased}
 use Rattle.meet_laws.proofs.laws.erased_is_legal.Goals as goal
 

@@ -1,3 +1,4 @@
+-- Proof of `promise_is_kept`, src/laws.rt.
 use Rattle.meet_laws.proofs.Promised.{keeps_promise}
 use Rattle.meet_laws.proofs.laws.promise_is_kept.Goals as goal
 

@@ -1,3 +1,4 @@
+-- What stays true from turn to turn of `count_others`, src/tally.rt.
 use Rattle.std.proofs.Common.{◌≡◌, ◌≤◌, not, take}
 use Rattle.std.specs.Prelude.{count_by}
 use Rattle.meet_laws.specs.Tally.{stands_kept}

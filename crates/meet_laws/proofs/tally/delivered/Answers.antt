@@ -1,3 +1,5 @@
+-- Proof of `delivered`, src/tally.rt. How many items were handed over to a taker, by a base and the records since: so
+-- many requests met somebody.
 use Rattle.std.proofs.Common.{◌≡◌, ◌+◌, ◌∙◌, sym, rules, arith}
 use Rattle.meet_laws.specs.Tally.{met_on}
 use Rattle.meet_laws.proofs.Reckoned.{delivered_is}

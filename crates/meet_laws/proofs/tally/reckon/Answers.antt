@@ -1,3 +1,5 @@
+-- Proof of `reckon`, src/tally.rt. Where the items are that were given, by number, where these records and what is left
+-- of the items are of one place, since its base.
 use Rattle.std.proofs.Common.{refl, length}
 use Rattle.meet_laws.proofs.Reckoned.{tally_is}
 use Rattle.meet_laws.proofs.tally.reckon.Goals as goal

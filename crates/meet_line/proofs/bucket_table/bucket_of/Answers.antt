@@ -1,3 +1,5 @@
+-- Proof of `bucket_of`, src/bucket_table.rt. The bucket of a ticket, where there are so many: its lowest bits, as their
+-- number is a power of two.
 use Rattle.std.proofs.Common.{◌≡◌, ◌%◌, ◌-◌, sym, subst, arith, inl, inr}
 use Rattle.std.specs.Int.Bits.{bit_and}
 use Rattle.std.proofs.lemmas.Nat.{and_mask}

@@ -1,3 +1,5 @@
+-- Proof of `doubled`, src/bucket_table.rt. A power of two, neither below `needed` nor below `count`, which is one or 0;
+-- none where that is too great.
 use Rattle.std.proofs.Common.{suc, arith}
 use Rattle.std.proofs.Math.Nat.{pow-suc}
 use Rattle.meet_line.proofs.bucket_table.doubled.Goals as goal

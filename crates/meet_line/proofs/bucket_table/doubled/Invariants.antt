@@ -1,3 +1,4 @@
+-- What stays true from turn to turn of `doubled`, src/bucket_table.rt.
 use Rattle.std.proofs.Common.{◌≡◌, ℕ, ◌-◌, ◌^◌, ◌≤◌}
 use Rattle.meet_line.proofs.bucket_table.doubled.Given as goal
 

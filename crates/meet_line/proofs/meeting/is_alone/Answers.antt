@@ -1,3 +1,5 @@
+-- Proof of `is_alone`, src/meeting.rt. Whether a request of this side finds nobody in a line of one side, in which so
+-- many givers stand: its own side stands there, or no side does.
 use Rattle.std.proofs.Common.{◌∙◌, sym}
 use Rattle.std.proofs.lemmas.Bool.{eqb-false}
 use Rattle.meet_tickets.proofs.Line.Counted.{giver-meets, giver-told, taker-meets, taker-told}

@@ -1,3 +1,4 @@
+-- What stays true from turn to turn of `pad`, src/roll.rt.
 use Rattle.std.proofs.Common.{◌≡◌, ℕ, ◌≤◌, None, get_or, vec_len}
 use Rattle.std.specs.Vec.{vec_capacity}
 use Rattle.meet_line.proofs.roll.pad.Given as goal

@@ -1,3 +1,4 @@
+-- Proof of `rechain`, src/roll.rt. The nodes of a line join the chains of a table that is empty, in order of arrival.
 use Rattle.std.proofs.Common.{◌≡◌, ◌<◌, ◌∙◌, ap, subst, arith, rules, length, None, Some}
 use Rattle.slab.specs.Slab.{get}
 use Rattle.meet_line.specs.Nodes.{links}

@@ -1,3 +1,4 @@
+-- What stays true from turn to turn of `rechain`, src/roll.rt.
 use Rattle.std.proofs.Common.{length}
 use Rattle.meet_line.specs.Rolled.{keys_of}
 use Rattle.meet_line.proofs.Rechained.{HasChained}

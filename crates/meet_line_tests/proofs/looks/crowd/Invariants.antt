@@ -1,3 +1,4 @@
+-- What stays true from turn to turn of `crowd`, src/looks.rt.
 use Rattle.std.proofs.Common.{◌+◌, ◌<◌, ◌≤◌}
 use Rattle.std.specs.Prelude.{All}
 use Rattle.meet_line_tests.proofs.looks.crowd.Given as goal

@@ -1,3 +1,4 @@
+-- Proof of `alike`, src/alike.rt. Whether two worlds are the same but for the last ticket.
 use Rattle.std.proofs.Common.{◌∙◌, sym}
 use Rattle.meet_overlap.proofs.Barren.{alike_parts}
 use Rattle.meet_overlap.proofs.alike.alike.Goals as goal

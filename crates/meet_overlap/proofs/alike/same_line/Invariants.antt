@@ -1,3 +1,4 @@
+-- What stays true from turn to turn of `same_line`, src/alike.rt.
 use Rattle.std.proofs.Common.{◌≡◌, take}
 use Rattle.meet_overlap.proofs.alike.same_line.Given as goal
 

@@ -1,3 +1,4 @@
+-- What stays true from turn to turn of `same_stages`, src/alike.rt.
 use Rattle.std.proofs.Common.{◌≡◌, take}
 use Rattle.meet_overlap.proofs.alike.same_stages.Given as goal
 

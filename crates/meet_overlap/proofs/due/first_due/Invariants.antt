@@ -1,3 +1,4 @@
+-- What stays true from turn to turn of `first_due`, src/due.rt.
 use Rattle.std.specs.Prelude.{IfSome}
 use Rattle.meet_overlap.specs.Known.{IsDue}
 use Rattle.meet_overlap.specs.Places.{world_of}

@@ -1,3 +1,4 @@
+-- What stays true from turn to turn of `least_begins`, src/due.rt.
 use Rattle.std.proofs.Common.{◌≡◌, ◌≤◌, ◌+◌, ℕ, Some, length}
 use Rattle.std.specs.Prelude.{slice_get}
 use Rattle.meet_overlap.specs.declared.calls.Call.{Call}

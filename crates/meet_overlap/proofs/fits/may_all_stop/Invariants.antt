@@ -1,3 +1,4 @@
+-- What stays true from turn to turn of `may_all_stop`, src/fits.rt.
 use Rattle.std.proofs.Common.{◌≡◌, ◌<◌, ℕ, Some}
 use Rattle.std.specs.Prelude.{slice_get}
 use Rattle.meet_overlap.specs.declared.calls.Call.{Call}

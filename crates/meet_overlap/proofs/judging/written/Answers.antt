@@ -1,3 +1,4 @@
+-- Proof of `written`, src/judging.rt. The history in which the calls, in this order, make their records.
 use Rattle.meet_overlap.specs.Known.{IsNoted}
 use Rattle.meet_overlap.specs.Places.{world_of}
 use Rattle.meet_overlap.specs.Search.{start}

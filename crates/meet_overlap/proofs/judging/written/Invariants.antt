@@ -1,3 +1,4 @@
+-- What stays true from turn to turn of `written`, src/judging.rt.
 use Rattle.meet_overlap.specs.Known.{IsRunThere}
 use Rattle.meet_overlap.specs.Places.{world_of}
 use Rattle.meet_overlap.specs.Search.{start}

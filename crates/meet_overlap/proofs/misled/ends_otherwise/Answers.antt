@@ -1,3 +1,4 @@
+-- Proof of `ends_otherwise`, src/misled.rt. Whether a call whose ticket was met or cut can't end as it did.
 use Rattle.std.proofs.Common.{◌≡◌, ◌∙◌, ap, sym, subst, Some, not}
 use Rattle.std.proofs.lemmas.Bool.{false≢true}
 use Rattle.meet_overlap.specs.Calls.{Tells}

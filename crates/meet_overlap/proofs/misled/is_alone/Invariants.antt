@@ -1,3 +1,4 @@
+-- What stays true from turn to turn of `is_alone`, src/misled.rt.
 use Rattle.std.proofs.Common.{◌≡◌, ◌<◌, ℕ, get_or}
 use Rattle.meet_overlap.specs.declared.calls.Stage.TheVariants.{Ahead, Open}
 use Rattle.meet_overlap.proofs.misled.is_alone.Given as goal

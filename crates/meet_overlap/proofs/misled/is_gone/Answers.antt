@@ -1,3 +1,4 @@
+-- Proof of `is_gone`, src/misled.rt. Whether no entry of this seat waits in the line.
 use Rattle.std.proofs.Common.{arith}
 use Rattle.meet_overlap.proofs.Settled.{gone_all}
 use Rattle.meet_overlap.proofs.Tables.{got_below}

@@ -1,3 +1,4 @@
+-- What stays true from turn to turn of `is_gone`, src/misled.rt.
 use Rattle.std.proofs.Common.{◌≡◌, ◌<◌, ℕ, Some, true}
 use Rattle.std.specs.Prelude.{slice_get}
 use Rattle.meet_tickets.specs.declared.lines.Entry.{Entry}

@@ -1,3 +1,4 @@
+-- Proof of `next_move`, src/moving.rt. The next call from this number on that has an event, and what that leaves.
 use Rattle.meet_overlap.specs.Places.{world_of}
 use Rattle.meet_overlap.proofs.Barren.{none_too_late}
 use Rattle.meet_overlap.proofs.moving.next_move.Goals as goal

@@ -1,3 +1,4 @@
+-- What stays true from turn to turn of `next_move`, src/moving.rt.
 use Rattle.meet_overlap.specs.Known.{HasNonePlayed}
 use Rattle.meet_overlap.specs.Places.{world_of}
 use Rattle.meet_overlap.proofs.moving.next_move.Given as goal

@@ -1,3 +1,4 @@
+-- What stays true from turn to turn of `copied_holds`, src/place.rt.
 use Rattle.std.proofs.Common.{◌≡◌, take}
 use Rattle.meet_overlap.proofs.place.copied_holds.Given as goal
 

@@ -1,3 +1,4 @@
+-- What stays true from turn to turn of `copied_line`, src/place.rt.
 use Rattle.std.proofs.Common.{◌≡◌, take}
 use Rattle.meet_overlap.proofs.place.copied_line.Given as goal
 

@@ -1,3 +1,4 @@
+-- Proof of `entry`, src/place.rt. The entry of this ticket, if it stands in the line.
 use Rattle.std.proofs.Common.{◌≡◌, ◌==◌, ◌∙◌, ap, sym, find, Some, rules, tests}
 use Rattle.std.specs.Prelude.{option_map}
 use Rattle.std.proofs.lemmas.Iterator.{YieldsList-from_slice}

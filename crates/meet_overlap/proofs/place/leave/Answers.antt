@@ -1,3 +1,4 @@
+-- Proof of `leave`, src/place.rt. The entry of this ticket leaves the line, if it is there.
 use Rattle.std.proofs.Common.{◌≡◌, ◌==◌, ◌∙◌, sym, rules, tests}
 use Rattle.std.specs.List.{position}
 use Rattle.std.proofs.lemmas.Iterator.{YieldsList-from_slice}

@@ -1,3 +1,4 @@
+-- Proof of `put_flag`, src/place.rt. Sets or clears a seat's flag.
 use Rattle.std.proofs.Common.{◌<◌, ◌∙◌, ap, length, arith, false}
 use Rattle.meet_tickets.specs.BySeat.{put_at}
 use Rattle.meet_overlap.specs.Places.{flag_at}

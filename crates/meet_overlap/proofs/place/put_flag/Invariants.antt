@@ -1,3 +1,4 @@
+-- What stays true from turn to turn of `put_flag`, src/place.rt.
 use Rattle.std.proofs.Common.{◌≡◌, ◌+◌, ◌-◌, length}
 use Rattle.meet_overlap.specs.Places.{flag_at}
 use Rattle.meet_overlap.proofs.place.put_flag.Given as goal

@@ -1,3 +1,4 @@
+-- Proof of `put_hold`, src/place.rt. Puts what a seat holds in the place of what it held.
 use Rattle.std.proofs.Common.{◌<◌, ◌∙◌, ap, length, arith}
 use Rattle.meet_tickets.specs.declared.lines.Hold.TheVariants.{Free}
 use Rattle.meet_tickets.specs.BySeat.{put_at}

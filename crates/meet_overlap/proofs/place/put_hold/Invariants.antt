@@ -1,3 +1,4 @@
+-- What stays true from turn to turn of `put_hold`, src/place.rt.
 use Rattle.std.proofs.Common.{◌≡◌, ◌+◌, ◌-◌, length}
 use Rattle.meet_overlap.specs.Places.{hold_at}
 use Rattle.meet_overlap.proofs.place.put_hold.Given as goal

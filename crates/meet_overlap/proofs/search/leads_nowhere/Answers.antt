@@ -1,3 +1,5 @@
+-- Proof of `leads_nowhere`, src/search.rt. Whether it is known that this world leads nowhere: a call should have ended,
+-- or was met so as it doesn't answer, or the world was seen before.
 use Rattle.meet_overlap.specs.Places.{world_of}
 use Rattle.meet_overlap.proofs.Answering.{misled_barren}
 use Rattle.meet_overlap.proofs.Barren.{overdue_barren, known_barren}

@@ -1,3 +1,5 @@
+-- Proof of `search`, src/search.rt. The calls that make their records, in order, to where each may be left as it is; or
+-- how far the search came, where no history explains the calls.
 use Rattle.std.proofs.Common.{◌≡◌, ◌∙◌, ◌+◌, ◌≤◌, sym, length, arith}
 use Rattle.std.proofs.lemmas.Bool.{false≢true}
 use Rattle.meet_overlap.specs.Known.{LeadsOn, HasNonePlayed, IsBarren}

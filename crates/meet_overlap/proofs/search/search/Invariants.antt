@@ -1,3 +1,4 @@
+-- What stays true from turn to turn of `search`, src/search.rt.
 use Rattle.meet_overlap.proofs.Paths.{IsSearching}
 use Rattle.meet_overlap.proofs.search.search.Given as goal
 

@@ -1,3 +1,5 @@
+-- Proof of `is_settled`, src/settling.rt. Whether the call of this number began, was met or cut, and hasn't ended, and
+-- nobody else has to do with its ticket.
 use Rattle.std.proofs.Common.{◌≡◌, ◌∙◌, ◌+◌, length, refl, sym, ap, subst, arith}
 use Rattle.std.proofs.lemmas.Option.{slice_get_read}
 use Rattle.meet_overlap.specs.declared.calls.Stage.TheVariants.{Open}

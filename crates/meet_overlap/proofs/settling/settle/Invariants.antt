@@ -1,3 +1,4 @@
+-- What stays true from turn to turn of `settle`, src/settling.rt.
 use Rattle.meet_overlap.specs.Known.{IsBarren}
 use Rattle.meet_overlap.specs.Places.{world_of}
 use Rattle.meet_overlap.proofs.settling.settle.Given as goal

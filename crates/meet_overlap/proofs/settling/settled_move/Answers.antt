@@ -1,3 +1,5 @@
+-- Proof of `settled_move`, src/settling.rt. The ending of the first call in the window that was met or cut, and can
+-- end.
 use Rattle.std.proofs.Common.{sym, subst}
 use Rattle.meet_overlap.specs.Known.{LeadsOn}
 use Rattle.meet_overlap.specs.Places.{world_of}

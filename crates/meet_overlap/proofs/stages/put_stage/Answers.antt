@@ -1,3 +1,4 @@
+-- Proof of `put_stage`, src/stages.rt. Notes how far the call of this number is.
 use Rattle.std.proofs.Common.{◌-◌, ◌∙◌, ◌<◌, ◌≤◌, ap, sym, set, length, arith}
 use Rattle.meet_tickets.specs.BySeat.{put_at}
 use Rattle.meet_overlap.specs.Places.{stage_in}

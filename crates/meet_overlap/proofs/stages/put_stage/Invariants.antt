@@ -1,3 +1,4 @@
+-- What stays true from turn to turn of `put_stage`, src/stages.rt.
 use Rattle.std.proofs.Common.{◌≡◌, ◌+◌, ◌-◌, length}
 use Rattle.meet_overlap.specs.Places.{stage_at}
 use Rattle.meet_overlap.proofs.stages.put_stage.Given as goal

@@ -1,3 +1,4 @@
+-- Proof of `shift`, src/stages.rt. Moves the window's begin behind the calls that are over.
 use Rattle.std.proofs.Common.{◌<◌, ◌∙◌, length, arith}
 use Rattle.meet_overlap.proofs.Windows.{stage_dropped}
 use Rattle.meet_overlap.proofs.stages.shift.Goals as goal

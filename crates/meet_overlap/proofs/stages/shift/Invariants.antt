@@ -1,3 +1,4 @@
+-- What stays true from turn to turn of `shift`, src/stages.rt.
 use Rattle.std.proofs.Common.{◌≡◌, length}
 use Rattle.meet_overlap.specs.Places.{stage_at}
 use Rattle.meet_overlap.proofs.stages.shift.Given as goal

@@ -1,3 +1,4 @@
+-- Proof of `after`, src/world.rt. What a record of the call of this number leaves.
 use Rattle.std.proofs.Common.{◌≡◌, ◌∙◌, ap}
 use Rattle.meet_tickets.specs.BySeat.{Moment, put_at, moment_after}
 use Rattle.meet_overlap.specs.Calls.{stage_after}

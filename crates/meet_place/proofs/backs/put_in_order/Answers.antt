@@ -1,3 +1,4 @@
+-- Proof of `put_in_order`, src/backs.rt. Puts the seats into the order of their numbers.
 use Rattle.std.proofs.Common.{rules}
 use Rattle.std.proofs.lemmas.List.Sorted.{IsNonDecreasingBy-from_sort_by_key}
 use Rattle.meet_place.specs.Backs.{number_of}

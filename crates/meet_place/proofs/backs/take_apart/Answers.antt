@@ -1,3 +1,4 @@
+-- Proof of `take_apart`, src/backs.rt. Takes the seats apart, in their order.
 use Rattle.std.proofs.Common.{rules, arith, ◌≡◌, ap}
 use Rattle.std.proofs.lemmas.List.Sums.{sum_by_push}
 use Rattle.meet_place.specs.Backs.{share_of, folded_of}
@@ -11,7 +12,7 @@ loop-back-preserved g c =
     record {
       can = search rules;
       finite = search rules;
-      left = omega (arith, steps.1);
+      rest = omega (arith, steps.1);
       room = omega arith;
       seats = rw c.push_reserved.ensures.items
           (moves_plain c.loop-back.bares.items c.part-bare.result.0 _ _ c.in-Some.back _ steps.0 c.part-bare.ensures.seat

@@ -1,3 +1,4 @@
+-- What stays true from turn to turn of `take_apart`, src/backs.rt.
 use Rattle.std.proofs.Common.{◌≡◌, ◌+◌, ◌≤◌, ◌++◌, vec_len}
 use Rattle.std.specs.Vec.{vec_capacity}
 use Rattle.std.specs.Vec.Iter.{into_iter_len, into_iter_items}
@@ -8,7 +9,7 @@ abbrev pub invariant-loop-back : goal.invariant-loop-back
 invariant-loop-back g l = record {
   can : (goal.iterator-loop-back g).can_next l.back-iterator;
   finite : (goal.iterator-loop-back g).is_finite l.back-iterator;
-  left : into_iter_len l.back-iterator + vec_len l.bares ≡ vec_len l.fn.seats;
+  rest : into_iter_len l.back-iterator + vec_len l.bares ≡ vec_len l.fn.seats;
   room : vec_len l.fn.seats ≤ vec_capacity l.bares;
   seats : l.bares.items ++ into_iter_items l.back-iterator ≡ l.fn.seats.items;
   parts : l.whole.parts ≡ vec_len l.bares;

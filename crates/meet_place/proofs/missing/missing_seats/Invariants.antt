@@ -1,3 +1,4 @@
+-- What stays true from turn to turn of `missing_seats`, src/missing.rt.
 use Rattle.std.proofs.Common.{◌≡◌, ◌≤◌}
 use Rattle.std.specs.Prelude.{filter, not}
 use Rattle.std.specs.List.{range_with_len}

@@ -1,3 +1,5 @@
+-- Proof of `open_seats`, src/opening.rt. The totals of two new ledgers, a share of them that has no part, and so many
+-- seats, numbered from 0.
 use Rattle.std.proofs.Common.{arith}
 use Rattle.meet_place.proofs.Fresh.{fresh_push}
 use Rattle.meet_place.proofs.opening.open_seats.Goals as goal

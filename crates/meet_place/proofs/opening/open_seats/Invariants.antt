@@ -1,3 +1,4 @@
+-- What stays true from turn to turn of `open_seats`, src/opening.rt.
 use Rattle.std.proofs.Common.{◌≡◌, ◌+◌, ◌≤◌, vec_len}
 use Rattle.std.specs.Vec.{vec_capacity}
 use Rattle.meet_place.specs.Seats.{AreFresh}

@@ -1,3 +1,4 @@
+-- Proof of `drop_folded`, src/seats.rt. Drops the receipts for the first `gone` records, and answers how many.
 use Rattle.std.proofs.Common.{rules}
 use Rattle.std.proofs.lemmas.Fn.{filter_same}
 use Rattle.meet_place.proofs.seats.drop_folded.Goals as goal

@@ -1,3 +1,4 @@
+-- What stays true from turn to turn of `a_place_lives`, src/growth.rt.
 use Rattle.meet_place_tests.proofs.growth.a_place_lives.Given as goal
 
 abbrev pub ghosts-lives-N-Ledger : goal.ghosts-lives-N-Ledger

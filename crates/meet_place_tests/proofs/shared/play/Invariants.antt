@@ -1,3 +1,4 @@
+-- What stays true from turn to turn of `play`, src/shared.rt.
 use Rattle.meet_place_tests.proofs.shared.play.Given as goal
 
 abbrev pub ghosts-meeting-N-Ledger : goal.ghosts-meeting-N-Ledger

@@ -1,3 +1,4 @@
+-- What stays true from turn to turn of `refusal_of`, src/shared.rt.
 use Rattle.meet_place_tests.proofs.shared.refusal_of.Given as goal
 
 abbrev pub ghosts-refusal-N-Ledger : goal.ghosts-refusal-N-Ledger

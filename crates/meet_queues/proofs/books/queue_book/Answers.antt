@@ -1,3 +1,5 @@
+-- Proof of `queue_book`, src/books.rt. The book of a new synchronous queue with this many seats, at most 65,536, this
+-- first ticket, 1 to 2^63 - 1, and at most this many records, 1 to 1,048,576.
 use Rattle.std.proofs.Common.{sym, subst, ◌<◌}
 use Rattle.meet_core.specs.QueueSteps.{kind_of}
 use Rattle.meet_core.proofs.Leading.{fresh-leads}

@@ -1,3 +1,4 @@
+-- Proof of `transfer_book`, src/books.rt.
 use Rattle.std.proofs.Common.{sym, subst, ◌<◌}
 use Rattle.meet_core.specs.QueueSteps.{bounded_kind}
 use Rattle.meet_core.proofs.Leading.{fresh-leads}

@@ -1,3 +1,4 @@
+-- What stays true from turn to turn of `played`, src/plays.rt.
 use Rattle.meet_shop.proofs.plays.played.Given as goal
 
 abbrev pub ghosts-playing-N-Ledger : goal.ghosts-playing-N-Ledger

@@ -1,3 +1,4 @@
+-- What stays true from turn to turn of `happens`, src/steps.rt.
 use Rattle.meet_shop.proofs.steps.happens.Given as goal
 
 abbrev pub ghosts-stepping-N-Ledger : goal.ghosts-stepping-N-Ledger

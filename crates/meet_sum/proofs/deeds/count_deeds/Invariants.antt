@@ -1,3 +1,4 @@
+-- What stays true from turn to turn of `count_deeds`, src/deeds.rt.
 use Rattle.std.proofs.Common.{◌≡◌, take}
 use Rattle.meet_sum.specs.Deeds.{deeds_in}
 use Rattle.meet_sum.proofs.deeds.count_deeds.Given as goal

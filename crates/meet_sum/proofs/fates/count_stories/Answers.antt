@@ -1,3 +1,4 @@
+-- Proof of `count_stories`, src/fates.rt. How many of these stories end in which fate.
 use Rattle.std.proofs.Common.{◌∙◌, ap, arith, map}
 use Rattle.std.proofs.lemmas.List.{take_all}
 use Rattle.meet_sum.specs.FatesCounted.{numbers_of}

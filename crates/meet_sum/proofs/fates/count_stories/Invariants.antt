@@ -1,3 +1,4 @@
+-- What stays true from turn to turn of `count_stories`, src/fates.rt.
 use Rattle.std.proofs.Common.{◌≡◌, map, take}
 use Rattle.meet_sum.specs.FatesCounted.{numbers_of}
 use Rattle.meet_sum.specs.Stories.{fate_told}

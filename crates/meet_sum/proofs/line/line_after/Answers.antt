@@ -1,3 +1,4 @@
+-- Proof of `line_after`, src/line.rt. How many entries stand in the line behind one record more, which is legal there.
 use Rattle.std.proofs.Common.{◌-◌, ◌<◌, ◌≤◌, sym, ap, ◌∙◌, arith}
 use Rattle.meet_tickets.specs.declared.records.Cause.{Cause}
 use Rattle.meet_tickets.specs.declared.records.Deed.TheVariants.{Withdrawn}

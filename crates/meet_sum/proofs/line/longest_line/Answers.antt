@@ -1,3 +1,4 @@
+-- Proof of `longest_line`, src/line.rt. The longest line behind a base and any of the records since, which are legal.
 use Rattle.std.proofs.Common.{◌≡◌, ℕ, ◌+◌, sym, ap, ◌∙◌, arith, take, subst}
 use Rattle.meet_tickets.specs.declared.places.Kind.{Kind}
 use Rattle.meet_tickets.specs.Bases.{IsWellFormed, IsLegalOn, moment_of_base}

@@ -1,3 +1,4 @@
+-- What stays true from turn to turn of `longest_line`, src/line.rt.
 use Rattle.std.proofs.Common.{◌≡◌, ℕ, ◌+◌, ◌≤◌, length, take}
 use Rattle.meet_tickets.specs.declared.places.Kind.{Kind}
 use Rattle.meet_tickets.specs.Bases.{IsWellFormed, IsLegalOn}

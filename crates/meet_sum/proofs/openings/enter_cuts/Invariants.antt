@@ -1,3 +1,4 @@
+-- What stays true from turn to turn of `enter_cuts`, src/openings.rt.
 use Rattle.std.proofs.Common.{◌≡◌, ◌++◌, map, take}
 use Rattle.meet_sum.proofs.openings.enter_cuts.Given as goal
 

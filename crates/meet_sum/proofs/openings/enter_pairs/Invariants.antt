@@ -1,3 +1,4 @@
+-- What stays true from turn to turn of `enter_pairs`, src/openings.rt.
 use Rattle.std.proofs.Common.{◌≡◌, ◌++◌, map, take}
 use Rattle.meet_sum.proofs.openings.enter_pairs.Given as goal
 

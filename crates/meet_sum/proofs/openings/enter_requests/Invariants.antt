@@ -1,3 +1,4 @@
+-- What stays true from turn to turn of `enter_requests`, src/openings.rt.
 use Rattle.std.proofs.Common.{◌≡◌, ◌++◌, take}
 use Rattle.meet_tickets.specs.Fates.{tickets_of}
 use Rattle.meet_sum.proofs.openings.enter_requests.Given as goal

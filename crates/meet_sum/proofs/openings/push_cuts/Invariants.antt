@@ -1,3 +1,4 @@
+-- What stays true from turn to turn of `push_cuts`, src/openings.rt.
 use Rattle.std.proofs.Common.{◌≡◌, ◌++◌, take}
 use Rattle.std.specs.List.{flat_map}
 use Rattle.meet_tickets.specs.Fates.{cut_records}

@@ -1,3 +1,4 @@
+-- What stays true from turn to turn of `push_line`, src/openings.rt.
 use Rattle.std.proofs.Common.{◌≡◌, ◌++◌, map, take}
 use Rattle.meet_tickets.specs.Fates.{line_record}
 use Rattle.meet_sum.proofs.openings.push_line.Given as goal

@@ -1,3 +1,5 @@
+-- Proof of `requested`, src/openings.rt. The tickets that a base and the records since name as requested, each once and
+-- rising.
 use Rattle.meet_sum.proofs.Requests.{requested-of}
 use Rattle.meet_sum.proofs.openings.requested.Goals as goal
 

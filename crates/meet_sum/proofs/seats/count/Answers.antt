@@ -1,3 +1,4 @@
+-- Proof of `count`, src/seats.rt. Counts a record more of its seat.
 use Rattle.std.proofs.Common.{◌≡◌, ◌+◌, ◌∙◌, ap, arith, true, if◌then◌else◌}
 use Rattle.meet_sum.proofs.SeatLemmas.{counted, few-records}
 use Rattle.meet_sum.proofs.seats.count.Goals as goal

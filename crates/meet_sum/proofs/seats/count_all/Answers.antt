@@ -1,3 +1,4 @@
+-- Proof of `count_all`, src/seats.rt. Counts all these records.
 use Rattle.std.proofs.Common.{◌≡◌, refl, ◌+◌, ◌∙◌, sym, ap, arith, take, ◌∷◌, ◌++◌, []}
 use Rattle.std.proofs.lemmas.List.{take_more, take_all, length-take-le}
 use Rattle.meet_sum.proofs.SeatLemmas.{seats-alike}

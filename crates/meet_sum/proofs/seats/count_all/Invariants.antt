@@ -1,3 +1,4 @@
+-- What stays true from turn to turn of `count_all`, src/seats.rt.
 use Rattle.std.proofs.Common.{◌≡◌, ℕ, take, List, [], vec_len}
 use Rattle.meet_tickets.specs.declared.records.Record.{Record}
 use Rattle.meet_tickets.specs.declared.records.Deed.{Deed}

@@ -1,3 +1,4 @@
+-- Proof of `enter`, src/seats.rt. Notes that a seat has a record that opens a base.
 use Rattle.meet_sum.proofs.SeatLemmas.{entered}
 use Rattle.std.proofs.Common.{[], refl}
 use Rattle.meet_sum.proofs.seats.enter.Goals as goal

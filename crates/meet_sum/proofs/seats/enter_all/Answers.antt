@@ -1,3 +1,4 @@
+-- Proof of `enter_all`, src/seats.rt. Notes the records that open a base.
 use Rattle.std.proofs.Common.{◌≡◌, refl, ◌+◌, ◌∙◌, sym, ap, take, ◌∷◌, ◌++◌, []}
 use Rattle.std.proofs.lemmas.List.{take_more, take_all}
 use Rattle.meet_sum.proofs.SeatLemmas.{seats-alike}

@@ -1,3 +1,4 @@
+-- What stays true from turn to turn of `enter_all`, src/seats.rt.
 use Rattle.std.proofs.Common.{◌≡◌, ℕ, take, [], vec_len}
 use Rattle.meet_tickets.specs.Limits.{most_seats}
 use Rattle.meet_sum.specs.Seats.{seat_sum, HasSeats}

@@ -1,3 +1,4 @@
+-- Proof of `note`, src/seats.rt. Notes how long the ticket of a story stood in the line, at its seat.
 use Rattle.std.proofs.Common.{◌∙◌, ap}
 use Rattle.meet_sum.specs.Seats.{greater}
 use Rattle.meet_sum.proofs.SeatLemmas.{noted}

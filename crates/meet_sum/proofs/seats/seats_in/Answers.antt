@@ -1,3 +1,5 @@
+-- Proof of `seats_in`, src/seats.rt. What each seat did by the records that open a base and those since, from seat 0
+-- on: all but how long its tickets stood in the line.
 use Rattle.std.proofs.Common.{refl}
 use Rattle.meet_sum.proofs.SeatLemmas.{seats-none}
 use Rattle.meet_sum.proofs.seats.seats_in.Goals as goal

@@ -1,3 +1,5 @@
+-- Proof of `legal_text`, src/summing.rt. What is said of a trace with these records that was read, and is legal: where
+-- its tickets and items are, and its sums.
 use Rattle.meet_sum.proofs.SumsTold.{summed}
 use Rattle.meet_sum.proofs.summing.legal_text.Goals as goal
 

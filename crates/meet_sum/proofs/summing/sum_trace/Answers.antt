@@ -1,8 +1,9 @@
+-- Proof of `sum_trace`, src/summing.rt. Reads a trace, of either format, and says what it holds.
 use Rattle.std.proofs.Common.{None, sym, ap, subst, ◌∙◌}
 use Rattle.std.specs.Io.KnownBytes.{Appends}
 use Rattle.meet_run.specs.declared.text.faults.RunFault.{RunFault}
-use Rattle.meet_run.specs.Traces.{IsReadWith}
-use Rattle.meet_run.specs.Writing.{AppendsPrefix}
+use Rattle.meet_run.specs.Tracing.Traces.{IsReadWith}
+use Rattle.meet_run.specs.Texts.Writing.{AppendsPrefix}
 use Rattle.meet_sum.proofs.SumsTold.{sum-short, sum-done}
 use Rattle.meet_sum.proofs.summing.sum_trace.Goals as goal
 

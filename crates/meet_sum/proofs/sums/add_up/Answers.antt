@@ -1,3 +1,4 @@
+-- Proof of `add_up`, src/sums.rt. Notes how long the tickets of these stories stood in the line, each at its seat.
 use Rattle.std.proofs.Common.{◌≡◌, ◌+◌, ◌∙◌, sym, ap, subst, arith, map, take, None, ◌∷◌, ◌++◌, []}
 use Rattle.std.proofs.lemmas.List.{take_more, take_all}
 use Rattle.std.proofs.lemmas.List.Elements.{All-nil}

@@ -1,3 +1,5 @@
+-- Proof of `count_fates`, src/sums.rt. How many tickets have which fate, of those that a base and the records since
+-- name as requested.
 use Rattle.std.proofs.Common.{◌∙◌, ap, map, ◌++◌}
 use Rattle.meet_tickets.specs.Fates.{opening}
 use Rattle.meet_sum.specs.FatesCounted.{numbers_of}

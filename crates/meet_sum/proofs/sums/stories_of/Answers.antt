@@ -1,3 +1,5 @@
+-- Proof of `stories_of`, src/sums.rt. What a base, which these records open, and the records since tell of these
+-- tickets.
 use Rattle.std.proofs.Common.{refl, []}
 use Rattle.meet_sum.proofs.sums.stories_of.Goals as goal
 

@@ -1,3 +1,5 @@
+-- Proof of `stories_on`, src/sums.rt. What a base, which these records open, and the records since tell of the tickets
+-- that they name as requested.
 use Rattle.std.proofs.Common.{◌∙◌, ap, ◌++◌, map}
 use Rattle.meet_sum.specs.Stories.{story_in}
 use Rattle.meet_sum.proofs.sums.stories_on.Goals as goal

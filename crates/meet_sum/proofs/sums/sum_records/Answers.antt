@@ -1,3 +1,4 @@
+-- Proof of `sum_records`, src/sums.rt. The sums of a base and the records since.
 use Rattle.std.proofs.Common.{◌+◌, ◌∙◌, sym, ap, map, length, ◌++◌}
 use Rattle.meet_tickets.specs.Fates.{opening}
 use Rattle.meet_sum.specs.FatesCounted.{numbers_of}

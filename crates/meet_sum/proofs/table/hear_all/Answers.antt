@@ -1,3 +1,4 @@
+-- Proof of `hear_all`, src/table.rt. Has all tickets hear these records, behind so many others.
 use Rattle.std.proofs.Common.{◌≡◌, ◌+◌, ap, ◌∙◌, arith, map, take, length, ◌++◌}
 use Rattle.std.proofs.lemmas.List.{take_all}
 use Rattle.meet_sum.specs.Stories.{story_in}

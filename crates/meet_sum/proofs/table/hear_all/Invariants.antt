@@ -1,3 +1,4 @@
+-- What stays true from turn to turn of `hear_all`, src/table.rt.
 use Rattle.std.proofs.Common.{◌≡◌, ◌+◌, ◌++◌, map, take, length, List, vec_len}
 use Rattle.meet_tickets.specs.declared.records.Record.{Record}
 use Rattle.meet_tickets.specs.declared.records.Deed.{Deed}

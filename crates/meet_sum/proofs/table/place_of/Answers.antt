@@ -1,3 +1,4 @@
+-- Proof of `place_of`, src/table.rt. Where a ticket stands among these, if it does.
 use Rattle.meet_sum.proofs.TableLemmas.{search-found, search-none}
 use Rattle.meet_sum.proofs.table.place_of.Goals as goal
 

@@ -1,3 +1,4 @@
+-- Proof of `push_untold`, src/table.rt. Appends a story that tells nothing.
 use Rattle.std.proofs.Common.{◌∙◌, ap, ◌∷◌, ◌++◌, []}
 use Rattle.meet_sum.proofs.table.push_untold.Goals as goal
 

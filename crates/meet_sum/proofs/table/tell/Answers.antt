@@ -1,3 +1,4 @@
+-- Proof of `tell`, src/table.rt. Has one ticket hear the record of this number, if it is among these.
 use Rattle.std.proofs.Common.{ap, ◌∙◌, ◌∷◌, ◌++◌, []}
 use Rattle.std.specs.Prelude.{slice_set}
 use Rattle.meet_sum.specs.Stories.{story_in}

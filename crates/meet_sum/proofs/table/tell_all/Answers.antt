@@ -1,3 +1,5 @@
+-- Proof of `tell_all`, src/table.rt. Has all tickets hear the record of this number: it tells of its own ticket, and of
+-- the one that it names.
 use Rattle.std.proofs.Common.{◌==◌, refl, sym, ap, ◌∙◌, false, ◌∷◌, ◌++◌, []}
 use Rattle.std.specs.Option.{option_map_or}
 use Rattle.std.proofs.lemmas.Bool.{ne_eqb, eqb-true, eqb-false}

@@ -1,3 +1,4 @@
+-- Proof of `untold_all`, src/table.rt. The stories of these tickets, of which nothing is told.
 use Rattle.std.proofs.Common.{◌∙◌, ap, map, []}
 use Rattle.std.proofs.lemmas.List.{take_all}
 use Rattle.meet_sum.specs.Stories.{story_in}

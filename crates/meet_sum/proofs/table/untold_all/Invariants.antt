@@ -1,3 +1,4 @@
+-- What stays true from turn to turn of `untold_all`, src/table.rt.
 use Rattle.std.proofs.Common.{◌≡◌, map, take, []}
 use Rattle.meet_sum.specs.Stories.{story_in}
 use Rattle.meet_sum.proofs.table.untold_all.Given as goal

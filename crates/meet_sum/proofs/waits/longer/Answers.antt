@@ -1,3 +1,4 @@
+-- Proof of `longer`, src/waits.rt. The longer of what was found so far and one more.
 use Rattle.std.proofs.Common.{subst}
 use Rattle.meet_sum.specs.Waits.{IsLongest}
 use Rattle.meet_sum.proofs.WaitLemmas.{longest-first, longest-longer, longer-either}

@@ -1,3 +1,4 @@
+-- Proof of `longest_with`, src/waits.rt. The longest of what was found so far and the ticket of one story more.
 use Rattle.meet_sum.proofs.WaitLemmas.{longest-unmoved}
 use Rattle.meet_sum.proofs.waits.longest_with.Goals as goal
 

@@ -1,3 +1,5 @@
+-- Proof of `push_end_deeds`, src/wording.rt. Appends how many records ended a ticket, or interrupted a seat, by their
+-- deeds.
 use Rattle.meet_sum.specs.SumTexts.{end_deeds_text}
 use Rattle.meet_sum.proofs.TextLemmas.{four}
 use Rattle.meet_sum.proofs.wording.push_end_deeds.Goals as goal

@@ -1,3 +1,4 @@
+-- Proof of `push_ended_fates`, src/wording.rt. Appends how many tickets were taken back, by their causes.
 use Rattle.meet_sum.specs.SumTexts.{ended_fates_text}
 use Rattle.meet_sum.proofs.TextLemmas.{three}
 use Rattle.meet_sum.proofs.wording.push_ended_fates.Goals as goal

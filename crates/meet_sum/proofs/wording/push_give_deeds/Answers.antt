@@ -1,3 +1,4 @@
+-- Proof of `push_give_deeds`, src/wording.rt. Appends how many requests gave, by their deeds.
 use Rattle.meet_sum.specs.SumTexts.{give_deeds_text}
 use Rattle.meet_sum.proofs.TextLemmas.{four}
 use Rattle.meet_sum.proofs.wording.push_give_deeds.Goals as goal

@@ -1,3 +1,4 @@
+-- Proof of `push_open_fates`, src/wording.rt. Appends how many tickets stand in the line, and how many met somebody.
 use Rattle.meet_sum.specs.SumTexts.{open_fates_text}
 use Rattle.meet_sum.proofs.TextLemmas.{four}
 use Rattle.meet_sum.proofs.wording.push_open_fates.Goals as goal

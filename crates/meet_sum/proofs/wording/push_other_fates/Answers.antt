@@ -1,3 +1,4 @@
+-- Proof of `push_other_fates`, src/wording.rt. Appends how many tickets were cut, failed or were refused.
 use Rattle.meet_sum.specs.SumTexts.{other_fates_text}
 use Rattle.meet_sum.proofs.TextLemmas.{three}
 use Rattle.meet_sum.proofs.wording.push_other_fates.Goals as goal

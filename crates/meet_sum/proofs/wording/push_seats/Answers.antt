@@ -1,3 +1,4 @@
+-- Proof of `push_seats`, src/wording.rt. Appends what seats did, from 0 on.
 use Rattle.std.proofs.Common.{◌++◌, sym, ap, ◌∙◌, take}
 use Rattle.std.proofs.lemmas.List.{append-nil}
 use Rattle.meet_sum.specs.SumTexts.{seats_text}

@@ -1,3 +1,4 @@
+-- What stays true from turn to turn of `push_seats`, src/wording.rt.
 use Rattle.std.proofs.Common.{◌≡◌, ◌++◌, take}
 use Rattle.meet_sum.specs.SumTexts.{seats_text}
 use Rattle.meet_sum.proofs.wording.push_seats.Given as goal

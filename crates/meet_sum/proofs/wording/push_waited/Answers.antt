@@ -1,3 +1,4 @@
+-- Proof of `push_waited`, src/wording.rt. Appends how long a ticket of a seat waited.
 use Rattle.meet_sum.specs.SumTexts.{waited_text}
 use Rattle.meet_sum.proofs.TextLemmas.{three}
 use Rattle.meet_sum.proofs.wording.push_waited.Goals as goal

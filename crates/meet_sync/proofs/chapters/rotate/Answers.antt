@@ -1,3 +1,4 @@
+-- Proof of `rotate`, src/chapters.rt. A checkpoint of a place that hands out what it folds away.
 use Rattle.meet_sync.proofs.Reasons.{cut_why}
 use Rattle.meet_sync.proofs.chapters.rotate.Goals as goal
 

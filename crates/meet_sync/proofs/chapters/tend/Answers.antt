@@ -1,3 +1,4 @@
+-- Proof of `tend`, src/chapters.rt. A seat tends a place.
 use Rattle.meet_place.proofs.Folded.{tends, trims_still, refused_still}
 use Rattle.meet_sync.proofs.Reasons.{cut_why}
 use Rattle.meet_sync.proofs.chapters.tend.Goals as goal

@@ -1,3 +1,4 @@
+-- Proof of `cut`, src/checkpoints.rt. Folds the records of a place away, and counts them for the seat.
 use Rattle.std.proofs.Common.{◌≡◌, ◌+◌, ◌≤◌, ℕ, None, Ok, Err, length, arith}
 use Rattle.std.specs.Prelude.{Result, IfOk}
 use Rattle.meet_tickets.specs.declared.refusals.Refusal.{Refusal}

@@ -1,3 +1,4 @@
+-- What stays true from turn to turn of `bears`, src/at_size.rt.
 use Rattle.meet_sync_tests.proofs.at_size.bears.Given as goal
 
 abbrev pub ghosts-loading-N-Ledger : goal.ghosts-loading-N-Ledger

@@ -1,3 +1,4 @@
+-- What stays true from turn to turn of `a_lost_seat_leaves_a_history`, src/chapters.rt.
 use Rattle.meet_sync_tests.proofs.chapters.a_lost_seat_leaves_a_history.Given as goal
 
 abbrev pub ghosts-without_seat_1-N-Ledger : goal.ghosts-without_seat_1-N-Ledger

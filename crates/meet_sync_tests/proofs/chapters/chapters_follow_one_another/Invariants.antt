@@ -1,3 +1,4 @@
+-- What stays true from turn to turn of `chapters_follow_one_another`, src/chapters.rt.
 use Rattle.meet_sync_tests.proofs.chapters.chapters_follow_one_another.Given as goal
 
 abbrev pub ghosts-of_two_seats-N-Ledger : goal.ghosts-of_two_seats-N-Ledger

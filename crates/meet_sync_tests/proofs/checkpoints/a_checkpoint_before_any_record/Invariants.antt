@@ -1,3 +1,4 @@
+-- What stays true from turn to turn of `a_checkpoint_before_any_record`, src/checkpoints.rt.
 use Rattle.meet_sync_tests.proofs.checkpoints.a_checkpoint_before_any_record.Given as goal
 
 abbrev pub ghosts-five_records-N-Ledger : goal.ghosts-five_records-N-Ledger

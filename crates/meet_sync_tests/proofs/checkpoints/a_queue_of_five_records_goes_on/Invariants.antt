@@ -1,3 +1,4 @@
+-- What stays true from turn to turn of `a_queue_of_five_records_goes_on`, src/checkpoints.rt.
 use Rattle.meet_sync_tests.proofs.checkpoints.a_queue_of_five_records_goes_on.Given as goal
 
 abbrev pub ghosts-five_records-N-Ledger : goal.ghosts-five_records-N-Ledger

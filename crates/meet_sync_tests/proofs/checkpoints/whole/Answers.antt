@@ -1,3 +1,4 @@
+-- Proof of `whole`, src/checkpoints.rt. Where no seat makes a checkpoint, nothing is folded away.
 use Rattle.std.proofs.Common.{◌≡◌, ℕ, List, [], ◌∷◌, ◌++◌, length, Some, Ok, Err, refl, ap, ◌∙◌, arith}
 use Rattle.std.specs.Prelude.{slice_get, Result, IfOk}
 use Rattle.meet_tickets.specs.declared.places.End.TheVariants.{Front}

@@ -1,3 +1,4 @@
+-- What stays true from turn to turn of `without_a_checkpoint_all_is_there`, src/checkpoints.rt.
 use Rattle.meet_sync_tests.proofs.checkpoints.without_a_checkpoint_all_is_there.Given as goal
 
 abbrev pub ghosts-whole-N-Ledger : goal.ghosts-whole-N-Ledger

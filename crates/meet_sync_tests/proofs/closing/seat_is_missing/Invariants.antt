@@ -1,3 +1,4 @@
+-- What stays true from turn to turn of `seat_is_missing`, src/closing.rt.
 use Rattle.meet_sync_tests.proofs.closing.seat_is_missing.Given as goal
 
 abbrev pub ghosts-falls_short-N-Ledger : goal.ghosts-falls_short-N-Ledger

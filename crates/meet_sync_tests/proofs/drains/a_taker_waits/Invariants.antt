@@ -1,3 +1,4 @@
+-- What stays true from turn to turn of `a_taker_waits`, src/drains.rt.
 use Rattle.meet_tickets.specs.Limits.{most_records}
 use Rattle.meet_sync_tests.proofs.drains.a_taker_waits.Given as goal
 

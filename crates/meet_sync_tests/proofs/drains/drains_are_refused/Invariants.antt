@@ -1,3 +1,4 @@
+-- What stays true from turn to turn of `drains_are_refused`, src/drains.rt.
 use Rattle.meet_sync_tests.proofs.drains.drains_are_refused.Given as goal
 
 abbrev pub ghosts-in_vain-N-Ledger : goal.ghosts-in_vain-N-Ledger

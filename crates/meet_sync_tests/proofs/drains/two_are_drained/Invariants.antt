@@ -1,3 +1,4 @@
+-- What stays true from turn to turn of `two_are_drained`, src/drains.rt.
 use Rattle.meet_tickets.specs.Limits.{most_records}
 use Rattle.meet_sync_tests.proofs.drains.two_are_drained.Given as goal
 

@@ -1,3 +1,4 @@
+-- What stays true from turn to turn of `pass`, src/seals.rt.
 use Rattle.meet_sync_tests.proofs.seals.pass.Given as goal
 
 abbrev pub ghosts-passing-N-Ledger : goal.ghosts-passing-N-Ledger

@@ -1,3 +1,4 @@
+-- What stays true from turn to turn of `trying`, src/tending.rt.
 use Rattle.meet_sync_tests.proofs.tending.trying.Given as goal
 
 abbrev pub ghosts-tried-N-Ledger : goal.ghosts-tried-N-Ledger

@@ -1,3 +1,5 @@
+-- Proof of `bases_are_one`, src/laws.rt. A place has one base: two well-formed ones of as many records, which stand for
+-- the same, are one; so that of no records where nothing happened is empty.
 use Rattle.meet_tickets.proofs.OnBases.Unique.{one_base, one_empty}
 use Rattle.meet_tickets.proofs.laws.bases_are_one.Goals as goal
 

@@ -1,3 +1,4 @@
+-- What stays true from turn to turn of `wanders`, src/chance.rt.
 use Rattle.meet_wakes_tests.proofs.chance.wanders.Given as goal
 
 abbrev pub ghosts-walking-N-Ledger : goal.ghosts-walking-N-Ledger

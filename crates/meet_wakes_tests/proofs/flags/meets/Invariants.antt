@@ -1,3 +1,4 @@
+-- What stays true from turn to turn of `meets`, src/flags.rt.
 use Rattle.meet_wakes_tests.proofs.flags.meets.Given as goal
 
 abbrev pub ghosts-dealing-N-Ledger : goal.ghosts-dealing-N-Ledger

@@ -1,3 +1,4 @@
+-- What stays true from turn to turn of `wakes`, src/wakes.rt.
 use Rattle.meet_wakes_tests.proofs.wakes.wakes.Given as goal
 
 abbrev pub ghosts-dealing-N-Ledger : goal.ghosts-dealing-N-Ledger

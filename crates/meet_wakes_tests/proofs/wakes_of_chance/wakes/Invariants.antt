@@ -1,3 +1,4 @@
+-- What stays true from turn to turn of `wakes`, src/wakes_of_chance.rt.
 use Rattle.meet_wakes_tests.proofs.wakes_of_chance.wakes.Given as goal
 
 abbrev pub ghosts-walking-N-Ledger : goal.ghosts-walking-N-Ledger

@@ -1,3 +1,4 @@
+-- Proof of `promise_is_kept`, src/laws.rt. Each job and each take of a worker is met at most once.
 use Rattle.pool_core.proofs.JobsOnce.{jobs-once}
 use Rattle.pool_core.proofs.Partners.{partners-meet}
 use Rattle.pool_core.proofs.TakesOnce.{takes-once, withdrawn-none}

@@ -1,3 +1,4 @@
+-- Proof of `lowest_bit`, src/numbers.rt. The lowest bit of a word that is one.
 use Rattle.std.specs.Int.{w64}
 use Rattle.std.proofs.lemmas.Nat.Bits.{bit_at-trailing_zeros}
 use Rattle.pool_core.proofs.numbers.lowest_bit.Goals as goal

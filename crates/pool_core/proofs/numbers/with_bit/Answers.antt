@@ -1,3 +1,4 @@
+-- Proof of `with_bit`, src/numbers.rt. A word with this bit one or zero.
 use Rattle.std.proofs.Common.{sym, ap, ◌∙◌, cond, ℕ}
 use Rattle.std.specs.Int.{w64}
 use Rattle.std.proofs.lemmas.Nat.Bits.{bit_at_set_same, bit_at_set_other, bit_at_clear_same, bit_at_clear_other}

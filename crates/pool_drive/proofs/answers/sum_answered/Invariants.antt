@@ -1,3 +1,4 @@
+-- What stays true from turn to turn of `sum_answered`, src/answers.rt.
 use Rattle.std.proofs.Common.{◌≡◌, take}
 use Rattle.pool_drive.specs.Driven.{sum_in}
 use Rattle.pool_drive.proofs.answers.sum_answered.Given as goal

@@ -1,3 +1,4 @@
+-- What stays true from turn to turn of `driving_with`, src/whole.rt.
 use Rattle.meet_tickets.specs.Limits.{most_records}
 use Rattle.pool_drive.proofs.whole.driving_with.Given as goal
 

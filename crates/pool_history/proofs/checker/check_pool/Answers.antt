@@ -1,3 +1,5 @@
+-- Proof of `check_pool`, src/checker.rt. Whether these records are a legal history of a new pool of these settings, and
+-- then what it counts.
 use Rattle.std.proofs.Common.{◌≡◌, ◌∙◌, ◌+◌, ap, sym, subst, take, drop, ◌++◌, ◌∷◌, [], take-append-drop}
 use Rattle.std.proofs.lemmas.List.{take_all, take_more}
 use Rattle.pool_core.specs.Histories.{no_base}

@@ -1,3 +1,4 @@
+-- What stays true from turn to turn of `check_pool`, src/checker.rt.
 use Rattle.std.proofs.Common.{◌≡◌, None, take}
 use Rattle.pool_core.specs.Histories.{no_base}
 use Rattle.pool_history.specs.Pushing.{HasSeen}

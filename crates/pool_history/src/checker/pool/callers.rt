@@ -157,7 +157,8 @@ impl CheckedPool {
     fn hands(&mut self, seat: SeatNo, ticket: Ticket, worker: u64, tag: u64) -> bool
         requires caller { seat < self.old.settings.sizes.callers }
         requires above { self.old.moment.last < ticket }
-        ensures allowed { IsTrue result ↔ Allows self.old.settings self.old.moment.pool seat ticket (Handed worker tag) }
+        ensures allowed { IsTrue result
+            ↔ Allows self.old.settings self.old.moment.pool seat ticket (Handed worker tag) }
         ensures after { IsTrue result → self.new.moment ≡ next_moment self.old.settings self.old.moment
             (record { seat = seat; ticket = ticket; deed = Handed worker tag }) }
         ensures settings { self.new.settings ≡ self.old.settings }
@@ -179,7 +180,8 @@ impl CheckedPool {
     fn starts(&mut self, seat: SeatNo, ticket: Ticket, worker: u64, tag: u64) -> bool
         requires caller { seat < self.old.settings.sizes.callers }
         requires above { self.old.moment.last < ticket }
-        ensures allowed { IsTrue result ↔ Allows self.old.settings self.old.moment.pool seat ticket (Started worker tag) }
+        ensures allowed { IsTrue result
+            ↔ Allows self.old.settings self.old.moment.pool seat ticket (Started worker tag) }
         ensures after { IsTrue result → self.new.moment ≡ next_moment self.old.settings self.old.moment
             (record { seat = seat; ticket = ticket; deed = Started worker tag }) }
         ensures settings { self.new.settings ≡ self.old.settings }
@@ -223,7 +225,8 @@ impl CheckedPool {
         requires room { 0 < self.old.room }
         requires caller { seat < self.old.settings.sizes.callers }
         requires above { self.old.moment.last < ticket }
-        ensures allowed { IsTrue result ↔ Allows self.old.settings self.old.moment.pool seat ticket (KeptStart worker tag) }
+        ensures allowed { IsTrue result
+            ↔ Allows self.old.settings self.old.moment.pool seat ticket (KeptStart worker tag) }
         ensures after { IsTrue result → self.new.moment ≡ next_moment self.old.settings self.old.moment
             (record { seat = seat; ticket = ticket; deed = KeptStart worker tag }) }
         ensures settings { self.new.settings ≡ self.old.settings }
@@ -255,7 +258,8 @@ impl CheckedPool {
     fn aborts(&mut self, seat: SeatNo, ticket: Ticket) -> bool
         requires caller { seat < self.old.settings.sizes.callers }
         requires above { self.old.moment.last < ticket }
-        ensures allowed { (tag : ℕ) → IsTrue result ↔ Allows self.old.settings self.old.moment.pool seat ticket (Aborted tag) }
+        ensures allowed { (tag : ℕ) → IsTrue result
+            ↔ Allows self.old.settings self.old.moment.pool seat ticket (Aborted tag) }
         ensures after { (tag : ℕ) → IsTrue result → self.new.moment ≡ next_moment self.old.settings self.old.moment
             (record { seat = seat; ticket = ticket; deed = Aborted tag }) }
         ensures settings { self.new.settings ≡ self.old.settings }
@@ -272,7 +276,8 @@ impl CheckedPool {
     fn leaves_to_caller(&mut self, seat: SeatNo, ticket: Ticket) -> bool
         requires caller { seat < self.old.settings.sizes.callers }
         requires above { self.old.moment.last < ticket }
-        ensures allowed { (tag : ℕ) → IsTrue result ↔ Allows self.old.settings self.old.moment.pool seat ticket (RunsIt tag) }
+        ensures allowed { (tag : ℕ) → IsTrue result
+            ↔ Allows self.old.settings self.old.moment.pool seat ticket (RunsIt tag) }
         ensures after { (tag : ℕ) → IsTrue result → self.new.moment ≡ next_moment self.old.settings self.old.moment
             (record { seat = seat; ticket = ticket; deed = RunsIt tag }) }
         ensures settings { self.new.settings ≡ self.old.settings }
@@ -309,7 +314,8 @@ impl CheckedPool {
     fn drops(&mut self, seat: SeatNo, ticket: Ticket) -> bool
         requires caller { seat < self.old.settings.sizes.callers }
         requires above { self.old.moment.last < ticket }
-        ensures allowed { (tag : ℕ) → IsTrue result ↔ Allows self.old.settings self.old.moment.pool seat ticket (Dropped tag) }
+        ensures allowed { (tag : ℕ) → IsTrue result
+            ↔ Allows self.old.settings self.old.moment.pool seat ticket (Dropped tag) }
         ensures after { (tag : ℕ) → IsTrue result → self.new.moment ≡ next_moment self.old.settings self.old.moment
             (record { seat = seat; ticket = ticket; deed = Dropped tag }) }
         ensures settings { self.new.settings ≡ self.old.settings }
@@ -333,7 +339,8 @@ impl CheckedPool {
     ) -> bool
         requires caller { seat < self.old.settings.sizes.callers }
         requires above { self.old.moment.last < ticket }
-        ensures allowed { IsTrue result ↔ Allows self.old.settings self.old.moment.pool seat ticket (DroppedOldest dropped old tag) }
+        ensures allowed { IsTrue result
+            ↔ Allows self.old.settings self.old.moment.pool seat ticket (DroppedOldest dropped old tag) }
         ensures after { IsTrue result → self.new.moment ≡ next_moment self.old.settings self.old.moment
             (record { seat = seat; ticket = ticket; deed = DroppedOldest dropped old tag }) }
         ensures settings { self.new.settings ≡ self.old.settings }
@@ -374,7 +381,8 @@ impl CheckedPool {
     /// The pool is shut, and its kept jobs come back.
     fn shuts_now(&mut self, seat: SeatNo, ticket: Ticket, count: u64) -> bool
         requires caller { seat < self.old.settings.sizes.callers }
-        ensures allowed { IsTrue result ↔ Allows self.old.settings self.old.moment.pool seat ticket (ShutDownNow count) }
+        ensures allowed { IsTrue result
+            ↔ Allows self.old.settings self.old.moment.pool seat ticket (ShutDownNow count) }
         ensures after { IsTrue result → self.new.moment ≡ next_moment self.old.settings self.old.moment
             (record { seat = seat; ticket = ticket; deed = ShutDownNow count }) }
         ensures settings { self.new.settings ≡ self.old.settings }

@@ -1,6 +1,7 @@
 //! The workers' steps.
 
-ghost use Rattle.std.specs.Prelude.{◌≡◌, ℕ, ◌+◌, ◌<◌, ◌≤◌, ◌↔◌, true, false, Some, IsTrue, OnOk, IfErr, length, None, slice_index_or};
+ghost use Rattle.std.specs.Prelude.{◌≡◌, ℕ, ◌+◌, ◌<◌, ◌≤◌, ◌↔◌, true, false, Some, IsTrue, OnOk, IfErr, length, None};
+ghost use Rattle.std.specs.Prelude.{slice_index_or};
 ghost use Rattle.pool_core.specs.Pools.{jobs_at, stage_of, task_at};
 ghost use Rattle.pool_core.specs.Calls.{is_starting};
 ghost use Rattle.pool_core.specs.Steps.{Allows, IsOwn, MayExit, draws, oldest, stage_draws};
@@ -234,7 +235,8 @@ impl CheckedPool {
     fn finishes(&mut self, seat: SeatNo, ticket: Ticket, worker: u64) -> bool
         requires worker { seat ≡ self.old.settings.sizes.callers + worker }
         requires there { worker < length self.old.moment.pool.workers }
-        ensures allowed { (answer : ℕ) → IsTrue result ↔ Allows self.old.settings self.old.moment.pool seat ticket (Finished answer) }
+        ensures allowed { (answer : ℕ) → IsTrue result
+            ↔ Allows self.old.settings self.old.moment.pool seat ticket (Finished answer) }
         ensures after { (answer : ℕ) → IsTrue result → self.new.moment ≡ next_moment self.old.settings self.old.moment
             (record { seat = seat; ticket = ticket; deed = Finished answer }) }
         ensures settings { self.new.settings ≡ self.old.settings }

@@ -1,7 +1,8 @@
+-- Proof of `check_pool_trace_within`, src/check.rt. Checks the pool's trace that this reader gives.
 use Rattle.std.proofs.Common.{subst, ap, ◌∙◌, None}
 use Rattle.std.specs.Io.KnownBytes.{Appends}
 use Rattle.meet_run.specs.declared.text.faults.RunFault.{RunFault}
-use Rattle.meet_run.specs.Writing.{AppendsPrefix}
+use Rattle.meet_run.specs.Texts.Writing.{AppendsPrefix}
 use Rattle.pool_run.proofs.Checked.{check-unread, check-broken, check-done}
 use Rattle.pool_run.proofs.check.check_pool_trace_within.Goals as goal
 

@@ -1,6 +1,7 @@
+-- Proof of `find_trace`, src/check.rt. Reads a whole trace, and says what is found of it, and the line that says so.
 use Rattle.std.proofs.Common.{arith}
-use Rattle.meet_run.proofs.LineLemmas.{uses-more, uses-fewer}
-use Rattle.meet_run.proofs.TraceReading.{err-follows}
+use Rattle.meet_run.proofs.Texts.LineLemmas.{uses-more, uses-fewer}
+use Rattle.meet_run.proofs.Tracing.TraceReading.{err-follows}
 use Rattle.pool_run.proofs.Checked.{fault-behind, fault-lineless, fault-headless}
 use Rattle.pool_run.proofs.check.find_trace.Goals as goal
 

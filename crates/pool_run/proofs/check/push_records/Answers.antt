@@ -1,8 +1,9 @@
+-- Proof of `push_records`, src/check.rt. Reads the records behind a trace's first line, and pushes each on the checker.
 use Rattle.std.proofs.Common.{◌++◌, ◌∷◌, [], length-append, arith, refl, sym, ◌∙◌}
 use Rattle.std.proofs.lemmas.Bool.{false≢true}
 use Rattle.pool_core.specs.Histories.{no_base}
 use Rattle.pool_run.specs.Records.{pool_record_at}
-use Rattle.meet_run.proofs.LineLemmas.{uses-more, uses-none}
+use Rattle.meet_run.proofs.Texts.LineLemmas.{uses-more, uses-none}
 use Rattle.pool_run.proofs.Came.{has_come-first, has_come-more}
 use Rattle.pool_run.proofs.Checked.{pushed-all, pushed-some}
 use Rattle.pool_run.proofs.check.push_records.Goals as goal

@@ -1,7 +1,8 @@
+-- What stays true from turn to turn of `push_records`, src/check.rt.
 use Rattle.std.proofs.Common.{◌≡◌, ℕ, ◌+◌, ◌≤◌, List, length}
 use Rattle.std.specs.Vec.{vec_capacity}
 use Rattle.meet_tickets.specs.declared.records.Record.{Record}
-use Rattle.meet_run.specs.Reading.{UsesTurns}
+use Rattle.meet_run.specs.Texts.Reading.{UsesTurns}
 use Rattle.pool_core.specs.declared.deeds.PoolDeed.{PoolDeed}
 use Rattle.pool_core.specs.Histories.{no_base}
 use Rattle.pool_history.specs.Pushing.{HasSeen}

@@ -1,5 +1,6 @@
+-- Proof of `next_pool_head`, src/next.rt. Reads a trace's first line.
 use Rattle.std.proofs.Common.{◌∙◌, ap}
-use Rattle.meet_run.proofs.NextLemmas.{next-is, fits-read}
+use Rattle.meet_run.proofs.Texts.NextLemmas.{next-is, fits-read}
 use Rattle.pool_run.specs.FirstLines.{pool_head_of}
 use Rattle.pool_run.specs.Spelling.{FitsPoolHead}
 use Rattle.pool_run.proofs.HeadLemmas.{head-too_long}

@@ -1,5 +1,6 @@
+-- Proof of `next_pool_record`, src/next.rt. Reads the line of a record, behind so many lines.
 use Rattle.std.proofs.Common.{◌+◌, ◌∙◌, ap}
-use Rattle.meet_run.proofs.NextLemmas.{next-is}
+use Rattle.meet_run.proofs.Texts.NextLemmas.{next-is}
 use Rattle.pool_run.specs.Records.{pool_record_at}
 use Rattle.pool_run.proofs.RecordLemmas.{record-too_long}
 use Rattle.pool_run.proofs.next.next_pool_record.Goals as goal

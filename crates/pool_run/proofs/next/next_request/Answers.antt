@@ -1,5 +1,6 @@
+-- Proof of `next_request`, src/next.rt. Reads the line of a call.
 use Rattle.std.proofs.Common.{◌∙◌, ap}
-use Rattle.meet_run.proofs.NextLemmas.{next-is, fits-read}
+use Rattle.meet_run.proofs.Texts.NextLemmas.{next-is, fits-read}
 use Rattle.pool_run.specs.Requests.{request_of}
 use Rattle.pool_run.specs.Spelling.{FitsRequest}
 use Rattle.pool_run.proofs.RequestLemmas.{request-too_long}

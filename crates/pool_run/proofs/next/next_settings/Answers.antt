@@ -1,5 +1,6 @@
+-- Proof of `next_settings`, src/next.rt. Reads a script's first line.
 use Rattle.std.proofs.Common.{◌∙◌, ap}
-use Rattle.meet_run.proofs.NextLemmas.{next-is, fits-read}
+use Rattle.meet_run.proofs.Texts.NextLemmas.{next-is, fits-read}
 use Rattle.pool_run.specs.FirstLines.{settings_of}
 use Rattle.pool_run.specs.Spelling.{FitsSettings}
 use Rattle.pool_run.proofs.SettingsLemmas.{settings-too_long}

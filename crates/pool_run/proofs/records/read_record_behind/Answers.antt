@@ -1,3 +1,5 @@
+-- Proof of `read_record_behind`, src/records.rt. The record of a line behind so many others, a trace's first line and
+-- one for each record; or none where the line is at fault, or one too many.
 use Rattle.std.proofs.Common.{◌+◌, arith, sym, ◌∙◌}
 use Rattle.pool_run.proofs.RecordLemmas.{record_at-past, record_at-within}
 use Rattle.pool_run.proofs.records.read_record_behind.Goals as goal

@@ -1,3 +1,4 @@
+-- Proof of `push_replies`, src/run.rt. Appends the lines of these replies.
 use Rattle.std.proofs.Common.{◌≡◌, ◌++◌, ◌∙◌, sym, ap, append-nil}
 use Rattle.std.proofs.lemmas.List.{take_all}
 use Rattle.pool_run.specs.Scripts.{replies_text}

@@ -1,3 +1,4 @@
+-- What stays true from turn to turn of `push_replies`, src/run.rt.
 use Rattle.std.proofs.Common.{◌≡◌, ◌++◌, take}
 use Rattle.pool_run.specs.Scripts.{replies_text}
 use Rattle.pool_run.proofs.run.push_replies.Given as goal

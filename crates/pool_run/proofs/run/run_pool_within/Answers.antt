@@ -1,7 +1,9 @@
+-- Proof of `run_pool_within`, src/run.rt. Runs the pool's script that this reader gives, and writes its replies: the
+-- first line names what the pool is made with, each other line is a call.
 use Rattle.std.proofs.Common.{arith, inl, inr, refl, subst, sym, Err}
 use Rattle.meet_tickets.specs.declared.refusals.Refusal.TheVariants.{Memory, ReadFault}
-use Rattle.meet_run.proofs.LineLemmas.{uses-more, uses-fewer}
-use Rattle.meet_run.proofs.Ran.{appends-nothing}
+use Rattle.meet_run.proofs.Texts.LineLemmas.{uses-more, uses-fewer}
+use Rattle.meet_run.proofs.Scripts.Ran.{appends-nothing}
 use Rattle.pool_run.proofs.Headed.{text-behind, text-headless, text-lineless, text-none}
 use Rattle.pool_run.proofs.Running.{runs-none}
 use Rattle.pool_run.specs.Scripts.{IsHeadless, RunsTo}

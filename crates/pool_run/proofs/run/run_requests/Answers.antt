@@ -1,9 +1,10 @@
+-- Proof of `run_requests`, src/run.rt. Runs the calls behind the first line.
 use Rattle.std.proofs.Common.{inl, inr, subst, sym, arith, ◌+◌, Err, Some, refl}
 use Rattle.std.specs.Prelude.{IfSome}
 use Rattle.meet_tickets.specs.declared.refusals.Refusal.TheVariants.{BadLine, ReadFault}
-use Rattle.meet_run.proofs.LineLemmas.{uses-more, uses-none, ends-in-turns, at-end-before}
-use Rattle.meet_run.proofs.Ran.{appends-nothing}
-use Rattle.meet_run.specs.Reading.{lines_of}
+use Rattle.meet_run.proofs.Texts.LineLemmas.{uses-more, uses-none, ends-in-turns, at-end-before}
+use Rattle.meet_run.proofs.Scripts.Ran.{appends-nothing}
+use Rattle.meet_run.specs.Texts.Reading.{lines_of}
 use Rattle.pool_run.specs.Scripts.{RunsTo, IsScriptFault}
 use Rattle.pool_run.proofs.Came.{everywhere}
 use Rattle.pool_run.proofs.Running.{outside, by-fault, under-none, under-more, runs-ended, runs-cut_last, runs-faulty, runs-cut, runs-half, runs-unmade, runs-unread, refused-fault}

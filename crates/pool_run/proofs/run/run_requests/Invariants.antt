@@ -1,6 +1,7 @@
+-- What stays true from turn to turn of `run_requests`, src/run.rt.
 use Rattle.std.proofs.Common.{◌+◌, ◌≤◌}
 use Rattle.std.specs.Vec.{vec_capacity}
-use Rattle.meet_run.specs.Reading.{UsesTurns}
+use Rattle.meet_run.specs.Texts.Reading.{UsesTurns}
 use Rattle.pool_run.proofs.Running.{Under}
 use Rattle.pool_run.proofs.run.run_requests.Given as goal
 

@@ -1,3 +1,5 @@
+-- Proof of `read_head`, src/settings.rt. What the pool of a trace's first line is made with, or none where the line is
+-- at fault: also where such a pool can't be made.
 use Rattle.pool_run.proofs.HeadLemmas.{head-limits}
 use Rattle.pool_run.proofs.settings.read_head.Goals as goal
 

@@ -1,3 +1,5 @@
+-- Proof of `read_settings`, src/settings.rt. What the pool of a script's first line is made with, whether or not it can
+-- be made; or none where the line is at fault.
 use Rattle.std.proofs.Common.{◌≤◌, length, arith}
 use Rattle.pool_run.proofs.SettingsLemmas.{settings-limits}
 use Rattle.pool_run.proofs.settings.read_settings.Goals as goal

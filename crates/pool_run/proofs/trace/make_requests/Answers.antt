@@ -1,5 +1,7 @@
+-- Proof of `make_requests`, src/trace.rt. Makes the calls behind a script's first line, up to the first line that is
+-- none, and tells that line's number.
 use Rattle.std.proofs.Common.{arith}
-use Rattle.meet_run.proofs.LineLemmas.{uses-more, uses-none, ends-in-turns, at-end-before}
+use Rattle.meet_run.proofs.Texts.LineLemmas.{uses-more, uses-none, ends-in-turns, at-end-before}
 use Rattle.pool_run.proofs.Tracing.{making-none, making-more, made-all, made-some}
 use Rattle.pool_run.proofs.trace.make_requests.Goals as goal
 

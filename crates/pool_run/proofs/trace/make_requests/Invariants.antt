@@ -1,6 +1,7 @@
+-- What stays true from turn to turn of `make_requests`, src/trace.rt.
 use Rattle.std.proofs.Common.{◌+◌, ◌≤◌}
 use Rattle.std.specs.Vec.{vec_capacity}
-use Rattle.meet_run.specs.Reading.{UsesTurns}
+use Rattle.meet_run.specs.Texts.Reading.{UsesTurns}
 use Rattle.pool_run.proofs.Tracing.{Making}
 use Rattle.pool_run.proofs.trace.make_requests.Given as goal
 

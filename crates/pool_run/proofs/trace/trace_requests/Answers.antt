@@ -1,10 +1,11 @@
+-- Proof of `trace_requests`, src/trace.rt. Writes the trace of the calls behind a script's first line.
 use Rattle.std.proofs.Common.{◌≡◌, ◌++◌, subst, sym, ap, ◌∙◌, take, Err, Some}
 use Rattle.std.proofs.lemmas.List.{take-append-drop}
 use Rattle.std.specs.Prelude.{IfSome}
 use Rattle.std.specs.Io.KnownBytes.{Appends}
 use Rattle.meet_tickets.specs.declared.refusals.Refusal.TheVariants.{BadLine}
-use Rattle.meet_run.specs.Reading.{lines_of}
-use Rattle.meet_run.specs.Writing.{AppendsPrefix}
+use Rattle.meet_run.specs.Texts.Reading.{lines_of}
+use Rattle.meet_run.specs.Texts.Writing.{AppendsPrefix}
 use Rattle.pool_run.specs.Scripts.{pool_trace_text, TracesTo, AreMade, IsScriptFault}
 use Rattle.pool_run.proofs.Came.{everywhere}
 use Rattle.pool_run.proofs.Running.{outside, by-fault}

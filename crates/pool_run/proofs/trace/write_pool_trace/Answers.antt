@@ -1,7 +1,9 @@
+-- Proof of `write_pool_trace`, src/trace.rt. Writes the trace of a pool of these settings, whole: of these records, and
+-- then of those.
 use Rattle.std.proofs.Common.{◌≡◌, ◌++◌, ap, subst, ◌∙◌}
 use Rattle.std.specs.Io.KnownBytes.{Appends}
-use Rattle.meet_run.proofs.TraceReading.{well-follows}
-use Rattle.meet_run.specs.Writing.{AppendsPrefix}
+use Rattle.meet_run.proofs.Tracing.TraceReading.{well-follows}
+use Rattle.meet_run.specs.Texts.Writing.{AppendsPrefix}
 use Rattle.pool_run.specs.Wording.{pool_head_line}
 use Rattle.pool_run.proofs.Tracing.{trace-whole, trace-cut, trace-headed, trace-started}
 use Rattle.pool_run.proofs.trace.write_pool_trace.Goals as goal

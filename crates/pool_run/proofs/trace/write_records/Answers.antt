@@ -1,10 +1,11 @@
+-- Proof of `write_records`, src/trace.rt. Writes the lines of these records, one by one.
 use Rattle.std.proofs.Common.{◌≡◌, ◌++◌, take, ap, subst, ◌∙◌}
 use Rattle.std.specs.Io.KnownBytes.{Appends}
 use Rattle.std.specs.List.{flat_map}
 use Rattle.std.proofs.lemmas.List.{take_all}
-use Rattle.meet_run.proofs.Ran.{appends-nothing}
-use Rattle.meet_run.proofs.WritingLemmas.{appends-more, prefix-of}
-use Rattle.meet_run.specs.Writing.{AppendsPrefix}
+use Rattle.meet_run.proofs.Scripts.Ran.{appends-nothing}
+use Rattle.meet_run.proofs.Texts.WritingLemmas.{appends-more, prefix-of}
+use Rattle.meet_run.specs.Texts.Writing.{AppendsPrefix}
 use Rattle.pool_run.specs.Wording.{pool_record_line}
 use Rattle.pool_run.proofs.Tracing.{lines-more, lines-prefix, line-half}
 use Rattle.pool_run.proofs.trace.write_records.Goals as goal

@@ -1,3 +1,4 @@
+-- What stays true from turn to turn of `write_records`, src/trace.rt.
 use Rattle.std.proofs.Common.{take}
 use Rattle.std.specs.Io.KnownBytes.{Appends}
 use Rattle.std.specs.List.{flat_map}

@@ -1,3 +1,4 @@
+-- Proof of `take_seats`, src/closing.rt. Puts the seats of workers that are here behind others.
 use Rattle.std.proofs.Common.{rules, arith}
 use Rattle.pool_threads.proofs.Lying.{lying-cons}
 use Rattle.pool_threads.proofs.SeatsTaken.{adds_nothing, adds_more}

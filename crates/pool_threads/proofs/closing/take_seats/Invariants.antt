@@ -1,3 +1,4 @@
+-- What stays true from turn to turn of `take_seats`, src/closing.rt.
 use Rattle.std.proofs.Common.{◌≡◌, ◌+◌, vec_len, is_some}
 use Rattle.std.specs.Prelude.{count_by}
 use Rattle.std.specs.Vec.{vec_capacity}

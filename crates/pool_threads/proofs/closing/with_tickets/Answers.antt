@@ -1,3 +1,5 @@
+-- Proof of `with_tickets`, src/closing.rt. The kept jobs with their tickets, in their order; the tasks begin with
+-- theirs.
 use Rattle.std.proofs.Common.{arith}
 use Rattle.std.proofs.lemmas.List.{nil_from_length}
 use Rattle.pool_threads.proofs.Ticketed.{ticketed_step, ticketed_end}

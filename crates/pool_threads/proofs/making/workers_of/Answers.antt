@@ -1,3 +1,4 @@
+-- Proof of `workers_of`, src/making.rt. The seats of workers, each where it lies while its worker isn't there.
 use Rattle.std.proofs.Common.{rules, arith, ◌≡◌, false, Some, All, ap, ◌∙◌, sym, subst, ◌∷◌, [], ◌++◌, vec_len}
 use Rattle.std.specs.Prelude.{is_none, replicate}
 use Rattle.std.proofs.lemmas.List.{map-append}
@@ -13,7 +14,7 @@ loop-seat-preserved g c =
     record {
       can = search rules;
       finite = search rules;
-      left = omega (arith, steps.1, c.push_reserved.ensures.len, i.left);
+      rest = omega (arith, steps.1, c.push_reserved.ensures.len, i.rest);
       room = omega (arith, i.room, c.push_reserved.ensures.capacity);
       new = All-tail (λ seat. seat.list ≡ []) c.in-Some.seat _ (subst (All (λ seat. seat.list ≡ [])) steps.0 i.new);
       here = ap (λ l. away l) c.push_reserved.ensures.items ∙ map-append is_none c.loop-seat.workers.items (Some c.new.result ∷ [])

@@ -1,3 +1,4 @@
+-- Proof of `put_back`, src/moving.rt. Puts the seat of a worker that isn't there any more back.
 use Rattle.std.proofs.Common.{Some, is_none, ap, ◌∙◌}
 use Rattle.std.proofs.lemmas.List.{map-set}
 use Rattle.std.specs.Prelude.{slice_set}

@@ -1,3 +1,4 @@
+-- Proof of `take_seat`, src/moving.rt. Takes the seat of a worker that isn't there.
 use Rattle.std.proofs.Common.{None, is_none, ap, ◌∙◌}
 use Rattle.std.proofs.lemmas.List.{map-set}
 use Rattle.std.specs.Prelude.{slice_set}

@@ -1,3 +1,5 @@
+-- Proof of `prepared`, src/shared.rt. Makes room for four receipts of the worker that a job may start, ahead of the
+-- step: whether there is.
 use Rattle.std.proofs.Common.{sym, subst, arith, Some}
 use Rattle.std.specs.Prelude.{IfSome, slice_set}
 use Rattle.std.proofs.lemmas.Option.{slice_get_within}

@@ -1,3 +1,4 @@
+-- Proof of `after_ready`, src/steps.rt. Moves the jobs and the seat as an answer to `ready` says.
 use Rattle.std.proofs.Common.{refl, sym, subst}
 use Rattle.pool_threads.specs.NextFits.{ReadyNext}
 use Rattle.pool_threads.specs.declared.steps.Next.TheVariants as next

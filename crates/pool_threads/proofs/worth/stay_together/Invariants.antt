@@ -1,3 +1,4 @@
+-- What stays true from turn to turn of `stay_together`, src/worth.rt.
 use Rattle.std.proofs.Common.{◌≡◌, drop, false}
 use Rattle.meet_book.specs.Listed.{is_since}
 use Rattle.pool_threads.specs.Worthy.{stay_together}

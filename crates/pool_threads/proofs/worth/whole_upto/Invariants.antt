@@ -1,3 +1,4 @@
+-- What stays true from turn to turn of `whole_upto`, src/worth.rt.
 use Rattle.std.proofs.Common.{◌≤◌}
 use Rattle.std.specs.Prelude.{IfSome}
 use Rattle.pool_threads.proofs.worth.whole_upto.Given as goal

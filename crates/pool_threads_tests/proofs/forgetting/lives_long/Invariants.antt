@@ -1,3 +1,4 @@
+-- What stays true from turn to turn of `lives_long`, src/forgetting.rt.
 use Rattle.meet_tickets.specs.Limits.{most_records}
 use Rattle.pool_threads_tests.proofs.forgetting.lives_long.Given as goal
 

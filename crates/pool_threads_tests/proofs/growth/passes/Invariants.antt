@@ -1,3 +1,4 @@
+-- What stays true from turn to turn of `passes`, src/growth.rt.
 use Rattle.meet_tickets.specs.Limits.{most_records}
 use Rattle.pool_threads_tests.proofs.growth.passes.Given as goal
 

@@ -1,3 +1,4 @@
+-- What stays true from turn to turn of `with_a_busy_worker`, src/missing.rt.
 use Rattle.meet_tickets.specs.Limits.{most_records}
 use Rattle.pool_threads_tests.proofs.missing.with_a_busy_worker.Given as goal
 

@@ -1,3 +1,4 @@
+-- What stays true from turn to turn of `with_a_lost_seat`, src/missing.rt.
 use Rattle.meet_tickets.specs.Limits.{most_records}
 use Rattle.pool_threads_tests.proofs.missing.with_a_lost_seat.Given as goal
 

@@ -1,3 +1,4 @@
+-- What stays true from turn to turn of `two_callers`, src/callers.rt.
 use Rattle.meet_tickets.specs.Limits.{most_records}
 use Rattle.pool_uses.proofs.callers.two_callers.Given as goal
 

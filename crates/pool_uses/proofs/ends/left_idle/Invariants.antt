@@ -1,3 +1,4 @@
+-- What stays true from turn to turn of `left_idle`, src/ends.rt.
 use Rattle.meet_tickets.specs.Limits.{most_records}
 use Rattle.pool_uses.proofs.ends.left_idle.Given as goal
 

@@ -1,3 +1,4 @@
+-- What stays true from turn to turn of `stopped_at_once`, src/ends.rt.
 use Rattle.meet_tickets.specs.Limits.{most_records}
 use Rattle.pool_uses.proofs.ends.stopped_at_once.Given as goal
 

@@ -1,3 +1,4 @@
+-- What stays true from turn to turn of `without_its_seat`, src/ends.rt.
 use Rattle.meet_tickets.specs.Limits.{most_records}
 use Rattle.pool_uses.proofs.ends.without_its_seat.Given as goal
 

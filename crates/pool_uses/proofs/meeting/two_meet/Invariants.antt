@@ -1,3 +1,4 @@
+-- What stays true from turn to turn of `two_meet`, src/meeting.rt.
 use Rattle.meet_tickets.specs.Limits.{most_records}
 use Rattle.pool_uses.proofs.meeting.two_meet.Given as goal
 

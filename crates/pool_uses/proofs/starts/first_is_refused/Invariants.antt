@@ -1,3 +1,4 @@
+-- What stays true from turn to turn of `first_is_refused`, src/starts.rt.
 use Rattle.meet_tickets.specs.Limits.{most_records}
 use Rattle.pool_uses.proofs.starts.first_is_refused.Given as goal
 

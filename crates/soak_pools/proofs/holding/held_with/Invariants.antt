@@ -1,3 +1,4 @@
+-- What stays true from turn to turn of `held_with`, src/holding.rt.
 use Rattle.meet_tickets.specs.Limits.{most_records}
 use Rattle.soak_pools.proofs.holding.held_with.Given as goal
 

@@ -1,3 +1,4 @@
+-- What stays true from turn to turn of `hold`, src/rounds.rt.
 use Rattle.soak_queues.proofs.rounds.hold.Given as goal
 
 abbrev pub ghosts-held-N-Ledger : goal.ghosts-held-N-Ledger

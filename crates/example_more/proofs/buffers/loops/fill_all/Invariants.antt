@@ -1,3 +1,4 @@
+-- What stays true from turn to turn of `fill_all`, src/buffers/loops.rt.
 use Rattle.std.proofs.Common.{◌≡◌}
 use Rattle.example_more.proofs.buffers.loops.fill_all.Given as goal
 

@@ -1,3 +1,5 @@
+-- Proof of `poll_all`, src/book/drain.rt. Polls so many times, where so many items, tickets and places are there, and
+-- this empty list has room for what comes; the watch is told of each seat that may go on.
 use Rattle.std.proofs.Common.{◌≡◌, ◌+◌, ◌∙◌, ap, arith, length}
 use Rattle.std.proofs.lemmas.Grind.{common_steps}
 use Rattle.meet_book.proofs.Draining.{Polls-last, AreNumbered-last}
@@ -17,7 +19,7 @@ loop-preserved g c =
       numbered = rw c.push_reserved.ensures.items (AreNumbered-last (c.args.gone + length c.args.records.now.items) c.loop.got.items c.poll_one.result before.numbered place);
       leads = λ base leads. one.leads base (before.leads base leads);
       there = omega (arith, one.takes.available, before.there);
-      left = omega (arith, one.takes.left, before.left);
+      tickets = omega (arith, one.takes.tickets, before.tickets);
       spare = omega (arith, one.spare, before.spare);
       free = one.takes.free;
       owed = one.takes.owed ∙ before.owed;

@@ -1,3 +1,4 @@
+-- What stays true from turn to turn of `ParkGate::many`, src/parking.rt.
 use Rattle.std.proofs.Common.{◌≡◌, vec_len}
 use Rattle.meet_cells.proofs.parking.ParkGate.many.Given as goal
 

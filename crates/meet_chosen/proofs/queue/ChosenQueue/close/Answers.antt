@@ -1,3 +1,5 @@
+-- Proof of `ChosenQueue::close`, src/queue.rt. Ends the queue, as `Queue::close`: takes all seats back, free or with an
+-- open ticket, in whatever order, compares the records with the seats' receipts, and takes out what is left.
 use Rattle.std.proofs.Common.{sym, subst}
 use Rattle.meet_chosen.specs.Chosen.{ChosenFaultFits}
 use Rattle.meet_chosen.proofs.queue.ChosenQueue.close.Goals as goal

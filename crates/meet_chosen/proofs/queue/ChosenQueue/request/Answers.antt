@@ -1,3 +1,5 @@
+-- Proof of `ChosenQueue::request`, src/asking.rt. Makes a request, as `Queue::request`: settled at once, or parked with
+-- its ticket open.
 use Rattle.std.proofs.Common.{IfOk, sym, subst}
 use Rattle.meet_sync.specs.Asking.{AskedAs}
 use Rattle.meet_chosen.specs.Chosen.{kind_of}

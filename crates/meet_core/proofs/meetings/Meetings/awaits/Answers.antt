@@ -1,3 +1,5 @@
+-- Proof of `Meetings::awaits`, src/meetings/probes.rt. Whether the seat's open ticket is this one; and while its item
+-- lies here, since it waits or was cut, whether the item has this mark, or there is none where this is none.
 use Rattle.std.proofs.Common.{◌≡◌, ◌∙◌, sym, ap, Some, option_map, rules}
 use Rattle.meet_tickets.specs.declared.lines.Hold.TheVariants.{Waiting, Cut}
 use Rattle.meet_tickets.specs.BySeat.{open_ticket, entry_of}

@@ -1,3 +1,4 @@
+-- Proof of `Meetings::base`, src/meetings/bases.rt. The base of this queue, where so many records were folded away.
 use Rattle.std.proofs.Common.{refl}
 use Rattle.meet_core.specs.Queue.{Queue}
 use Rattle.meet_core.proofs.BaseOfQueue.{stands_so}

@@ -1,3 +1,4 @@
+-- Proof of `Meetings::fetch`, src/meetings/moves.rt. Fetches the item of the giver that is met, with its ticket.
 use Rattle.std.proofs.Common.{◌≡◌, ◌-◌, ◌∙◌, sym, subst, refl, arith}
 use Rattle.meet_tickets.specs.declared.places.Side.TheVariants.{Giver, Taker}
 use Rattle.meet_tickets.specs.Meeting.{count_on}

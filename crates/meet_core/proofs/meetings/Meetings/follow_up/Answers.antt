@@ -1,3 +1,4 @@
+-- Proof of `Meetings::follow_up`, src/meetings/endings.rt. The follow-up of the seat's open ticket.
 use Rattle.std.proofs.Common.{◌≡◌, ◌∙◌, sym, ap, true}
 use Rattle.meet_tickets.specs.BySeat.{is_settled}
 use Rattle.meet_core.specs.Table.{hold_at}

@@ -1,3 +1,5 @@
+-- Proof of `Meetings::hand`, src/meetings/moves.rt. Hands the item to the taker that is met, and answers its ticket;
+-- without one the item comes back.
 use Rattle.std.proofs.Common.{◌≡◌, ◌∙◌, sym, ap, subst, refl, Some, false}
 use Rattle.meet_tickets.specs.declared.places.Side.TheVariants.{Giver}
 use Rattle.meet_tickets.specs.Meeting.{is_on}

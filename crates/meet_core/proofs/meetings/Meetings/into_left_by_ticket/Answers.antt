@@ -1,3 +1,4 @@
+-- Proof of `Meetings::into_left_by_ticket`, src/meetings/leaving.rt. The same, by rising ticket: n items cost n log n.
 use Rattle.std.proofs.Common.{rules}
 use Rattle.std.proofs.lemmas.List.Sorted.{IsNonDecreasingBy-from_sort_by_key}
 use Rattle.meet_core.specs.declared.left.Left.{Left}

@@ -1,3 +1,5 @@
+-- Proof of `Meetings::keep`, src/meetings/moves.rt. The giver's item goes to the line's end and is kept there; its seat
+-- has nothing open.
 use Rattle.std.proofs.Common.{◌+◌, ◌<◌, ◌∙◌, sym, refl, ap, arith}
 use Rattle.meet_tickets.specs.Meeting.{kept_count}
 use Rattle.meet_tickets.proofs.Line.Counted.{giver-joins}

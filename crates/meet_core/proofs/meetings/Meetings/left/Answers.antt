@@ -1,3 +1,5 @@
+-- Proof of `Meetings::left`, src/meetings/leaving.rt. How many items are left in the queue: those in the line, offered
+-- or kept, and those that were cut or taken and that nobody has collected.
 use Rattle.std.proofs.Common.{◌≡◌, ◌≤◌, ◌+◌, ◌∙◌, sym, ap, length, arith}
 use Rattle.std.proofs.Math.Path.{ap₂}
 use Rattle.std.proofs.lemmas.List.Sums.{count_by-le-length}

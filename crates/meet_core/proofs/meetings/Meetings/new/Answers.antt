@@ -1,3 +1,5 @@
+-- Proof of `Meetings::new`, src/meetings.rt. A queue with no room yet, with this many seats, at most 65,536, and this
+-- first ticket, 1 to 2^63 - 1.
 use Rattle.std.proofs.Common.{ap, sym}
 use Rattle.meet_tickets.specs.declared.places.Side.TheVariants.{Giver}
 use Rattle.meet_tickets.specs.Meeting.{kept_count, count_on}

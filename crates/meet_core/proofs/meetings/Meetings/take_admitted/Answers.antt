@@ -1,3 +1,4 @@
+-- Proof of `Meetings::take_admitted`, src/meetings/admitted.rt.
 use Rattle.meet_core.proofs.meetings.Meetings.take_admitted.Goals as goal
 
 pub wait-requires-clause-new : goal.wait-requires-clause-new

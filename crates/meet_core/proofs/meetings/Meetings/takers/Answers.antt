@@ -1,3 +1,4 @@
+-- Proof of `Meetings::takers`, src/meetings/probes.rt. How many takers stand in the line.
 use Rattle.std.proofs.Common.{arith}
 use Rattle.meet_tickets.proofs.Line.Counted.{sides-counted}
 use Rattle.meet_core.proofs.meetings.Meetings.takers.Goals as goal

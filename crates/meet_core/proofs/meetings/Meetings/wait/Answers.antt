@@ -1,3 +1,4 @@
+-- Proof of `Meetings::wait`, src/meetings/moves.rt. The seat's new ticket goes to the line's end.
 use Rattle.std.proofs.Common.{◌∙◌, sym, refl, arith}
 use Rattle.meet_tickets.proofs.Line.Counted.{giver-joins}
 use Rattle.meet_tickets.proofs.Line.Keeping.{kept-joined}

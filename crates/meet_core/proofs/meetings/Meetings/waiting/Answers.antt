@@ -1,3 +1,4 @@
+-- Proof of `Meetings::waiting`, src/meetings/probes.rt. How many open tickets stand in the line.
 use Rattle.std.proofs.Common.{arith}
 use Rattle.meet_tickets.proofs.Line.Keeping.{all-counted}
 use Rattle.meet_core.proofs.meetings.Meetings.waiting.Goals as goal

@@ -1,3 +1,5 @@
+-- Proof of `Meetings::withdraw`, src/meetings/moves.rt. Takes what stands in the line for this seat out of it, and ends
+-- its ticket.
 use Rattle.std.proofs.Common.{◌≡◌, ◌-◌, ◌∙◌, ◌==◌, sym, ap, refl, true, arith}
 use Rattle.meet_tickets.specs.declared.lines.Hold.TheVariants.{Free}
 use Rattle.meet_tickets.specs.declared.places.Side.TheVariants.{Giver}
@@ -5,7 +7,7 @@ use Rattle.meet_tickets.specs.Meeting.{kept_count, count_on}
 use Rattle.meet_tickets.proofs.Line.Counted.{giver-removed}
 use Rattle.meet_tickets.proofs.Line.Keeping.{kept-removed}
 use Rattle.meet_tickets.proofs.Line.Sides.{found-ticket}
-use Rattle.meet_tickets.specs.BySeat.{left, without_first}
+use Rattle.meet_tickets.specs.BySeat.{withdrawn, without_first}
 use Rattle.meet_core.specs.Queue.{Queue, seats_of}
 use Rattle.meet_core.specs.Steps.{Leaves}
 use Rattle.meet_core.proofs.Moves.{Leaves-from}
@@ -66,12 +68,12 @@ returns-in-None-clause-unchanged g c =
     let room : g.L.Line.spare c.remove.new.self ≡ g.L.Line.spare c.self.inside.line = omega (arith, c.in-None.ensures.room) in
     rw (← c.self.view_is) (λ i. record { line = same i; room = room i; table = c.self.inside.seats; last = c.self.inside.last; next = c.self.inside.next })
 
-pub returns-in-Some-clause-left : goal.returns-in-Some-clause-left
-returns-in-Some-clause-left g c =
+pub returns-in-Some-clause-leaves : goal.returns-in-Some-clause-leaves
+returns-in-Some-clause-leaves g c =
     let old : Queue g.row.T.Denot = record { line = g.L.Line.entries c.self.inside.line; room = g.L.Line.spare c.self.inside.line; table = c.self.inside.seats; last = c.self.inside.last; next = c.self.inside.next } in
     let new : Queue g.row.T.Denot = record { line = g.L.Line.entries c.remove.new.self; room = g.L.Line.spare c.remove.new.self; table = c.put.new.self; last = c.self.inside.last; next = c.self.inside.next } in
     let ticket = found-ticket c.in-Waiting.ticket old.line c.in-Some.entry (sym c.in-Some.ensures.entry) in
-    let gone : Leaves old new (left (seats_of old) c.args.seat c.in-Waiting.ticket) = Leaves-from old new c.args.seat Free (without_first (λ e. e.ticket == c.in-Waiting.ticket) old.line) c.in-Some.ensures.entries (record { holds = c.put.ensures.holds; count = c.put.ensures.count; flags = c.put.ensures.flags; last = refl; next = refl }) in
+    let gone : Leaves old new (withdrawn (seats_of old) c.args.seat c.in-Waiting.ticket) = Leaves-from old new c.args.seat Free (without_first (λ e. e.ticket == c.in-Waiting.ticket) old.line) c.in-Some.ensures.entries (record { holds = c.put.ensures.holds; count = c.put.ensures.count; flags = c.put.ensures.flags; last = refl; next = refl }) in
     rw (← c.self.view_is, ticket) gone
 
 pub returns-in-Some-clause-places : goal.returns-in-Some-clause-places

@@ -1,3 +1,4 @@
+-- Proof of `marked_line`, src/meetings/bases.rt. The entries of a line as a base names them, in order of arrival.
 use Rattle.std.proofs.Common.{◌∙◌, sym, ap, map, Bor}
 use Rattle.meet_tickets.specs.declared.lines.Entry.{Entry}
 use Rattle.meet_tickets.proofs.Lists.Lookups.{map_map}

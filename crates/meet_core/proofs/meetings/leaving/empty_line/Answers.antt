@@ -1,3 +1,5 @@
+-- Proof of `empty_line`, src/meetings/leaving.rt. Takes the items out of a line, in the order in which they would be
+-- met, and puts them behind the others.
 use Rattle.std.proofs.Common.{◌≡◌, ◌∙◌, sym, vec_len, vec_capacity, arith}
 use Rattle.std.specs.List.{cons_option}
 use Rattle.meet_core.specs.Left.{left_in_line}

@@ -1,3 +1,4 @@
+-- What stays true from turn to turn of `empty_line`, src/meetings/leaving.rt.
 use Rattle.std.proofs.Common.{◌≡◌, ◌+◌, ◌++◌, length, vec_len, vec_capacity}
 use Rattle.meet_core.specs.Left.{left_in_line}
 use Rattle.meet_core.proofs.meetings.leaving.empty_line.Given as goal

@@ -1,3 +1,4 @@
+-- Proof of `by_seat`, src/seats/opened.rt. The same in the order of the seats.
 use Rattle.std.proofs.Common.{◌≡◌, ◌∙◌, ap, rules, ℕ}
 use Rattle.meet_core.specs.Table.{hold_at}
 use Rattle.meet_core.specs.Opened.{pair_of, cut_of, pair_at, cut_at, flagged_at}

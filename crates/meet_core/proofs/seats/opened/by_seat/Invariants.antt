@@ -1,3 +1,4 @@
+-- What stays true from turn to turn of `by_seat`, src/seats/opened.rt.
 use Rattle.std.proofs.Common.{◌≡◌, length}
 use Rattle.meet_core.specs.Opened.{pair_at, cut_at, flagged_at, gathered}
 use Rattle.meet_core.proofs.seats.opened.by_seat.Given as goal

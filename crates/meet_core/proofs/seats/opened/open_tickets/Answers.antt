@@ -1,3 +1,5 @@
+-- Proof of `open_tickets`, src/seats/opened.rt. What a table of seats holds outside the line, as a base names it: the
+-- open tickets that were met and those that were cut, each by rising ticket, and the flagged seats, rising.
 use Rattle.std.proofs.Common.{rules}
 use Rattle.std.proofs.lemmas.List.Sorted.{IsNonDecreasingBy-from_sort_by_key}
 use Rattle.meet_tickets.specs.declared.bases.OpenPair.{OpenPair}

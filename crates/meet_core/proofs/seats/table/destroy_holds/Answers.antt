@@ -1,3 +1,4 @@
+-- Proof of `destroy_holds`, src/seats/table.rt. Lets go what seats hold, where it is nothing.
 use Rattle.std.proofs.Common.{◌≡◌, ◌∙◌, sym, ap, subst}
 use Rattle.std.specs.Vec.Iter.{into_iter_items}
 use Rattle.meet_tickets.specs.declared.lines.Hold.TheVariants.{Free}

@@ -1,3 +1,4 @@
+-- What stays true from turn to turn of `destroy_holds`, src/seats/table.rt.
 use Rattle.std.proofs.Common.{◌≡◌}
 use Rattle.std.specs.Vec.Iter.{into_iter_items, into_iter_len}
 use Rattle.meet_tickets.specs.declared.lines.Hold.TheVariants.{Free}

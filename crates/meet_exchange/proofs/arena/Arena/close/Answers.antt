@@ -1,3 +1,4 @@
+-- Proof of `Arena::close`, src/closing.rt.
 use Rattle.std.proofs.Common.{arith, ◌≡◌, ◌≤◌, ◌<◌, ℕ, List, length, map, replicate, sym, ap, ◌∙◌, subst}
 use Rattle.std.proofs.lemmas.List.{length-map}
 use Rattle.std.specs.Mem.Slots.{slots_items}

@@ -1,3 +1,5 @@
+-- Proof of `Arena::starting`, src/arena.rt. The same, with the rounds of each slot numbered from `round` on, 0 to 2^44
+-- - 1.
 use Rattle.std.proofs.Common.{rules, arith, ◌≡◌, ◌*◌}
 use Rattle.meet_exchange.specs.Words.{round_unit}
 use Rattle.std.proofs.Math.ListN.{replicate}

@@ -1,3 +1,4 @@
+-- Proof of `Arena::stay`, src/waiting.rt. Looks for the answer of a seat that has taken the item.
 use Rattle.std.proofs.Common.{inr}
 use Rattle.meet_exchange.proofs.Tries.{stayed_got, stayed_still}
 use Rattle.meet_exchange.proofs.arena.Arena.stay.Goals as goal

@@ -1,3 +1,4 @@
+-- Proof of `Arena::time_out`, src/waiting.rt. Takes the item back, as the limit is reached.
 use Rattle.std.proofs.Common.{◌≡◌, ◌+◌, Some, inl, inr, sym, ◌∙◌}
 use Rattle.meet_exchange.proofs.Tries.{posted_back, posted_late, is_limit}
 use Rattle.meet_exchange.proofs.arena.Arena.time_out.Goals as goal

@@ -1,3 +1,4 @@
+-- What stays true from turn to turn of `a_queue_that_lives_on`, src/growth/chapters.rt.
 use Rattle.meet_growth_tests.proofs.growth.chapters.a_queue_that_lives_on.Given as goal
 
 abbrev pub ghosts-of_two_seats-N-Ledger : goal.ghosts-of_two_seats-N-Ledger

@@ -1,3 +1,4 @@
+-- What stays true from turn to turn of `forgets`, src/growth/checkpoints.rt.
 use Rattle.meet_growth_tests.proofs.growth.checkpoints.forgets.Given as goal
 
 abbrev pub ghosts-cuts-N-Ledger : goal.ghosts-cuts-N-Ledger

@@ -1,3 +1,4 @@
+-- What stays true from turn to turn of `a_new_queue`, src/growth/fresh.rt.
 use Rattle.meet_tickets.specs.Limits.{most_records}
 use Rattle.meet_growth_tests.proofs.growth.fresh.a_new_queue.Given as goal
 

@@ -1,3 +1,5 @@
+-- Proof of `Checker::ends_at`, src/checker/ends.rt. Whether this base is the one that stands for the base that the
+-- checker began with and all records that were pushed: just this one is.
 use Rattle.meet_history.proofs.Ends.{end-told}
 use Rattle.meet_history.proofs.checker.Checker.ends_at.Goals as goal
 

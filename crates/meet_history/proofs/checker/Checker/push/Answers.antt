@@ -1,3 +1,4 @@
+-- Proof of `Checker::push`, src/checker.rt. Takes the next record in: the records so far are legal.
 use Rattle.std.proofs.Common.{◌≡◌, ◌∙◌, ◌+◌, Some, None, ap, refl}
 use Rattle.meet_history.specs.declared.checker.CheckFault.TheVariants.{Illegal}
 use Rattle.meet_history.specs.Pushing.{Progress}

@@ -1,3 +1,5 @@
+-- Proof of `Checker::standing`, src/checker.rt. Where the place's tickets and items are behind the records that were
+-- pushed; or the fault that was found.
 use Rattle.std.proofs.Common.{◌∙◌}
 use Rattle.meet_history.proofs.Pushed.{standing-taken}
 use Rattle.meet_history.proofs.checker.Checker.standing.Goals as goal

@@ -1,3 +1,4 @@
+-- Proof of `are_same_cut`, src/checker/same.rt. Whether two lists of tickets that were cut are the same.
 use Rattle.std.proofs.Common.{◌≡◌, ◌==◌, ℕ, refl, ap, Option, Some, None}
 use Rattle.std.specs.Bool.{Decides}
 use Rattle.std.specs.Option.{option_eq}

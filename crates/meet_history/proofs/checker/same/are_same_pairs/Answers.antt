@@ -1,3 +1,4 @@
+-- Proof of `are_same_pairs`, src/checker/same.rt. Whether two lists of tickets that were met are the same.
 use Rattle.std.proofs.Common.{◌≡◌, refl, ap}
 use Rattle.std.specs.Bool.{Decides}
 use denote.Enum.Bare.{sameb}

@@ -1,3 +1,4 @@
+-- What stays true from turn to turn of `is_same_line`, src/checker/same.rt.
 use Rattle.std.proofs.Common.{◌≡◌, length, take}
 use Rattle.meet_history.proofs.checker.same.is_same_line.Given as goal
 

@@ -1,3 +1,4 @@
+-- Proof of `Ground::entry_fits`, src/ground.rt. Whether an entry fits.
 use Rattle.std.proofs.Common.{if◌then◌else◌, ◌≡◌, ℕ, nat_lt, not, true, is_some, sym, ap, subst, ◌∙◌}
 use Rattle.std.specs.List.{list_all}
 use Rattle.meet_tickets.specs.declared.lines.Entry.{Entry}

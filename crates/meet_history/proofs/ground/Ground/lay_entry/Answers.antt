@@ -1,3 +1,4 @@
+-- Proof of `Ground::lay_entry`, src/ground.rt. The base goes on with an entry that may follow.
 use Rattle.std.proofs.Common.{◌≡◌, ℕ, true, List, sym, subst}
 use Rattle.meet_tickets.specs.Bases.{Based}
 use Rattle.meet_history.specs.declared.pieces.Piece.TheVariants.{Stands}

@@ -1,3 +1,4 @@
+-- Proof of `Ground::lay_flag`, src/ground.rt. It goes on with a flagged seat.
 use Rattle.std.proofs.Common.{◌≡◌, true, sym, subst}
 use Rattle.meet_tickets.specs.Bases.{Based}
 use Rattle.meet_history.specs.declared.pieces.Piece.TheVariants.{Flagged}

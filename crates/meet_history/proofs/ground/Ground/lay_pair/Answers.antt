@@ -1,3 +1,4 @@
+-- Proof of `Ground::lay_pair`, src/ground.rt. It goes on with a ticket that was met.
 use Rattle.std.proofs.Common.{◌≡◌, true, sym, subst}
 use Rattle.meet_tickets.specs.Bases.{Based}
 use Rattle.meet_history.specs.declared.pieces.Piece.TheVariants.{Met}

@@ -1,3 +1,5 @@
+-- Proof of `run_all`, src/one_thread/all_calls.rt. The replies to these calls, one after another, on a place of this
+-- setup, and the records that they write; those that checkpoints folded away are in the base.
 use Rattle.std.proofs.Common.{◌∙◌, ◌++◌, refl}
 use Rattle.meet_history.specs.OneThread.{turn}
 use Rattle.meet_history.specs.Stepping.{place_of}

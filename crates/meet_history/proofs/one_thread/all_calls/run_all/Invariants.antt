@@ -1,3 +1,4 @@
+-- What stays true from turn to turn of `run_all`, src/one_thread/all_calls.rt.
 use Rattle.std.proofs.Common.{◌≡◌, ◌++◌, List, drop}
 use Rattle.meet_tickets.specs.declared.records.Record.{Record}
 use Rattle.meet_tickets.specs.declared.records.Deed.{Deed}

@@ -1,3 +1,4 @@
+-- Proof of `calls_have_one_deed`, src/one_thread/laws.rt.
 use Rattle.meet_history.proofs.Called.{only_deed}
 use Rattle.meet_history.proofs.one_thread.laws.calls_have_one_deed.Goals as goal
 

@@ -1,3 +1,4 @@
+-- Proof of `legal_histories_are_made`, src/one_thread/laws.rt.
 use Rattle.std.proofs.Common.{arith}
 use Rattle.meet_tickets.proofs.Tellings.Histories.{tellings_are_one}
 use Rattle.meet_history.specs.OneThread.{start}

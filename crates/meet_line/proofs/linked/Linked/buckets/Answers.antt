@@ -1,3 +1,4 @@
+-- Proof of `Linked::buckets`, src/linked.rt. How many buckets there are.
 use Rattle.std.proofs.Common.{◌+◌, ◌≤◌, subst, arith, length}
 use Rattle.meet_line.proofs.Stored.{length-entries}
 use Rattle.meet_line.proofs.linked.Linked.buckets.Goals as goal

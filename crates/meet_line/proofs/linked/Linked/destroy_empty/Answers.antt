@@ -1,3 +1,4 @@
+-- Proof of `Linked::destroy_empty`, src/linked.rt. Lets an empty line go, also where its items can't be dropped.
 use Rattle.std.proofs.Common.{◌∙◌, ◌∷◌, [], ap, sym, refl, inl, inr, None, length, get_or}
 use Rattle.std.proofs.lemmas.List.{get_or_append_left, get_or_past, get_or_at}
 use Rattle.std.proofs.lemmas.Bool.{cases_lt}

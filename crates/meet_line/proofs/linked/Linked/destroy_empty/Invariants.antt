@@ -1,3 +1,4 @@
+-- What stays true from turn to turn of `Linked::destroy_empty`, src/linked.rt.
 use Rattle.std.proofs.Common.{◌≡◌, ℕ, None, get_or, vec_len}
 use Rattle.meet_line.proofs.linked.Linked.destroy_empty.Given as goal
 

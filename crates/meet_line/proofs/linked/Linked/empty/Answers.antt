@@ -1,3 +1,4 @@
+-- Proof of `Linked::empty`, src/linked.rt. A line with nobody in it, and no room.
 use Rattle.meet_line.proofs.Stored.{stored-none}
 use Rattle.meet_line.proofs.linked.Linked.empty.Goals as goal
 

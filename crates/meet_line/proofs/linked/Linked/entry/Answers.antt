@@ -1,3 +1,4 @@
+-- Proof of `Linked::entry`, src/linked.rt. The entry of this ticket, if it is there.
 use Rattle.std.proofs.Common.{◌∙◌, ◌==◌, ap, subst, None, Some, find, option_map, arith}
 use Rattle.std.proofs.lemmas.List.{get_or_read}
 use Rattle.meet_line.specs.Rolled.{IsFound}

@@ -1,3 +1,4 @@
+-- Proof of `Linked::grow`, src/linked.rt. The same, where there isn't enough room yet.
 use Rattle.std.proofs.Common.{◌+◌, ◌≤◌, ◌∙◌, ap, arith, rules, length}
 use Rattle.meet_line.proofs.Stored.{widened}
 use Rattle.meet_line.proofs.linked.Linked.grow.Goals as goal

@@ -1,3 +1,4 @@
+-- Proof of `Linked::len`, src/linked.rt. How many entries there are.
 use Rattle.std.proofs.Common.{◌∙◌, ap, sym, length}
 use Rattle.meet_line.proofs.Stored.{length-entries}
 use Rattle.meet_line.proofs.linked.Linked.len.Goals as goal

@@ -1,3 +1,4 @@
+-- Proof of `Linked::list`, src/linked.rt. The entries in order of arrival, lent.
 use Rattle.std.proofs.Common.{◌≡◌, ◌<◌, ◌∙◌, ◌∷◌, [], ap, sym, subst, None, Some, length, map, arith, rules, vec_len}
 use Rattle.std.specs.Vec.{vec_capacity}
 use Rattle.std.proofs.lemmas.List.{get_or_read, map-append}

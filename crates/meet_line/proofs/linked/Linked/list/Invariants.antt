@@ -1,3 +1,4 @@
+-- What stays true from turn to turn of `Linked::list`, src/linked.rt.
 use Rattle.std.proofs.Common.{◌≤◌, length, map, vec_len}
 use Rattle.std.specs.Vec.{vec_capacity}
 use Rattle.meet_line.proofs.Stored.{HasListed}

@@ -1,3 +1,4 @@
+-- Proof of `Linked::meet_first`, src/linked.rt. The first entry leaves, if there is one.
 use Rattle.std.proofs.Common.{◌∙◌, ap, sym, drop}
 use Rattle.meet_line.proofs.Stored.{stands-first, taken-out, first-met}
 use Rattle.meet_line.proofs.linked.Linked.meet_first.Goals as goal

@@ -1,3 +1,4 @@
+-- Proof of `Linked::meet_last`, src/linked.rt. The last entry leaves, if there is one.
 use Rattle.std.proofs.Common.{◌-◌, ◌+◌, ◌∙◌, ap, sym, subst, take, length, option_to_list}
 use Rattle.std.specs.Prelude.{slice_get}
 use Rattle.meet_line.specs.Rolled.{IsLastKey}

@@ -1,3 +1,4 @@
+-- Proof of `Linked::push_back`, src/linked.rt. An entry comes to the end.
 use Rattle.std.proofs.Common.{◌≡◌, ◌≢◌, ◌<◌, ◌∙◌, ◌++◌, ◌∷◌, [], ap, sym, subst, arith, None, All}
 use Rattle.std.proofs.lemmas.List.{get_or_read}
 use Rattle.meet_line.specs.Stored.{slot_at}

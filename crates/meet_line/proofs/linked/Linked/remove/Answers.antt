@@ -1,3 +1,4 @@
+-- Proof of `Linked::remove`, src/linked.rt. The entry of this ticket leaves, if it is there.
 use Rattle.std.proofs.Common.{◌≡◌, ◌+◌, ◌≤◌, ◌∙◌, ◌==◌, ap, sym, arith, subst, None, Some, find, length, option_to_list}
 use Rattle.meet_tickets.specs.BySeat.{without_first}
 use Rattle.meet_tickets.specs.declared.lines.Entry.{Entry}

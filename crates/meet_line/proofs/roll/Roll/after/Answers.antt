@@ -1,3 +1,4 @@
+-- Proof of `Roll::after`, src/roll.rt. The key of the ticket behind the one under this key, if there is one.
 use Rattle.std.proofs.Common.{◌≡◌, ◌∙◌, ap, sym, None, Some}
 use Rattle.std.specs.Option.{option_map_or, option_copied}
 use Rattle.slab.specs.Slab.{get}

@@ -1,3 +1,4 @@
+-- Proof of `Roll::find`, src/roll.rt. Looks for a ticket in its bucket, from the newest on.
 use Rattle.std.proofs.Common.{◌≡◌, ◌≢◌, ◌+◌, ◌%◌, ◌<◌, ◌∙◌, ap, sym, subst, arith, rules, None, Some, length, get_or}
 use Rattle.std.specs.Option.{option_map_or}
 use Rattle.std.proofs.lemmas.List.{get_or_read}

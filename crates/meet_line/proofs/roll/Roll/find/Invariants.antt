@@ -1,3 +1,4 @@
+-- What stays true from turn to turn of `Roll::find`, src/roll.rt.
 use Rattle.std.proofs.Common.{◌%◌, length}
 use Rattle.meet_line.specs.Rolled.{chain_of, keys_of}
 use Rattle.meet_line.proofs.Looking.{HasLooked}

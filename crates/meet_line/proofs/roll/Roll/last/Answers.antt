@@ -1,3 +1,4 @@
+-- Proof of `Roll::last`, src/roll.rt. The key of the last ticket, if there is one.
 use Rattle.meet_line.proofs.Standing.{last_key-is}
 use Rattle.meet_line.proofs.roll.Roll.last.Goals as goal
 

@@ -1,3 +1,4 @@
+-- Proof of `Roll::push_back`, src/roll.rt. A ticket comes to the end; its key.
 use Rattle.std.proofs.Common.{◌++◌, ◌∷◌, [], ◌∙◌, ap, rules}
 use Rattle.std.proofs.lemmas.List.{get_or_read}
 use Rattle.meet_line.proofs.Rolls.{roll-closed}

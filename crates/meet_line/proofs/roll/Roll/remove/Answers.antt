@@ -1,3 +1,4 @@
+-- Proof of `Roll::remove`, src/roll.rt. The ticket under this key leaves.
 use Rattle.std.proofs.Common.{◌++◌, ◌∷◌, ◌∙◌, ap, sym, subst, rules, map, None}
 use Rattle.std.proofs.lemmas.List.{get_or_read}
 use Rattle.slab.specs.Slab.{get}

@@ -1,3 +1,5 @@
+-- Proof of `Roll::reserve`, src/roll.rt. Makes room for this many tickets more, and as many buckets as there may then
+-- be tickets, at the least; and makes the slots, which are given, as many as there may be keys, if they were.
 use Rattle.meet_line.proofs.Rolls.{roll-wider}
 use Rattle.meet_line.proofs.roll.Roll.reserve.Goals as goal
 

@@ -1,3 +1,4 @@
+-- Proof of `Roll::widen`, src/roll.rt. Makes a table of so many buckets or more, and chains all nodes anew.
 use Rattle.std.proofs.Common.{◌≡◌, ℕ, ◌^◌, ◌≤◌, ◌∙◌, ap, sym, subst, arith, rules, inr, None, Some, length, replicate, IfSome}
 use Rattle.std.proofs.lemmas.List.{length-replicate}
 use Rattle.std.specs.Result.{result_ok}

@@ -1,3 +1,4 @@
+-- Proof of `Seen::has`, src/seen.rt. Whether one that was seen is the same as this world.
 use Rattle.std.proofs.Common.{◌-◌, ◌<◌, length, arith}
 use Rattle.meet_overlap.specs.Places.{world_of}
 use Rattle.meet_overlap.proofs.Barren.{alike_at}

@@ -1,3 +1,4 @@
+-- Proof of `Place::drain_watched`, src/draining.rt. The same; nobody is woken, but the watch is told of whom to wake.
 use Rattle.std.proofs.Common.{ap, subst, ◌∙◌, ◌<◌, ◌+◌, ◌++◌, ◌≤◌, length, map, min, vec_capacity, inr, arith}
 use Rattle.std.proofs.Math.Nat.{min-eq_left}
 use Rattle.meet_tickets.specs.Refusals.{IsWhy}
@@ -12,7 +13,7 @@ returns-in-Ok-clause-polls g c =
     let new = c.drain.new.self.object in
     let drained = c.in-Ok.ensures.polls in
     let last = o.gone_of book.base + length book.records in
-    let polls = subst (λ n. TakingPolls (λ before answer after. o.steps before n d.poll answer after) (o.record_of n d.poll) (λ x. o.refusal_of x n d.poll) d.available_of d.left_of o.owed_of book.object drained.0 new) c.reserve.ensures.number drained.1.0 in
+    let polls = subst (λ n. TakingPolls (λ before answer after. o.steps before n d.poll answer after) (o.record_of n d.poll) (λ x. o.refusal_of x n d.poll) d.available_of d.unspent_of o.owed_of book.object drained.0 new) c.reserve.ensures.number drained.1.0 in
     let fits = min-eq_left c.in-Some.ensures.room in (
       book.object,
       new,
@@ -29,5 +30,5 @@ returns-clause-why g c =
     let book = c.deref_mut.result.now in
     let k = min (min c.args.max (vec_capacity c.in-Some.room.polled)) (d.available_of book.object) in
     let few : k ≤ c.args.max = grind arith in
-    let why = subst (λ n. IsWhy (book_drain_refusal (o.refusal_of book.object n d.poll) (d.left_of book.object) (o.owed_of book.object) book k) c.in-Err.refused.why) c.reserve.ensures.number c.in-Err.ensures.why in
+    let why = subst (λ n. IsWhy (book_drain_refusal (o.refusal_of book.object n d.poll) (d.unspent_of book.object) (o.owed_of book.object) book k) c.in-Err.refused.why) c.reserve.ensures.number c.in-Err.ensures.why in
     inr (book, k, few, c.drain.ensures.place, subst (λ n. n < g.N.Ledger.parts) c.reserve.ensures.number c.drain.ensures.within, why)

@@ -1,3 +1,5 @@
+-- Proof of `Place::locked_rotate`, src/chapters.rt. A checkpoint of a seat that hands out what it folds away, under one
+-- hold of the lock: the records so far, with the base on which they stand.
 use Rattle.meet_place.proofs.Folded.{refused}
 use Rattle.meet_place.proofs.place.Place.locked_rotate.Goals as goal
 

@@ -1,3 +1,5 @@
+-- Proof of `Place::look_after`, src/tending.rt. A seat looks at the book: a checkpoint where it is more than half full,
+-- and how many records are folded away then.
 use Rattle.meet_place.proofs.Folded.{looked, left_full}
 use Rattle.meet_place.proofs.place.Place.look_after.Goals as goal
 

@@ -1,3 +1,4 @@
+-- Proof of `Place::tend`, src/tending.rt. Looks at the seat's own list.
 use Rattle.meet_place.proofs.Folded.{looks_after, folds_none}
 use Rattle.meet_place.proofs.place.Place.tend.Goals as goal
 

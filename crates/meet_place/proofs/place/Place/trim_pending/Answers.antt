@@ -1,3 +1,4 @@
+-- Proof of `Place::trim_pending`, src/place.rt. The same with a seat whose ticket is open, and stays open.
 use Rattle.std.proofs.Common.{ℕ, ◌<◌, not, refl, ap, arith, length}
 use Rattle.std.proofs.lemmas.List.Filters.{length-filter_both}
 use Rattle.meet_book.specs.Listed.{is_since}

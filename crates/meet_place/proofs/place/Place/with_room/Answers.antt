@@ -1,3 +1,4 @@
+-- Proof of `Place::with_room`, src/place.rt. The place and its seats.
 use Rattle.std.proofs.Common.{rules, arith}
 use Rattle.meet_place.proofs.Fresh.{fresh_push}
 use Rattle.meet_place.proofs.place.Place.with_room.Goals as goal
@@ -6,7 +7,7 @@ pub loop-gate-preserved : goal.loop-gate-preserved
 loop-gate-preserved g c = record {
   can = search rules;
   finite = search rules;
-  left = omega (arith, c.in-Some.ensures.steps.1);
+  rest = omega (arith, c.in-Some.ensures.steps.1);
   seats_len = omega arith;
   seats_room = omega arith;
   padded_room = omega arith;

@@ -1,3 +1,4 @@
+-- What stays true from turn to turn of `Place::with_room`, src/place.rt.
 use Rattle.std.proofs.Common.{◌≡◌, ◌+◌, ◌≤◌, vec_len}
 use Rattle.std.specs.Vec.{vec_capacity}
 use Rattle.std.specs.Vec.Iter.{into_iter_len}
@@ -8,7 +9,7 @@ abbrev pub invariant-loop-gate : goal.invariant-loop-gate
 invariant-loop-gate g l = record {
   can : (goal.iterator-loop-gate g).can_next l.gate-iterator;
   finite : (goal.iterator-loop-gate g).is_finite l.gate-iterator;
-  left : into_iter_len l.gate-iterator + vec_len l.padded ≡ vec_len l.fn.parts.gates;
+  rest : into_iter_len l.gate-iterator + vec_len l.padded ≡ vec_len l.fn.parts.gates;
   seats_len : vec_len l.seats ≡ vec_len l.padded;
   seats_room : vec_len l.fn.parts.gates ≤ vec_capacity l.seats;
   padded_room : vec_len l.fn.parts.gates ≤ vec_capacity l.padded;

@@ -1,3 +1,5 @@
+-- Proof of `Shared::drain`, src/draining.rt. `BlockingQueue.drainTo` of a seat under this hold: up to `max` items, and
+-- no more than both empty lists and the seat's list have room for; one recorded poll after another.
 use Rattle.std.proofs.Common.{◌≡◌, ap, subst, ◌∙◌, ◌+◌, ◌++◌, length, map, sym, arith}
 use Rattle.std.proofs.lemmas.List.{length-append, length-map}
 use Rattle.meet_book.specs.Draining.{TakingPolls, AreNumbered}
@@ -12,8 +14,8 @@ returns-clause-polls g c =
     let object : c.self.inside.book.object ≡ c.args.self.now.object = ap (λ s. s.object) c.self.view_is in
     let got = c.in-Ok.got.items in
     let new = c.drain_into.new.self.object in
-    let polls = subst (λ n. TakingPolls (λ old answer next. o.steps old n d.poll answer next) (o.record_of n d.poll) (λ x. o.refusal_of x n d.poll) d.available_of d.left_of o.owed_of c.self.inside.book.object got new) seat c.in-Ok.ensures.polls in
-    let from_here = subst (λ x. TakingPolls (λ old answer next. o.steps old c.args.seat.now.number d.poll answer next) (o.record_of c.args.seat.now.number d.poll) (λ y. o.refusal_of y c.args.seat.now.number d.poll) d.available_of d.left_of o.owed_of x got new) object polls in
+    let polls = subst (λ n. TakingPolls (λ old answer next. o.steps old n d.poll answer next) (o.record_of n d.poll) (λ x. o.refusal_of x n d.poll) d.available_of d.unspent_of o.owed_of c.self.inside.book.object got new) seat c.in-Ok.ensures.polls in
+    let from_here = subst (λ x. TakingPolls (λ old answer next. o.steps old c.args.seat.now.number d.poll answer next) (o.record_of c.args.seat.now.number d.poll) (λ y. o.refusal_of y c.args.seat.now.number d.poll) d.available_of d.unspent_of o.owed_of x got new) object polls in
     let numbered = subst (λ b. AreNumbered (o.gone_of b.base + length b.records) got) c.self.view_is c.in-Ok.ensures.places in
     (got, (from_here, numbered), c.hand_out.ensures.receipts ∙ ap (λ s. s.list ++ map (λ one. one.1) got) c.seat.view_is, c.hand_out.ensures.answers)
 
@@ -23,7 +25,7 @@ invariant_of-self-2 g c =
     let d = g.O.Drains in
     let n = c.seat.inside.number in
     let was = c.self.invariant in
-    let stay = polls_keep (λ old answer next. o.steps old n d.poll answer next) (o.record_of n d.poll) (λ x. o.refusal_of x n d.poll) d.available_of d.left_of o.owed_of o.seat_count_of (λ old answer next step. g.met.O.Object.same_seats old n d.poll answer next step) c.self.inside.book.object c.in-Ok.got.items c.drain_into.new.self.object c.in-Ok.ensures.polls in
+    let stay = polls_keep (λ old answer next. o.steps old n d.poll answer next) (o.record_of n d.poll) (λ x. o.refusal_of x n d.poll) d.available_of d.unspent_of o.owed_of o.seat_count_of (λ old answer next step. g.met.O.Object.same_seats old n d.poll answer next step) c.self.inside.book.object c.in-Ok.got.items c.drain_into.new.self.object c.in-Ok.ensures.polls in
     let base = c.drain_into.ensures.base in
     let gone = ap o.gone_of base in
     let more = ap length c.in-Ok.ensures.records ∙ length-append c.self.inside.book.records (map (λ one. one.1.entry) c.in-Ok.got.items) in

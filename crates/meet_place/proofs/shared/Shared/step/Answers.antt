@@ -1,3 +1,4 @@
+-- Proof of `Shared::step`, src/shared.rt. Makes a call of a seat, whose list has room for its receipt.
 use Rattle.std.proofs.Common.{sym, ap, ◌∙◌}
 use Rattle.meet_book.specs.Booking.{record_of_receipt}
 use Rattle.meet_place.proofs.Stepped.{adds_none}

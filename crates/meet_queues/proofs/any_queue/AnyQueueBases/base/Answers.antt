@@ -1,3 +1,4 @@
+-- Proof of `AnyQueue::base`, src/any_queue.rt.
 use Rattle.std.proofs.lemmas.Result.{IfOk-weaker}
 use Rattle.meet_core.proofs.Leading.{base-leads}
 use Rattle.meet_queues.proofs.any_queue.AnyQueueBases.base.Goals as goal

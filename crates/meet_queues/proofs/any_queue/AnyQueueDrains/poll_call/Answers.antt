@@ -1,3 +1,4 @@
+-- Proof of `AnyQueue::poll_call`, src/any_queue.rt.
 use Rattle.std.proofs.Common.{◌∙◌, sym, ap}
 use Rattle.meet_tickets.specs.declared.places.End.TheVariants.{Front, Back}
 use Rattle.meet_core.specs.QueueSteps.{kind_of}

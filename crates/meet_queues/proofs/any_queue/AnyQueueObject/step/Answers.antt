@@ -1,3 +1,4 @@
+-- Proof of `AnyQueue::step`, src/any_queue.rt.
 use Rattle.std.proofs.Common.{refl, ap}
 use Rattle.meet_tickets.specs.declared.places.End.TheVariants.{Front, Back}
 use Rattle.meet_core.specs.QueueSteps.{bounded_kind}

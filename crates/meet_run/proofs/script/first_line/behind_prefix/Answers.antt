@@ -1,4 +1,5 @@
-use Rattle.meet_run.proofs.WordLemmas.{behind-stripped}
+-- Proof of `behind_prefix`, src/script/first_line.rt. What stands behind a prefix, where a text begins with it.
+use Rattle.meet_run.proofs.Texts.WordLemmas.{behind-stripped}
 use Rattle.meet_run.proofs.script.first_line.behind_prefix.Goals as goal
 
 pub returns : goal.returns

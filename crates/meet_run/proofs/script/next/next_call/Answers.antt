@@ -1,8 +1,9 @@
+-- Proof of `next_call`, src/script/next.rt. Reads the line of a call.
 use Rattle.std.proofs.Common.{◌∙◌, ap}
-use Rattle.meet_run.specs.Grammar.{call_of}
-use Rattle.meet_run.specs.Spelling.{FitsCall}
-use Rattle.meet_run.proofs.ScriptLemmas.{call-too_long}
-use Rattle.meet_run.proofs.NextLemmas.{next-is, fits-read}
+use Rattle.meet_run.specs.Scripts.Grammar.{call_of}
+use Rattle.meet_run.specs.Scripts.Spelling.{FitsCall}
+use Rattle.meet_run.proofs.Scripts.ScriptLemmas.{call-too_long}
+use Rattle.meet_run.proofs.Texts.NextLemmas.{next-is, fits-read}
 use Rattle.meet_run.proofs.script.next.next_call.Goals as goal
 
 pub returns-clause-fits : goal.returns-clause-fits

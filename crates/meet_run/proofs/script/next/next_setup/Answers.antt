@@ -1,8 +1,9 @@
+-- Proof of `next_setup`, src/script/next.rt. Reads a script's first line.
 use Rattle.std.proofs.Common.{◌∙◌, ap}
-use Rattle.meet_run.specs.Grammar.{setup_of}
+use Rattle.meet_run.specs.Scripts.Grammar.{setup_of}
 use Rattle.meet_history.specs.Limits.{IsInLimits}
-use Rattle.meet_run.proofs.ScriptLemmas.{setup-too_long}
-use Rattle.meet_run.proofs.NextLemmas.{next-is, fits-read}
+use Rattle.meet_run.proofs.Scripts.ScriptLemmas.{setup-too_long}
+use Rattle.meet_run.proofs.Texts.NextLemmas.{next-is, fits-read}
 use Rattle.meet_run.proofs.script.next.next_setup.Goals as goal
 
 pub returns-clause-fits : goal.returns-clause-fits

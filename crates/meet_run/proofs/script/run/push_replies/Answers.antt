@@ -1,8 +1,9 @@
+-- Proof of `push_replies`, src/script/run.rt. Appends the lines of these replies.
 use Rattle.std.proofs.Common.{◌≡◌, ◌++◌, ◌∙◌, sym, ap, append-nil}
 use Rattle.std.proofs.lemmas.List.{take_all}
-use Rattle.meet_run.specs.Script.{replies_text}
-use Rattle.meet_run.specs.Wording.{text_of}
-use Rattle.meet_run.proofs.RunLemmas.{text-none, text-take}
+use Rattle.meet_run.specs.Scripts.Script.{replies_text}
+use Rattle.meet_run.specs.Scripts.Wording.{text_of}
+use Rattle.meet_run.proofs.Scripts.RunLemmas.{text-none, text-take}
 use Rattle.meet_run.proofs.script.run.push_replies.Goals as goal
 
 pub loop-reply-init : goal.loop-reply-init

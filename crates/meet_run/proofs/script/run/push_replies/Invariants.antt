@@ -1,5 +1,6 @@
+-- What stays true from turn to turn of `push_replies`, src/script/run.rt.
 use Rattle.std.proofs.Common.{◌≡◌, ◌++◌, take}
-use Rattle.meet_run.specs.Script.{replies_text}
+use Rattle.meet_run.specs.Scripts.Script.{replies_text}
 use Rattle.meet_run.proofs.script.run.push_replies.Given as goal
 
 -- the lines of the replies so far are there

@@ -1,13 +1,14 @@
+-- Proof of `run_calls`, src/script/run.rt. Runs the calls behind the first line.
 use Rattle.std.proofs.Common.{◌≡◌, subst, sym, ap, ◌∙◌, arith, ◌+◌, true, Err}
 use Rattle.std.specs.Io.KnownBytes.{Appends}
 use Rattle.meet_history.specs.OneThread.{turn, standing_of}
-use Rattle.meet_run.specs.Script.{replies_text, fault_of, text_before, output_of}
-use Rattle.meet_run.specs.Wording.{last_line}
-use Rattle.meet_run.specs.Writing.{AppendsPrefix}
+use Rattle.meet_run.specs.Scripts.Script.{replies_text, fault_of, text_before, output_of}
+use Rattle.meet_run.specs.Scripts.Wording.{last_line}
+use Rattle.meet_run.specs.Texts.Writing.{AppendsPrefix}
 use Rattle.meet_history.specs.Served.{serves}
 use Rattle.meet_history.specs.Stepping.{place_of}
-use Rattle.meet_run.proofs.LineLemmas.{uses-more, ends-in-turns, at-end-before}
-use Rattle.meet_run.proofs.Ran.{ran-more, runs-cut, runs-closed, runs-unclosed, ran-faulty, follows, bad_line-ends}
+use Rattle.meet_run.proofs.Texts.LineLemmas.{uses-more, ends-in-turns, at-end-before}
+use Rattle.meet_run.proofs.Scripts.Ran.{ran-more, runs-cut, runs-closed, runs-unclosed, ran-faulty, follows, bad_line-ends}
 use Rattle.meet_run.proofs.script.run.run_calls.Goals as goal
 
 pub serve-requires : goal.serve-requires

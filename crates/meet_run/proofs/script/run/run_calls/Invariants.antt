@@ -1,8 +1,9 @@
+-- What stays true from turn to turn of `run_calls`, src/script/run.rt.
 use Rattle.std.proofs.Common.{◌≡◌, ◌+◌, ◌≤◌}
 use Rattle.std.specs.Vec.{vec_capacity}
-use Rattle.meet_run.specs.Reading.{UsesTurns}
+use Rattle.meet_run.specs.Texts.Reading.{UsesTurns}
 use Rattle.meet_history.specs.Stepping.{place_of}
-use Rattle.meet_run.proofs.Ran.{Ran}
+use Rattle.meet_run.proofs.Scripts.Ran.{Ran}
 use Rattle.meet_run.proofs.script.run.run_calls.Given as goal
 
 abbrev pub invariant-loop-call : goal.invariant-loop-call

@@ -1,7 +1,9 @@
+-- Proof of `run_script_within`, src/script/run.rt. Runs the script that this reader gives, and writes its replies: the
+-- first line names the place, each other line is a call.
 use Rattle.std.proofs.Common.{arith}
-use Rattle.meet_run.specs.Script.{fault_of, text_before, output_of}
-use Rattle.meet_run.proofs.LineLemmas.{uses-more, uses-fewer}
-use Rattle.meet_run.proofs.Ran.{runs-behind, runs-faulty, runs-lineless, follows, bad_line-ends}
+use Rattle.meet_run.specs.Scripts.Script.{fault_of, text_before, output_of}
+use Rattle.meet_run.proofs.Texts.LineLemmas.{uses-more, uses-fewer}
+use Rattle.meet_run.proofs.Scripts.Ran.{runs-behind, runs-faulty, runs-lineless, follows, bad_line-ends}
 use Rattle.meet_run.proofs.script.run.run_script_within.Goals as goal
 
 pub returns-in-Read-clause-script : goal.returns-in-Read-clause-script

@@ -1,5 +1,6 @@
+-- Proof of `write_whole`, src/text/output.rt. Writes these bytes, as often as it takes, and for none of them not once.
 use Rattle.std.proofs.Common.{◌+◌, arith}
-use Rattle.meet_run.proofs.WritingLemmas.{appends-kept, prefix-at, less-at, written-more}
+use Rattle.meet_run.proofs.Texts.WritingLemmas.{appends-kept, prefix-at, less-at, written-more}
 use Rattle.meet_run.proofs.text.output.write_whole.Goals as goal
 
 pub loop-written-preserved : goal.loop-written-preserved

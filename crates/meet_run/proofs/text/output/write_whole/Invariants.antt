@@ -1,3 +1,4 @@
+-- What stays true from turn to turn of `write_whole`, src/text/output.rt.
 use Rattle.std.proofs.Common.{◌≤◌, ◌-◌, length, take}
 use Rattle.std.specs.Io.KnownBytes.{Appends}
 use Rattle.meet_run.proofs.text.output.write_whole.Given as goal

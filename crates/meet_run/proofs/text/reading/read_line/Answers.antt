@@ -1,7 +1,9 @@
+-- Proof of `read_line`, src/text/reading.rt. Reads the next line, without the byte 10 at its end, into `line`, which
+-- has room for it.
 use Rattle.std.proofs.Common.{rules, ◌≡◌, ◌≤◌, ℕ, ◌+◌, ◌<◌, false, eqb, List, [], ◌∷◌, ◌++◌, length, length-append, subst, sym, arith}
 use Rattle.std.specs.Io.KnownBytes.{Consumes}
-use Rattle.meet_run.proofs.LineLemmas.{plain-push, consumes-more, takes-ended, takes-last, begins-too-long, fails-behind, fails-within}
-use Rattle.meet_run.specs.Reading.{HasNoEnd}
+use Rattle.meet_run.proofs.Texts.LineLemmas.{plain-push, consumes-more, takes-ended, takes-last, begins-too-long, fails-behind, fails-within}
+use Rattle.meet_run.specs.Texts.Reading.{HasNoEnd}
 use Rattle.meet_run.proofs.text.reading.read_line.Goals as goal
 
 pub returns-in-Byte-eq10-clause-read : goal.returns-in-Byte-eq10-clause-read

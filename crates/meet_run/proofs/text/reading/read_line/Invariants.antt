@@ -1,7 +1,8 @@
+-- What stays true from turn to turn of `read_line`, src/text/reading.rt.
 use Rattle.std.proofs.Common.{◌≤◌, ◌≡◌, ◌+◌, ◌-◌, length}
 use Rattle.std.specs.Vec.{vec_capacity, vec_len}
 use Rattle.std.specs.Io.KnownBytes.{Consumes}
-use Rattle.meet_run.specs.Reading.{HasNoEnd}
+use Rattle.meet_run.specs.Texts.Reading.{HasNoEnd}
 use Rattle.meet_run.proofs.text.reading.read_line.Given as goal
 
 abbrev pub invariant-loop-byte : goal.invariant-loop-byte

@@ -1,7 +1,9 @@
+-- Proof of `is_misspelled`, src/text/words.rt. Whether a word can't be a number's one spelling by how it begins: it is
+-- empty, or has a sign, or a 0 in front.
 use Rattle.std.proofs.Common.{◌≡◌, ◌∙◌, [], get_or, length, ap}
 use Rattle.std.proofs.lemmas.Bool.{ltb-true, eqb-true}
-use Rattle.meet_run.specs.Words.{number_spelled}
-use Rattle.meet_run.proofs.WordLemmas.{empty-word, signed-word, long-zero, no-first, first-is}
+use Rattle.meet_run.specs.Texts.Words.{number_spelled}
+use Rattle.meet_run.proofs.Texts.WordLemmas.{empty-word, signed-word, long-zero, no-first, first-is}
 use Rattle.meet_run.proofs.text.words.is_misspelled.Goals as goal
 
 pub returns-in-None-clause-wrong : goal.returns-in-None-clause-wrong

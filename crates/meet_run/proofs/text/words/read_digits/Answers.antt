@@ -1,5 +1,7 @@
+-- Proof of `read_digits`, src/text/words.rt. The number that digits write, where each byte is one and the number is
+-- below 2^64.
 use Rattle.std.proofs.Common.{arith}
-use Rattle.meet_run.proofs.WordLemmas.{too-great}
+use Rattle.meet_run.proofs.Texts.WordLemmas.{too-great}
 use Rattle.meet_run.proofs.text.words.read_digits.Goals as goal
 
 pub returns-in-None-checked_add-clause-none : goal.returns-in-None-checked_add-clause-none

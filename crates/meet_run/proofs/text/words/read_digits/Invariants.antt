@@ -1,3 +1,4 @@
+-- What stays true from turn to turn of `read_digits`, src/text/words.rt.
 use Rattle.std.proofs.Common.{◌≡◌, ◌<◌, ◌^◌, drop}
 use Rattle.std.specs.Str.Parse.{AllDigits, digits_value, digits_value_after}
 use Rattle.meet_run.proofs.text.words.read_digits.Given as goal

@@ -1,5 +1,7 @@
-use Rattle.meet_run.specs.Words.{BeginsAsNumber}
-use Rattle.meet_run.proofs.WordLemmas.{read-number}
+-- Proof of `read_number`, src/text/words.rt. The number below 2^64 of which this word is the one spelling, if there is
+-- one.
+use Rattle.meet_run.specs.Texts.Words.{BeginsAsNumber}
+use Rattle.meet_run.proofs.Texts.WordLemmas.{read-number}
 use Rattle.meet_run.proofs.text.words.read_number.Goals as goal
 
 pub returns : goal.returns

@@ -1,8 +1,10 @@
+-- Proof of `split_word`, src/text/words.rt. Cuts a text at its first space: what stands before it, and what is left
+-- from it on.
 use Rattle.std.proofs.Common.{◌≡◌, rules, ap, ◌∙◌, length, take, drop, unwrap_or}
 use Rattle.std.specs.List.{position}
 use Rattle.std.proofs.lemmas.Iterator.{YieldsList-from_slice}
 use Rattle.std.proofs.lemmas.Iterator.Search.{position_from_yields_List}
-use Rattle.meet_run.proofs.WordLemmas.{is_space, word-at, rest-at}
+use Rattle.meet_run.proofs.Texts.WordLemmas.{is_space, word-at, rest-at}
 use Rattle.meet_run.proofs.text.words.split_word.Goals as goal
 
 pub returns-clause-word : goal.returns-clause-word

@@ -1,5 +1,6 @@
+-- What stays true from turn to turn of `push_flags`, src/trace/base_wording.rt.
 use Rattle.meet_history.specs.declared.pieces.Piece.TheVariants.{Flagged}
-use Rattle.meet_run.proofs.PieceLines.{AreWritten}
+use Rattle.meet_run.proofs.Tracing.PieceLines.{AreWritten}
 use Rattle.meet_run.proofs.trace.base_wording.push_flags.Given as goal
 
 abbrev pub invariant-loop-entry : goal.invariant-loop-entry

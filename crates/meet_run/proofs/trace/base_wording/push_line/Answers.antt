@@ -1,5 +1,6 @@
+-- Proof of `push_line`, src/trace/base_wording.rt. Appends the lines of a base's line.
 use Rattle.meet_history.specs.declared.pieces.Piece.TheVariants.{Stands}
-use Rattle.meet_run.proofs.PieceLines.{written-none, written-more, written-all}
+use Rattle.meet_run.proofs.Tracing.PieceLines.{written-none, written-more, written-all}
 use Rattle.meet_run.proofs.trace.base_wording.push_line.Goals as goal
 
 pub loop-entry-init : goal.loop-entry-init

@@ -1,5 +1,6 @@
+-- Proof of `push_pairs`, src/trace/base_wording.rt. Appends the lines of its open tickets that were met.
 use Rattle.meet_history.specs.declared.pieces.Piece.TheVariants.{Met}
-use Rattle.meet_run.proofs.PieceLines.{written-none, written-more, written-all}
+use Rattle.meet_run.proofs.Tracing.PieceLines.{written-none, written-more, written-all}
 use Rattle.meet_run.proofs.trace.base_wording.push_pairs.Goals as goal
 
 pub loop-entry-init : goal.loop-entry-init

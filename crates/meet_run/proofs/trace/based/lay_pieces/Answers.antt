@@ -1,12 +1,13 @@
+-- Proof of `lay_pieces`, src/trace/based.rt. Reads the pieces of a base behind its numbers.
 use Rattle.std.proofs.Common.{◌≡◌, ◌+◌, true, false, Some, None, arith, sym, ap, subst, ◌∙◌}
 use Rattle.meet_tickets.specs.Bases.{Based}
 use Rattle.meet_history.specs.Pieces.{may_follow}
-use Rattle.meet_run.specs.Reading.{lines_of}
-use Rattle.meet_run.specs.BaseGrammar.{piece_of}
-use Rattle.meet_run.specs.BasedTraces.{told_from, HasLaid}
-use Rattle.meet_run.proofs.LineLemmas.{uses-more}
-use Rattle.meet_run.proofs.TraceReading.{names-it}
-use Rattle.meet_run.proofs.Laid.{WasLaid, laid-more, laid-ill, laid-left, laid-end, laid-long, piece-gone}
+use Rattle.meet_run.specs.Texts.Reading.{lines_of}
+use Rattle.meet_run.specs.Tracing.BaseGrammar.{piece_of}
+use Rattle.meet_run.specs.Tracing.BasedTraces.{told_from, HasLaid}
+use Rattle.meet_run.proofs.Texts.LineLemmas.{uses-more}
+use Rattle.meet_run.proofs.Tracing.TraceReading.{names-it}
+use Rattle.meet_run.proofs.Tracing.Laid.{WasLaid, laid-more, laid-ill, laid-left, laid-end, laid-long, piece-gone}
 use Rattle.meet_run.proofs.trace.based.lay_pieces.Goals as goal
 
 pub returns-then-not-may_follow-clause-bad : goal.returns-then-not-may_follow-clause-bad

@@ -1,7 +1,8 @@
+-- What stays true from turn to turn of `lay_pieces`, src/trace/based.rt.
 use Rattle.std.proofs.Common.{◌≡◌, ◌+◌, ◌≤◌}
 use Rattle.std.specs.Vec.{vec_capacity}
-use Rattle.meet_run.specs.Reading.{UsesTurns}
-use Rattle.meet_run.proofs.Laid.{WasLaid}
+use Rattle.meet_run.specs.Texts.Reading.{UsesTurns}
+use Rattle.meet_run.proofs.Tracing.Laid.{WasLaid}
 use Rattle.meet_run.proofs.trace.based.lay_pieces.Given as goal
 
 abbrev pub invariant-loop-line : goal.invariant-loop-line

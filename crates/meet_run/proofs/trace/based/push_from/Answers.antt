@@ -1,9 +1,11 @@
+-- Proof of `push_from`, src/trace/based.rt. Reads records, of which the first stands in the line with this number,
+-- which was read; and takes each in.
 use Rattle.std.proofs.Common.{◌≡◌, ◌+◌, ◌-◌, ◌∷◌, [], ◌++◌, Some, None, length-append, arith, sym, ap, ◌∙◌}
-use Rattle.meet_run.specs.Reading.{lines_of, listed}
-use Rattle.meet_run.specs.BasedTraces.{record_from}
-use Rattle.meet_run.proofs.LineLemmas.{uses-more}
-use Rattle.meet_run.proofs.TraceReading.{names-it}
-use Rattle.meet_run.proofs.ReadFrom.{from-some, from-more, from-fault, from-long, from-end, from-kept}
+use Rattle.meet_run.specs.Texts.Reading.{lines_of, listed}
+use Rattle.meet_run.specs.Tracing.BasedTraces.{record_from}
+use Rattle.meet_run.proofs.Texts.LineLemmas.{uses-more}
+use Rattle.meet_run.proofs.Tracing.TraceReading.{names-it}
+use Rattle.meet_run.proofs.Tracing.ReadFrom.{from-some, from-more, from-fault, from-long, from-end, from-kept}
 use Rattle.meet_run.proofs.trace.based.push_from.Goals as goal
 
 pub returns-in-None-clause-bad : goal.returns-in-None-clause-bad

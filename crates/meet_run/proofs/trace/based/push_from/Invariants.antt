@@ -1,3 +1,4 @@
+-- What stays true from turn to turn of `push_from`, src/trace/based.rt.
 use Rattle.std.proofs.Common.{◌≡◌, ◌+◌, ◌≤◌, List, [], length}
 use Rattle.std.specs.Vec.{vec_capacity}
 use Rattle.meet_tickets.specs.declared.records.Deed.{Deed}
@@ -5,9 +6,9 @@ use Rattle.meet_tickets.specs.declared.records.Record.{Record}
 use Rattle.meet_tickets.specs.Bases.{Based}
 use Rattle.meet_tickets.specs.Limits.{most_records}
 use Rattle.meet_history.specs.Pushing.{HasSeen}
-use Rattle.meet_run.specs.Keeping.{HasKept}
-use Rattle.meet_run.specs.Reading.{UsesTurns}
-use Rattle.meet_run.proofs.ReadFrom.{WasReadFrom}
+use Rattle.meet_run.specs.Tracing.Keeping.{HasKept}
+use Rattle.meet_run.specs.Texts.Reading.{UsesTurns}
+use Rattle.meet_run.proofs.Tracing.ReadFrom.{WasReadFrom}
 use Rattle.meet_run.proofs.trace.based.push_from.Given as goal
 
 abbrev pub invariant-loop-entry : goal.invariant-loop-entry

@@ -1,11 +1,12 @@
+-- Proof of `read_ground`, src/trace/based.rt. Reads a base's numbers.
 use Rattle.std.proofs.Common.{◌≡◌, ℕ, Some, None, sym, ap, subst, ◌∙◌}
 use Rattle.meet_tickets.specs.Bases.{Based}
 use Rattle.meet_history.specs.Pieces.{bare_base}
-use Rattle.meet_run.specs.Reading.{lines_of, Both}
-use Rattle.meet_run.specs.BaseGrammar.{numbers_of}
-use Rattle.meet_run.specs.BasedTraces.{told_from, told_behind}
-use Rattle.meet_run.proofs.TraceReading.{names-it}
-use Rattle.meet_run.proofs.Laid.{ground-read, ground-none, ground-end, ground-long}
+use Rattle.meet_run.specs.Texts.Reading.{lines_of, Both}
+use Rattle.meet_run.specs.Tracing.BaseGrammar.{numbers_of}
+use Rattle.meet_run.specs.Tracing.BasedTraces.{told_from, told_behind}
+use Rattle.meet_run.proofs.Tracing.TraceReading.{names-it}
+use Rattle.meet_run.proofs.Tracing.Laid.{ground-read, ground-none, ground-end, ground-long}
 use Rattle.meet_run.proofs.trace.based.read_ground.Goals as goal
 
 pub returns-in-Some-clause-ground : goal.returns-in-Some-clause-ground

@@ -1,5 +1,7 @@
+-- Proof of `read_record_from`, src/trace/based.rt. The record of a line with this number, where the first record stands
+-- in that line.
 use Rattle.std.proofs.Common.{arith, sym, ◌∙◌}
-use Rattle.meet_run.proofs.ReadFrom.{from-past, from-within}
+use Rattle.meet_run.proofs.Tracing.ReadFrom.{from-past, from-within}
 use Rattle.meet_run.proofs.trace.based.read_record_from.Goals as goal
 
 pub returns-then-saturating_sub-ge-MOST_RECORDS : goal.returns-then-saturating_sub-ge-MOST_RECORDS

@@ -1,7 +1,9 @@
+-- Proof of `check_chain_within`, src/trace/chains.rt. Checks the chain that this reader gives: whole traces of one
+-- place, of either format, one behind another, each on the base that stands for those before it.
 use Rattle.std.proofs.Common.{None, ap, subst, ◌∙◌}
 use Rattle.meet_run.specs.declared.text.faults.RunFault.{RunFault}
-use Rattle.meet_run.specs.Writing.{AppendsPrefix}
-use Rattle.meet_run.proofs.ReadParts.{chain-unread, chain-broken}
+use Rattle.meet_run.specs.Texts.Writing.{AppendsPrefix}
+use Rattle.meet_run.proofs.Tracing.ReadParts.{chain-unread, chain-broken}
 use Rattle.meet_run.proofs.trace.chains.check_chain_within.Goals as goal
 
 pub returns-in-Err-clause-check : goal.returns-in-Err-clause-check

@@ -1,9 +1,11 @@
+-- Proof of `find_chain`, src/trace/chains.rt. Reads a whole chain, and says what is found of it, and the line that says
+-- so.
 use Rattle.std.proofs.Common.{arith}
-use Rattle.meet_run.specs.Chains.{chain_fault_in}
-use Rattle.meet_run.specs.Reading.{lines_of}
-use Rattle.meet_run.proofs.LineLemmas.{uses-more, uses-fewer}
-use Rattle.meet_run.proofs.ReadParts.{whole-found, whole-faulty, no-line, long-line}
-use Rattle.meet_run.proofs.TraceReading.{names-it}
+use Rattle.meet_run.specs.Tracing.Chains.{chain_fault_in}
+use Rattle.meet_run.specs.Texts.Reading.{lines_of}
+use Rattle.meet_run.proofs.Texts.LineLemmas.{uses-more, uses-fewer}
+use Rattle.meet_run.proofs.Tracing.ReadParts.{whole-found, whole-faulty, no-line, long-line}
+use Rattle.meet_run.proofs.Tracing.TraceReading.{names-it}
 use Rattle.meet_run.proofs.trace.chains.find_chain.Goals as goal
 
 pub returns-in-Line-clause-found : goal.returns-in-Line-clause-found

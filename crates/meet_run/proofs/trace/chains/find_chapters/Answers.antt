@@ -1,7 +1,9 @@
+-- Proof of `find_chapters`, src/trace/chains.rt. Says what is found of a chain, of which the first line was read, and
+-- the line that says so.
 use Rattle.std.proofs.Common.{arith, ap, subst, ◌∙◌}
 use Rattle.meet_run.specs.declared.text.faults.RunFault.{RunFault}
-use Rattle.meet_run.proofs.LineLemmas.{uses-more, ends-more}
-use Rattle.meet_run.proofs.ReadParts.{ChainSoFar, chain-more, chain-begins, chain-faulty, chain-faulty-first, chain-found, memory-names}
+use Rattle.meet_run.proofs.Texts.LineLemmas.{uses-more, ends-more}
+use Rattle.meet_run.proofs.Tracing.ReadParts.{ChainSoFar, chain-more, chain-begins, chain-faulty, chain-faulty-first, chain-found, memory-names}
 use Rattle.meet_run.proofs.trace.chains.find_chapters.Goals as goal
 
 pub returns-in-Err-clause-bad : goal.returns-in-Err-clause-bad

@@ -1,7 +1,8 @@
+-- What stays true from turn to turn of `find_chapters`, src/trace/chains.rt.
 use Rattle.std.proofs.Common.{◌≡◌, ◌+◌, ◌≤◌, false}
 use Rattle.std.specs.Vec.{vec_capacity}
-use Rattle.meet_run.specs.Reading.{UsesTurns, EndsInTurns, HasNoEnd}
-use Rattle.meet_run.proofs.ReadParts.{ChainSoFar}
+use Rattle.meet_run.specs.Texts.Reading.{UsesTurns, EndsInTurns, HasNoEnd}
+use Rattle.meet_run.proofs.Tracing.ReadParts.{ChainSoFar}
 use Rattle.meet_run.proofs.trace.chains.find_chapters.Given as goal
 
 abbrev pub invariant-loop-more : goal.invariant-loop-more

@@ -1,8 +1,10 @@
+-- Proof of `read_chapter`, src/trace/chains.rt. Reads a part, of which the first line was read, as a whole trace; how
+-- many lines stand before the next one, and whether there is one.
 use Rattle.std.proofs.Common.{subst}
-use Rattle.meet_run.specs.Chains.{IsPart}
-use Rattle.meet_run.specs.Reading.{lines_of}
-use Rattle.meet_run.specs.Traces.{IsRead, NamesLine, trace_fault_in}
-use Rattle.meet_run.proofs.ReadParts.{chapter-faulty, chapter-too-long}
+use Rattle.meet_run.specs.Tracing.Chains.{IsPart}
+use Rattle.meet_run.specs.Texts.Reading.{lines_of}
+use Rattle.meet_run.specs.Tracing.Traces.{IsRead, NamesLine, trace_fault_in}
+use Rattle.meet_run.proofs.Tracing.ReadParts.{chapter-faulty, chapter-too-long}
 use Rattle.meet_run.proofs.trace.chains.read_chapter.Goals as goal
 
 pub returns-in-Err-clause-bad : goal.returns-in-Err-clause-bad

@@ -1,7 +1,9 @@
+-- Proof of `read_part`, src/trace/chains.rt. Reads the lines of a chain's next part into `text`, of which the first was
+-- read.
 use Rattle.std.proofs.Common.{◌++◌, codes, sym, ap, arith, ◌∙◌}
-use Rattle.meet_run.specs.Chains.{is_head}
-use Rattle.meet_run.proofs.LineLemmas.{uses-more}
-use Rattle.meet_run.proofs.ReadParts.{part-more, part-head, part-end, part-long}
+use Rattle.meet_run.specs.Tracing.Chains.{is_head}
+use Rattle.meet_run.proofs.Texts.LineLemmas.{uses-more}
+use Rattle.meet_run.proofs.Tracing.ReadParts.{part-more, part-head, part-end, part-long}
 use Rattle.meet_run.proofs.trace.chains.read_part.Goals as goal
 
 pub returns-in-End-clause-part : goal.returns-in-End-clause-part

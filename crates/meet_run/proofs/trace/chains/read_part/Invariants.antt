@@ -1,7 +1,8 @@
+-- What stays true from turn to turn of `read_part`, src/trace/chains.rt.
 use Rattle.std.proofs.Common.{◌+◌, ◌<◌, ◌≤◌}
 use Rattle.std.specs.Vec.{vec_capacity}
-use Rattle.meet_run.specs.Reading.{UsesTurns, HasNoEnd}
-use Rattle.meet_run.proofs.ReadParts.{PartSoFar}
+use Rattle.meet_run.specs.Texts.Reading.{UsesTurns, HasNoEnd}
+use Rattle.meet_run.proofs.Tracing.ReadParts.{PartSoFar}
 use Rattle.meet_run.proofs.trace.chains.read_part.Given as goal
 
 abbrev pub invariant-loop-line : goal.invariant-loop-line

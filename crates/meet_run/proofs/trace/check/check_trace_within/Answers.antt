@@ -1,7 +1,8 @@
+-- Proof of `check_trace_within`, src/trace/check.rt. Checks the trace that this reader gives.
 use Rattle.std.proofs.Common.{None, ap, subst, ◌∙◌}
 use Rattle.meet_run.specs.declared.text.faults.RunFault.{RunFault}
-use Rattle.meet_run.specs.Writing.{AppendsPrefix}
-use Rattle.meet_run.proofs.TraceReading.{check-unread, check-broken}
+use Rattle.meet_run.specs.Texts.Writing.{AppendsPrefix}
+use Rattle.meet_run.proofs.Tracing.TraceReading.{check-unread, check-broken}
 use Rattle.meet_run.proofs.trace.check.check_trace_within.Goals as goal
 
 pub returns-in-Err-clause-check : goal.returns-in-Err-clause-check

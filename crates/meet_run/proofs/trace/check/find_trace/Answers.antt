@@ -1,4 +1,6 @@
-use Rattle.meet_run.proofs.TraceReading.{found-read}
+-- Proof of `find_trace`, src/trace/check.rt. Reads a whole trace, and says what is found of it, and the line that says
+-- so; it refuses as `read_trace`.
+use Rattle.meet_run.proofs.Tracing.TraceReading.{found-read}
 use Rattle.meet_run.proofs.trace.check.find_trace.Goals as goal
 
 pub returns-in-Ok-verdict-clause-found : goal.returns-in-Ok-verdict-clause-found

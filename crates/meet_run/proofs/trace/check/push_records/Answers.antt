@@ -1,9 +1,10 @@
+-- Proof of `push_records`, src/trace/check.rt. Reads the records behind a trace's first line, and takes each in.
 use Rattle.meet_tickets.specs.Bases.{no_base}
 use Rattle.std.proofs.Common.{◌+◌, ◌-◌, ◌++◌, ◌∷◌, [], length-append, arith, refl, ◌∙◌}
-use Rattle.meet_run.specs.Reading.{lines_of}
-use Rattle.meet_run.specs.Traces.{records_behind}
-use Rattle.meet_run.proofs.LineLemmas.{uses-more}
-use Rattle.meet_run.proofs.TraceReading.{read-more, read-end, read-kept, read-fault, names-it}
+use Rattle.meet_run.specs.Texts.Reading.{lines_of}
+use Rattle.meet_run.specs.Tracing.Traces.{records_behind}
+use Rattle.meet_run.proofs.Texts.LineLemmas.{uses-more}
+use Rattle.meet_run.proofs.Tracing.TraceReading.{read-more, read-end, read-kept, read-fault, names-it}
 use Rattle.meet_run.proofs.trace.check.push_records.Goals as goal
 
 pub loop-entry-preserved : goal.loop-entry-preserved

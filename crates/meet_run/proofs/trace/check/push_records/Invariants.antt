@@ -1,12 +1,13 @@
+-- What stays true from turn to turn of `push_records`, src/trace/check.rt.
 use Rattle.std.proofs.Common.{◌≡◌, ◌+◌, ◌≤◌, List, length}
 use Rattle.std.specs.Vec.{vec_capacity}
 use Rattle.meet_tickets.specs.declared.records.Deed.{Deed}
 use Rattle.meet_tickets.specs.declared.records.Record.{Record}
 use Rattle.meet_tickets.specs.Bases.{no_base}
 use Rattle.meet_history.specs.Pushing.{HasSeen}
-use Rattle.meet_run.specs.Keeping.{HasKept}
-use Rattle.meet_run.specs.Reading.{UsesTurns}
-use Rattle.meet_run.proofs.TraceReading.{WasRead}
+use Rattle.meet_run.specs.Tracing.Keeping.{HasKept}
+use Rattle.meet_run.specs.Texts.Reading.{UsesTurns}
+use Rattle.meet_run.proofs.Tracing.TraceReading.{WasRead}
 use Rattle.meet_run.proofs.trace.check.push_records.Given as goal
 
 abbrev pub invariant-loop-entry : goal.invariant-loop-entry

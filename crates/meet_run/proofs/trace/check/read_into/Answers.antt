@@ -1,10 +1,12 @@
+-- Proof of `read_into`, src/trace/check.rt. Reads a whole trace, of either format, by at most so many reads, and keeps
+-- its records where they are wanted.
 use Rattle.std.proofs.Common.{sym, ap, ◌∙◌, arith}
-use Rattle.meet_run.specs.Reading.{lines_of}
-use Rattle.meet_run.specs.TraceGrammar.{head_of}
-use Rattle.meet_run.specs.BaseGrammar.{based_head_of}
-use Rattle.meet_run.specs.Traces.{NamesLine, trace_fault_in}
-use Rattle.meet_run.proofs.LineLemmas.{uses-more, uses-fewer, ends-more}
-use Rattle.meet_run.proofs.TraceReading.{plain-came, based-came, well-follows, err-follows, fault-behind, fault-based, fault-first, fault-long, fault-none, names-it}
+use Rattle.meet_run.specs.Texts.Reading.{lines_of}
+use Rattle.meet_run.specs.Tracing.TraceGrammar.{head_of}
+use Rattle.meet_run.specs.Tracing.BaseGrammar.{based_head_of}
+use Rattle.meet_run.specs.Tracing.Traces.{NamesLine, trace_fault_in}
+use Rattle.meet_run.proofs.Texts.LineLemmas.{uses-more, uses-fewer, ends-more}
+use Rattle.meet_run.proofs.Tracing.TraceReading.{plain-came, based-came, well-follows, err-follows, fault-behind, fault-based, fault-first, fault-long, fault-none, names-it}
 use Rattle.meet_run.proofs.trace.check.read_into.Goals as goal
 
 pub returns-in-End-clause-bad : goal.returns-in-End-clause-bad

@@ -1,4 +1,5 @@
-use Rattle.meet_run.proofs.KeepingLemmas.{read-with}
+-- Proof of `read_records`, src/trace/check.rt. Reads a whole trace as `read_trace` does, and keeps its records.
+use Rattle.meet_run.proofs.Tracing.KeepingLemmas.{read-with}
 use Rattle.meet_run.proofs.trace.check.read_records.Goals as goal
 
 pub returns-in-Ok-clause-read : goal.returns-in-Ok-clause-read

@@ -1,9 +1,10 @@
+-- Proof of `read_records`, src/trace/erase.rt. Reads the records behind a trace's first line.
 use Rattle.std.proofs.Common.{◌+◌, arith, rules}
-use Rattle.meet_run.specs.Reading.{lines_of}
-use Rattle.meet_run.specs.Traces.{records_behind}
-use Rattle.meet_run.proofs.LineLemmas.{uses-more}
-use Rattle.meet_run.proofs.Erasing.{read_whole}
-use Rattle.meet_run.proofs.TraceReading.{read-more, read-fault, names-it}
+use Rattle.meet_run.specs.Texts.Reading.{lines_of}
+use Rattle.meet_run.specs.Tracing.Traces.{records_behind}
+use Rattle.meet_run.proofs.Texts.LineLemmas.{uses-more}
+use Rattle.meet_run.proofs.Tracing.Erasing.{read_whole}
+use Rattle.meet_run.proofs.Tracing.TraceReading.{read-more, read-fault, names-it}
 use Rattle.meet_run.proofs.trace.erase.read_records.Goals as goal
 
 pub returns-then-is_err-clause-uses : goal.returns-then-is_err-clause-uses

@@ -1,7 +1,8 @@
+-- What stays true from turn to turn of `read_records`, src/trace/erase.rt.
 use Rattle.std.proofs.Common.{◌+◌, ◌≤◌}
 use Rattle.std.specs.Vec.{vec_capacity}
-use Rattle.meet_run.specs.Reading.{UsesTurns}
-use Rattle.meet_run.proofs.TraceReading.{WasRead}
+use Rattle.meet_run.specs.Texts.Reading.{UsesTurns}
+use Rattle.meet_run.proofs.Tracing.TraceReading.{WasRead}
 use Rattle.meet_run.proofs.trace.erase.read_records.Given as goal
 
 abbrev pub invariant-loop-entry : goal.invariant-loop-entry

@@ -1,10 +1,11 @@
+-- Proof of `read_trace`, src/trace/erase.rt. Reads a whole trace.
 use Rattle.std.proofs.Common.{arith}
-use Rattle.meet_run.specs.Reading.{lines_of}
-use Rattle.meet_run.specs.Erasing.{erase_fault_in}
-use Rattle.meet_run.specs.Traces.{NamesLine}
-use Rattle.meet_run.proofs.LineLemmas.{uses-more, uses-fewer}
-use Rattle.meet_run.proofs.Erasing.{behind_head, bad_head, no_head}
-use Rattle.meet_run.proofs.TraceReading.{names-it}
+use Rattle.meet_run.specs.Texts.Reading.{lines_of}
+use Rattle.meet_run.specs.Tracing.Erasing.{erase_fault_in}
+use Rattle.meet_run.specs.Tracing.Traces.{NamesLine}
+use Rattle.meet_run.proofs.Texts.LineLemmas.{uses-more, uses-fewer}
+use Rattle.meet_run.proofs.Tracing.Erasing.{behind_head, bad_head, no_head}
+use Rattle.meet_run.proofs.Tracing.TraceReading.{names-it}
 use Rattle.meet_run.proofs.trace.erase.read_trace.Goals as goal
 
 pub returns-in-Ok-read_records-clause-uses : goal.returns-in-Ok-read_records-clause-uses

@@ -1,4 +1,5 @@
-use Rattle.meet_run.proofs.Erasing.{begins_illegal}
+-- Proof of `write_erased`, src/trace/erase.rt. Writes what is left of these records, or which can't stand.
+use Rattle.meet_run.proofs.Tracing.Erasing.{begins_illegal}
 use Rattle.meet_run.proofs.trace.erase.write_erased.Goals as goal
 
 pub returns-in-Err-write_illegal-clause-begun : goal.returns-in-Err-write_illegal-clause-begun

@@ -1,3 +1,5 @@
+-- Proof of `take_in`, src/trace/kept.rt. Takes in the next record that was read: keeps it, if it is wanted, and pushes
+-- it on the checker.
 use Rattle.std.proofs.Common.{sym, ◌∙◌}
 use Rattle.std.proofs.lemmas.Bool.{false≢true}
 use Rattle.meet_run.proofs.trace.kept.take_in.Goals as goal

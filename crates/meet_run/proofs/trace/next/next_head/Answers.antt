@@ -1,7 +1,8 @@
+-- Proof of `next_head`, src/trace/next.rt. Reads a trace's first line.
 use Rattle.std.proofs.Common.{◌∙◌, ap}
-use Rattle.meet_run.specs.TraceGrammar.{head_of}
-use Rattle.meet_run.specs.TraceSpelling.{FitsHead}
-use Rattle.meet_run.proofs.NextLemmas.{head-too_long, next-is, fits-read}
+use Rattle.meet_run.specs.Tracing.TraceGrammar.{head_of}
+use Rattle.meet_run.specs.Tracing.TraceSpelling.{FitsHead}
+use Rattle.meet_run.proofs.Texts.NextLemmas.{head-too_long, next-is, fits-read}
 use Rattle.meet_run.proofs.trace.next.next_head.Goals as goal
 
 pub returns-clause-fits : goal.returns-clause-fits

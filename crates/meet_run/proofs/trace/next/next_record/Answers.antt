@@ -1,6 +1,7 @@
+-- Proof of `next_record`, src/trace/next.rt. Reads the line of a record, behind so many lines.
 use Rattle.std.proofs.Common.{◌+◌, ◌∙◌, ap}
-use Rattle.meet_run.specs.Traces.{record_at}
-use Rattle.meet_run.proofs.NextLemmas.{record-too_long, next-is}
+use Rattle.meet_run.specs.Tracing.Traces.{record_at}
+use Rattle.meet_run.proofs.Texts.NextLemmas.{record-too_long, next-is}
 use Rattle.meet_run.proofs.trace.next.next_record.Goals as goal
 
 pub returns-clause-next : goal.returns-clause-next

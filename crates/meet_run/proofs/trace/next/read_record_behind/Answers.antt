@@ -1,5 +1,7 @@
+-- Proof of `read_record_behind`, src/trace/next.rt. The record of a line behind so many others: a trace's first line,
+-- and one for each record.
 use Rattle.std.proofs.Common.{◌+◌, arith, sym, ◌∙◌}
-use Rattle.meet_run.proofs.NextLemmas.{record_at-past, record_at-within}
+use Rattle.meet_run.proofs.Texts.NextLemmas.{record_at-past, record_at-within}
 use Rattle.meet_run.proofs.trace.next.read_record_behind.Goals as goal
 
 pub returns-then-read-gt-MOST_RECORDS : goal.returns-then-read-gt-MOST_RECORDS

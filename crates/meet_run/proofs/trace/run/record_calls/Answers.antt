@@ -1,8 +1,10 @@
+-- Proof of `record_calls`, src/trace/run.rt. Makes the calls behind the first line: what they leave, up to the first
+-- faulty line, and the number of that line, if there is one.
 use Rattle.std.proofs.Common.{◌≡◌, ◌++◌, [], refl, ap, subst, ◌∙◌, arith}
 use Rattle.meet_history.specs.OneThread.{Turn, turn}
 use Rattle.meet_history.specs.Stepping.{place_of, HasWritten}
-use Rattle.meet_run.proofs.LineLemmas.{uses-more, uses-none}
-use Rattle.meet_run.proofs.Recorded.{recorded-none, recorded-more, recorded-end, recorded-fault}
+use Rattle.meet_run.proofs.Texts.LineLemmas.{uses-more, uses-none}
+use Rattle.meet_run.proofs.Tracing.Recorded.{recorded-none, recorded-more, recorded-end, recorded-fault}
 use Rattle.meet_run.proofs.trace.run.record_calls.Goals as goal
 
 pub loop-call-init : goal.loop-call-init

@@ -1,10 +1,11 @@
+-- What stays true from turn to turn of `record_calls`, src/trace/run.rt.
 use Rattle.std.proofs.Common.{◌≡◌, ◌+◌, ◌≤◌, List}
 use Rattle.std.specs.Vec.{vec_capacity}
 use Rattle.meet_tickets.specs.declared.records.Record.{Record}
 use Rattle.meet_tickets.specs.declared.records.Deed.{Deed}
 use Rattle.meet_history.specs.Stepping.{place_of, HasWritten}
-use Rattle.meet_run.specs.Reading.{UsesTurns}
-use Rattle.meet_run.proofs.Recorded.{Recorded}
+use Rattle.meet_run.specs.Texts.Reading.{UsesTurns}
+use Rattle.meet_run.proofs.Tracing.Recorded.{Recorded}
 use Rattle.meet_run.proofs.trace.run.record_calls.Given as goal
 
 abbrev pub invariant-loop-call : goal.invariant-loop-call

@@ -1,8 +1,9 @@
+-- Proof of `run_trace_within`, src/trace/run.rt.
 use Rattle.std.proofs.Common.{arith}
-use Rattle.meet_run.specs.Script.{fault_of}
-use Rattle.meet_run.proofs.LineLemmas.{uses-more, uses-fewer}
-use Rattle.meet_run.proofs.Ran.{follows, bad_line-ends}
-use Rattle.meet_run.proofs.Recorded.{made-behind, made-faulty, made-lineless, traces-behind, traces-faulty, traces-lineless}
+use Rattle.meet_run.specs.Scripts.Script.{fault_of}
+use Rattle.meet_run.proofs.Texts.LineLemmas.{uses-more, uses-fewer}
+use Rattle.meet_run.proofs.Scripts.Ran.{follows, bad_line-ends}
+use Rattle.meet_run.proofs.Tracing.Recorded.{made-behind, made-faulty, made-lineless, traces-behind, traces-faulty, traces-lineless}
 use Rattle.meet_run.proofs.trace.run.run_trace_within.Goals as goal
 
 pub returns-in-Read-clause-trace : goal.returns-in-Read-clause-trace

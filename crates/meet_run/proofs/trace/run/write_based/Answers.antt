@@ -1,10 +1,12 @@
+-- Proof of `write_based`, src/trace/run.rt. Writes the trace of these records of a place of this kind after this base,
+-- whole; it refuses Memory or WriteFault, and then a prefix of it is written.
 use Rattle.std.proofs.Common.{◌++◌, ap, subst, ◌∙◌}
 use Rattle.std.specs.Prelude.{OnOk}
 use Rattle.std.specs.Io.KnownBytes.{Appends}
 use Rattle.std.specs.List.{flat_map}
-use Rattle.meet_run.specs.BaseWording.{based_head_line, numbers_line, piece_line, pieces_of}
-use Rattle.meet_run.specs.Writing.{AppendsPrefix}
-use Rattle.meet_run.proofs.PieceLines.{based-is}
+use Rattle.meet_run.specs.Tracing.BaseWording.{based_head_line, numbers_line, piece_line, pieces_of}
+use Rattle.meet_run.specs.Texts.Writing.{AppendsPrefix}
+use Rattle.meet_run.proofs.Tracing.PieceLines.{based-is}
 use Rattle.meet_run.proofs.trace.run.write_based.Goals as goal
 
 pub returns-in-Ok-clause-written : goal.returns-in-Ok-clause-written

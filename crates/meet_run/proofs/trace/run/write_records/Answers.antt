@@ -1,7 +1,9 @@
+-- Proof of `write_records`, src/trace/run.rt. Writes what is kept back, and then the lines of these records, block by
+-- block.
 use Rattle.std.proofs.Common.{◌+◌, ap, sym, subst, ◌∙◌}
 use Rattle.std.specs.Io.KnownBytes.{Appends}
-use Rattle.meet_run.specs.Writing.{AppendsPrefix}
-use Rattle.meet_run.proofs.TraceWriting.{IsUnderWay, under_way-stopped, under_way-more, under_way-written, under_way-broken}
+use Rattle.meet_run.specs.Texts.Writing.{AppendsPrefix}
+use Rattle.meet_run.proofs.Tracing.TraceWriting.{IsUnderWay, under_way-stopped, under_way-more, under_way-written, under_way-broken}
 use Rattle.meet_run.proofs.trace.run.write_records.Goals.{then-len-ge-BLOCK+in_ok-write_whole, else-len-ge-BLOCK}
 use Rattle.meet_run.proofs.trace.run.write_records.Goals as goal
 

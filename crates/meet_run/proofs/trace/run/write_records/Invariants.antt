@@ -1,4 +1,5 @@
-use Rattle.meet_run.proofs.TraceWriting.{IsUnderWay}
+-- What stays true from turn to turn of `write_records`, src/trace/run.rt.
+use Rattle.meet_run.proofs.Tracing.TraceWriting.{IsUnderWay}
 use Rattle.meet_run.proofs.trace.run.write_records.Given as goal
 
 -- the lines of the records so far are written, or kept back

@@ -1,9 +1,11 @@
+-- Proof of `write_trace`, src/trace/run.rt. Writes the trace of these records of a place of this kind, whole; it
+-- refuses Memory or WriteFault, and then a prefix of it is written.
 use Rattle.std.proofs.Common.{◌++◌, ap, subst, ◌∙◌}
 use Rattle.std.specs.Prelude.{OnOk}
 use Rattle.std.specs.Io.KnownBytes.{Appends}
-use Rattle.meet_run.specs.TraceWording.{head_line}
-use Rattle.meet_run.specs.Writing.{AppendsPrefix}
-use Rattle.meet_run.proofs.TraceWriting.{trace-is}
+use Rattle.meet_run.specs.Tracing.TraceWording.{head_line}
+use Rattle.meet_run.specs.Texts.Writing.{AppendsPrefix}
+use Rattle.meet_run.proofs.Tracing.TraceWriting.{trace-is}
 use Rattle.meet_run.proofs.trace.run.write_trace.Goals as goal
 
 pub returns-in-Ok-clause-written : goal.returns-in-Ok-clause-written

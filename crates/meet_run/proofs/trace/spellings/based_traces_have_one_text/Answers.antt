@@ -1,4 +1,5 @@
-use Rattle.meet_run.proofs.WholeTexts.{based-traces-have-one-text}
+-- Proof of `based_traces_have_one_text`, src/trace/spellings.rt.
+use Rattle.meet_run.proofs.Tracing.WholeTexts.{based-traces-have-one-text}
 use Rattle.meet_run.proofs.trace.spellings.based_traces_have_one_text.Goals as goal
 
 pub returns : goal.returns

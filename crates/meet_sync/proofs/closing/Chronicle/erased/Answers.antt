@@ -1,3 +1,5 @@
+-- Proof of `Chronicle::erased`, src/tally.rt. The records that are left without those of tickets that were cut or taken
+-- back, the interrupts, and the requests that were refused at their entry.
 use Rattle.std.proofs.Common.{subst}
 use Rattle.meet_tickets.specs.Bases.{IsLegalOn}
 use Rattle.meet_laws.proofs.Erased.{is_erased}

@@ -1,3 +1,4 @@
+-- Proof of `Chronicle::laws`, src/tally.rt. Where the items are that were given, by number.
 use Rattle.std.proofs.Common.{◌≡◌, ◌++◌, sym, subst}
 use Rattle.meet_tickets.specs.Bases.{IsLegalOn}
 use Rattle.meet_tickets.specs.Fates.{opening}

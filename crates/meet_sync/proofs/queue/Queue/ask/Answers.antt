@@ -1,3 +1,5 @@
+-- Proof of `Queue::ask`, src/whole.rt. A whole call, of a queue of any kind: a request, and the wait for its ending,
+-- for so many milliseconds where there is a limit.
 use Rattle.meet_sync.proofs.Wholes.{waited}
 use Rattle.meet_sync.proofs.queue.Queue.ask.Goals as goal
 

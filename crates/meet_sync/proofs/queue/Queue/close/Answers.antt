@@ -1,3 +1,5 @@
+-- Proof of `Queue::close`, src/closing.rt. Ends the queue: takes all seats back, free or with an open ticket, in
+-- whatever order, compares the records with the seats' receipts, and takes out what is left.
 use Rattle.std.proofs.Common.{subst, map}
 use Rattle.meet_book.specs.Listed.{AreListed}
 use Rattle.meet_sync.proofs.Histories.{chapter_of}

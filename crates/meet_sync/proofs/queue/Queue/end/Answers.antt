@@ -1,3 +1,4 @@
+-- Proof of `Queue::end`, src/queue.rt.
 use Rattle.std.proofs.Common.{◌≡◌, sym, ap, ◌∙◌, subst, Some, None}
 use Rattle.meet_core.specs.Awaits.{AwaitsAs}
 use Rattle.meet_core.specs.Queue.{seats_of}

@@ -1,3 +1,4 @@
+-- Proof of `Queue::look`, src/whole.rt. Follows an open ticket up: how it ended, or the ticket as it was.
 use Rattle.std.proofs.Common.{refl}
 use Rattle.meet_tickets.specs.declared.records.Cause.TheVariants.{Interrupted}
 use Rattle.meet_tickets.specs.declared.records.Deed.TheVariants.{Done, Got, Withdrawn}

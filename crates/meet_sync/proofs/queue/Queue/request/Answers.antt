@@ -1,3 +1,5 @@
+-- Proof of `Queue::request`, src/requests.rt. Makes a request of a seat of this queue: settled at once, or parked with
+-- its ticket open.
 use Rattle.std.proofs.Common.{ap, ◌∙◌, subst, option_to_list}
 use Rattle.meet_core.specs.QueueRecords.{queue_record}
 use Rattle.meet_core.specs.QueueSteps.{item_in}

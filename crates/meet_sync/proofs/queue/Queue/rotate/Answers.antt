@@ -1,3 +1,4 @@
+-- Proof of `Queue::rotate`, src/chapters.rt. A checkpoint of a place that hands out what it folds away.
 use Rattle.meet_sync.proofs.Histories.{chapter_of}
 use Rattle.meet_sync.proofs.queue.Queue.rotate.Goals as goal
 

@@ -1,3 +1,5 @@
+-- Proof of `Queue::run_out`, src/whole.rt. The time of an open ticket ran out: it is withdrawn, or ends as it was met
+-- or cut.
 use Rattle.std.proofs.Common.{refl}
 use Rattle.meet_tickets.specs.declared.records.Cause.TheVariants.{Expired}
 use Rattle.meet_tickets.specs.declared.records.Deed.TheVariants.{Withdrawn}

@@ -1,3 +1,4 @@
+-- Proof of `Queue::take_all`, src/draining.rt. Takes the items, one poll after another under one hold.
 use Rattle.std.proofs.Common.{ap, sym, ◌∙◌, min, refl}
 use Rattle.meet_core.specs.declared.calls.queue_calls.QueueCall.TheVariants.{Poll}
 use Rattle.meet_sync.proofs.Takings.{place_takes, all_bring, all_drained, least_of, drain_why}
@@ -10,7 +11,7 @@ items_of-requires-clause-items g c =
     let i = c.args.seat.now.number in
     let poll = g.O.Drains.poll in
     all_bring mark i (λ old a new. g.O.Object.steps old i poll a new) (g.O.Object.record_of i poll)
-    (λ o. g.O.Object.refusal_of o i poll) g.O.Drains.available_of g.O.Drains.left_of g.O.Object.owed_of
+    (λ o. g.O.Object.refusal_of o i poll) g.O.Drains.available_of g.O.Drains.unspent_of g.O.Object.owed_of
     (place_takes g.O.QueuePlace.kind mark g.O.QueuePlace.queue_of i g.O.Object.steps g.O.Object.record_of
     g.O.Drains.available_of poll laws.is_step laws.is_record g.met.O.QueueDrains.is_available g.met.O.QueueDrains.is_poll)
     g.O.Object.seat_count_of g.N.Ledger.parts c.room_for-there.result c.args.seat.now.list c.locked_drain.new.seat.list
@@ -23,7 +24,7 @@ returns-in-Ok-locked_drain-clause-drained g c =
     let i = c.args.seat.now.number in
     let poll = g.O.Drains.poll in
     all_drained mark i (λ old a new. g.O.Object.steps old i poll a new) (g.O.Object.record_of i poll)
-    (λ o. g.O.Object.refusal_of o i poll) g.O.Drains.available_of g.O.Drains.left_of g.O.Object.owed_of
+    (λ o. g.O.Object.refusal_of o i poll) g.O.Drains.available_of g.O.Drains.unspent_of g.O.Object.owed_of
     (place_takes g.O.QueuePlace.kind mark g.O.QueuePlace.queue_of i g.O.Object.steps g.O.Object.record_of
     g.O.Drains.available_of poll laws.is_step laws.is_record g.met.O.QueueDrains.is_available g.met.O.QueueDrains.is_poll)
     g.O.Object.seat_count_of g.N.Ledger.parts c.room_for-there.result c.args.seat.now c.locked_drain.new.seat
@@ -37,7 +38,7 @@ returns-in-Ok-locked_drain-clause-count g c =
     let i = c.args.seat.now.number in
     let poll = g.O.Drains.poll in
     let least = least_of mark i (λ old a new. g.O.Object.steps old i poll a new) (g.O.Object.record_of i poll)
-    (λ o. g.O.Object.refusal_of o i poll) g.O.Drains.available_of g.O.Drains.left_of g.O.Object.owed_of
+    (λ o. g.O.Object.refusal_of o i poll) g.O.Drains.available_of g.O.Drains.unspent_of g.O.Object.owed_of
     (place_takes g.O.QueuePlace.kind mark g.O.QueuePlace.queue_of i g.O.Object.steps g.O.Object.record_of
     g.O.Drains.available_of poll laws.is_step laws.is_record g.met.O.QueueDrains.is_available g.met.O.QueueDrains.is_poll)
     g.O.Object.seat_count_of g.N.Ledger.parts c.args.max c.room_for-there.result
@@ -54,6 +55,6 @@ pub returns-in-Err-clause-why : goal.returns-in-Err-clause-why
 returns-in-Err-clause-why g c =
     let laws = g.met.O.QueuePlace in
     let i = c.args.seat.now.number in
-    drain_why g.O.QueuePlace.queue_of g.O.Object.seat_count_of g.O.Drains.left_of g.O.Object.owed_of
+    drain_why g.O.QueuePlace.queue_of g.O.Object.seat_count_of g.O.Drains.unspent_of g.O.Object.owed_of
     (λ o. g.O.Object.refusal_of o i g.O.Drains.poll) g.N.Ledger.parts g.N.Ledgers.cap i c.room_for-there.result c.in-Err.why
     laws.is_count (λ o. ap (g.O.Object.refusal_of o i) g.met.O.QueueDrains.is_poll ∙ laws.is_refusal o i Poll) c.in-Err.ensures.why

@@ -1,3 +1,4 @@
+-- Proof of `Crew::first_cut`, src/crew.rt. The first worker whose take was cut.
 use Rattle.std.proofs.Common.{sym, refl}
 use Rattle.pool_core.specs.declared.stages.Stage.TheVariants.{Absent}
 use Rattle.pool_core.specs.Calls.{is_cut}

@@ -1,3 +1,4 @@
+-- Proof of `Crew::free`, src/crew.rt. The least number that no worker has.
 use Rattle.std.proofs.Common.{sym, refl, not}
 use Rattle.pool_core.specs.declared.stages.Stage.TheVariants.{Running}
 use Rattle.pool_core.specs.Pools.{is_there}

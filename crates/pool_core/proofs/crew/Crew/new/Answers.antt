@@ -1,3 +1,4 @@
+-- Proof of `Crew::new`, src/crew.rt. So many numbers that no worker has.
 use Rattle.std.proofs.Common.{arith, ◌∙◌, ap, sym, refl, not, length, cond, ℕ}
 use Rattle.std.proofs.lemmas.List.{length-replicate}
 use Rattle.std.specs.Prelude.{count_by, sum_by}

@@ -1,3 +1,4 @@
+-- Proof of `Crew::put`, src/crew.rt. The worker of this number comes to another stage: the one that it leaves.
 use Rattle.std.proofs.Common.{arith, Bool, ℕ, cond, not, sym, ap, ◌∙◌}
 use Rattle.std.proofs.lemmas.List.Sums.{sum_by-set}
 use Rattle.pool_core.specs.declared.stages.Stage.TheVariants.{Absent, Running}

@@ -1,3 +1,4 @@
+-- What stays true from turn to turn of `Numbers::all`, src/numbers.rt.
 use Rattle.std.proofs.Common.{◌≡◌, ℕ, ◌*◌, ◌≤◌, nat_lt, if◌then◌else◌, length}
 use Rattle.pool_core.specs.Numbers.{holds}
 use Rattle.pool_core.proofs.numbers.Numbers.all.Given as goal

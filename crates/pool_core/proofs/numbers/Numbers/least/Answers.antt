@@ -1,3 +1,4 @@
+-- Proof of `Numbers::least`, src/numbers.rt. The least number in it.
 use Rattle.std.proofs.Common.{◌≡◌, ◌<◌, subst, sym, ap, ◌∙◌, ◌==◌, not, ℕ}
 use Rattle.std.specs.Prelude.{position}
 use Rattle.std.specs.Int.{bit_at}

@@ -1,0 +1,1 @@
+-- Proof of `Numbers::put`, src/numbers.rt. From now on a number is in it, or isn't.

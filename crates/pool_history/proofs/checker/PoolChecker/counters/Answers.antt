@@ -1,3 +1,5 @@
+-- Proof of `PoolChecker::counters`, src/checker.rt. What the pool counts behind the records that were pushed; or the
+-- fault that was found.
 use Rattle.pool_history.proofs.Pushed.{counters-taken}
 use Rattle.pool_history.proofs.checker.PoolChecker.counters.Goals as goal
 

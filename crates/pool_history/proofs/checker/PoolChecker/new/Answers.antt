@@ -1,3 +1,4 @@
+-- Proof of `PoolChecker::new`, src/checker.rt. A checker of a pool of these settings that has seen no record.
 use Rattle.std.proofs.Common.{refl}
 use Rattle.pool_history.proofs.checker.PoolChecker.new.Goals as goal
 

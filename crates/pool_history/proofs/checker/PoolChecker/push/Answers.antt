@@ -1,3 +1,4 @@
+-- Proof of `PoolChecker::push`, src/checker.rt. Takes the next record in: the records so far are legal.
 use Rattle.std.proofs.Common.{◌≡◌, ◌∙◌, ◌+◌, Some, None, ap, refl}
 use Rattle.pool_history.specs.declared.checker.PoolFault.TheVariants.{Illegal}
 use Rattle.pool_history.specs.Pushing.{Progress}

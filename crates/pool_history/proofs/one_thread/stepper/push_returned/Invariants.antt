@@ -1,3 +1,4 @@
+-- What stays true from turn to turn of `push_returned`, src/one_thread/stepper.rt.
 use Rattle.std.proofs.Common.{◌≡◌, ◌+◌, ◌++◌, take, vec_len, vec_capacity}
 use Rattle.pool_history.specs.OneThread.{returned}
 use Rattle.pool_history.proofs.one_thread.stepper.push_returned.Given as goal

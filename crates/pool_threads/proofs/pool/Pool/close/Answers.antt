@@ -1,3 +1,5 @@
+-- Proof of `Pool::close`, src/closing.rt. Ends the pool: takes all seats back, compares the records with their
+-- receipts, and waits until the threads of its workers have let it go.
 use Rattle.std.proofs.Common.{◌∙◌, sym, ap, subst, map, arith, not}
 use Rattle.std.specs.Prelude.{count_by}
 use Rattle.std.specs.List.{filter_map}

@@ -1,3 +1,4 @@
+-- Proof of `Pool::execute`, src/pool.rt. Hands a job in.
 use Rattle.std.proofs.Common.{ℕ, ◌≤◌, Some, subst, ap, ◌∙◌}
 use Rattle.std.specs.Prelude.{IfSome}
 use Rattle.pool_threads.proofs.Unstarted.{unstarted}

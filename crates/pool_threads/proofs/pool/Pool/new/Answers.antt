@@ -1,3 +1,4 @@
+-- Proof of `Pool::new`, src/making.rt. A pool without a job, and a seat for each caller, numbered from 0.
 use Rattle.std.proofs.Common.{ap, sym, ◌∙◌, arith, vec_len}
 use Rattle.std.specs.Prelude.{map}
 use Rattle.pool_threads.specs.Mirrored.{tags_of, given_tag, away}

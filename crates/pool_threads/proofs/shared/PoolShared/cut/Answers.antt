@@ -1,3 +1,5 @@
+-- Proof of `PoolShared::cut`, src/checkpoints.rt. Folds the records away, counts them for the seat, and answers how
+-- many were folded away since the first.
 use Rattle.std.proofs.Common.{◌≡◌, ◌+◌, ◌≤◌, ℕ, Ok, Err, arith}
 use Rattle.std.specs.Prelude.{Result, IfOk}
 use Rattle.meet_tickets.specs.declared.refusals.Refusal.{Refusal}

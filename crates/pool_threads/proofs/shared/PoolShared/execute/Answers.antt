@@ -1,3 +1,4 @@
+-- Proof of `PoolShared::execute`, src/shared.rt. Hands a job in.
 use Rattle.std.proofs.Common.{refl, ap, ◌∙◌}
 use Rattle.pool_core.specs.Pools.{free}
 use Rattle.pool_threads.proofs.Placing.{handed_as, started_free, worker_has}

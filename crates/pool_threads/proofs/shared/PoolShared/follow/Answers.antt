@@ -1,3 +1,4 @@
+-- Proof of `PoolShared::follow`, src/steps.rt. A worker's `follow`.
 use Rattle.std.proofs.Common.{subst}
 use Rattle.std.specs.Prelude.{option_to_list}
 use Rattle.meet_place.specs.Seats.{Adds}

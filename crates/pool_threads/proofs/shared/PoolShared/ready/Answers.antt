@@ -1,3 +1,4 @@
+-- Proof of `PoolShared::ready`, src/steps.rt. A worker's `ready`.
 use Rattle.std.proofs.Common.{subst}
 use Rattle.std.specs.Prelude.{option_to_list}
 use Rattle.meet_place.specs.Seats.{Adds}

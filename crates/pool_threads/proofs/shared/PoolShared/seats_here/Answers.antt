@@ -1,3 +1,5 @@
+-- Proof of `PoolShared::seats_here`, src/closing.rt. How many seats of workers lie here: those of the workers that
+-- aren't there.
 use Rattle.std.proofs.Common.{ap, ◌∙◌, not, is_some}
 use Rattle.std.specs.Prelude.{count_by}
 use Rattle.pool_threads.proofs.Lying.{lying}

@@ -1,3 +1,5 @@
+-- Proof of `WorkerSeat::forget`, src/worth.rt. Lets go of the receipts for the first `gone` records, but not of a start
+-- whose answer stays.
 use Rattle.std.proofs.Common.{◌≡◌, ◌≤◌, ◌∙◌, sym, ap, subst, true, false, length, arith}
 use Rattle.std.proofs.lemmas.List.Sums.{length-filter, count_by-le-length}
 use Rattle.meet_book.specs.Listed.{is_since}

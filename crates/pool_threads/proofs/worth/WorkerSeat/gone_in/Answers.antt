@@ -1,3 +1,5 @@
+-- Proof of `WorkerSeat::gone_in`, src/worth.rt. How many records were folded away, looked at for this seat, whose share
+-- is no more than all records.
 use Rattle.std.proofs.Common.{ap, subst, sym}
 use Rattle.pool_threads.specs.Worthy.{IsWorthy}
 use Rattle.pool_threads.proofs.worth.WorkerSeat.gone_in.Goals as goal

@@ -1,3 +1,4 @@
+-- Proof of `WorkerSeat::step`, src/worth.rt. Makes a step.
 use Rattle.std.proofs.Common.{sym, subst, ap}
 use Rattle.std.proofs.Common.{◌≡◌}
 use Rattle.std.proofs.lemmas.Result.{IfErr-weaker}

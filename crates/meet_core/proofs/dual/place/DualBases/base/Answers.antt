@@ -1,3 +1,4 @@
+-- Proof of `Dual::base`, src/dual/place.rt.
 use Rattle.std.proofs.lemmas.Result.{IfOk-weaker}
 use Rattle.meet_core.specs.QueueSteps.{kind_of}
 use Rattle.meet_core.proofs.Leading.{base-leads}

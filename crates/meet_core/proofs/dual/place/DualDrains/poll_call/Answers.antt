@@ -1,3 +1,4 @@
+-- Proof of `Dual::poll_call`, src/dual/place.rt.
 use Rattle.meet_core.proofs.Polling.{poll-takes}
 use Rattle.meet_core.proofs.dual.place.DualDrains.poll_call.Goals as goal
 

@@ -1,3 +1,4 @@
+-- Proof of `Dual::leave`, src/dual/place.rt.
 use Rattle.std.proofs.Common.{subst, sym}
 use Rattle.meet_core.specs.QueueSteps.{LeadsTo, kind_of}
 use Rattle.meet_core.proofs.Leavings.{left_on}

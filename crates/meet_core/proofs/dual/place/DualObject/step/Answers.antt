@@ -1,3 +1,4 @@
+-- Proof of `Dual::step`, src/dual/place.rt.
 use Rattle.meet_core.specs.QueueSteps.{kind_of}
 use Rattle.meet_core.proofs.Effects.{synchronous-made, effect-owed, effect-room}
 use Rattle.meet_core.proofs.Leading.{leads-on}

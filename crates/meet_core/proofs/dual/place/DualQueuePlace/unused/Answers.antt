@@ -1,3 +1,4 @@
+-- Proof of `Dual::unused`, src/dual/place.rt.
 use Rattle.std.proofs.Common.{sym, subst, ◌<◌}
 use Rattle.std.proofs.Math.Nat.{le_refl}
 use Rattle.meet_core.specs.QueueSteps.{kind_of}

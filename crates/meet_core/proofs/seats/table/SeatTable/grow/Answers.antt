@@ -1,3 +1,4 @@
+-- Proof of `SeatTable::grow`, src/seats/table.rt. Makes it so many seats at least, at most 65,536.
 use Rattle.std.proofs.Common.{◌∙◌, ◌++◌, ◌-◌, ap, replicate, false}
 use Rattle.meet_tickets.specs.declared.lines.Hold.TheVariants.{Free}
 use Rattle.meet_core.specs.Table.{hold_at, flag_at}

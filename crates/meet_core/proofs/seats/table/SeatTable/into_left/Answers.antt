@@ -1,3 +1,5 @@
+-- Proof of `SeatTable::into_left`, src/seats/table.rt. Takes the table apart, and puts the items that its seats hold
+-- behind the others, by rising seat.
 use Rattle.std.proofs.Common.{◌≡◌, ◌∙◌, sym, ap, vec_len}
 use Rattle.std.specs.List.{cons_option}
 use Rattle.std.specs.Vec.Iter.{into_iter_items}

@@ -1,3 +1,4 @@
+-- What stays true from turn to turn of `SeatTable::into_left`, src/seats/table.rt.
 use Rattle.std.proofs.Common.{◌≡◌, ◌+◌, ◌++◌, length, vec_len, vec_capacity}
 use Rattle.std.specs.Vec.Iter.{into_iter_items, into_iter_len}
 use Rattle.meet_core.specs.Left.{left_at_seats}

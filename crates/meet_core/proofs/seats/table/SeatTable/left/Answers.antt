@@ -1,3 +1,4 @@
+-- Proof of `SeatTable::left`, src/seats/table.rt. How many items the seats hold.
 use Rattle.std.proofs.Common.{◌∙◌, sym, ap}
 use Rattle.std.specs.Prelude.{count_by, is_some}
 use Rattle.meet_core.specs.Left.{left_of_hold}

@@ -1,3 +1,5 @@
+-- Proof of `SeatTable::new`, src/seats/table.rt. A table of this many seats, at most 65,536, none of which holds
+-- anything or is flagged.
 use Rattle.std.proofs.Common.{◌≡◌, ◌∙◌, ◌++◌, ◌∷◌, [], sym, ap, refl, arith, length}
 use Rattle.std.proofs.lemmas.Grind.{common_steps}
 use Rattle.std.proofs.lemmas.List.{replicate_more, length-replicate}

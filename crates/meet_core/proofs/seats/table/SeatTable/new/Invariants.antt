@@ -1,3 +1,4 @@
+-- What stays true from turn to turn of `SeatTable::new`, src/seats/table.rt.
 use Rattle.std.proofs.Common.{◌≡◌, replicate, vec_len, vec_capacity}
 use Rattle.meet_tickets.specs.declared.lines.Hold.TheVariants.{Free}
 use Rattle.meet_core.proofs.seats.table.SeatTable.new.Given as goal

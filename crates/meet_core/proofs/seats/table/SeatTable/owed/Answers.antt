@@ -1,3 +1,4 @@
+-- Proof of `SeatTable::owed`, src/seats/table.rt. How many seats have an open ticket.
 use Rattle.std.proofs.Common.{◌∙◌, sym}
 use Rattle.meet_tickets.specs.BySeat.{is_open}
 use Rattle.meet_core.proofs.Counts.{count_by-holds}

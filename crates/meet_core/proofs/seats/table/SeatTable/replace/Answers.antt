@@ -1,3 +1,5 @@
+-- Proof of `SeatTable::replace`, src/seats/table.rt. Puts what this seat holds in the place of what it held, which is
+-- handed out.
 use Rattle.std.proofs.Common.{◌<◌, length}
 use Rattle.meet_tickets.specs.declared.lines.Hold.TheVariants.{Free}
 use Rattle.meet_core.proofs.Written.{put_at-set}

@@ -1,3 +1,4 @@
+-- Proof of `SeatTable::set_flag`, src/seats/table.rt. Sets or clears this seat's flag.
 use Rattle.std.proofs.Common.{◌<◌, length, arith, false}
 use Rattle.meet_core.proofs.Written.{put_at-set}
 use Rattle.meet_core.proofs.seats.table.SeatTable.set_flag.Goals as goal

@@ -1,3 +1,4 @@
+-- Proof of `SeatTable::settled`, src/seats/table.rt. How many seats have an open ticket that isn't in the line.
 use Rattle.std.proofs.Common.{◌∙◌, sym}
 use Rattle.meet_tickets.specs.BySeat.{is_settled}
 use Rattle.meet_core.proofs.Counts.{count_by-holds}

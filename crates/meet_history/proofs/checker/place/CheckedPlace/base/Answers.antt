@@ -1,3 +1,5 @@
+-- Proof of `CheckedPlace::base`, src/checker/place/base.rt. The base that stands for this place, where so many records
+-- were folded away.
 use Rattle.std.proofs.Common.{refl}
 use Rattle.meet_history.specs.Checking.{Checked}
 use Rattle.meet_history.proofs.Ends.{stands-checked}

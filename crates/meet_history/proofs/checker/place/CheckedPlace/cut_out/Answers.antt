@@ -1,3 +1,4 @@
+-- Proof of `CheckedPlace::cut_out`, src/checker/place/endings.rt. What stands in the line for this seat leaves it.
 use Rattle.std.proofs.Common.{◌∙◌, length, arith}
 use Rattle.meet_history.proofs.Kept.{removed-is}
 use Rattle.meet_history.proofs.Seated.{seated-removed}

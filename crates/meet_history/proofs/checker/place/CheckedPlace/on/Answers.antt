@@ -1,3 +1,4 @@
+-- Proof of `CheckedPlace::on`, src/checker/place/base.rt. The place that a well-formed base stands for.
 use Rattle.std.proofs.Common.{◌≡◌, ◌∙◌, ◌<◌, ◌≤◌, ℕ, false, List, sym, ap, subst, All, map, length, arith}
 use Rattle.std.proofs.lemmas.List.Elements.{All-weaker}
 use Rattle.meet_tickets.specs.declared.lines.Entry.{Entry}

@@ -1,3 +1,4 @@
+-- Proof of `CheckedPlace::standing`, src/checker/place.rt. Where the place's tickets and items are.
 use Rattle.std.proofs.Common.{◌≡◌, ◌-◌, ◌∙◌, sym, ap}
 use Rattle.meet_tickets.specs.Meeting.{waiting_count}
 use Rattle.meet_tickets.specs.BySeat.{settled_of}

@@ -1,3 +1,5 @@
+-- Proof of `CheckedPlace::withdraws`, src/checker/place/endings.rt. This ticket leaves the line and ends, if it is the
+-- seat's and stands there.
 use Rattle.std.proofs.Common.{◌∙◌, ap, sym, is_some, length, arith}
 use Rattle.std.proofs.lemmas.Bool.{false≢true}
 use Rattle.meet_tickets.specs.BySeat.{entry_of}

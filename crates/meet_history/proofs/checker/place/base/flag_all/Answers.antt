@@ -1,3 +1,4 @@
+-- Proof of `flag_all`, src/checker/place/base.rt. These seats are flagged.
 use Rattle.std.proofs.Common.{◌∙◌, sym, ap, ℕ, Bool, true, length, arith}
 use Rattle.meet_tickets.specs.BySeat.{put_at}
 use Rattle.meet_core.specs.Table.{hold_at, flag_at}

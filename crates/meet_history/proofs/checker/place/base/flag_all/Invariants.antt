@@ -1,3 +1,4 @@
+-- What stays true from turn to turn of `flag_all`, src/checker/place/base.rt.
 use Rattle.std.proofs.Common.{◌≡◌, ◌≤◌, length, take}
 use Rattle.meet_core.specs.Table.{hold_at, flag_at}
 use Rattle.meet_history.specs.Laid.{flagged_once}

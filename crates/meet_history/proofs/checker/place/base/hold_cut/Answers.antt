@@ -1,3 +1,4 @@
+-- Proof of `hold_cut`, src/checker/place/base.rt. The seats of tickets that were cut hold them.
 use Rattle.std.proofs.Common.{◌∙◌, sym, ap, ℕ, arith}
 use Rattle.meet_tickets.specs.declared.lines.Hold.{Hold}
 use Rattle.meet_tickets.specs.BySeat.{put_at}

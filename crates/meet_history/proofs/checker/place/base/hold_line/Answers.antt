@@ -1,3 +1,4 @@
+-- Proof of `hold_line`, src/checker/place/base.rt. The seats of a line's entries hold their tickets where these wait.
 use Rattle.std.proofs.Common.{◌≡◌, ◌+◌, ◌∙◌, ◌<◌, ◌≤◌, sym, ap, ℕ, List, ◌∷◌, [], ◌++◌, take, length, get_or}
 use Rattle.std.proofs.lemmas.List.{take_more}
 use Rattle.meet_tickets.specs.declared.lines.Entry.{Entry}

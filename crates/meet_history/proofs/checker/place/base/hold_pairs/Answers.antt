@@ -1,3 +1,4 @@
+-- Proof of `hold_pairs`, src/checker/place/base.rt. The seats of tickets that were met hold them.
 use Rattle.std.proofs.Common.{◌∙◌, sym, arith}
 use Rattle.meet_tickets.specs.BySeat.{put_at}
 use Rattle.meet_tickets.specs.Bases.{paired_held}

@@ -1,3 +1,4 @@
+-- What stays true from turn to turn of `hold_pairs`, src/checker/place/base.rt.
 use Rattle.std.proofs.Common.{◌≡◌, ◌≤◌, length, map, take}
 use Rattle.meet_tickets.specs.Bases.{paired_held}
 use Rattle.meet_core.specs.Table.{hold_at, flag_at}

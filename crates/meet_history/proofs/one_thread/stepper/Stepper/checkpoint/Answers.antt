@@ -1,3 +1,5 @@
+-- Proof of `Stepper::checkpoint`, src/one_thread/stepper.rt. Folds the records so far away, and tells how many were
+-- folded away since the first.
 use Rattle.std.proofs.Common.{◌≡◌, ◌+◌, ◌<◌, ◌∙◌, ℕ, Bool, true, false, cond, Option, Some, None, [], ◌∷◌, ◌++◌, append-nil, refl, sym, ap, subst, length, arith}
 use Rattle.std.specs.Prelude.{nat_lt, nat_le}
 use Rattle.std.specs.Option.{option_map_or}

@@ -1,3 +1,5 @@
+-- Proof of `Stepper::drain`, src/one_thread/stepper/drains.rt. Takes up to so many items, one poll after another: a
+-- reply for each, and then their number.
 use Rattle.meet_core.specs.Queue.{seats_of}
 use Rattle.std.proofs.Common.{◌≡◌, ◌+◌, ◌++◌, ◌∷◌, [], ◌∙◌, refl, sym, ap, min, map, length, append_assoc, append-nil, length-append, Some, rules, ℕ}
 use Rattle.std.proofs.lemmas.List.{length-map}

@@ -1,3 +1,5 @@
+-- Proof of `Stepper::make`, src/one_thread/stepper.rt. Makes a call of the queue; an ending is of the seat's open
+-- ticket.
 use Rattle.std.proofs.Common.{◌∙◌, ◌≡◌, ◌+◌, ◌<◌, sym, ap, subst, length, false, true, Option, None, Some, arith}
 use Rattle.std.specs.Prelude.{nat_lt}
 use Rattle.std.proofs.lemmas.Result.{IfErr-weaker}

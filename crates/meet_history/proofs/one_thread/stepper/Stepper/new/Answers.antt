@@ -1,3 +1,4 @@
+-- Proof of `Stepper::new`, src/one_thread/stepper.rt. The place of this setup, before any call.
 use Rattle.std.proofs.Common.{sym, subst, ◌<◌}
 use Rattle.meet_core.proofs.Leading.{fresh-leads}
 use Rattle.meet_history.proofs.one_thread.stepper.Stepper.new.Goals as goal

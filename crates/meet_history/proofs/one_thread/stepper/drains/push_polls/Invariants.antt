@@ -1,3 +1,4 @@
+-- What stays true from turn to turn of `push_polls`, src/one_thread/stepper/drains.rt.
 use Rattle.std.proofs.Common.{◌≡◌, ◌+◌, ◌++◌, map, take, vec_len, vec_capacity}
 use Rattle.meet_history.specs.Stepping.{reply_of, back_of}
 use Rattle.meet_history.proofs.one_thread.stepper.drains.push_polls.Given as goal

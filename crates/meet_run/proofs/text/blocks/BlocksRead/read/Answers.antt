@@ -1,8 +1,9 @@
+-- Proof of `Blocks::read`, src/text/blocks.rt.
 use Rattle.std.proofs.Common.{◌≡◌, ◌<◌, ◌≤◌, ◌∷◌, [], length, take, subst, sym, rules, tests}
 use Rattle.std.specs.Prelude.{slice_range, slice_set}
 use Rattle.std.specs.Io.KnownBytes.{Keeps, prepend_known}
-use Rattle.meet_run.specs.Blocks.{known_of}
-use Rattle.meet_run.proofs.BlockLemmas.{next-byte, written-first, byte-taken}
+use Rattle.meet_run.specs.Texts.Blocks.{known_of}
+use Rattle.meet_run.proofs.Texts.BlockLemmas.{next-byte, written-first, byte-taken}
 use Rattle.meet_run.proofs.text.blocks.BlocksRead.read.Goals as goal
 
 pub returns-clause-bytes : goal.returns-clause-bytes

@@ -1,6 +1,7 @@
+-- Proof of `Chain::begin`, src/trace/chain.rt. A chain that begins with this chapter.
 use Rattle.std.proofs.Common.{ap, ◌∙◌}
-use Rattle.meet_run.specs.Chapters.{broken_at}
-use Rattle.meet_run.proofs.Chaining.{begins-read}
+use Rattle.meet_run.specs.Tracing.Chapters.{broken_at}
+use Rattle.meet_run.proofs.Tracing.Chaining.{begins-read}
 use Rattle.meet_run.proofs.trace.chain.Chain.begin.Goals as goal
 
 pub returns-clause-read : goal.returns-clause-read

@@ -1,0 +1,2 @@
+-- Proof of `Chain::found`, src/trace/chain.rt. Whether the chapters that were read are one legal history, and the line
+-- that says so: as that of one trace of all of them; or which of them can't follow, and why.

@@ -1,5 +1,6 @@
+-- Proof of `Chain::take`, src/trace/chain.rt. The chain with this chapter behind the others.
 use Rattle.std.proofs.Common.{sym, ◌∙◌}
-use Rattle.meet_run.proofs.Chaining.{takes-broken, takes-read, none-there}
+use Rattle.meet_run.proofs.Tracing.Chaining.{takes-broken, takes-read, none-there}
 use Rattle.meet_run.proofs.trace.chain.Chain.take.Goals as goal
 
 pub returns-then-is_some-clause-read : goal.returns-then-is_some-clause-read

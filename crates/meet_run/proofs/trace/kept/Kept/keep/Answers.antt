@@ -1,4 +1,5 @@
-use Rattle.meet_run.proofs.KeepingLemmas.{kept-more, kept-still}
+-- Proof of `Kept::keep`, src/trace/kept.rt. Keeps a record, if they are wanted.
+use Rattle.meet_run.proofs.Tracing.KeepingLemmas.{kept-more, kept-still}
 use Rattle.std.proofs.Common.{refl}
 use Rattle.meet_run.proofs.trace.kept.Kept.keep.Goals as goal
 

@@ -1,3 +1,4 @@
+-- Proof of `Transfer::base`, src/transfer/place.rt.
 use Rattle.std.proofs.lemmas.Result.{IfOk-weaker}
 use Rattle.meet_core.specs.QueueSteps.{bounded_kind}
 use Rattle.meet_core.proofs.Leading.{base-leads}

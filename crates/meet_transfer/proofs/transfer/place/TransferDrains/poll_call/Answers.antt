@@ -1,3 +1,4 @@
+-- Proof of `Transfer::poll_call`, src/transfer/place.rt.
 use Rattle.meet_transfer.proofs.Polling.{bounded-takes}
 use Rattle.meet_transfer.proofs.transfer.place.TransferDrains.poll_call.Goals as goal
 

@@ -1,3 +1,4 @@
+-- Proof of `Transfer::leave`, src/transfer/place.rt.
 use Rattle.std.proofs.Common.{subst, sym, ap}
 use Rattle.meet_tickets.specs.declared.places.End.TheVariants.{Front}
 use Rattle.meet_core.specs.QueueSteps.{LeadsTo}

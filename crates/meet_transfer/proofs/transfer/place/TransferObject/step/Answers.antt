@@ -1,3 +1,4 @@
+-- Proof of `Transfer::step`, src/transfer/place.rt.
 use Rattle.meet_core.specs.QueueSteps.{bounded_kind}
 use Rattle.meet_core.proofs.Effects.{queue-made, effect-owed, effect-room}
 use Rattle.meet_core.proofs.Leading.{leads-on, bounded-on}

@@ -1,3 +1,4 @@
+-- Proof of `Unbounded::base`, src/unbounded/place.rt.
 use Rattle.meet_transfer.proofs.unbounded.place.UnboundedBases.base.Goals as goal
 
 pub returns-clause-leads : goal.returns-clause-leads

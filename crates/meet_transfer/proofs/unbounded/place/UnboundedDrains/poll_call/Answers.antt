@@ -1,3 +1,4 @@
+-- Proof of `Unbounded::poll_call`, src/unbounded/place.rt.
 use Rattle.meet_tickets.specs.declared.places.End.TheVariants.{Front}
 use Rattle.meet_core.proofs.Polling.{poll-takes}
 use Rattle.meet_transfer.proofs.unbounded.place.UnboundedDrains.poll_call.Goals as goal

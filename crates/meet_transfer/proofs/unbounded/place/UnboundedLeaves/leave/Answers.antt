@@ -1,3 +1,4 @@
+-- Proof of `Unbounded::leave`, src/unbounded/place.rt.
 use Rattle.meet_transfer.proofs.unbounded.place.UnboundedLeaves.leave.Goals as goal
 
 pub returns : goal.returns

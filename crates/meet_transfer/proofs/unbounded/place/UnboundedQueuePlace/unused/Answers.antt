@@ -1,3 +1,4 @@
+-- Proof of `Unbounded::unused`, src/unbounded/place.rt.
 use Rattle.std.proofs.Common.{sym, subst, ◌<◌, None}
 use Rattle.std.proofs.Math.Nat.{le_refl}
 use Rattle.meet_core.specs.QueueSteps.{bounded_kind}

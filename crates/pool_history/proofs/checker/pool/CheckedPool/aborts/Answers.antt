@@ -1,3 +1,4 @@
+-- Proof of `CheckedPool::aborts`, src/checker/pool/callers.rt. The job comes back.
 use Rattle.std.proofs.Common.{◌≡◌, ◌+◌, refl}
 use Rattle.pool_core.specs.Histories.{next_moment}
 use Rattle.pool_core.specs.Steps.{Allows}

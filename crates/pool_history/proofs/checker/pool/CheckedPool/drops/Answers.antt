@@ -1,3 +1,4 @@
+-- Proof of `CheckedPool::drops`, src/checker/pool/callers.rt. The job is dropped.
 use Rattle.std.proofs.Common.{◌≡◌, ◌+◌, refl}
 use Rattle.pool_core.specs.Histories.{next_moment}
 use Rattle.pool_core.specs.Steps.{Allows}

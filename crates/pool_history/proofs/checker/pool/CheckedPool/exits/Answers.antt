@@ -1,3 +1,4 @@
+-- Proof of `CheckedPool::exits`, src/checker/pool/workers.rt. The worker ends, the pool being shut.
 use Rattle.std.proofs.Common.{◌≡◌, ◌-◌, subst, sym, refl, arith}
 use Rattle.pool_core.specs.Histories.{next_moment}
 use Rattle.pool_core.specs.Steps.{Allows}

@@ -1,3 +1,4 @@
+-- Proof of `CheckedPool::expires`, src/checker/pool/workers.rt. The worker waited too long, and ends.
 use Rattle.std.proofs.Common.{◌≡◌, ◌∙◌, ◌-◌, sym, refl, arith}
 use Rattle.pool_core.proofs.Crowd.{taker-of}
 use Rattle.pool_core.specs.Histories.{next_moment}

@@ -1,3 +1,5 @@
+-- Proof of `CheckedPool::fails`, src/checker/pool/workers.rt. The worker couldn't be started, and its first job comes
+-- back.
 use Rattle.std.proofs.Common.{◌≡◌, ◌∙◌, ◌-◌, ◌+◌, ap, sym, refl, arith}
 use Rattle.pool_core.specs.Histories.{next_moment}
 use Rattle.pool_core.specs.Pools.{jobs_at, stage_of}

@@ -1,3 +1,4 @@
+-- Proof of `CheckedPool::finishes`, src/checker/pool/workers.rt. The worker's job answered.
 use Rattle.std.proofs.Common.{◌≡◌, ◌∙◌, ◌-◌, ◌+◌, sym, refl, arith}
 use Rattle.pool_core.specs.Histories.{next_moment}
 use Rattle.pool_core.specs.Steps.{Allows}

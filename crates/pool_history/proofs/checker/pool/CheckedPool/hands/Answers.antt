@@ -1,3 +1,4 @@
+-- Proof of `CheckedPool::hands`, src/checker/pool/callers.rt. The waiting worker that is met gets the job.
 use Rattle.std.proofs.Common.{◌≡◌, ◌∙◌, ◌-◌, ℕ, sym, ap, refl, arith}
 use Rattle.meet_tickets.specs.declared.lines.Entry.{Entry}
 use Rattle.pool_core.proofs.Stays.{takes-from}

@@ -1,3 +1,4 @@
+-- Proof of `CheckedPool::is_next`, src/checker/pool/callers.rt. Whether this is the least number that no worker has.
 use Rattle.std.proofs.Common.{◌≡◌, ◌∙◌, ℕ, Option, Some, None, sym}
 use Rattle.pool_history.proofs.checker.pool.CheckedPool.is_next.Goals as goal
 

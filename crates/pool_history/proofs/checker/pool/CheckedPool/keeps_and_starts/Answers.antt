@@ -1,3 +1,4 @@
+-- Proof of `CheckedPool::keeps_and_starts`, src/checker/pool/callers.rt. The job is kept, and the first worker starts.
 use Rattle.std.proofs.Common.{◌≡◌, ◌∙◌, refl}
 use Rattle.pool_core.specs.Histories.{next_moment}
 use Rattle.pool_core.specs.Pools.{working}

@@ -1,3 +1,4 @@
+-- Proof of `CheckedPool::leaves`, src/checker/pool/workers.rt. The worker, which starts without a job, ends.
 use Rattle.std.proofs.Common.{◌≡◌, ◌∙◌, ◌-◌, sym, refl, None, arith}
 use Rattle.pool_core.proofs.Working.{jobless-from}
 use Rattle.pool_core.specs.Histories.{next_moment}

@@ -1,3 +1,4 @@
+-- Proof of `CheckedPool::leaves_to_caller`, src/checker/pool/callers.rt. The caller runs the job.
 use Rattle.std.proofs.Common.{◌≡◌, ◌+◌, refl}
 use Rattle.pool_core.specs.Histories.{next_moment}
 use Rattle.pool_core.specs.Steps.{Allows}

@@ -1,3 +1,4 @@
+-- Proof of `CheckedPool::new`, src/checker/pool.rt. A pool of these settings that nobody works in.
 use Rattle.std.proofs.Common.{◌≡◌, ◌∙◌, None, sym}
 use Rattle.pool_core.specs.Calls.{settings_refusal}
 use Rattle.pool_history.proofs.Taken.{new-moment, new-orderly}

@@ -1,3 +1,4 @@
+-- Proof of `CheckedPool::oldest`, src/checker/pool.rt. The kept job that came first.
 use Rattle.std.proofs.Common.{◌∙◌, ◌+◌, sym}
 use Rattle.pool_history.specs.Inside.{moment_in}
 use Rattle.pool_history.proofs.Taken.{oldest-unless}

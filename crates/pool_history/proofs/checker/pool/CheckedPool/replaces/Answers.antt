@@ -1,3 +1,5 @@
+-- Proof of `CheckedPool::replaces`, src/checker/pool/callers.rt. The kept job that came first is dropped, and the new
+-- one is kept.
 use Rattle.std.proofs.Common.{◌≡◌, ◌∙◌, ◌+◌, ℕ, Some, refl}
 use Rattle.pool_core.proofs.After.{oldest-from}
 use Rattle.pool_core.specs.Histories.{next_moment}

@@ -1,3 +1,5 @@
+-- Proof of `CheckedPool::runs`, src/checker/pool/workers.rt. The worker runs the job that it starts with or was handed,
+-- or the kept one that came first.
 use Rattle.std.proofs.Common.{◌≡◌, ◌∙◌, ◌-◌, ℕ, max, subst, ap, sym, arith}
 use Rattle.pool_core.specs.Histories.{Moment}
 use Rattle.pool_core.specs.Histories.{next_moment}

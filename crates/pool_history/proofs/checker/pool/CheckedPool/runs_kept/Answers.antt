@@ -1,3 +1,5 @@
+-- Proof of `CheckedPool::runs_kept`, src/checker/pool/workers.rt. The worker, which has none in hand, runs the kept job
+-- that came first.
 use Rattle.std.proofs.Common.{◌≡◌, ◌∙◌, ◌-◌, ℕ, max, Some, None, subst, ap, sym, arith}
 use Rattle.pool_core.proofs.After.{oldest-from}
 use Rattle.pool_core.specs.Histories.{Moment}

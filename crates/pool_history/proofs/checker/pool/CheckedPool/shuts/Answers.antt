@@ -1,3 +1,4 @@
+-- Proof of `CheckedPool::shuts`, src/checker/pool/callers.rt. The pool is shut.
 use Rattle.std.proofs.Common.{◌≡◌, ◌∙◌, true, sym, refl, arith}
 use Rattle.meet_line.proofs.Sound.{HasOneSide-sound}
 use Rattle.pool_core.specs.Histories.{next_moment}

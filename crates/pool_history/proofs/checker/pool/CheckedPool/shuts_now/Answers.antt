@@ -1,3 +1,4 @@
+-- Proof of `CheckedPool::shuts_now`, src/checker/pool/callers.rt. The pool is shut, and its kept jobs come back.
 use Rattle.std.proofs.Common.{◌≡◌, ◌∙◌, ◌+◌, true, sym, refl, arith}
 use Rattle.pool_core.specs.Histories.{next_moment}
 use Rattle.pool_core.specs.Steps.{Allows}

@@ -1,3 +1,4 @@
+-- Proof of `CheckedPool::starts`, src/checker/pool/callers.rt. A new worker starts with the job.
 use Rattle.std.proofs.Common.{◌≡◌, refl}
 use Rattle.pool_core.specs.Histories.{next_moment}
 use Rattle.pool_core.specs.Steps.{Allows}

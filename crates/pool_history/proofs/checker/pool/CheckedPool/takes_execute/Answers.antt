@@ -1,3 +1,4 @@
+-- Proof of `CheckedPool::takes_execute`, src/checker/pool/callers.rt. Takes an execute in, if the rules give it.
 use Rattle.pool_history.proofs.checker.pool.CheckedPool.takes_execute.Goals as goal
 
 pub returns-in-Aborted-clause-allowed : goal.returns-in-Aborted-clause-allowed

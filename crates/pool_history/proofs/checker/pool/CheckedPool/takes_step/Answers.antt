@@ -1,3 +1,4 @@
+-- Proof of `CheckedPool::takes_step`, src/checker/pool/workers.rt. Takes a worker's step in, if the rules give it.
 use Rattle.pool_history.proofs.checker.pool.CheckedPool.takes_step.Goals as goal
 
 pub returns-in-Finished-clause-allowed : goal.returns-in-Finished-clause-allowed

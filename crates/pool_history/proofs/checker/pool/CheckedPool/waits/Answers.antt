@@ -1,3 +1,4 @@
+-- Proof of `CheckedPool::waits`, src/checker/pool/workers.rt. The worker finds no job, and waits.
 use Rattle.std.proofs.Common.{◌≡◌, ◌∙◌, ◌-◌, None, sym, refl, arith}
 use Rattle.pool_core.specs.Histories.{next_moment}
 use Rattle.pool_core.specs.Steps.{Allows}

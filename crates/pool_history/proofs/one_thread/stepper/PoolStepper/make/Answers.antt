@@ -1,3 +1,5 @@
+-- Proof of `PoolStepper::make`, src/one_thread/stepper.rt. Makes a call of the pool, where there is room for its
+-- replies.
 use Rattle.std.proofs.Common.{◌≡◌, ◌∙◌, ℕ, ◌+◌, ◌≤◌, ◌++◌, ◌∷◌, None, List, length, length-append, append_assoc, ap, sym, subst, option_to_list, vec_len, vec_capacity, MatchOption, arith}
 use Rattle.std.specs.Prelude.{⊤}
 use Rattle.meet_tickets.specs.declared.records.Record.{Record}

@@ -1,3 +1,5 @@
+-- Proof of `MarkLine::of`, src/checker/place/line.rt. The line of these entries, whose tickets rise, and which are of
+-- one side.
 use Rattle.std.proofs.Common.{◌∙◌, ℕ, sym, ap, subst, [], ◌∷◌, ◌++◌, take}
 use Rattle.std.proofs.lemmas.List.{take_more}
 use Rattle.meet_tickets.specs.declared.lines.Entry.{Entry}

@@ -1,3 +1,4 @@
+-- What stays true from turn to turn of `MarkLine::of`, src/checker/place/line.rt.
 use Rattle.std.proofs.Common.{◌≡◌, take}
 use Rattle.meet_history.specs.Marks.{IsNewest}
 use Rattle.meet_history.proofs.checker.place.line.MarkLine.of.Given as goal

@@ -1,3 +1,5 @@
+-- Proof of `MarkLine::partner`, src/checker/place/line.rt. The partner of a request of this side leaves the line, if it
+-- has one.
 use Rattle.std.proofs.Common.{◌≤◌, arith}
 use Rattle.meet_history.specs.Marks.{met_end, entries_of}
 use Rattle.meet_history.proofs.Kept.{all-partner, one_side-partner, kept-partner, givers-partner}

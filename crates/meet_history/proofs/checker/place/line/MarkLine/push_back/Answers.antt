@@ -1,3 +1,4 @@
+-- Proof of `MarkLine::push_back`, src/checker/place/line.rt. An entry comes to the line's end.
 use Rattle.std.proofs.Common.{◌≤◌, ◌<◌, [], ◌∷◌, arith}
 use Rattle.std.proofs.lemmas.List.Elements.{All-nil, All-cons, All-append, All-weaker}
 use Rattle.meet_tickets.specs.Meeting.{IsAlone}

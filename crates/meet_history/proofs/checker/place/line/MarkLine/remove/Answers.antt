@@ -1,3 +1,4 @@
+-- Proof of `MarkLine::remove`, src/checker/place/line.rt. The entry of this ticket leaves the line, if it is there.
 use Rattle.std.proofs.Common.{◌≤◌, refl, arith}
 use Rattle.meet_tickets.proofs.Line.Sides.{All-without_first, HasOneSide-without_first}
 use Rattle.meet_history.specs.Marks.{entries_of}

@@ -1,8 +1,0 @@
-use Rattle.std.proofs.Common.{◌≡◌, ◌<◌}
-use Rattle.bench_exchanges.proofs.slots.exchange.Given as goal
-
-abbrev pub invariant-loop : goal.invariant-loop
-invariant-loop g l = record {
-  place : l.seat.arena ≡ l.arena.id;
-  first : l.first_slot < l.arena.slots;
-}

@@ -1,9 +1,0 @@
-use Rattle.meet_tickets.specs.Limits.{most_records}
-use Rattle.bench_handoffs.proofs.checkpoints.run_checkpoints.Given as goal
-
--- the ledger of the queue that is made
-abbrev pub ghosts-run_at-N-Ledger : goal.ghosts-run_at-N-Ledger
-ghosts-run_at-N-Ledger g a = record { name = a.parts.blanks.records.name; parts = a.parts.blanks.records.parts }
-
-abbrev pub ghosts-run_at-N-Ledgers : goal.ghosts-run_at-N-Ledgers
-ghosts-run_at-N-Ledgers g a = record { folds = a.parts.blanks.folds.name; cap = most_records }

@@ -1,8 +1,0 @@
-use Rattle.bench_handoffs.proofs.seated.run_spinning.Given as goal
-
--- the ledger of the queue that is made
-abbrev pub ghosts-run_over-N-Ledger : goal.ghosts-run_over-N-Ledger
-ghosts-run_over-N-Ledger g a = record { name = a.parts.blanks.records.name; parts = a.parts.blanks.records.parts }
-
-abbrev pub ghosts-run_over-N-Ledgers : goal.ghosts-run_over-N-Ledgers
-ghosts-run_over-N-Ledgers g a = record { folds = a.parts.blanks.folds.name; cap = a.race.cap }

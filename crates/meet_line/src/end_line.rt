@@ -1,0 +1,131 @@
+//! The lines of fair and of unfair places: one line over the end at which it is met. Who came first is met first, or
+//! who came last.
+
+ghost use Rattle.std.specs.Prelude.{◌≡◌, ◌≢◌, ◌+◌, ◌<◌, ◌≤◌, ◌==◌, [], ◌∷◌, ◌++◌, All, find, length, option_to_list};
+ghost use Rattle.meet_tickets.specs.BySeat.{without_first};
+ghost use Rattle.meet_line.specs.Rolled.{IsTableSize};
+ghost use Rattle.meet_line.specs.Stored.{fellows, IsLookedAt};
+
+use crate::line::Line;
+use crate::linked::Linked;
+use crate::met_at::{First, Last, MetAt};
+use meet_tickets::{End, Entry, Refusal, Ticket};
+use std::alloc::Global;
+use std::marker::{Model, PhantomData};
+
+/// A line that is met at this end. Entries are found in buckets by their tickets, and leave without a walk.
+#[derive(Drop)]
+pub struct EndLine<T, A: MetAt> {
+    line: Linked<T>,
+    at: PhantomData<A>,
+}
+
+/// The line of a fair place, whose first entry is met.
+pub type FairLine<T> = EndLine<T, First>;
+
+/// The line of an unfair place, whose last entry is met.
+pub type StackLine<T> = EndLine<T, Last>;
+
+impl<T, A: MetAt> Model for EndLine<T, A> {
+    ghost use Rattle.meet_line.specs.Stored.{Bucketed};
+
+    ghost Value = { Bucketed T };
+
+    ghost view = { λ line. line.line };
+}
+
+impl<T, A: MetAt> EndLine<T, A> {
+    /// How many nodes the last removal looked at: the ticket's own, and those of its bucket that came later; all of its
+    /// bucket, where the ticket wasn't there; 0 before the first removal.
+    pub fn looks(&self) -> u64
+        ensures { result ≡ self.now.looked }
+    {
+        self.line.looks() as u64
+    }
+
+    /// How many buckets there are: none before room is first made, and then a power of two, not below the number of the
+    /// entries and those that may come without growth.
+    pub fn buckets(&self) -> u64
+        ensures count { result ≡ self.now.buckets }
+        ensures size { IsTableSize result }
+        ensures enough { length self.now.entries + self.now.room ≤ result }
+    {
+        self.line.buckets() as u64
+    }
+}
+
+impl<T, A: MetAt> Line<T> for EndLine<T, A> {
+    ghost entries = { λ line. line.entries };
+
+    ghost spare = { λ line. line.room };
+
+    ghost end = { A.end };
+
+    fn empty(alloc: Global) -> Self
+        ensures entries { result.entries ≡ [] }
+        ensures room { result.room ≡ 0 }
+        ensures looked { result.looked ≡ 0 }
+    {
+        EndLine {
+            line: Linked::empty(alloc),
+            at: PhantomData,
+        }
+    }
+
+    fn reserve(&mut self, count: u64) -> Result<(), Refusal> {
+        self.line.reserve(count as usize)
+    }
+
+    #[inline(always)]
+    fn push_back(&mut self, entry: Entry<T>)
+        requires room { 0 < self.old.room }
+        requires fresh { All (λ e. e.ticket ≢ entry.ticket) self.old.entries }
+        ensures entries { self.new.entries ≡ self.old.entries ++ entry ∷ [] }
+        ensures room { self.new.room + 1 ≡ self.old.room }
+    {
+        self.line.push_back(entry);
+    }
+
+    #[inline(always)]
+    fn meet(&mut self) -> Option<Entry<T>> {
+        match A::end() {
+            End::Front => self.line.meet_first(),
+            End::Back => self.line.meet_last(),
+        }
+    }
+
+    fn remove(&mut self, ticket: Ticket) -> Option<Entry<T>>
+        ensures entry { result ≡ find (λ e. e.ticket == ticket) self.old.entries }
+        ensures entries { self.new.entries ≡ without_first (λ e. e.ticket == ticket) self.old.entries }
+        ensures room { self.new.room ≡ self.old.room + length (option_to_list result) }
+        ensures looked { IsLookedAt self.old.buckets ticket self.old.entries result self.new.looked }
+        ensures few { self.new.looked ≤ fellows self.old.buckets ticket self.old.entries }
+    {
+        self.line.remove(ticket)
+    }
+
+    fn first(&self) -> Option<&Entry<T>> {
+        self.line.first()
+    }
+
+    fn entry(&self, ticket: Ticket) -> Option<&Entry<T>> {
+        self.line.entry(ticket)
+    }
+
+    fn list(&self, alloc: Global) -> Result<Vec<&Entry<T>>, Refusal> {
+        self.line.list(alloc)
+    }
+
+    fn len(&self) -> u64 {
+        self.line.len() as u64
+    }
+
+    fn room(&self) -> u64 {
+        self.line.room() as u64
+    }
+
+    fn destroy_empty(self) {
+        let EndLine { line, at: _ } = self;
+        line.destroy_empty();
+    }
+}

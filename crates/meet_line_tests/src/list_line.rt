@@ -1,0 +1,124 @@
+//! A line in a plain list, over the end at which it is met: what the linked lines are compared with.
+
+ghost use Rattle.std.specs.Prelude.{◌≡◌, ◌≢◌, ◌+◌, ◌<◌, [], ◌∷◌, ◌++◌, All};
+
+use meet_line::{First, Last, Line, MetAt};
+use meet_tickets::{End, Entry, Refusal, Ticket};
+use std::alloc::Global;
+use std::collections::VecDeque;
+use std::marker::{Model, PhantomData};
+
+/// A line that is met at this end, in a list. Taking from an end moves nothing; a removal walks.
+#[derive(Drop)]
+pub struct ListLine<T, A: MetAt> {
+    entries: VecDeque<Entry<T>>,
+    room: usize,
+    at: PhantomData<A>,
+}
+
+/// The plain form of a fair line.
+pub type ListFair<T> = ListLine<T, First>;
+
+/// The plain form of a stack.
+pub type ListStack<T> = ListLine<T, Last>;
+
+impl<T, A: MetAt> Model for ListLine<T, A> {
+    ghost use Rattle.std.specs.Prelude.{◌≡◌, ◌≢◌, ◌+◌, ◌≤◌, AllPairs};
+    ghost use Rattle.std.specs.VecDeque.{deque_len, deque_capacity};
+    ghost use Rattle.meet_line_tests.specs.Lined.{Lined};
+
+    ghost Value = { Lined T };
+
+    ghost view = { λ line. record { entries = line.entries.items; room = line.room } };
+
+    ghost invariant = { λ line. (deque_len line.entries + line.room ≤ deque_capacity line.entries)
+        × AllPairs (λ e f. e.ticket ≢ f.ticket) line.entries.items };
+}
+
+impl<T, A: MetAt> Line<T> for ListLine<T, A> {
+    ghost entries = { λ line. line.entries };
+
+    ghost spare = { λ line. line.room };
+
+    ghost end = { A.end };
+
+    fn empty(alloc: Global) -> Self {
+        ListLine {
+            entries: VecDeque::new(alloc),
+            room: 0,
+            at: PhantomData,
+        }
+    }
+
+    fn reserve(&mut self, count: u64) -> Result<(), Refusal> {
+        let count = count as usize;
+        if count > self.room {
+            if self.entries.reserve(count).is_err() {
+                return Err(Refusal::Memory);
+            }
+            self.room = count;
+        }
+        Ok(())
+    }
+
+    fn push_back(&mut self, entry: Entry<T>)
+        requires room { 0 < self.old.room }
+        requires fresh { All (λ e. e.ticket ≢ entry.ticket) self.old.entries }
+        ensures entries { self.new.entries ≡ self.old.entries ++ entry ∷ [] }
+        ensures room { self.new.room + 1 ≡ self.old.room }
+    {
+        self.entries.push_back_reserved(entry);
+        self.room -= 1;
+    }
+
+    fn meet(&mut self) -> Option<Entry<T>> {
+        let met = match A::end() {
+            End::Front => self.entries.pop_front()?,
+            End::Back => self.entries.pop_back()?,
+        };
+        self.room += 1;
+        Some(met)
+    }
+
+    fn remove(&mut self, ticket: Ticket) -> Option<Entry<T>> {
+        let index = self
+            .entries
+            .iter()
+            .position(|entry| entry.ticket == ticket)?;
+        let removed = self.entries.remove(index)?;
+        self.room += 1;
+        Some(removed)
+    }
+
+    fn first(&self) -> Option<&Entry<T>> {
+        self.entries.front()
+    }
+
+    fn entry(&self, ticket: Ticket) -> Option<&Entry<T>> {
+        self.entries.iter().find(|entry| entry.ticket == ticket)
+    }
+
+    fn list(&self, alloc: Global) -> Result<Vec<&Entry<T>>, Refusal> {
+        match self.entries.iter().collect(alloc) {
+            Ok(list) => Ok(list),
+            Err(_) => Err(Refusal::Memory),
+        }
+    }
+
+    fn len(&self) -> u64 {
+        self.entries.len() as u64
+    }
+
+    fn room(&self) -> u64 {
+        self.room as u64
+    }
+
+    fn destroy_empty(self) {
+        let ListLine {
+            entries,
+            room: _,
+            at: _,
+        } = self;
+        entries.destroy_empty();
+    }
+}

@@ -1,0 +1,6 @@
+pub mod BlockLemmas
+pub mod LineLemmas
+pub mod NextLemmas
+pub mod TextLines
+pub mod WordLemmas
+pub mod WritingLemmas

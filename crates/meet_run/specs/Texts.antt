@@ -1,0 +1,5 @@
+pub mod Blocks
+pub mod Faults
+pub mod Reading
+pub mod Words
+pub mod Writing

@@ -1,0 +1,13 @@
+pub mod BaseGrammar
+pub mod BaseSpelling
+pub mod BaseWording
+pub mod BasedTraces
+pub mod Chains
+pub mod Chapters
+pub mod Erasing
+pub mod Keeping
+pub mod TraceGrammar
+pub mod TraceSpelling
+pub mod TraceTexts
+pub mod TraceWording
+pub mod Traces
