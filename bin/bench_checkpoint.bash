@@ -16,7 +16,7 @@ set -euo pipefail
 share=1
 [ "${1:-}" = quick ] && share=10
 
-build bench_threads 2
+build bench_threads
 work=$(mktemp -d)
 trap 'rm -rf "$work"' EXIT
 

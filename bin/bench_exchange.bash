@@ -11,7 +11,7 @@ exchanges=100000
 rounds=5
 [ "${1:-}" = quick ] && exchanges=$((exchanges / 16))
 
-build bench_threads 2
+build bench_threads
 program=$(program_of bench_threads)
 work=$(mktemp -d)
 trap 'rm -rf "$work"' EXIT

@@ -12,7 +12,7 @@ set -euo pipefail
 few=1000000
 [ "${1:-}" = quick ] && few=300000
 
-build bench_threads 2
+build bench_threads
 work=$(mktemp -d)
 trap 'rm -rf "$work"' EXIT
 

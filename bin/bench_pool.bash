@@ -26,7 +26,7 @@ workers=$(nproc)
 keeps=(env MALLOC_TRIM_THRESHOLD_=4294967296 MALLOC_MMAP_THRESHOLD_=4294967296 MALLOC_TOP_PAD_=67108864)
 [ "${1:-}" = quick ] && jobs=$((jobs / 10))
 
-build soak_pools 2
+build soak_pools
 program=$(program_of soak_pools)
 work=$(mktemp -d)
 trap 'rm -rf "$work"' EXIT

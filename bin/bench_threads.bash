@@ -15,7 +15,7 @@ items=100000
 samples=12
 [ "${1:-}" = quick ] && items=$((items / 16)) && samples=3
 
-build bench_threads 2
+build bench_threads
 work=$(mktemp -d)
 trap 'rm -rf "$work"' EXIT
 

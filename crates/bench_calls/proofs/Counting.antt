@@ -1,11 +1,10 @@
 -- What is counted behind calls is the same whether or not records were folded away.
-use Rattle.std.proofs.Common.{◌≡◌, ℕ, ◌+◌, ◌<◌, ◌≤◌, sym, ap, ◌∙◌, List, length, length-append}
-use Rattle.meet_tickets.specs.declared.lines.Hold.TheVariants.{Free}
+use Rattle.std.proofs.Common.{◌≡◌, ◌+◌, ◌<◌, sym, ap, ◌∙◌, List, length, length-append}
 use Rattle.meet_tickets.specs.declared.places.Kind.{Kind}
 use Rattle.meet_tickets.specs.declared.records.Record.{Record}
 use Rattle.meet_tickets.specs.declared.records.Deed.{Deed}
 use Rattle.meet_tickets.specs.Bases.{Based, no_base, moment_of_base, IsWellFormed, IsLegalOn}
-use Rattle.meet_tickets.specs.BySeat.{Seats, Moment, beginning, moment_of}
+use Rattle.meet_tickets.specs.BySeat.{beginning, moment_of}
 use Rattle.meet_tickets.specs.Fates.{StandsOn}
 use Rattle.meet_tickets.proofs.Tellings.Continued.{moment_of-append}
 use Rattle.meet_tickets.proofs.Told.StandingsOn.{stands_on}

@@ -1,6 +1,6 @@
 //! Tasks, as their lines say them.
 
-ghost use Rattle.std.specs.Prelude.{◌≡◌, ◌≤◌, IfSome};
+ghost use Rattle.std.specs.Prelude.{◌≡◌, IfSome};
 ghost use Rattle.std.specs.Option.{option_map};
 ghost use Rattle.bench_calls.specs.Tasks.{FitsTask, shape_of, number_in, task_at_end, task_with, task_in, task_of};
 

@@ -12,8 +12,6 @@ ghost use Rattle.std.specs.Prelude.{◌<◌};
 
 mod places;
 mod slots;
-#[cfg(test)]
-mod small_races;
 mod tally;
 
 use crate::command_line::exchanges::{ExchangeRace, Way};

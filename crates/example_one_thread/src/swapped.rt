@@ -1,5 +1,5 @@
 //! A first use of the exchanger: two seats exchange parcels in a slot, by single steps.
-ghost use Rattle.std.specs.Prelude.{◌≡◌, ◌<◌, IfOk};
+ghost use Rattle.std.specs.Prelude.{◌<◌, IfOk};
 ghost use Rattle.example_one_thread.specs.Came.{IsOf};
 
 mod endings;

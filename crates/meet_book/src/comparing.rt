@@ -3,7 +3,7 @@
 ghost use Rattle.std.specs.Prelude.{◌≡◌, ◌≢◌, ◌↔◌, ◌+◌, ◌<◌, ◌≤◌, ℕ, List, [], ◌∷◌, length, map, drop, slice_get};
 ghost use Rattle.std.specs.Prelude.{Some, IsTrue, MatchOption, IfNone, IfSome};
 ghost use Rattle.meet_tickets.specs.Limits.{most_seats};
-ghost use Rattle.meet_book.specs.Listed.{of_seat, entries_since, list_of, DifferAt, FewerOrThese};
+ghost use Rattle.meet_book.specs.Listed.{of_seat, entries_since, DifferAt, FewerOrThese};
 ghost use Rattle.meet_book.specs.Listed.{AreListed, FirstDiffer};
 ghost use Rattle.meet_book.specs.Received.{Received};
 

@@ -6,7 +6,7 @@ ghost use Rattle.meet_sync.specs.Asking.{item_of, RefusedAs};
 ghost use Rattle.meet_sync.specs.Drained.{DrainedTo, IsLeastFor};
 ghost use Rattle.meet_sync.specs.Ending.{EndedAs, MayRunOut};
 ghost use Rattle.meet_sync.specs.Told.{IsRequestWhy};
-ghost use Rattle.meet_sync.specs.declared.asked.Request.TheVariants.{Put, Give, Offer, Take, Poll};
+ghost use Rattle.meet_sync.specs.declared.asked.Request.TheVariants.{Put, Offer, Take, Poll};
 ghost use Rattle.meet_chosen.specs.Chosen.{kind_of, order_of};
 
 use crate::queue::{ChosenQueue, whichever};

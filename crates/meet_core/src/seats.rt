@@ -4,6 +4,5 @@ mod itemless;
 mod opened;
 mod table;
 
-pub(crate) use opened::mark_of;
 pub use opened::{Opened, open_tickets};
 pub use table::SeatTable;

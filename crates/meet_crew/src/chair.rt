@@ -1,6 +1,6 @@
 //! Chairs: what a thread has in its hand at a queue.
 
-ghost use Rattle.std.specs.Prelude.{◌≡◌, ◌<◌, ⊤, ℕ, Option, IsSome, IfSome, IfOk, IfErr, None, ◌∷◌, []};
+ghost use Rattle.std.specs.Prelude.{◌≡◌, ◌<◌, ⊤, ℕ, Option, IfSome, IfOk, IfErr, None, ◌∷◌, []};
 ghost use Rattle.meet_tickets.specs.declared.places.Kind.{Kind};
 ghost use Rattle.meet_tickets.specs.declared.records.Deed.{Deed};
 ghost use Rattle.meet_place.specs.Seats.{SeatView};

@@ -1,6 +1,6 @@
 //! Drawing a trace.
 
-ghost use Rattle.std.specs.Prelude.{◌≡◌, ◌+◌, ◌^◌, ◌<◌, length, None, IfOk, IfErr, IfSome};
+ghost use Rattle.std.specs.Prelude.{◌≡◌, ◌+◌, ◌<◌, length, None, IfOk, IfErr, IfSome};
 ghost use Rattle.meet_history.specs.Pushing.{HasSeen};
 ghost use Rattle.meet_run.specs.Texts.Reading.{lines_of};
 ghost use Rattle.meet_run.specs.Tracing.Traces.{trace_fault_in, NamesLine, IsUnreadTrace, IsTraceFault};

@@ -1,7 +1,7 @@
 //! The signs of a picture, and how wide it is.
 
 ghost use Rattle.std.specs.Prelude.{◌≡◌, ℕ, ◌≤◌, SomeIff};
-ghost use Rattle.meet_draw.specs.Styles.{least_width, most_width, usual_width, column_width};
+ghost use Rattle.meet_draw.specs.Styles.{least_width, most_width, usual_width};
 
 use std::marker::Model;
 

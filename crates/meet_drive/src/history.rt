@@ -1,6 +1,6 @@
 //! The history of a drive, written down while its queue goes on: chapter by chapter.
 
-ghost use Rattle.std.specs.Prelude.{◌≡◌, ◌++◌, [], length, OnOk, OnErr, IfErr};
+ghost use Rattle.std.specs.Prelude.{◌≡◌, ◌++◌, [], length, OnOk, OnErr};
 
 use meet_sync::Chapter;
 use meet_tickets::{Deed, Record, Refusal};

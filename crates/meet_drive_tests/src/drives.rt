@@ -1,8 +1,6 @@
 //! Whole drives. Each giver puts 1, 2, 3 and so on, so what the takers count is known whatever the threads' order: with
 //! n givers of m items n * m items, whose sum is n * m * (m + 1) / 2, as many pairs, and three records for each.
 
-ghost use Rattle.meet_drive.specs.Driven.{IsSized};
-
 use meet_drive::{Drive, drive, drive_in_chapters, drive_within};
 use meet_history::Standing;
 use meet_tickets::Refusal;

@@ -1,6 +1,6 @@
 //! The seats of an arena, free or with an offer that stands.
 
-ghost use Rattle.std.specs.Prelude.{◌≡◌, ◌<◌, ◌-◌, [], vec_len};
+ghost use Rattle.std.specs.Prelude.{◌≡◌, ◌<◌, ◌-◌, vec_len};
 ghost use Rattle.std.specs.Vec.{vec_capacity};
 ghost use Rattle.meet_exchange.specs.Seats.{IsIdle, HasOffer, PendingView, SeatView, view_of};
 

@@ -1,6 +1,6 @@
 //! Offers and their endings, with the words that they leave.
 
-ghost use Rattle.std.specs.Prelude.{◌≡◌, ◌<◌};
+ghost use Rattle.std.specs.Prelude.{◌<◌};
 
 use crate::shared::{
     gets, is_contended, is_early, is_late, last_and_first, opened, posts, swaps, withdraws,

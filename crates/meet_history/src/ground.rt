@@ -1,6 +1,6 @@
 //! A base that is told piece by piece. Each piece takes time by the logarithm of how many there are.
 
-ghost use Rattle.std.specs.Prelude.{◌≡◌, ◌<◌, nat_lt, true, not, is_some, ◌&&◌, AllPairs, IfOk, IsTrue, if◌then◌else◌};
+ghost use Rattle.std.specs.Prelude.{◌≡◌, ◌<◌, nat_lt, true, not, is_some, ◌&&◌, AllPairs, IfOk, if◌then◌else◌};
 ghost use Rattle.std.specs.List.{list_all};
 
 use crate::numbers::Numbers;
@@ -105,7 +105,7 @@ impl Ground {
     ghost use Rattle.meet_tickets.specs.Bases.{IsWellFormed};
     ghost use Rattle.meet_history.specs.Pieces.{bare_base, is_new, is_unheld, keeps_more, entry_fits, pair_fits};
     ghost use Rattle.meet_history.specs.Pieces.{cut_fits, flag_fits};
-    ghost use Rattle.meet_history.specs.Pieces.{in_order, may_follow, with_piece};
+    ghost use Rattle.meet_history.specs.Pieces.{may_follow, with_piece};
 
     /// A base of nothing but these numbers. It takes no memory.
     pub fn new(alloc: Global, kind: Kind, gone: u64, last: Ticket) -> Self

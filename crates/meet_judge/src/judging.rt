@@ -1,6 +1,6 @@
 //! Judges the text of calls.
 
-ghost use Rattle.std.specs.Prelude.{◌≡◌, IfOk, IfSome, OnOk};
+ghost use Rattle.std.specs.Prelude.{IfOk, IfSome, OnOk};
 ghost use Rattle.std.specs.Io.KnownBytes.{Appends};
 ghost use Rattle.meet_judge.specs.CallText.{refused_text};
 ghost use Rattle.meet_judge.specs.Judging.{JudgeEnds, Judged};

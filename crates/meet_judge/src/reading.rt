@@ -1,6 +1,6 @@
 //! Reads the text of calls.
 
-ghost use Rattle.std.specs.Prelude.{◌≡◌, ◌<◌, ◌≤◌, length, IfOk, IfSome};
+ghost use Rattle.std.specs.Prelude.{◌≡◌, ◌<◌, length, IfOk, IfSome};
 ghost use Rattle.meet_judge.specs.CallText.{calls_text};
 
 use crate::writing::{push_call, push_calls};

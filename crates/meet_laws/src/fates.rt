@@ -1,18 +1,17 @@
 //! The fate of a ticket, read from a base and records.
 
-ghost use Rattle.std.specs.Prelude.{◌≡◌, ℕ, ◌==◌, ◌&&◌, nat_lt, Some, None, is_some, ◌++◌, ◌∷◌, [], List, map};
+ghost use Rattle.std.specs.Prelude.{◌≡◌, ℕ, ◌==◌, Some, None, ◌++◌, ◌∷◌, [], List, map};
 ghost use Rattle.std.specs.List.{flat_map, list_any};
-ghost use Rattle.std.specs.Option.{option_or, option_map_or};
+ghost use Rattle.std.specs.Option.{option_map_or};
 ghost use Rattle.meet_tickets.specs.declared.fates.Fate.TheVariants.{Withdrawn, Cut, Kept, Waiting};
 ghost use Rattle.std.specs.Prelude.{if◌then◌else◌};
-ghost use Rattle.meet_tickets.specs.Bases.{Based};
 ghost use Rattle.meet_tickets.specs.BySeat.{is_request};
 ghost use Rattle.meet_tickets.specs.Fates.{line_record, pair_records, cut_records, opening, is_past, fate, fate_on};
-ghost use Rattle.meet_tickets.specs.Fates.{named_by, meets_it, tells_of_meeting, withdrawn_by, interrupts};
+ghost use Rattle.meet_tickets.specs.Fates.{tells_of_meeting};
 ghost use Rattle.meet_tickets.specs.declared.records.Deed.{Deed};
 ghost use Rattle.meet_tickets.specs.declared.records.Record.{Record};
 ghost use Rattle.meet_tickets.specs.Fates.{asked_for, asked_on, met_on, entered_in, waits_first};
-ghost use Rattle.meet_laws.specs.Hearing.{told_in, fate_told, fate_told_asked, fate_settled};
+ghost use Rattle.meet_laws.specs.Hearing.{told_in, fate_told, fate_settled};
 
 use meet_tickets::{
     Base, Cause, Deed, Entry, Fate, OpenCut, OpenPair, Record, SeatNo, Side, Ticket,
@@ -40,16 +39,6 @@ fn is_of(entry: &Record<Deed>, ticket: Ticket) -> bool
     entry.ticket == ticket
 }
 
-/// What was there, or else this where it passes.
-fn first_of<T: Copy + Drop>(there: Option<T>, item: T, passes: bool) -> Option<T>
-    ensures { result ≡ option_or there (if passes then Some item else None) }
-{
-    match there {
-        Some(first) => Some(first),
-        None => { if passes { Some(item) } else { None } }
-    }
-}
-
 /// What is told of a ticket once this record is heard too.
 fn hear(told: Told, ticket: Ticket, entry: Record<Deed>) -> Told
     ensures { (history : List (Record Deed)) → told ≡ told_in history ticket
@@ -60,8 +49,8 @@ fn hear(told: Told, ticket: Ticket, entry: Record<Deed>) -> Told
     let tells = entry.deed.tells_of_meeting() & own;
     let meets = entry.meets(ticket);
     Told {
-        asked: first_of(told.asked, entry.deed, asks),
-        met: first_of(told.met, entry.ticket, meets),
+        asked: told.asked.or(asks.then_some(entry.deed)),
+        met: told.met.or(meets.then_some(entry.ticket)),
         learned: told.learned | tells,
         back: told.back.or(entry.takes_back(ticket)),
         cut: told.cut | entry.cuts(ticket),

@@ -1,6 +1,6 @@
 //! Where the items are that were given, by number.
 
-ghost use Rattle.std.specs.Prelude.{◌≡◌, ℕ, ◌++◌, ◌+◌, ◌<◌, ◌≤◌, ◌^◌, not, is_some, List, count_by, length, map};
+ghost use Rattle.std.specs.Prelude.{◌≡◌, ℕ, ◌++◌, ◌+◌, ◌<◌, ◌≤◌, ◌^◌, not, is_some, count_by, length};
 ghost use Rattle.meet_tickets.specs.Bases.{IsWellFormed, IsLegalOn};
 ghost use Rattle.meet_tickets.specs.Fates.{opening};
 ghost use Rattle.meet_tickets.specs.declared.places.Kind.{Kind};

@@ -1,6 +1,6 @@
 //! The table of a roll: for each bucket the key of its newest ticket.
 
-ghost use Rattle.std.specs.Prelude.{◌≡◌, ℕ, ◌%◌, ◌^◌, ◌<◌, ◌≤◌, None, IfSome, IfOk, OnOk, OnErr, vec_len, replicate};
+ghost use Rattle.std.specs.Prelude.{◌≡◌, ℕ, ◌%◌, ◌^◌, ◌<◌, ◌≤◌, None, IfSome, OnOk, OnErr, vec_len, replicate};
 ghost use Rattle.meet_line.specs.Rolled.{IsTableSize};
 
 use std::alloc::AllocError;

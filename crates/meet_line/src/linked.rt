@@ -8,7 +8,7 @@ ghost use Rattle.meet_tickets.specs.BySeat.{unmet, without_first};
 ghost use Rattle.meet_tickets.specs.declared.places.End.TheVariants.{Front, Back};
 ghost use Rattle.meet_tickets.specs.declared.refusals.Refusal.TheVariants.{Memory};
 ghost use Rattle.meet_line.specs.Rolled.{StandsAt, IsLeft, IsTableSize};
-ghost use Rattle.meet_line.specs.Stored.{slot_at, entries_of, keys_in, Holds, fellows, IsLookedAt};
+ghost use Rattle.meet_line.specs.Stored.{slot_at, entries_of, Holds, fellows, IsLookedAt};
 
 use crate::itemless::let_go_none;
 use crate::roll::Roll;

@@ -1,7 +1,5 @@
 //! What is left in a queue, of items that can't be let go: each comes out once, with its giver's ticket.
 
-ghost use Rattle.std.specs.Prelude.{◌≡◌};
-
 use meet_core::{Followed, Gave, Left, LeftStanding, Meetings, Put, Took};
 use meet_line::{FairLine, Line, StackLine};
 use meet_tickets::{Marked, Refused, SeatNo, Ticket};

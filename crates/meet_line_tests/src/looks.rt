@@ -1,6 +1,6 @@
 //! Lines that find tickets in buckets: how many nodes a removal looks at; and that all four lines do alike.
 
-ghost use Rattle.std.specs.Prelude.{◌≡◌, ◌<◌, ◌≤◌, ◌^◌};
+ghost use Rattle.std.specs.Prelude.{◌<◌, ◌^◌};
 
 use crate::list_line::{ListFair, ListStack};
 use crate::parcels::{Parcel, join, meets_in_order, serial, ticket};

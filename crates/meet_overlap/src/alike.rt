@@ -1,6 +1,6 @@
 //! Whether two worlds are the same.
 
-ghost use Rattle.std.specs.Prelude.{◌≡◌, ◌<◌, ⊤, length, IsTrue};
+ghost use Rattle.std.specs.Prelude.{◌≡◌, ◌<◌, IsTrue};
 ghost use Rattle.meet_overlap.specs.Known.{IsAlike};
 ghost use Rattle.meet_overlap.specs.Places.{world_of};
 

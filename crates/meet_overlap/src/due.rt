@@ -1,8 +1,8 @@
 //! Which call has to move first, and which calls are too late for it.
 
-ghost use Rattle.std.specs.Prelude.{◌≡◌, ◌<◌, ◌≤◌, length, IfOk, IfSome, IsTrue, Some};
+ghost use Rattle.std.specs.Prelude.{◌≡◌, ◌<◌, length, IfOk, IfSome, IsTrue, Some};
 ghost use Rattle.meet_overlap.specs.Known.{AreLeast, IsBound, IsDue, IsEndedAt, IsOverdue, IsPatient};
-ghost use Rattle.meet_overlap.specs.Places.{stage_at, world_of};
+ghost use Rattle.meet_overlap.specs.Places.{world_of};
 
 use crate::calls::{Call, Stage, Verb};
 use crate::stages::stage;

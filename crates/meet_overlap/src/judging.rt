@@ -1,6 +1,6 @@
 //! The judge: a history that explains calls which overlap, or that there is none.
 
-ghost use Rattle.std.specs.Prelude.{◌≡◌, ◌<◌, length, IfOk, IfErr, IfSome, List};
+ghost use Rattle.std.specs.Prelude.{◌<◌, length, IfOk, IfErr, IfSome, List};
 ghost use Rattle.meet_tickets.specs.declared.records.Record.{Record};
 ghost use Rattle.meet_tickets.specs.declared.records.Deed.{Deed};
 ghost use Rattle.meet_overlap.specs.Explaining.{Explains};

@@ -1,7 +1,7 @@
 //! What a record leaves of a place.
 
 ghost use Rattle.std.specs.Prelude.{◌≡◌, OnOk};
-ghost use Rattle.meet_tickets.specs.BySeat.{Moment, queued, meets, released, withdrawn, interrupted, paired_hold};
+ghost use Rattle.meet_tickets.specs.BySeat.{queued, meets, released, withdrawn, interrupted, paired_hold};
 ghost use Rattle.meet_tickets.specs.BySeat.{entry_of, moment_after};
 ghost use Rattle.meet_overlap.specs.Places.{scene};
 

@@ -1,9 +1,7 @@
 //! A call's next record, where the place is known.
 
-ghost use Rattle.std.specs.Prelude.{◌≡◌, ◌↔◌, ℕ, ◌<◌, IsTrue, IfSome};
-ghost use Rattle.meet_tickets.specs.Limits.{last_ticket};
+ghost use Rattle.std.specs.Prelude.{◌≡◌, ◌<◌, IfSome};
 ghost use Rattle.meet_tickets.specs.BySeat.{open_ticket};
-ghost use Rattle.meet_overlap.specs.Calls.{Tells, IsWithin, told_by};
 ghost use Rattle.meet_overlap.specs.Places.{scene};
 ghost use Rattle.meet_overlap.specs.Search.{may_keep, giving, taking, giving_alone, taking_alone, request_of, expiry};
 ghost use Rattle.meet_overlap.specs.Search.{giver_ending, taker_ending, ending_of, is_held, deed_of, request_ticket};

@@ -1,8 +1,8 @@
 //! A place as events leave it.
 
-ghost use Rattle.std.specs.Prelude.{◌≡◌, ◌==◌, find, is_some, set, length, ◌<◌, IfOk, OnOk};
+ghost use Rattle.std.specs.Prelude.{◌≡◌, ◌==◌, find, length, ◌<◌, IfOk, OnOk};
 ghost use Rattle.meet_tickets.specs.Meeting.{end_of, partner};
-ghost use Rattle.meet_tickets.specs.BySeat.{put_at, without_first, unmet, moment_after};
+ghost use Rattle.meet_tickets.specs.BySeat.{put_at, without_first, unmet};
 ghost use Rattle.meet_overlap.specs.Places.{hold_at, flag_at, scene};
 
 use meet_tickets::{Cause, Deed, End, Entry, Hold, Kind, Record, SeatNo, Side, Ticket};

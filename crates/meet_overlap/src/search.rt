@@ -1,6 +1,6 @@
 //! The search for an order in which calls make their records: depth first, with a memory of what leads nowhere.
 
-ghost use Rattle.std.specs.Prelude.{◌≡◌, IfOk, IfErr, IsTrue, List};
+ghost use Rattle.std.specs.Prelude.{IfOk, IfErr, IsTrue, List};
 ghost use Rattle.meet_tickets.specs.declared.records.Record.{Record};
 ghost use Rattle.meet_tickets.specs.declared.records.Deed.{Deed};
 ghost use Rattle.meet_overlap.specs.Explaining.{Explains};

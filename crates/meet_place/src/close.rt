@@ -1,6 +1,6 @@
 //! The end of a place.
 
-ghost use Rattle.std.specs.Prelude.{◌≡◌, ◌+◌, ◌<◌, ◌≤◌, ◌^◌, List, length, map, IfSome, IfOk, IfErr, [], vec_len};
+ghost use Rattle.std.specs.Prelude.{◌≡◌, ◌+◌, ◌<◌, ◌≤◌, ◌^◌, List, length, map, IfOk, IfErr, vec_len};
 ghost use Rattle.meet_book.specs.Listed.{AreListed};
 ghost use Rattle.meet_place.specs.Backs.{list_of, AreOrdered, shares_in, folded_in};
 ghost use Rattle.meet_place.specs.Faults.{FaultFits, missing_in, why_of};

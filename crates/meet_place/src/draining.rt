@@ -1,15 +1,14 @@
 //! A drain at a place that threads share.
 
-ghost use Rattle.std.specs.Prelude.{◌≡◌, ◌⊎◌, ◌+◌, ◌<◌, ◌≤◌, ◌++◌, ℕ, List, [], length, map, min, vec_len};
+ghost use Rattle.std.specs.Prelude.{◌≡◌, ◌⊎◌, ◌+◌, ◌<◌, ◌≤◌, ◌++◌, ℕ, [], length, map, min, vec_len};
 ghost use Rattle.std.specs.Prelude.{IfOk, IfErr, IfSome};
 ghost use Rattle.std.specs.Vec.{vec_capacity};
 ghost use Rattle.meet_tickets.specs.Refusals.{IsWhy};
 ghost use Rattle.meet_tickets.specs.declared.refusals.Refusal.TheVariants.{Memory};
 ghost use Rattle.meet_book.specs.Booked.{Booked};
 ghost use Rattle.meet_book.specs.Draining.{TakingPolls, AreNumbered, book_drain_refusal};
-ghost use Rattle.meet_book.specs.Received.{Received};
 ghost use Rattle.meet_place.specs.Holds.{IsBookOf};
-ghost use Rattle.meet_place.specs.Seats.{SeatView, DrainedAs};
+ghost use Rattle.meet_place.specs.Seats.{DrainedAs};
 
 use crate::ledgers::Ledgers;
 use crate::place::Place;

@@ -40,7 +40,7 @@ pub struct Seat<D: Copy, N: Ledgers> {
 }
 
 impl<D: Copy, N: Ledgers> Model for Seat<D, N> {
-    ghost use Rattle.std.specs.Prelude.{◌≡◌, ◌<◌, ◌+◌, ◌-◌, ℕ, vec_len};
+    ghost use Rattle.std.specs.Prelude.{◌≡◌, ◌<◌, ◌+◌, ◌-◌, vec_len};
     ghost use Rattle.std.specs.Vec.{vec_capacity};
     ghost use Rattle.meet_place.specs.Seats.{SeatView};
 

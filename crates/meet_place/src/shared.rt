@@ -4,7 +4,7 @@ ghost use Rattle.std.specs.Prelude.{◌≡◌, ◌+◌, ◌<◌, ◌≤◌, ◌+
 ghost use Rattle.meet_book.specs.Booked.{Booked};
 ghost use Rattle.meet_book.specs.Booking.{book_refusal, cut_refusal};
 ghost use Rattle.meet_tickets.specs.Refusals.{IsWhy};
-ghost use Rattle.meet_place.specs.Seats.{SeatView, Adds, Checkpoints, share_in};
+ghost use Rattle.meet_place.specs.Seats.{Adds, Checkpoints, share_in};
 ghost use Rattle.meet_place.specs.Holds.{BookRefuses, IsBookOf};
 ghost use Rattle.meet_place.specs.Tending.{is_half_full};
 

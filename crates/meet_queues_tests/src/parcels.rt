@@ -1,7 +1,5 @@
 //! Parcels, what seats ask, and what they are told.
 
-ghost use Rattle.std.specs.Prelude.{◌≡◌};
-
 use meet_tickets::{Marked, Refusal, SeatNo, Ticket};
 use std::process::Abort;
 

@@ -1,6 +1,6 @@
 //! How long the line is, and where it was longest.
 
-ghost use Rattle.std.specs.Prelude.{◌≡◌, ℕ, ◌+◌, ◌<◌, ◌≤◌, ◌^◌, length};
+ghost use Rattle.std.specs.Prelude.{◌≡◌, ◌+◌, ◌<◌, ◌≤◌, ◌^◌, length};
 ghost use Rattle.meet_tickets.specs.declared.places.Kind.{Kind};
 ghost use Rattle.meet_tickets.specs.BySeat.{Moment, Fits, moment_after};
 ghost use Rattle.meet_sum.specs.Lines.{FindsLongestLine, IsNumbered};

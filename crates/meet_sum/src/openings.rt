@@ -1,6 +1,6 @@
 //! A base as records: the requests of its entries, before the first record.
 
-ghost use Rattle.std.specs.Prelude.{◌≡◌, ◌++◌, ◌∷◌, [], IfOk, OnOk, List, map, filter};
+ghost use Rattle.std.specs.Prelude.{◌≡◌, ◌++◌, ◌∷◌, [], IfOk, OnOk, map};
 ghost use Rattle.std.specs.List.{flat_map};
 ghost use Rattle.meet_tickets.specs.Fates.{line_record, pair_records, cut_records, opening, entered_in, tickets_of};
 ghost use Rattle.meet_tickets.specs.Fates.{asked_for, asked_on, met_on};

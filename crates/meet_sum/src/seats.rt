@@ -1,12 +1,12 @@
 //! What each seat did.
 
-ghost use Rattle.std.specs.Prelude.{◌≡◌, ℕ, ◌+◌, ◌<◌, ◌≤◌, ◌^◌, ◌∷◌, ◌++◌, [], List, Some, length, slice_get};
+ghost use Rattle.std.specs.Prelude.{◌≡◌, ℕ, ◌+◌, ◌<◌, ◌^◌, ◌∷◌, ◌++◌, [], List, Some, length, slice_get};
 ghost use Rattle.std.specs.Prelude.{slice_set, IfOk, vec_len, if◌then◌else◌};
 ghost use Rattle.meet_tickets.specs.declared.records.Deed.{Deed};
 ghost use Rattle.meet_tickets.specs.declared.records.Record.{Record};
 ghost use Rattle.meet_tickets.specs.Limits.{most_seats};
 ghost use Rattle.meet_sum.specs.declared.stories.Story.{Story};
-ghost use Rattle.meet_sum.specs.Seats.{greater, stay_at, seat_sum, HasSeats};
+ghost use Rattle.meet_sum.specs.Seats.{greater, seat_sum, HasSeats};
 
 use crate::stories::Story;
 use crate::waits::stay;

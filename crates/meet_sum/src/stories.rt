@@ -1,11 +1,9 @@
 //! What records tell of one ticket, record by record.
 
-ghost use Rattle.std.specs.Prelude.{◌≡◌, ℕ, ◌+◌, ◌==◌, ◌&&◌, nat_lt, None, Some, is_some, List, [], ◌∷◌, ◌++◌, length};
-ghost use Rattle.std.specs.Prelude.{if◌then◌else◌};
-ghost use Rattle.std.specs.Option.{option_or};
+ghost use Rattle.std.specs.Prelude.{◌≡◌, ℕ, ◌+◌, ◌==◌, ◌&&◌, None, is_some, List, [], ◌∷◌, ◌++◌, length};
 ghost use Rattle.meet_tickets.specs.declared.records.Deed.{Deed};
 ghost use Rattle.meet_tickets.specs.declared.records.Record.{Record};
-ghost use Rattle.meet_tickets.specs.Fates.{named_by, meets_it, tells_of_meeting, withdrawn_by, interrupts};
+ghost use Rattle.meet_tickets.specs.Fates.{tells_of_meeting};
 ghost use Rattle.meet_sum.specs.Stories.{asks_for, takes_out, at_once, asked_by, story_in};
 
 use meet_tickets::{Cause, Deed, Record, SeatNo, Ticket};
@@ -116,16 +114,6 @@ fn takes_out(entry: &Record<Deed>, ticket: Ticket) -> bool
     entry.meets(ticket) || entry.takes_back(ticket).is_some() || entry.cuts(ticket)
 }
 
-/// What was there, or else this where it passes.
-fn first_of<T: Copy + Drop>(there: Option<T>, item: T, passes: bool) -> Option<T>
-    ensures { result ≡ option_or there (if passes then Some item else None) }
-{
-    match there {
-        Some(first) => Some(first),
-        None => { if passes { Some(item) } else { None } }
-    }
-}
-
 /// What is told of a ticket once the record of this number is heard too.
 pub(crate) fn hear(story: Story, ticket: Ticket, entry: &Record<Deed>, number: u64) -> Story
     ensures { (history : List (Record Deed)) → story ≡ story_in history ticket → number ≡ 1 + length history
@@ -135,12 +123,12 @@ pub(crate) fn hear(story: Story, ticket: Ticket, entry: &Record<Deed>, number: u
     let meets = entry.meets(ticket);
     let leaves = takes_out(entry, ticket);
     Story {
-        asked: first_of(story.asked, asked_by(entry), asks),
-        came: first_of(story.came, number, asks),
+        asked: story.asked.or(asks.then_some(asked_by(entry))),
+        came: story.came.or(asks.then_some(number)),
         met: story.met | meets,
         learned: story.learned | tells(entry, ticket),
         back: story.back.or(entry.takes_back(ticket)),
         cut: story.cut | entry.cuts(ticket),
-        went: first_of(story.went, number, leaves),
+        went: story.went.or(leaves.then_some(number)),
     }
 }

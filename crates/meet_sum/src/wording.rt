@@ -1,6 +1,6 @@
 //! The text of sums, a fact a line. Where memory runs out, nothing is said of what was appended.
 
-ghost use Rattle.std.specs.Prelude.{◌≡◌, ◌++◌, [], OnOk, if◌then◌else◌};
+ghost use Rattle.std.specs.Prelude.{◌≡◌, ◌++◌, OnOk};
 ghost use Rattle.meet_sum.specs.SumTexts.{count_line, give_deeds_text, take_deeds_text, end_deeds_text};
 ghost use Rattle.meet_sum.specs.SumTexts.{open_fates_text, ended_fates_text, other_fates_text};
 ghost use Rattle.meet_sum.specs.SumTexts.{longest_line_text, waited_text, wait_text, stay_text, seat_text, seats_text};

@@ -1,6 +1,6 @@
 //! The end of a queue for threads: its one history.
 
-ghost use Rattle.std.specs.Prelude.{◌≡◌, ◌+◌, ◌<◌, ◌≤◌, ◌^◌, None, List, length, map, vec_len, IfOk, IfErr};
+ghost use Rattle.std.specs.Prelude.{◌≡◌, ◌+◌, ◌<◌, ◌≤◌, ◌^◌, List, length, map, vec_len, IfOk, IfErr};
 ghost use Rattle.meet_place.specs.Backs.{list_of, AreOrdered, shares_in, folded_in};
 ghost use Rattle.meet_place.specs.declared.seats.Back.{Back};
 ghost use Rattle.meet_sync.specs.Chronicles.{IsChronicle};

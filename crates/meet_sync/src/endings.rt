@@ -1,6 +1,5 @@
 //! The endings of an open ticket. None is refused, and none takes memory.
 
-ghost use Rattle.std.specs.Prelude.{◌≡◌};
 ghost use Rattle.meet_tickets.specs.declared.records.Cause.TheVariants.{Cancelled, Expired};
 ghost use Rattle.meet_sync.specs.Asking.{FollowedAs, TakenBackAs, TakenBackBy};
 ghost use Rattle.meet_sync.specs.Told.{IsWithdrawal};

@@ -4,7 +4,7 @@ ghost use Rattle.std.specs.Prelude.{◌≡◌, Some, None, [], vec_len, IfOk, If
 ghost use Rattle.meet_tickets.specs.declared.refusals.Refusal.TheVariants.{BadSizes, Memory};
 ghost use Rattle.meet_core.specs.Queue.{seats_of, count_of};
 ghost use Rattle.meet_tickets.specs.BySeat.{nobody};
-ghost use Rattle.meet_tickets.specs.Limits.{most_records, most_seats};
+ghost use Rattle.meet_tickets.specs.Limits.{most_records};
 ghost use Rattle.meet_tickets.specs.Refusals.{IsWhy};
 ghost use Rattle.meet_place.specs.Ledgers.{AreOf};
 ghost use Rattle.meet_place.specs.Seats.{AreFresh};

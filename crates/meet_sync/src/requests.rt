@@ -1,6 +1,6 @@
 //! The split requests of a queue.
 
-ghost use Rattle.std.specs.Prelude.{◌≡◌, ◌<◌, ◌≤◌, None, IfOk, IfErr};
+ghost use Rattle.std.specs.Prelude.{◌≡◌, ◌<◌, None, IfOk, IfErr};
 ghost use Rattle.meet_core.specs.QueueSteps.{item_in};
 ghost use Rattle.meet_sync.specs.Asking.{item_of, RefusedAs, AskedAs, InterruptedAs, AnsweredBy, IsToRequest};
 ghost use Rattle.meet_sync.specs.Told.{IsRequestWhy, IsInterruptWhy};

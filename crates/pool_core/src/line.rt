@@ -1,6 +1,6 @@
 //! The line of a pool: its kept jobs, or the takes of its waiting workers.
 
-ghost use Rattle.std.specs.Prelude.{◌≡◌, ◌≢◌, ◌+◌, ◌<◌, ◌≤◌, ◌==◌, ◌^◌, IsTrue, IsFalse, true, is_some, is_none, []};
+ghost use Rattle.std.specs.Prelude.{◌≡◌, ◌≢◌, ◌+◌, ◌<◌, ◌≤◌, ◌==◌, ◌^◌, IsTrue, IsFalse, true, is_some, []};
 ghost use Rattle.std.specs.Prelude.{◌∷◌, ◌++◌, find, map, filter, length, vec_len, All, AllPairs, OnOk, OnErr};
 ghost use Rattle.std.specs.Prelude.{MatchOption, ⊤, None, IsOk, IfOk, IfErr, option_to_list, option_map, if◌then◌else◌};
 ghost use Rattle.std.specs.Vec.{vec_capacity};
@@ -14,9 +14,9 @@ ghost use Rattle.pool_core.specs.Pools.{kept_tasks};
 ghost use Rattle.pool_core.specs.Lines.{line_end, entries_of, room_of, kept_one};
 
 use crate::stages::Task;
-use meet_line::{FairLine, Line, StackLine};
+use meet_line::{FairLine, Line, StackLine, marked_line};
 use meet_tickets::{End, Entry, Marked, Refusal, Side, Ticket};
-use std::alloc::{AllocError, Global};
+use std::alloc::Global;
 use std::marker::Model;
 
 /// A line that is met at either end. It counts the kept jobs.
@@ -347,49 +347,8 @@ impl<J: Marked> JobLine<J> {
         ensures memory { IfErr result (λ why. why ≡ Memory) }
     {
         match &self.line {
-            ByEnd::Front(line) => tagged_line(alloc, line),
-            ByEnd::Back(line) => tagged_line(alloc, line),
+            ByEnd::Front(line) => marked_line(alloc, line),
+            ByEnd::Back(line) => marked_line(alloc, line),
         }
-    }
-}
-
-/// The tag of a job, where there is one.
-fn tag_of<J: Marked>(item: &Option<J>) -> Option<u64>
-    ensures { result ≡ option_map J.mark_of item.now }
-{
-    match item {
-        Some(item) => Some(item.mark()),
-        None => None,
-    }
-}
-
-/// An entry with its job by its tag.
-fn tagged<J: Marked>(entry: &Entry<J>) -> Entry<u64>
-    ensures { result ≡ marked_entry J.mark_of entry.now }
-{
-    Entry {
-        ticket: entry.ticket,
-        seat: entry.seat,
-        item: tag_of(&entry.item),
-        waits: entry.waits,
-    }
-}
-
-/// These entries with their jobs by their tags.
-fn tagged_all<J: Marked>(alloc: Global, list: &[&Entry<J>]) -> Result<Vec<Entry<u64>>, AllocError>
-    ensures { IfOk result (λ copies. copies.items ≡ map (λ e. marked_entry J.mark_of e.now) list.now) }
-{
-    list.iter().map(|entry| tagged(*entry)).collect(alloc)
-}
-
-/// The entries of a line with their jobs by their tags.
-fn tagged_line<J: Marked, L: Line<J>>(alloc: Global, line: &L) -> Result<Vec<Entry<u64>>, Refusal>
-    ensures entries { IfOk result (λ copies. copies.items ≡ map (marked_entry J.mark_of) (L.entries line.now)) }
-    ensures memory { IfErr result (λ why. why ≡ Memory) }
-{
-    let list = line.list(alloc)?;
-    match tagged_all(alloc, list.as_slice()) {
-        Ok(copies) => Ok(copies),
-        Err(_) => Err(Refusal::Memory),
     }
 }

@@ -1,12 +1,10 @@
 //! The core of a pool.
 
 ghost use Rattle.std.specs.Prelude.{◌≡◌, ◌≢◌, ◌+◌, ◌-◌, ◌<◌, ◌≤◌, false, Some, None, IsOk, IfOk, IfErr, OnOk, OnErr};
-ghost use Rattle.std.specs.Prelude.{length, sum_by, slice_set, slice_index_or, position, not, map, replicate, count_by};
+ghost use Rattle.std.specs.Prelude.{replicate, count_by};
 ghost use Rattle.meet_tickets.specs.Refusals.{IsWhy};
 ghost use Rattle.meet_tickets.specs.declared.refusals.Refusal.TheVariants.{Memory, HistoryFull};
 ghost use Rattle.meet_tickets.specs.Meeting.{kept_count};
-ghost use Rattle.pool_core.specs.Limits.{most_together};
-ghost use Rattle.pool_core.specs.Pools.{HasNoJob, is_there, stage_owes, cut_stage};
 ghost use Rattle.pool_core.specs.declared.stages.Stage.TheVariants.{Absent};
 
 use crate::answers::Counters;
@@ -58,10 +56,10 @@ impl<J> Model for PoolCore<J> {
 
 impl<J> PoolCore<J> {
     ghost use Rattle.pool_core.specs.Histories.{nobody};
-    ghost use Rattle.pool_core.specs.Pools.{working, free, owed, is_there, bound_of, worker_of};
+    ghost use Rattle.pool_core.specs.Pools.{working, free, owed, worker_of};
     ghost use Rattle.pool_core.specs.Steps.{placing, may_keep};
     ghost use Rattle.pool_core.specs.Sound.{IsSound};
-    ghost use Rattle.pool_core.specs.Calls.{settings_refusal, execute_refusal, shutdown_refusal, is_running};
+    ghost use Rattle.pool_core.specs.Calls.{settings_refusal, execute_refusal, is_running};
 
     /// A pool that nobody works in. It refuses what doesn't fit (`settings_refusal`), and else Memory alone.
     pub fn new(

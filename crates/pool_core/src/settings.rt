@@ -1,6 +1,6 @@
 //! The sizes, the queue and the policy of a pool.
 
-ghost use Rattle.std.specs.Prelude.{◌≡◌, ◌<◌, ◌-◌, ℕ, false, None};
+ghost use Rattle.std.specs.Prelude.{◌≡◌, ◌<◌, ◌-◌, false, None};
 ghost use Rattle.pool_core.specs.Limits.{most_together};
 
 use meet_tickets::{End, MOST_KEPT, Order, Refusal};

@@ -1,9 +1,9 @@
 //! A pool from its parts.
 
-ghost use Rattle.std.specs.Prelude.{◌≡◌, ◌+◌, ◌<◌, ◌≤◌, [], ◌∷◌, All, IfOk, IfErr, IfSome, vec_len, replicate, map};
-ghost use Rattle.std.specs.Prelude.{None, false, ℕ};
+ghost use Rattle.std.specs.Prelude.{◌≡◌, ◌+◌, ◌<◌, ◌≤◌, [], All, IfOk, IfErr, vec_len, replicate, map};
+ghost use Rattle.std.specs.Prelude.{None, false};
 ghost use Rattle.std.specs.Vec.{vec_capacity};
-ghost use Rattle.meet_tickets.specs.Limits.{most_seats, most_records};
+ghost use Rattle.meet_tickets.specs.Limits.{most_records};
 ghost use Rattle.meet_tickets.specs.Refusals.{IsWhy};
 ghost use Rattle.meet_tickets.specs.declared.refusals.Refusal.TheVariants.{Memory};
 ghost use Rattle.meet_place.specs.Ledgers.{AreOf};

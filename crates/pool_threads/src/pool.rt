@@ -1,7 +1,7 @@
 //! A pool.
 
-ghost use Rattle.std.specs.Prelude.{◌≡◌, ◌≢◌, ◌+◌, ◌<◌, ◌≤◌, ◌⊎◌, ℕ, [], ◌∷◌, length, map, option_to_list, IsOk, IfOk};
-ghost use Rattle.std.specs.Prelude.{IfErr, IfSome, OnOk, vec_len, Some, None, List};
+ghost use Rattle.std.specs.Prelude.{◌≡◌, ◌≢◌, ◌+◌, ◌<◌, ◌≤◌, ℕ, IfOk};
+ghost use Rattle.std.specs.Prelude.{IfErr, IfSome, Some, None};
 ghost use Rattle.meet_tickets.specs.declared.refusals.Refusal.TheVariants.{NoThread};
 ghost use Rattle.meet_place.specs.Seats.{SameSeat};
 ghost use Rattle.pool_core.specs.declared.answers.Executed.TheVariants as answer;

@@ -1,6 +1,6 @@
 //! The words that ask for handoffs.
 
-ghost use Rattle.std.specs.Prelude.{◌*◌, ◌≤◌, IsTrue, IfOk};
+ghost use Rattle.std.specs.Prelude.{◌≤◌, IsTrue, IfOk};
 ghost use Rattle.meet_tickets.specs.Limits.{most_records};
 
 use crate::command_line::{Wrong, number_of};

@@ -9,8 +9,7 @@ ghost use Rattle.meet_tickets.specs.Limits.{most_seats, last_ticket};
 ghost use Rattle.meet_tickets.specs.declared.places.Side.TheVariants.{Giver, Taker};
 
 use crate::meetings::Meetings;
-use crate::seats::mark_of;
-use meet_line::Line;
+use meet_line::{Line, mark_of};
 use meet_tickets::{Hold, LAST_TICKET, Marked, SeatNo, Side, Ticket};
 
 /// Whether an item has this mark, or there is none where this is none.
@@ -122,10 +121,7 @@ impl<T: Marked, L: Line<T>> Meetings<T, L> {
         ensures { result ≡ option_and_then (λ e. option_map T.mark_of e.item) (slice_get self.now.line 0) }
     {
         let first = self.line.first()?;
-        match &first.item {
-            None => None,
-            Some(item) => Some(item.mark()),
-        }
+        mark_of(&first.item)
     }
 
     /// How many tickets are left.

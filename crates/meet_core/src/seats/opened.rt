@@ -1,12 +1,12 @@
 //! What a table of seats holds outside the line, as a base names it.
 
 ghost use Rattle.std.specs.Prelude.{◌≡◌, ◌<◌, ◌++◌, length, option_to_list, IfOk, IfErr, OnOk, IsPermutation};
-ghost use Rattle.std.specs.Prelude.{option_map};
 ghost use Rattle.std.specs.List.Sorted.{IsNonDecreasingBy};
 ghost use Rattle.meet_core.specs.Opened.{pair_of, cut_of, pair_at, cut_at, flagged_at, gathered};
 ghost use Rattle.meet_tickets.specs.declared.refusals.Refusal.TheVariants.{Memory};
 
 use crate::seats::SeatTable;
+use meet_line::mark_of;
 use meet_tickets::{Hold, Marked, OpenCut, OpenPair, Refusal, SeatNo, Side};
 use std::alloc::Global;
 
@@ -41,16 +41,6 @@ fn open_pair<T: Marked>(seat: SeatNo, hold: &Hold<T>) -> Option<OpenPair>
             mark: item.mark(),
         }),
         Hold::Free | Hold::Waiting(_) | Hold::Cut(_, _) => None,
-    }
-}
-
-/// The mark of an item, where there is one.
-pub(crate) fn mark_of<T: Marked>(item: &Option<T>) -> Option<u64>
-    ensures { result ≡ option_map T.mark_of item.now }
-{
-    match item {
-        Some(item) => Some(item.mark()),
-        None => None,
     }
 }
 

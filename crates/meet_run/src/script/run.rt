@@ -1,11 +1,11 @@
 //! A script from a reader, its replies to a writer, line by line.
 
-ghost use Rattle.std.specs.Prelude.{◌≡◌, ◌+◌, ◌^◌, ◌<◌, ◌≤◌, ◌++◌, [], length, Some, Err, IfSome, IfErr, OnOk, OnErr};
+ghost use Rattle.std.specs.Prelude.{◌≡◌, ◌+◌, ◌^◌, ◌<◌, ◌≤◌, ◌++◌, [], Err, IfSome, IfErr, OnOk};
 ghost use Rattle.std.specs.Prelude.{IsTrue};
 ghost use Rattle.std.specs.Io.KnownBytes.{Appends};
 ghost use Rattle.std.specs.Vec.{vec_capacity};
 ghost use Rattle.meet_tickets.specs.declared.refusals.Refusal.TheVariants.{Memory};
-ghost use Rattle.meet_history.specs.OneThread.{start, turn, standing_of};
+ghost use Rattle.meet_history.specs.OneThread.{turn, standing_of};
 ghost use Rattle.meet_run.specs.Texts.Reading.{UsesTurns, EndsInTurns};
 ghost use Rattle.meet_run.specs.Scripts.Script.{fault_of, text_before, output_of, replies_text};
 ghost use Rattle.meet_history.specs.Stepping.{Takes, place_of};

@@ -1,7 +1,6 @@
 //! What the lines of a base say in a trace.
 
-ghost use Rattle.std.specs.Prelude.{◌≡◌, IfSome};
-ghost use Rattle.meet_run.specs.Tracing.TraceSpelling.{FitsHead};
+ghost use Rattle.std.specs.Prelude.{◌≡◌};
 ghost use Rattle.meet_run.specs.Tracing.BaseGrammar.{waits_of, giver_entry, entry_of_line, pair_of_line, pair_behind};
 ghost use Rattle.meet_run.specs.Tracing.BaseGrammar.{cut_of_line};
 ghost use Rattle.meet_run.specs.Tracing.BaseGrammar.{ticketed_piece, piece_with_ticket, piece_with_seat, piece_behind};

@@ -1,10 +1,9 @@
 //! The text of a base in a trace. Where memory runs out, nothing is said of what was appended.
 
-ghost use Rattle.std.specs.Prelude.{◌≡◌, ◌++◌, ◌∷◌, [], map, OnOk, codes, decimal};
+ghost use Rattle.std.specs.Prelude.{◌≡◌, ◌++◌, map, OnOk};
 ghost use Rattle.std.specs.List.{flat_map};
 ghost use Rattle.meet_history.specs.declared.pieces.Piece.TheVariants.{Stands, Met, Cut, Flagged};
-ghost use Rattle.meet_run.specs.Tracing.TraceSpelling.{side_text};
-ghost use Rattle.meet_run.specs.Tracing.BaseWording.{placed_text, item_text, standing_text, piece_text, piece_line};
+ghost use Rattle.meet_run.specs.Tracing.BaseWording.{placed_text, item_text, standing_text, piece_line};
 ghost use Rattle.meet_run.specs.Tracing.BaseWording.{pieces_of, numbers_line, based_head_line};
 
 use crate::text::wording::{push_numbered, push_pair};
@@ -49,7 +48,7 @@ fn push_standing(out: &mut Vec<u8>, item: Option<u64>, waits: bool) -> Result<()
 
 /// Appends the line of an entry of the line.
 #[tactic(auto, unfolding(crate::specs::Tracing::BaseWording::piece_line))]
-fn push_entry(out: &mut Vec<u8>, entry: &Entry<u64>) -> Result<(), AllocError>
+pub fn push_entry(out: &mut Vec<u8>, entry: &Entry<u64>) -> Result<(), AllocError>
     ensures { OnOk result (out.new.items ≡ out.old.items ++ piece_line (Stands entry.now)) }
 {
     push_placed(out, b"line ", entry.seat, entry.ticket)?;
@@ -59,7 +58,7 @@ fn push_entry(out: &mut Vec<u8>, entry: &Entry<u64>) -> Result<(), AllocError>
 
 /// Appends the line of an open ticket that was met.
 #[tactic(auto, unfolding(crate::specs::Tracing::BaseWording::piece_line))]
-fn push_met(out: &mut Vec<u8>, pair: OpenPair) -> Result<(), AllocError>
+pub fn push_met(out: &mut Vec<u8>, pair: OpenPair) -> Result<(), AllocError>
     ensures { OnOk result (out.new.items ≡ out.old.items ++ piece_line (Met pair)) }
 {
     push_placed(out, b"pair ", pair.seat, pair.ticket)?;
@@ -70,7 +69,7 @@ fn push_met(out: &mut Vec<u8>, pair: OpenPair) -> Result<(), AllocError>
 
 /// Appends the line of an open ticket that was cut.
 #[tactic(auto, unfolding(crate::specs::Tracing::BaseWording::piece_line))]
-fn push_cut(out: &mut Vec<u8>, cut: OpenCut) -> Result<(), AllocError>
+pub fn push_cut(out: &mut Vec<u8>, cut: OpenCut) -> Result<(), AllocError>
     ensures { OnOk result (out.new.items ≡ out.old.items ++ piece_line (Cut cut)) }
 {
     push_placed(out, b"cut ", cut.seat, cut.ticket)?;
@@ -80,7 +79,7 @@ fn push_cut(out: &mut Vec<u8>, cut: OpenCut) -> Result<(), AllocError>
 
 /// Appends the line of a flagged seat.
 #[tactic(auto, unfolding(crate::specs::Tracing::BaseWording::piece_line))]
-fn push_flag(out: &mut Vec<u8>, seat: SeatNo) -> Result<(), AllocError>
+pub fn push_flag(out: &mut Vec<u8>, seat: SeatNo) -> Result<(), AllocError>
     ensures { OnOk result (out.new.items ≡ out.old.items ++ piece_line (Flagged seat)) }
 {
     push_numbered(out, b"flag ", seat.number())?;

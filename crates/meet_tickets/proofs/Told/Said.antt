@@ -3,6 +3,7 @@ use Rattle.std.proofs.Common.{◌≡◌, ◌≢◌, ℕ, ◌==◌, refl, ap, ◌
 use Rattle.std.specs.Prelude.{nat_lt, option_and_then}
 use Rattle.std.specs.List.{list_any}
 use Rattle.std.specs.Option.{option_or, option_map_or}
+use Rattle.std.specs.Bool.{then_some}
 use Rattle.std.proofs.Math.Path.{fun_ext}
 use Rattle.std.proofs.lemmas.Bool.{eq-eqb, ne_eqb, false≢true}
 use Rattle.std.proofs.lemmas.List.Folds.{find-append, list_any-append}
@@ -14,6 +15,11 @@ use Rattle.meet_tickets.specs.declared.fates.Fate.{Fate}
 use Rattle.meet_tickets.specs.declared.fates.Fate.TheVariants.{Never, Failed, EntryRefused, Paired, Collected, Withdrawn as WasWithdrawn, Cut, Kept, Waiting}
 use Rattle.meet_tickets.specs.BySeat.{is_request}
 use Rattle.meet_tickets.specs.Fates.{request_of, named_by, meets_it, tells_of_meeting, has_learned, withdrawn_by, withdrawal_of, interrupts, was_cut, waits_first, fate_asked, fate}
+
+-- what passes a test
+pub passing : {X : Type 0} (b : Bool) (x : X) → then_some b x ≡ (if b then Some x else None)
+passing true x = refl
+passing false x = refl
 
 -- what the records say of a ticket
 pub record Said : Type 0 where

@@ -5,7 +5,6 @@ ghost use Rattle.std.specs.Prelude.{IsPermutation};
 ghost use Rattle.std.specs.List.{filter_map};
 ghost use Rattle.std.specs.List.Sorted.{IsNonDecreasingBy};
 ghost use Rattle.std.specs.Vec.{vec_capacity};
-ghost use Rattle.pool_core.specs.Limits.{most_together};
 ghost use Rattle.pool_core.specs.Pools.{task_at, left_in};
 
 use crate::crew::Crew;

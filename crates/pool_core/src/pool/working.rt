@@ -2,7 +2,6 @@
 
 ghost use Rattle.std.specs.Prelude.{◌≡◌, ◌≢◌, ◌+◌, ◌-◌, ◌<◌, ◌≤◌, true, false, Some, None, IfOk, IfErr, length};
 ghost use Rattle.std.specs.Prelude.{slice_index_or, slice_set};
-ghost use Rattle.pool_core.specs.Pools.{HasNoJob};
 ghost use Rattle.pool_core.specs.Calls.{is_starting, is_jobless, IsHanded, IsHandedTask};
 ghost use Rattle.pool_core.specs.declared.stages.Stage.TheVariants.{Absent};
 ghost use Rattle.meet_tickets.specs.declared.refusals.Refusal.TheVariants.{NoSuchSeat, Memory, HistoryFull};
@@ -14,11 +13,10 @@ use crate::stages::{Stage, Task};
 use meet_tickets::{Entry, Refusal, SeatNo, Side, Ticket};
 
 impl<J> PoolCore<J> {
-    ghost use Rattle.pool_core.specs.Pools.{stage_of};
     ghost use Rattle.pool_core.specs.Steps.{oldest, may_expire};
     ghost use Rattle.pool_core.specs.Calls.{Step, FollowStep, IdleStep, StartStep, is_worker, worker_refusal};
     ghost use Rattle.pool_core.specs.Calls.{is_at_queue, is_running, ready_deed};
-    ghost use Rattle.pool_core.specs.declared.deeds.PoolDeed.TheVariants.{Finished, Leaves, StartFailed};
+    ghost use Rattle.pool_core.specs.declared.deeds.PoolDeed.TheVariants.{Finished, Leaves};
 
     /// The worker whose seat this is; NoSuchSeat for another seat.
     fn worker_at(&self, seat: SeatNo) -> Result<u64, Refusal>

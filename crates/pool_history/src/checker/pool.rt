@@ -1,6 +1,6 @@
 //! A pool as its records leave it, and which record may come next.
 
-ghost use Rattle.std.specs.Prelude.{◌≡◌, ◌<◌, ◌≤◌, ◌↔◌, ◌+◌, max, None, Some, IsTrue, IsOk, IfOk, IfErr, OnOk, length};
+ghost use Rattle.std.specs.Prelude.{◌≡◌, ◌<◌, ◌≤◌, ◌↔◌, max, None, Some, IsTrue, IsOk, IfOk, IfErr, OnOk, length};
 ghost use Rattle.std.specs.Prelude.{MatchOption, true, false};
 ghost use Rattle.meet_tickets.specs.Limits.{last_ticket};
 ghost use Rattle.meet_tickets.specs.Refusals.{IsWhy};

@@ -1,9 +1,9 @@
--- Proof of `marked_line`, src/meetings/bases.rt. The entries of a line as a base names them, in order of arrival.
+-- Proof of `marked_line`, src/marked.rt. The entries of a line with their items by their marks, in order of arrival.
 use Rattle.std.proofs.Common.{◌∙◌, sym, ap, map, Bor}
 use Rattle.meet_tickets.specs.declared.lines.Entry.{Entry}
 use Rattle.meet_tickets.proofs.Lists.Lookups.{map_map}
 use Rattle.meet_line.specs.Seen.{marked_entry}
-use Rattle.meet_core.proofs.meetings.bases.marked_line.Goals as goal
+use Rattle.meet_line.proofs.marked.marked_line.Goals as goal
 
 pub returns-in-Ok-clause-entries : goal.returns-in-Ok-clause-entries
 returns-in-Ok-clause-entries g c =
