@@ -14,6 +14,7 @@ use meet_run::script::next::next_setup;
 use meet_run::text::faults::{at_line, cut_short};
 use meet_run::text::next::{Next, next_of};
 use meet_run::text::reading::{LONGEST_LINE, read_line};
+use meet_run::text::room::room_for_lines;
 use meet_tickets::Refusal;
 use std::alloc::Global;
 use std::io::Read;
@@ -82,14 +83,8 @@ pub fn read_asked<R: Read>(
     ensures task { IfOk result (λ asked. FitsTask asked.1) }
     ensures spent { turns ≡ 0 → CannotRead result }
 {
-    if turns == 0 {
-        return Err(cut_short(Refusal::ReadFault));
-    }
+    let mut line = room_for_lines(alloc, turns)?;
     let mut turns = turns;
-    let mut line = match Vec::with_capacity(alloc, LONGEST_LINE) {
-        Ok(line) => line,
-        Err(_) => return Err(cut_short(Refusal::Memory)),
-    };
     match next_setup(reader, &mut turns, &mut line) {
         Next::Read(setup) => task_behind(reader, &mut turns, &mut line, setup),
         Next::Ended => Err(at_line(Refusal::BadLine, 1)),

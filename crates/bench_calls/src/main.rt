@@ -62,10 +62,8 @@ fn run<R: Read, W: Write>(alloc: Global, reader: &mut R, writer: &mut W) -> Resu
     ensures { IfSome (R.remaining reader.old) (λ text.
         RunsTask text result (W.contents writer.old) (W.contents writer.new)) }
 {
-    match read_asked(alloc, reader, MOST_READS) {
-        Ok((setup, task)) => find_and_tell(alloc, setup, task, writer),
-        Err(fault) => Err(fault),
-    }
+    let (setup, task) = read_asked(alloc, reader, MOST_READS)?;
+    find_and_tell(alloc, setup, task, writer)
 }
 
 /// Says on standard error how a run failed, if it did, and gives the exit status.

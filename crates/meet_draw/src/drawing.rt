@@ -65,10 +65,7 @@ fn picture_in(
     ensures faults { IfErr result IsUnreadTrace }
 {
     let mut reader = text;
-    let (trace, records) = match read_records(alloc, &mut reader, MOST_READS) {
-        Ok(read) => read,
-        Err(fault) => return Err(fault),
-    };
+    let (trace, records) = read_records(alloc, &mut reader, MOST_READS)?;
     match picture_of(alloc, style, width, &trace, records) {
         Ok(drawn) => Ok(drawn),
         Err(_) => Err(cut_short(Refusal::Memory)),
@@ -86,10 +83,7 @@ fn draw_text<W: Write>(
     ensures drawn { DrawEnds style width (lines_of text.now) result (W.contents writer.old) (W.contents writer.new) }
     ensures faults { IfErr result IsTraceFault }
 {
-    let (legal, out) = match picture_in(alloc, style, width, text) {
-        Ok(drawn) => drawn,
-        Err(fault) => return Err(fault),
-    };
+    let (legal, out) = picture_in(alloc, style, width, text)?;
     match write_whole(writer, out.as_slice()) {
         Ok(()) => Ok(legal),
         Err(why) => Err(cut_short(why)),

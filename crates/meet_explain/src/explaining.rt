@@ -88,10 +88,7 @@ fn told(alloc: Global, text: &[u8]) -> Result<(bool, Vec<u8>), RunFault>
     ensures { IfOk result (λ told. IsTold (lines_of text.now) told.0 told.1.items) }
 {
     let mut reader = text;
-    let (legal, line) = match find_trace(alloc, &mut reader, MOST_READS) {
-        Ok(found) => found,
-        Err(fault) => return Err(fault),
-    };
+    let (legal, line) = find_trace(alloc, &mut reader, MOST_READS)?;
     if legal {
         return Ok((true, line));
     }

@@ -6,5 +6,6 @@ pub mod faults;
 pub mod next;
 pub mod output;
 pub mod reading;
+pub mod room;
 pub mod wording;
 pub mod words;

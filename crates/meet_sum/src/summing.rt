@@ -91,10 +91,7 @@ fn say(
     ensures memory { IfErr result (λ why. why ≡ Memory) }
 {
     match trace.checker.standing() {
-        Ok(standing) => match legal_text(alloc, trace, records, standing) {
-            Ok(out) => Ok((true, out)),
-            Err(why) => Err(why),
-        },
+        Ok(standing) => Ok((true, legal_text(alloc, trace, records, standing)?)),
         Err(CheckFault::Illegal { place, why }) => match illegal_text(alloc, place, why) {
             Ok(out) => Ok((false, out)),
             Err(_) => Err(Refusal::Memory),
@@ -121,10 +118,7 @@ pub fn sum_trace<R: Read, W: Write>(
     ensures { IfSome (R.remaining reader.old) (λ input.
         SumEnds (lines_of input) result (W.contents writer.old) (W.contents writer.new)) }
 {
-    let (trace, records) = match read_records(alloc, reader, MOST_READS) {
-        Ok(read) => read,
-        Err(fault) => return Err(fault),
-    };
+    let (trace, records) = read_records(alloc, reader, MOST_READS)?;
     let (legal, out) = match say(alloc, &trace, records.as_slice()) {
         Ok(said) => said,
         Err(why) => return Err(cut_short(why)),

@@ -20,6 +20,7 @@ use meet_run::text::faults::{at_line, cut_short};
 use meet_run::text::next::Next;
 use meet_run::text::output::write_whole;
 use meet_run::text::reading::LONGEST_LINE;
+use meet_run::text::room::room_for_lines;
 use meet_run::text::wording::push_numbered;
 use meet_run::{MOST_READS, RunFault};
 use meet_tickets::Refusal;
@@ -142,10 +143,7 @@ fn find_records<R: Read>(
         Ok(checker) => checker,
         Err(_) => return Err(cut_short(Refusal::Memory)),
     };
-    let count = match push_records(reader, turns, line, &mut checker) {
-        Ok(count) => count,
-        Err(fault) => return Err(fault),
-    };
+    let count = push_records(reader, turns, line, &mut checker)?;
     match verdict(alloc, &checker, count) {
         Ok(found) => Ok(found),
         Err(why) => Err(cut_short(why)),
@@ -167,14 +165,8 @@ fn find_trace<R: Read>(
     ensures ends { OnOk result (EndsInTurns (R.remaining reader.old) turns) }
     ensures faults { IfErr result IsUnreadTrace }
 {
-    if turns == 0 {
-        return Err(cut_short(Refusal::ReadFault));
-    }
+    let mut line = room_for_lines(alloc, turns)?;
     let mut rest = turns;
-    let mut line = match Vec::with_capacity(alloc, LONGEST_LINE) {
-        Ok(line) => line,
-        Err(_) => return Err(cut_short(Refusal::Memory)),
-    };
     match next_pool_head(reader, &mut rest, &mut line) {
         Next::Read(settings) => find_records(alloc, reader, &mut rest, &mut line, settings),
         Next::Ended => Err(at_line(Refusal::BadTrace, 1)),
@@ -209,10 +201,7 @@ pub fn check_pool_trace_within<R: Read, W: Write>(
     ensures ends { OnOk result (EndsInTurns (R.remaining reader.old) turns) }
     ensures faults { IfErr result IsTraceFault }
 {
-    let (legal, text) = match find_trace(alloc, reader, turns) {
-        Ok(found) => found,
-        Err(fault) => return Err(fault),
-    };
+    let (legal, text) = find_trace(alloc, reader, turns)?;
     match write_whole(writer, text.as_slice()) {
         Ok(()) => Ok(legal),
         Err(why) => Err(cut_short(why)),

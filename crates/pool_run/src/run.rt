@@ -16,6 +16,7 @@ use meet_run::text::faults::{at_line, cut_short};
 use meet_run::text::next::Next;
 use meet_run::text::output::write_whole;
 use meet_run::text::reading::LONGEST_LINE;
+use meet_run::text::room::room_for_lines;
 use meet_run::{MOST_READS, RunFault};
 use meet_tickets::Refusal;
 use pool_core::Settings;
@@ -142,14 +143,8 @@ pub fn run_pool_within<R: Read, W: Write>(
     ensures ends { OnOk result (EndsInTurns (R.remaining reader.old) turns) }
     ensures faults { IfErr result IsScriptFault }
 {
-    if turns == 0 {
-        return Err(cut_short(Refusal::ReadFault));
-    }
+    let mut line = room_for_lines(alloc, turns)?;
     let mut rest = turns;
-    let mut line = match Vec::with_capacity(alloc, LONGEST_LINE) {
-        Ok(line) => line,
-        Err(_) => return Err(cut_short(Refusal::Memory)),
-    };
     match next_settings(reader, &mut rest, &mut line) {
         Next::Read(settings) => run_requests(alloc, reader, writer, &mut rest, &mut line, settings),
         Next::Ended => Err(at_line(Refusal::BadLine, 1)),

@@ -56,6 +56,10 @@ FaultIs ReadFault None = ⊤
 FaultIs WriteFault None = ⊤
 FaultIs _ _ = ⊥
 
+-- a text that wasn't read to its end: there was no memory, or a read failed
+abbrev pub IsUnread : Refusal → Type 0
+IsUnread why = (why ≡ Memory) ⊎ (why ≡ ReadFault)
+
 -- what comes of a run that has no turn left: ReadFault in no line, whether or not there is memory
 abbrev pub CannotRead : {A : Type 0} → Result A RunFault → Type 0
 CannotRead (Ok a) = ⊥

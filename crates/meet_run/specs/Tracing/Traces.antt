@@ -174,10 +174,6 @@ TracesOn setup lines result old new =
     (text : List ℕ) → IsTraceBehind setup lines text
     → RunEnds (calls_behind setup lines).fault text text result old new
 
--- a text that wasn't read to its end: there was no memory, or a read failed
-abbrev pub IsUnread : Refusal → Type 0
-IsUnread why = (why ≡ Memory) ⊎ (why ≡ ReadFault)
-
 -- a run whose text was read to its end, or to a faulty line
 abbrev pub WasRun : Result Bool RunFault → Type 0
 WasRun (Ok legal) = Unit {0}

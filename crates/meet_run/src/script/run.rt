@@ -20,6 +20,7 @@ use crate::text::faults::{RunFault, at_line, cut_short};
 use crate::text::next::Next;
 use crate::text::output::write_whole;
 use crate::text::reading::{LONGEST_LINE, MOST_READS};
+use crate::text::room::room_for_lines;
 use crate::text::wording::{push_last_line, push_reply};
 use meet_history::{Call, Reply, Setup, Stepper};
 use meet_tickets::Refusal;
@@ -150,14 +151,8 @@ pub fn run_script_within<R: Read, W: Write>(
     ensures ends { OnOk result (EndsInTurns (R.remaining reader.old) turns) }
     ensures faults { IfErr result IsRunFault }
 {
-    if turns == 0 {
-        return Err(cut_short(Refusal::ReadFault));
-    }
+    let mut line = room_for_lines(alloc, turns)?;
     let mut rest = turns;
-    let mut line = match Vec::with_capacity(alloc, LONGEST_LINE) {
-        Ok(line) => line,
-        Err(_) => return Err(cut_short(Refusal::Memory)),
-    };
     match next_setup(reader, &mut rest, &mut line) {
         Next::Read(setup) => run_calls(alloc, reader, writer, &mut rest, &mut line, setup),
         Next::Ended => Err(at_line(Refusal::BadLine, 1)),

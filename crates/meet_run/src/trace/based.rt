@@ -180,14 +180,8 @@ pub(crate) fn read_based<R: Read>(
     ensures ends { OnOk result (EndsInTurns (R.remaining reader.old) turns.old) }
     ensures faults { IfErr result IsUnreadTrace }
 {
-    let ground = match read_ground(alloc, reader, turns, line, kind) {
-        Ok(ground) => ground,
-        Err(fault) => return Err(fault),
-    };
-    let (base, more, first) = match lay_pieces(reader, turns, line, ground) {
-        Ok(laid) => laid,
-        Err(fault) => return Err(fault),
-    };
+    let ground = read_ground(alloc, reader, turns, line, kind)?;
+    let (base, more, first) = lay_pieces(reader, turns, line, ground)?;
     let mut checker = match Checker::new(alloc, kind, &base) {
         Ok(checker) => checker,
         Err(_) => return Err(cut_short(Refusal::Memory)),
@@ -201,13 +195,11 @@ pub(crate) fn read_based<R: Read>(
             count: gone,
         });
     }
-    match push_from(reader, turns, line, &mut checker, kept, first) {
-        Ok(count) => Ok(ReadTrace {
-            kind,
-            base,
-            checker,
-            count: gone + count,
-        }),
-        Err(fault) => Err(fault),
-    }
+    let count = push_from(reader, turns, line, &mut checker, kept, first)?;
+    Ok(ReadTrace {
+        kind,
+        base,
+        checker,
+        count: gone + count,
+    })
 }

@@ -7,15 +7,16 @@ ghost use Rattle.std.specs.Vec.{vec_capacity};
 ghost use Rattle.meet_tickets.specs.declared.refusals.Refusal.TheVariants.{Memory, ReadFault};
 ghost use Rattle.meet_run.specs.declared.trace.chains.Behind.TheVariants.{End};
 ghost use Rattle.meet_run.specs.Texts.Reading.{UsesTurns, EndsInTurns, HasNoEnd, lines_of};
-ghost use Rattle.meet_run.specs.Scripts.Running.{CannotRead};
+ghost use Rattle.meet_run.specs.Scripts.Running.{CannotRead, IsUnread};
 ghost use Rattle.meet_run.specs.Tracing.Chains.{is_head, parts_of, fault_in_parts, chain_fault_in, IsChainFound};
 ghost use Rattle.meet_run.specs.Tracing.Chains.{ChainEnds};
 ghost use Rattle.meet_run.specs.Tracing.Chains.{IsPart, IsChapterRead};
-ghost use Rattle.meet_run.specs.Tracing.Traces.{NamesLine, IsUnread, IsUnreadTrace, IsTraceFault};
+ghost use Rattle.meet_run.specs.Tracing.Traces.{NamesLine, IsUnreadTrace, IsTraceFault};
 
 use crate::text::faults::{RunFault, at_line, cut_short};
 use crate::text::output::write_whole;
 use crate::text::reading::{LONGEST_LINE, LineRead, MOST_READS, read_line};
+use crate::text::room::room_for_lines;
 use crate::trace::base_grammar::read_based_head;
 use crate::trace::chain::Chain;
 use crate::trace::check::{ReadTrace, read_trace};
@@ -157,14 +158,8 @@ fn find_chain<R: Read>(
     ensures ends { OnOk result (EndsInTurns (R.remaining reader.old) turns) }
     ensures faults { IfErr result IsUnreadTrace }
 {
-    if turns == 0 {
-        return Err(cut_short(Refusal::ReadFault));
-    }
+    let mut line = room_for_lines(alloc, turns)?;
     let mut rest = turns;
-    let mut line = match Vec::with_capacity(alloc, LONGEST_LINE) {
-        Ok(line) => line,
-        Err(_) => return Err(cut_short(Refusal::Memory)),
-    };
     match read_line(reader, &mut rest, &mut line) {
         LineRead::Line => find_chapters(alloc, reader, &mut rest, &mut line),
         LineRead::End => Err(at_line(Refusal::BadTrace, 1)),
@@ -191,23 +186,13 @@ fn find_chapters<R: Read>(
     ensures faults { IfErr result IsUnreadTrace }
 {
     let mut text = Vec::new(alloc);
-    let (trace, mut before, mut more) = match read_chapter(
-        alloc, reader, turns, line, &mut text, 0,
-    ) {
-        Ok(read) => read,
-        Err(fault) => return Err(fault),
-    };
+    let (trace, mut before, mut more) = read_chapter(alloc, reader, turns, line, &mut text, 0)?;
     let mut chain = match Chain::begin(trace) {
         Ok(chain) => chain,
         Err(why) => return Err(cut_short(why)),
     };
     while more {
-        let (trace, lines, another) = match read_chapter(
-            alloc, reader, turns, line, &mut text, before,
-        ) {
-            Ok(read) => read,
-            Err(fault) => return Err(fault),
-        };
+        let (trace, lines, another) = read_chapter(alloc, reader, turns, line, &mut text, before)?;
         chain = match chain.take(alloc, trace) {
             Ok(chain) => chain,
             Err(why) => return Err(cut_short(why)),
@@ -248,10 +233,7 @@ pub fn check_chain_within<R: Read, W: Write>(
     ensures ends { OnOk result (EndsInTurns (R.remaining reader.old) turns) }
     ensures faults { IfErr result IsTraceFault }
 {
-    let (legal, text) = match find_chain(alloc, reader, turns) {
-        Ok(found) => found,
-        Err(fault) => return Err(fault),
-    };
+    let (legal, text) = find_chain(alloc, reader, turns)?;
     match write_whole(writer, text.as_slice()) {
         Ok(()) => Ok(legal),
         Err(why) => Err(cut_short(why)),

@@ -17,6 +17,7 @@ use crate::text::faults::{RunFault, at_line, cut_short};
 use crate::text::next::Next;
 use crate::text::output::write_whole;
 use crate::text::reading::{LONGEST_LINE, LineRead, MOST_READS, read_line};
+use crate::text::room::room_for_lines;
 use crate::text::wording::push_last_line;
 use crate::trace::base_grammar::read_based_head;
 use crate::trace::based::read_based;
@@ -132,15 +133,13 @@ fn read_plain<R: Read>(
         Ok(checker) => checker,
         Err(_) => return Err(cut_short(Refusal::Memory)),
     };
-    match push_records(reader, turns, line, &mut checker, kept) {
-        Ok(count) => Ok(ReadTrace {
-            kind,
-            base,
-            checker,
-            count,
-        }),
-        Err(fault) => Err(fault),
-    }
+    let count = push_records(reader, turns, line, &mut checker, kept)?;
+    Ok(ReadTrace {
+        kind,
+        base,
+        checker,
+        count,
+    })
 }
 
 /// Reads a whole trace, of either format, by at most so many reads, and keeps its records where they are wanted.
@@ -160,14 +159,8 @@ fn read_into<R: Read>(
     ensures ends { OnOk result (EndsInTurns (R.remaining reader.old) turns) }
     ensures faults { IfErr result IsUnreadTrace }
 {
-    if turns == 0 {
-        return Err(cut_short(Refusal::ReadFault));
-    }
+    let mut line = room_for_lines(alloc, turns)?;
     let mut rest = turns;
-    let mut line = match Vec::with_capacity(alloc, LONGEST_LINE) {
-        Ok(line) => line,
-        Err(_) => return Err(cut_short(Refusal::Memory)),
-    };
     match read_line(reader, &mut rest, &mut line) {
         LineRead::Line => match read_head(line.as_slice()) {
             Some(kind) => read_plain(alloc, reader, &mut rest, &mut line, kind, kept),
@@ -213,10 +206,8 @@ pub fn read_records<R: Read>(
     ensures faults { IfErr result IsUnreadTrace }
 {
     let mut kept = Kept::all(alloc);
-    match read_into(alloc, reader, turns, &mut kept) {
-        Ok(trace) => Ok((trace, kept.into_records())),
-        Err(fault) => Err(fault),
-    }
+    let trace = read_into(alloc, reader, turns, &mut kept)?;
+    Ok((trace, kept.into_records()))
 }
 
 /// Reads a whole trace, and says what is found of it, and the line that says so; it refuses as `read_trace`.
@@ -234,10 +225,7 @@ pub fn find_trace<R: Read>(
     ensures ends { OnOk result (EndsInTurns (R.remaining reader.old) turns) }
     ensures faults { IfErr result IsUnreadTrace }
 {
-    let trace = match read_trace(alloc, reader, turns) {
-        Ok(trace) => trace,
-        Err(fault) => return Err(fault),
-    };
+    let trace = read_trace(alloc, reader, turns)?;
     match verdict(alloc, &trace.checker, trace.count) {
         Ok(found) => Ok(found),
         Err(why) => Err(cut_short(why)),
@@ -268,10 +256,7 @@ pub fn check_trace_within<R: Read, W: Write>(
     ensures ends { OnOk result (EndsInTurns (R.remaining reader.old) turns) }
     ensures faults { IfErr result IsTraceFault }
 {
-    let (legal, text) = match find_trace(alloc, reader, turns) {
-        Ok(found) => found,
-        Err(fault) => return Err(fault),
-    };
+    let (legal, text) = find_trace(alloc, reader, turns)?;
     match write_whole(writer, text.as_slice()) {
         Ok(()) => Ok(legal),
         Err(why) => Err(cut_short(why)),

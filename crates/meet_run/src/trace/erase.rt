@@ -17,6 +17,7 @@ use crate::text::faults::{RunFault, at_line, cut_short};
 use crate::text::next::Next;
 use crate::text::output::write_whole;
 use crate::text::reading::{LONGEST_LINE, MOST_READS};
+use crate::text::room::room_for_lines;
 use crate::trace::next::{next_head, next_record};
 use crate::trace::run::write_trace;
 use crate::trace::wording::push_illegal;
@@ -76,19 +77,10 @@ fn read_trace<R: Read>(
     ensures ends { OnOk result (EndsInTurns (R.remaining reader.old) turns) }
     ensures faults { IfErr result IsUnreadTrace }
 {
-    if turns == 0 {
-        return Err(cut_short(Refusal::ReadFault));
-    }
+    let mut line = room_for_lines(alloc, turns)?;
     let mut rest = turns;
-    let mut line = match Vec::with_capacity(alloc, LONGEST_LINE) {
-        Ok(line) => line,
-        Err(_) => return Err(cut_short(Refusal::Memory)),
-    };
     match next_head(reader, &mut rest, &mut line) {
-        Next::Read(kind) => match read_records(alloc, reader, &mut rest, &mut line) {
-            Ok(records) => Ok((kind, records)),
-            Err(fault) => Err(fault),
-        },
+        Next::Read(kind) => Ok((kind, read_records(alloc, reader, &mut rest, &mut line)?)),
         Next::Ended => Err(at_line(Refusal::BadTrace, 1)),
         Next::Faulty => Err(at_line(Refusal::BadTrace, 1)),
         Next::Broken => Err(cut_short(Refusal::ReadFault)),
@@ -136,10 +128,8 @@ fn check_whole(alloc: Global, kind: Kind, records: &[Record<Deed>]) -> Result<()
     ensures legal { IfOk result (λ _. IsLegal kind records.now) }
     ensures fault { IfErr result (λ fault. IsCheckFault kind no_base records.now fault) }
 {
-    match check(alloc, kind, &Base::empty(alloc), records) {
-        Ok(_) => Ok(()),
-        Err(fault) => Err(fault),
-    }
+    check(alloc, kind, &Base::empty(alloc), records)?;
+    Ok(())
 }
 
 /// Writes what is left of these records, or which can't stand. The answer is whether they are legal.
@@ -155,14 +145,14 @@ fn write_erased<W: Write>(
     ensures why { IfErr result IsCutShort }
 {
     match check_whole(alloc, kind, records) {
-        Ok(()) => match write_left(alloc, kind, records, writer) {
-            Ok(()) => Ok(true),
-            Err(why) => Err(why),
-        },
-        Err(CheckFault::Illegal { place, why }) => match write_illegal(alloc, place, why, writer) {
-            Ok(()) => Ok(false),
-            Err(why) => Err(why),
-        },
+        Ok(()) => {
+            write_left(alloc, kind, records, writer)?;
+            Ok(true)
+        }
+        Err(CheckFault::Illegal { place, why }) => {
+            write_illegal(alloc, place, why, writer)?;
+            Ok(false)
+        }
         Err(CheckFault::Memory) => Err(Refusal::Memory),
     }
 }
@@ -192,10 +182,7 @@ pub fn erase_trace_within<R: Read, W: Write>(
     ensures ends { OnOk result (EndsInTurns (R.remaining reader.old) turns) }
     ensures faults { IfErr result IsTraceFault }
 {
-    let (kind, records) = match read_trace(alloc, reader, turns) {
-        Ok(found) => found,
-        Err(fault) => return Err(fault),
-    };
+    let (kind, records) = read_trace(alloc, reader, turns)?;
     match write_erased(alloc, kind, records.as_slice(), writer) {
         Ok(legal) => Ok(legal),
         Err(why) => Err(cut_short(why)),

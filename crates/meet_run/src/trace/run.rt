@@ -7,11 +7,10 @@ ghost use Rattle.std.specs.Vec.{vec_capacity};
 ghost use Rattle.meet_tickets.specs.declared.refusals.Refusal.TheVariants.{ReadFault};
 ghost use Rattle.meet_history.specs.Limits.{IsInLimits};
 ghost use Rattle.meet_run.specs.Texts.Reading.{UsesTurns, EndsInTurns, lines_of};
-ghost use Rattle.meet_run.specs.Scripts.Running.{CannotRead, IsCutShort, IsRunFault};
+ghost use Rattle.meet_run.specs.Scripts.Running.{CannotRead, IsCutShort, IsRunFault, IsUnread};
 ghost use Rattle.meet_run.specs.Tracing.BaseWording.{based_text, run_text};
 ghost use Rattle.meet_run.specs.Tracing.TraceWording.{record_line, trace_text};
 ghost use Rattle.meet_run.specs.Tracing.Traces.{TracesAll, LeavesRun, TracesOn, IsTraceBehind, HasTrace, WasRun};
-ghost use Rattle.meet_run.specs.Tracing.Traces.{IsUnread};
 ghost use Rattle.meet_run.specs.Texts.Writing.{AppendsPrefix};
 
 use crate::script::next::{next_call, next_setup};
@@ -19,6 +18,7 @@ use crate::text::faults::{RunFault, at_line, cut_short};
 use crate::text::next::Next;
 use crate::text::output::write_whole;
 use crate::text::reading::{LONGEST_LINE, MOST_READS};
+use crate::text::room::room_for_lines;
 use crate::trace::base_wording::push_base;
 use crate::trace::wording::{push_head, push_record};
 use meet_history::{Setup, Stepper};
@@ -244,14 +244,8 @@ pub fn run_trace_within<R: Read, W: Write>(
     ensures ends { OnOk result (EndsInTurns (R.remaining reader.old) turns) }
     ensures faults { IfErr result IsRunFault }
 {
-    if turns == 0 {
-        return Err(cut_short(Refusal::ReadFault));
-    }
+    let mut line = room_for_lines(alloc, turns)?;
     let mut rest = turns;
-    let mut line = match Vec::with_capacity(alloc, LONGEST_LINE) {
-        Ok(line) => line,
-        Err(_) => return Err(cut_short(Refusal::Memory)),
-    };
     match next_setup(reader, &mut rest, &mut line) {
         Next::Read(setup) => trace_calls(alloc, reader, writer, &mut rest, &mut line, setup),
         Next::Ended => Err(at_line(Refusal::BadLine, 1)),

@@ -9,27 +9,27 @@ use Rattle.meet_draw.proofs.drawing.picture_in.Goals as goal
 
 pub picture_of-requires-clause-seen : goal.picture_of-requires-clause-seen
 picture_of-requires-clause-seen c =
-    let trace = c.in-Ok.read.0 in
-    let read = c.in-Ok.ensures.read in
+    let trace = c.in_ok-trace.trace in
+    let read = c.in_ok-trace.ensures.read in
     subst (λ (rs : List (Record Deed)). HasSeen trace.base trace.checker rs) read.1 read.0.seen
 
 pub picture_of-requires-clause-counted : goal.picture_of-requires-clause-counted
 picture_of-requires-clause-counted c =
-    let trace = c.in-Ok.read.0 in
-    let read = c.in-Ok.ensures.read in
+    let trace = c.in_ok-trace.trace in
+    let read = c.in_ok-trace.ensures.read in
     read.0.counted ∙ ap (λ (rs : List (Record Deed)). trace.base.gone + length rs) read.1
 
 pub picture_of-requires-clause-own : goal.picture_of-requires-clause-own
-picture_of-requires-clause-own c = c.in-Ok.ensures.read.0.own
+picture_of-requires-clause-own c = c.in_ok-trace.ensures.read.0.own
 
-pub returns-in-Ok-picture_of-clause-drawn : goal.returns-in-Ok-picture_of-clause-drawn
-returns-in-Ok-picture_of-clause-drawn c =
-    let trace = c.in-Ok.read.0 in
-    let read = c.in-Ok.ensures.read in
+pub returns-in-Ok-clause-drawn : goal.returns-in-Ok-clause-drawn
+returns-in-Ok-clause-drawn c =
+    let trace = c.in_ok-trace.trace in
+    let read = c.in_ok-trace.ensures.read in
     record {
       kind = trace.kind;
       base = trace.base;
-      records = c.in-Ok.read.1.items;
+      records = c.in_ok-trace.records.items;
       trace = subst (λ (rs : List (Record Deed)). IsTraceOn (lines_of c.args.text.now) trace.kind trace.base rs) read.1 read.0.told;
-      picture = c.in-Ok-picture_of.ensures;
+      picture = c.in-Ok.ensures;
     }

@@ -9,19 +9,19 @@ use Rattle.meet_sum.proofs.summing.sum_trace.Goals as goal
 
 pub returns-in-Ok-write_whole : goal.returns-in-Ok-write_whole
 returns-in-Ok-write_whole g c =
-    let trace = c.in-Ok.read.0 in
+    let trace = c.in_ok-trace.trace in
     let old = g.W.Write.contents c.args.writer.now in
     let new = g.W.Write.contents c.write_whole.new.writer in
-    sum-done (g.R.Read.remaining c.args.reader.now) trace c.in-Ok.read.1.items c.in-Ok.ensures.read c.in-Ok-say.said.0 c.in-Ok-say.said.1.items
-    (λ lines own. c.in-Ok-say.ensures.said lines (subst (IsReadWith lines trace) (sym c.as_slice.ensures.value) own)) old new
+    sum-done (g.R.Read.remaining c.args.reader.now) trace c.in_ok-trace.records.items c.in_ok-trace.ensures.read c.in-Ok.said.0 c.in-Ok.said.1.items
+    (λ lines own. c.in-Ok.ensures.said lines (subst (IsReadWith lines trace) (sym c.as_slice.ensures.value) own)) old new
     (subst (λ t. Appends old new t) c.as_slice-2.ensures.value c.in-Ok-write_whole.ensures.ok)
 
 pub returns : goal.returns
 returns g c =
-    let trace = c.in-Ok.read.0 in
+    let trace = c.in_ok-trace.trace in
     let old = g.W.Write.contents c.args.writer.now in
     let new = g.W.Write.contents c.write_whole.new.writer in
-    sum-short (g.R.Read.remaining c.args.reader.now) trace c.in-Ok.read.1.items c.in-Ok.ensures.read c.in-Ok-say.said.0 c.in-Ok-say.said.1.items
-    (λ lines own. c.in-Ok-say.ensures.said lines (subst (IsReadWith lines trace) (sym c.as_slice.ensures.value) own)) old new c.cut_short-in-Err-write_whole.result
+    sum-short (g.R.Read.remaining c.args.reader.now) trace c.in_ok-trace.records.items c.in_ok-trace.ensures.read c.in-Ok.said.0 c.in-Ok.said.1.items
+    (λ lines own. c.in-Ok.ensures.said lines (subst (IsReadWith lines trace) (sym c.as_slice.ensures.value) own)) old new c.cut_short-in-Err-write_whole.result
     (c.cut_short-in-Err-write_whole.ensures ∙ ap (λ w. let x : RunFault = record { why = w; line = None } in x) c.in-Err-write_whole.ensures.fault)
     (subst (λ t. AppendsPrefix old new t) c.as_slice-2.ensures.value c.in-Err-write_whole.ensures.prefix)

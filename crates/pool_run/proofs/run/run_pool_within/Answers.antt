@@ -1,7 +1,9 @@
 -- Proof of `run_pool_within`, src/run.rt. Runs the pool's script that this reader gives, and writes its replies: the
 -- first line names what the pool is made with, each other line is a call.
-use Rattle.std.proofs.Common.{arith, inl, inr, refl, subst, sym, Err}
-use Rattle.meet_tickets.specs.declared.refusals.Refusal.TheVariants.{Memory, ReadFault}
+use Rattle.std.proofs.Common.{arith, inr, refl, ap, subst, sym, Err}
+use Rattle.std.proofs.lemmas.Result.{err_from_is_err_and}
+use Rattle.meet_tickets.specs.declared.refusals.Refusal.TheVariants.{ReadFault}
+use Rattle.meet_run.specs.declared.text.faults.RunFault.{RunFault}
 use Rattle.meet_run.proofs.Texts.LineLemmas.{uses-more, uses-fewer}
 use Rattle.meet_run.proofs.Scripts.Ran.{appends-nothing}
 use Rattle.pool_run.proofs.Headed.{text-behind, text-headless, text-lineless, text-none}
@@ -27,14 +29,13 @@ pub returns-in-Faulty-clause-script : goal.returns-in-Faulty-clause-script
 returns-in-Faulty-clause-script g c =
     text-headless RunsTo (g.R.Read.remaining c.args.reader.now) (Err c.at_line-in-Faulty.result) (g.W.Write.contents c.args.writer.now) (g.W.Write.contents c.args.writer.now) c.in-Faulty.ensures.next.0 (subst (λ f. IsHeadless (Err f) (g.W.Write.contents c.args.writer.now) (g.W.Write.contents c.args.writer.now)) (sym c.at_line-in-Faulty.ensures) (refl, appends-nothing (g.W.Write.contents c.args.writer.now)))
 
-pub returns-then-turns-eq0-clause-script : goal.returns-then-turns-eq0-clause-script
-returns-then-turns-eq0-clause-script g c =
-    text-none RunsTo (g.R.Read.remaining c.args.reader.now) c.cut_short.result ReadFault (g.W.Write.contents c.args.writer.now) c.cut_short.ensures (inr refl) (λ s lines. runs-none s lines ReadFault (g.W.Write.contents c.args.writer.now) (inr refl))
-
-pub returns-in-Err-clause-script : goal.returns-in-Err-clause-script
-returns-in-Err-clause-script g c =
-    text-none RunsTo (g.R.Read.remaining c.args.reader.now) c.cut_short-in-Err.result Memory (g.W.Write.contents c.args.writer.now) c.cut_short-in-Err.ensures (inl refl) (λ s lines. runs-none s lines Memory (g.W.Write.contents c.args.writer.now) (inl refl))
+pub returns-in_err-line-clause-script : goal.returns-in_err-line-clause-script
+returns-in_err-line-clause-script g c =
+    let failed = err_from_is_err_and c.from_residual.result c.from_residual.ensures.1 in
+    let fault = c.in_err-line.field-0.0 in
+    let unread = c.in_err-line.ensures.faults.0 in
+    rw (failed.1, failed.2) (text-none RunsTo (g.R.Read.remaining c.args.reader.now) fault fault.why (g.W.Write.contents c.args.writer.now) (ap (λ l. let x : RunFault = record { why = fault.why; line = l } in x) c.in_err-line.ensures.faults.1) unread (λ s lines. runs-none s lines fault.why (g.W.Write.contents c.args.writer.now) unread))
 
 pub returns-clause-script : goal.returns-clause-script
 returns-clause-script g c =
-    text-none RunsTo (g.R.Read.remaining c.args.reader.now) c.cut_short-in-Broken.result ReadFault (g.W.Write.contents c.args.writer.now) c.cut_short-in-Broken.ensures (inr refl) (λ s lines. runs-none s lines ReadFault (g.W.Write.contents c.args.writer.now) (inr refl))
+    text-none RunsTo (g.R.Read.remaining c.args.reader.now) c.cut_short.result ReadFault (g.W.Write.contents c.args.writer.now) c.cut_short.ensures (inr refl) (λ s lines. runs-none s lines ReadFault (g.W.Write.contents c.args.writer.now) (inr refl))

@@ -2,6 +2,6 @@
 use Rattle.meet_run.proofs.Tracing.KeepingLemmas.{read-with}
 use Rattle.meet_run.proofs.trace.check.read_records.Goals as goal
 
-pub returns-in-Ok-clause-read : goal.returns-in-Ok-clause-read
-returns-in-Ok-clause-read g c =
-    read-with (g.R.Read.remaining c.args.reader.now) c.in-Ok.trace c.all-kept.result.wanted c.read_into.new.kept c.into_records.result.items c.all-kept.ensures.same c.into_records.ensures c.in-Ok.ensures.read
+pub returns-clause-read : goal.returns-clause-read
+returns-clause-read g c =
+    read-with (g.R.Read.remaining c.args.reader.now) c.in_ok-trace.trace c.all-kept.result.wanted c.read_into.new.kept c.into_records.result.items c.all-kept.ensures.same c.into_records.ensures c.in_ok-trace.ensures.read
