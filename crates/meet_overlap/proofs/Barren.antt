@@ -264,11 +264,11 @@ known_barren k calls seen r all known = barren_alike k calls (world_of (slice_in
 
 -- worlds of the same parts are alike
 pub alike_parts : (a b : Reached) → a.time ≡ b.time → a.window.first ≡ b.window.first → a.window.stages.items ≡ b.window.stages.items →
-    a.place.line.items ≡ b.place.line.items → a.place.holds.items ≡ b.place.holds.items → a.place.flags.items ≡ b.place.flags.items → IsAlike (world_of a) (world_of b)
+    a.place.line ≡ b.place.line → a.place.holds.items ≡ b.place.holds.items → a.place.flags.items ≡ b.place.flags.items → IsAlike (world_of a) (world_of b)
 alike_parts a b time first stages line holds flags = record {
   seats =
-      same_seats a.place.line.items b.place.line.items (hold_at a.place.holds.items) (hold_at b.place.holds.items) (flag_at a.place.flags.items) line (ap hold_at holds)
-      ∙ ap (λ f. record { line = b.place.line.items; holds = hold_at b.place.holds.items; flags = f }) (ap flag_at flags);
+      same_seats a.place.line b.place.line (hold_at a.place.holds.items) (hold_at b.place.holds.items) (flag_at a.place.flags.items) line (ap hold_at holds)
+      ∙ ap (λ f. record { line = b.place.line; holds = hold_at b.place.holds.items; flags = f }) (ap flag_at flags);
   stages = ap (λ n. stage_in n a.window.stages.items) first ∙ ap (stage_in b.window.first) stages;
   time = time;
 }

@@ -1,7 +1,9 @@
 pub mod Calls
 pub mod Explaining
 pub mod Known
+pub mod Marks
 pub mod Ordered
 pub mod Places
 pub mod Plays
+pub mod Reasons
 pub mod Search

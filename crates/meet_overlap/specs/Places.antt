@@ -30,7 +30,7 @@ stage_at window = stage_in window.first window.stages.items
 abbrev pub scene : Place → Moment
 scene p = record {
   last = p.last;
-  seats = record { line = p.line.items; holds = hold_at p.holds.items; flags = flag_at p.flags.items };
+  seats = record { line = p.line; holds = hold_at p.holds.items; flags = flag_at p.flags.items };
 }
 
 -- what the events so far left

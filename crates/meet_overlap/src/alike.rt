@@ -122,7 +122,7 @@ pub(crate) fn alike(one: &Reached, other: &Reached) -> bool
     if !same_flags(&one.place.flags, &other.place.flags) {
         return false;
     }
-    if !same_line(&one.place.line, &other.place.line) {
+    if !same_line(one.place.line.as_slice(), other.place.line.as_slice()) {
         return false;
     }
     same_holds(&one.place.holds, &other.place.holds)

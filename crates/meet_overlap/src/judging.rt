@@ -1,40 +1,43 @@
-//! The judge: a history that explains calls which overlap, or that there is none.
+//! The judge: a history that explains a concurrent history of calls, or why there is none.
 
-ghost use Rattle.std.specs.Prelude.{◌<◌, length, IfOk, IfErr, IfSome, List};
+ghost use Rattle.std.specs.Prelude.{◌<◌, length, IfOk, IfErr, IfSome, IsTrue, List};
 ghost use Rattle.meet_tickets.specs.declared.records.Record.{Record};
 ghost use Rattle.meet_tickets.specs.declared.records.Deed.{Deed};
 ghost use Rattle.meet_overlap.specs.Explaining.{Explains};
 ghost use Rattle.meet_overlap.specs.Known.{IsNoted};
 ghost use Rattle.meet_overlap.specs.Places.{world_of};
+ghost use Rattle.meet_overlap.specs.Reasons.{IsReason};
 
 use crate::calls::Call;
 use crate::due::least_begins;
 use crate::fault::Fault;
 use crate::fits::{is_within, may_all_stop, tells};
+use crate::guess::{guess, who_met};
 use crate::next::{deed, ticket as next_ticket};
-use crate::search::{Stuck, search};
+use crate::reasons::{Reason, find_reason};
+use crate::search::search;
 use crate::stages::stage;
-use crate::world::{Reached, after, beginning};
+use crate::world::{Reached, advance, beginning};
 use meet_tickets::{Deed, Kind, Record};
 use std::alloc::Global;
 
-/// What the next event of the call of this number leaves, if it has one. Its record is noted.
+/// The call of this number makes its next record, which is noted; or it has none, and it isn't known where the calls
+/// are then.
 fn note(
-    alloc: Global,
     kind: Kind,
     calls: &[Call],
-    reached: &Reached,
+    reached: &mut Reached,
     number: usize,
     history: &mut Vec<Record<Deed>>,
-) -> Result<Option<Reached>, Fault>
+) -> Result<bool, Fault>
     requires { number < length calls.now }
-    ensures { IfOk result (λ found. IfSome found (λ then. IsNoted kind calls.now (world_of reached.now) (world_of then)
-        history.old.items history.new.items)) }
+    ensures { IfOk result (λ made. IsTrue made → IsNoted kind calls.now (world_of reached.old) (world_of reached.new)
+        history.old.items history.new.items) }
 {
     let call = &calls[number];
     let stage = stage(&reached.window, number);
     let Some(deed) = deed(kind, &reached.place, call, &stage) else {
-        return Ok(None);
+        return Ok(false);
     };
     let time = if reached.time < call.begin {
         call.begin
@@ -42,10 +45,10 @@ fn note(
         reached.time
     };
     if !tells(call, &deed) {
-        return Ok(None);
+        return Ok(false);
     }
     if !is_within(call, time, &deed) {
-        return Ok(None);
+        return Ok(false);
     }
     let Some(ticket) = next_ticket(&reached.place, call.verb, &stage) else {
         return Err(Fault::TicketsSpent);
@@ -55,59 +58,93 @@ fn note(
         ticket,
         deed,
     };
-    let then = after(alloc, kind, reached, number, time, &entry)?;
+    advance(kind, reached, number, time, &entry)?;
     history.push(entry)?;
-    Ok(Some(then))
+    Ok(true)
 }
 
-/// The history in which the calls, in this order, make their records.
+/// The history in which the calls, in this order, make their records, if they can.
 fn written(
     alloc: Global,
     kind: Kind,
     calls: &[Call],
     order: &[usize],
-) -> Result<Vec<Record<Deed>>, Fault>
-    ensures { IfOk result (λ history. Explains kind calls.now history.items) }
+) -> Result<Option<Vec<Record<Deed>>>, Fault>
+    ensures { IfOk result (λ found. IfSome found (λ history. Explains kind calls.now history.items)) }
 {
     let mut history = Vec::new(alloc);
     let mut reached = beginning(alloc);
     for number in order {
         let number = *number;
         if number >= calls.len() {
-            return Err(Fault::Unsure);
+            return Ok(None);
         }
-        match note(alloc, kind, calls, &reached, number, &mut history)? {
-            Some(then) => reached = then,
-            None => return Err(Fault::Unsure),
+        if !note(kind, calls, &mut reached, number, &mut history)? {
+            return Ok(None);
         }
     }
     if may_all_stop(calls, &reached.window) {
-        Ok(history)
+        Ok(Some(history))
     } else {
-        Err(Fault::Unsure)
+        Ok(None)
     }
 }
 
-/// Judges calls that overlap at a place of this kind: a history that explains them, which `check` of meet_history finds
-/// legal; or how far the search came, where no history explains them. It makes at most so many moves, each the next
-/// record of one call. It refuses Memory, Limit where these moves were not enough, and TicketsSpent where there are
-/// more calls than tickets.
+/// What a search says: a history that explains the calls, or how far it came. Fails as `judge` does.
+fn searched(
+    alloc: Global,
+    kind: Kind,
+    calls: &[Call],
+    limit: u64,
+) -> Result<Result<Vec<Record<Deed>>, Reason>, Fault>
+    ensures yes { IfOk result (λ found. IfOk found (λ history. Explains kind calls.now history.items)) }
+    ensures no { IfOk result (λ found. IfErr found (λ _.
+        (history : List (Record Deed)) → Explains kind calls.now history → ⊥)) }
+    ensures reason { IfOk result (λ found. IfErr found (IsReason kind calls.now)) }
+{
+    let begins = least_begins(alloc, calls)?;
+    match search(alloc, kind, calls, &begins, limit)? {
+        Ok(order) => match written(alloc, kind, calls, &order)? {
+            Some(history) => Ok(Ok(history)),
+            None => Err(Fault::Unsure),
+        },
+        Err(stuck) => Ok(Err(Reason::Stuck(stuck))),
+    }
+}
+
+/// Judges the calls of a concurrent history at a place of this kind, which was empty when they began: is it
+/// linearizable? It returns a history that explains the calls, and that `check` of meet_history finds legal; or why
+/// there is none.
+///
+/// An order of the calls' records is guessed first, and each record of it is checked. If it can't stand, reasons why no
+/// history explains the calls are looked for. Both take n log n steps. What they don't decide is searched for, in at
+/// most `limit` moves, each the next record of one call.
+///
+/// # Errors
+/// - `Memory` if an allocation fails.
+/// - `Limit` if these moves weren't enough.
+/// - `TicketsSpent` if there are more calls than tickets.
+/// - `Unsure` if an order was found that can't be written as a history. No proof says that this can't come; it was
+///   never seen.
 pub fn judge(
     alloc: Global,
     kind: Kind,
     calls: &[Call],
     limit: u64,
-) -> Result<Result<Vec<Record<Deed>>, Stuck>, Fault>
+) -> Result<Result<Vec<Record<Deed>>, Reason>, Fault>
     ensures yes { IfOk result (λ found. IfOk found (λ history. Explains kind calls.now history.items)) }
     ensures no { IfOk result (λ found. IfErr found (λ _.
         (history : List (Record Deed)) → Explains kind calls.now history → ⊥)) }
+    ensures reason { IfOk result (λ found. IfErr found (IsReason kind calls.now)) }
 {
-    let begins = least_begins(alloc, calls)?;
-    match search(alloc, kind, calls, &begins, limit)? {
-        Ok(order) => {
-            let history = written(alloc, kind, calls, &order)?;
-            Ok(Ok(history))
+    let partners = who_met(alloc, calls)?;
+    if let Some(order) = guess(alloc, kind, calls, &partners)? {
+        if let Some(history) = written(alloc, kind, calls, &order)? {
+            return Ok(Ok(history));
         }
-        Err(stuck) => Ok(Err(stuck)),
     }
+    if let Some(reason) = find_reason(alloc, kind, calls, &partners)? {
+        return Ok(Err(reason));
+    }
+    searched(alloc, kind, calls, limit)
 }

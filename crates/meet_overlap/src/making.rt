@@ -5,12 +5,12 @@ ghost use Rattle.meet_tickets.specs.BySeat.{queued, meets, released, withdrawn, 
 ghost use Rattle.meet_tickets.specs.BySeat.{entry_of, moment_after};
 ghost use Rattle.meet_overlap.specs.Places.{scene};
 
-use crate::place::{Place, entry, hold, leave, leave_met, partner, put_flag, put_hold};
+use crate::place::{Place, hold, partner, put_flag, put_hold};
 use meet_tickets::{Cause, Deed, Entry, Hold, Kind, Record, SeatNo, Side, Ticket};
 use std::alloc::AllocError;
 
-/// An entry goes to the line's end; where it waits, its ticket is what its seat holds. The only error is want of
-/// memory.
+/// An entry goes to the line's end; where it waits, its ticket is what its seat holds. Fails only if an
+/// allocation fails.
 fn queue(
     place: &mut Place,
     seat: SeatNo,
@@ -47,7 +47,7 @@ fn paired(ticket: Ticket, own: Option<u64>, with: Ticket, brought: Option<u64>) 
     }
 }
 
-/// A request meets its partner, if it has one. The only error is want of memory.
+/// A request meets its partner, if it has one. Fails only if an allocation fails.
 fn meet(
     kind: Kind,
     place: &mut Place,
@@ -59,10 +59,10 @@ fn meet(
         ≡ record { last = ticket; seats = meets kind (scene place.old).seats ticket item side }) }
 {
     place.last = ticket.number();
-    let Some(met) = partner(kind, &place.line, side) else {
+    let Some(met) = partner(kind, place.line.as_slice(), side) else {
         return Ok(());
     };
-    leave_met(&mut place.line, kind.order.end());
+    place.line.leave_met(kind.order.end());
     if met.waits {
         put_hold(
             &mut place.holds,
@@ -73,7 +73,7 @@ fn meet(
     Ok(())
 }
 
-/// A seat's ticket ends. The only error is want of memory.
+/// A seat's ticket ends. Fails only if an allocation fails.
 fn release(place: &mut Place, seat: SeatNo) -> Result<(), AllocError>
     ensures { OnOk result (scene place.new
         ≡ record { last = place.old.last; seats = released (scene place.old).seats seat }) }
@@ -81,12 +81,12 @@ fn release(place: &mut Place, seat: SeatNo) -> Result<(), AllocError>
     put_hold(&mut place.holds, seat, Hold::Free)
 }
 
-/// A seat's ticket leaves the line and ends. The only error is want of memory.
+/// A seat's ticket leaves the line and ends. Fails only if an allocation fails.
 fn withdraw(place: &mut Place, seat: SeatNo, ticket: Ticket) -> Result<(), AllocError>
     ensures { OnOk result (scene place.new
         ≡ record { last = place.old.last; seats = withdrawn (scene place.old).seats seat ticket }) }
 {
-    leave(&mut place.line, ticket);
+    place.line.leave(ticket);
     put_hold(&mut place.holds, seat, Hold::Free)
 }
 
@@ -96,28 +96,28 @@ pub(crate) fn entry_held(place: &Place, seat: SeatNo) -> Option<Entry<u64>>
 {
     match hold(&place.holds, seat) {
         Hold::Free => None,
-        Hold::Waiting(ticket) => entry(&place.line, ticket),
+        Hold::Waiting(ticket) => place.line.entry(ticket),
         Hold::Handed(_, _, _) => None,
         Hold::Served(_, _, _) => None,
         Hold::Cut(_, _) => None,
     }
 }
 
-/// A seat is interrupted: its ticket is cut, or the seat is flagged. The only error is want of memory.
+/// A seat is interrupted: its ticket is cut, or the seat is flagged. Fails only if an allocation fails.
 fn interrupt(place: &mut Place, target: SeatNo) -> Result<(), AllocError>
     ensures { OnOk result (scene place.new
         ≡ record { last = place.old.last; seats = interrupted (scene place.old).seats target }) }
 {
     match entry_held(place, target) {
         Some(cut) => {
-            leave(&mut place.line, cut.ticket);
+            place.line.leave(cut.ticket);
             put_hold(&mut place.holds, target, Hold::Cut(cut.ticket, cut.item))
         }
         None => put_flag(&mut place.flags, target, true),
     }
 }
 
-/// A record is made. The only error is want of memory.
+/// A record is made. Fails only if an allocation fails.
 pub(crate) fn make(kind: Kind, place: &mut Place, entry: Record<Deed>) -> Result<(), AllocError>
     ensures { OnOk result (scene place.new ≡ moment_after kind (scene place.old) entry) }
 {

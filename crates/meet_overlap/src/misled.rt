@@ -11,6 +11,7 @@ ghost use Rattle.meet_overlap.specs.Search.{ending_of};
 
 use crate::calls::{Call, Stage};
 use crate::fits::tells;
+use crate::line::Line;
 use crate::next::ends;
 use crate::place::hold;
 use crate::stages::{Window, stage};
@@ -61,7 +62,7 @@ pub(crate) fn is_gone(line: &[Entry<u64>], seat: SeatNo) -> bool
 }
 
 /// Whether a call whose ticket was met or cut can't end as it did.
-fn ends_otherwise(call: &Call, line: &[Entry<u64>], hold: &Hold<u64>, ticket: Ticket) -> bool
+fn ends_otherwise(call: &Call, line: &Line, hold: &Hold<u64>, ticket: Ticket) -> bool
     ensures settled { IsTrue result → IsSettledBy ticket hold.now }
     ensures misled { IsTrue result → (other : List (Entry ℕ)) (d : Deed)
         → ending_of other call.now.verb hold.now ≡ Some d → Tells call.now d → ⊥ }
@@ -95,7 +96,7 @@ fn is_misled_at(calls: &[Call], reached: &Reached, number: usize) -> bool
     if !ends_otherwise(call, &reached.place.line, &held, ticket) {
         return false;
     }
-    is_alone(&reached.window, ticket, number) && is_gone(&reached.place.line, call.seat)
+    is_alone(&reached.window, ticket, number) && is_gone(reached.place.line.as_slice(), call.seat)
 }
 
 /// Whether a call in the window was met or cut so as it doesn't answer.

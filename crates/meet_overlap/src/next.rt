@@ -8,8 +8,9 @@ ghost use Rattle.meet_overlap.specs.Search.{giver_ending, taker_ending, ending_o
 ghost use Rattle.meet_overlap.specs.Search.{ticket_of};
 
 use crate::calls::{Answer, Call, Patience, Stage, Verb};
+use crate::line::Line;
 use crate::making::entry_held;
-use crate::place::{Place, entry, flag, hold, partner};
+use crate::place::{Place, flag, hold, partner};
 use meet_tickets::{Cause, Deed, Entry, Hold, Kind, Side, Ticket};
 
 /// Whether an item may be kept.
@@ -99,15 +100,15 @@ fn request(kind: Kind, place: &Place, call: &Call) -> Option<Deed>
     }
     let flag = flag(&place.flags, call.seat);
     match call.verb {
-        Verb::Keep(mark) => match partner(kind, &place.line, Side::Giver) {
+        Verb::Keep(mark) => match partner(kind, place.line.as_slice(), Side::Giver) {
             Some(met) => gives(mark, &met),
-            None => gives_alone(kind, &place.line, flag, call.verb),
+            None => gives_alone(kind, place.line.as_slice(), flag, call.verb),
         },
-        Verb::Give(_, mark) => match partner(kind, &place.line, Side::Giver) {
+        Verb::Give(_, mark) => match partner(kind, place.line.as_slice(), Side::Giver) {
             Some(met) => gives(mark, &met),
-            None => gives_alone(kind, &place.line, flag, call.verb),
+            None => gives_alone(kind, place.line.as_slice(), flag, call.verb),
         },
-        Verb::Take(patience) => match partner(kind, &place.line, Side::Taker) {
+        Verb::Take(patience) => match partner(kind, place.line.as_slice(), Side::Taker) {
             Some(met) => takes(&met),
             None => takes_alone(flag, patience),
         },
@@ -116,14 +117,14 @@ fn request(kind: Kind, place: &Place, call: &Call) -> Option<Deed>
 }
 
 /// A waiting ticket's time runs out, where it stands in the line.
-fn runs_out(line: &[Entry<u64>], patience: Patience, ticket: Ticket) -> Option<Deed>
+fn runs_out(line: &Line, patience: Patience, ticket: Ticket) -> Option<Deed>
     ensures { result ≡ expiry line.now patience ticket }
 {
     match patience {
         Patience::Now => None,
         Patience::Forever => None,
         Patience::Timed => {
-            if entry(line, ticket).is_some() {
+            if line.entry(ticket).is_some() {
                 Some(Deed::Withdrawn(Cause::Expired))
             } else {
                 None
@@ -133,7 +134,7 @@ fn runs_out(line: &[Entry<u64>], patience: Patience, ticket: Ticket) -> Option<D
 }
 
 /// How a giver's ticket ends.
-fn giver_ends(line: &[Entry<u64>], patience: Patience, held: &Hold<u64>) -> Option<Deed>
+fn giver_ends(line: &Line, patience: Patience, held: &Hold<u64>) -> Option<Deed>
     ensures { result ≡ giver_ending line.now patience held.now }
 {
     match held {
@@ -146,7 +147,7 @@ fn giver_ends(line: &[Entry<u64>], patience: Patience, held: &Hold<u64>) -> Opti
 }
 
 /// How a taker's ticket ends.
-fn taker_ends(line: &[Entry<u64>], patience: Patience, held: &Hold<u64>) -> Option<Deed>
+fn taker_ends(line: &Line, patience: Patience, held: &Hold<u64>) -> Option<Deed>
     ensures { result ≡ taker_ending line.now patience held.now }
 {
     match held {
@@ -159,7 +160,7 @@ fn taker_ends(line: &[Entry<u64>], patience: Patience, held: &Hold<u64>) -> Opti
 }
 
 /// How the ticket that a seat holds ends.
-pub(crate) fn ends(line: &[Entry<u64>], verb: Verb, held: &Hold<u64>) -> Option<Deed>
+pub(crate) fn ends(line: &Line, verb: Verb, held: &Hold<u64>) -> Option<Deed>
     ensures { result ≡ ending_of line.now verb held.now }
 {
     match verb {

@@ -1,32 +1,21 @@
 //! A place as events leave it.
 
-ghost use Rattle.std.specs.Prelude.{◌≡◌, ◌==◌, find, length, ◌<◌, IfOk, OnOk};
+ghost use Rattle.std.specs.Prelude.{◌≡◌, IfOk, OnOk};
 ghost use Rattle.meet_tickets.specs.Meeting.{end_of, partner};
-ghost use Rattle.meet_tickets.specs.BySeat.{put_at, without_first, unmet};
+ghost use Rattle.meet_tickets.specs.BySeat.{put_at};
 ghost use Rattle.meet_overlap.specs.Places.{hold_at, flag_at, scene};
 
-use meet_tickets::{Cause, Deed, End, Entry, Hold, Kind, Record, SeatNo, Side, Ticket};
+use crate::line::{Line, copied_entry};
+use meet_tickets::{Entry, Hold, Kind, SeatNo, Side};
 use std::alloc::{AllocError, Global};
 
 /// A place as events leave it.
 #[derive(Drop)]
 pub(crate) struct Place {
     pub(crate) last: u64,
-    pub(crate) line: Vec<Entry<u64>>,
+    pub(crate) line: Line,
     pub(crate) holds: Vec<Hold<u64>>,
     pub(crate) flags: Vec<bool>,
-}
-
-/// The same entry once more.
-pub(crate) fn copied_entry(entry: &Entry<u64>) -> Entry<u64>
-    ensures { result ≡ entry.now }
-{
-    Entry {
-        ticket: entry.ticket,
-        seat: entry.seat,
-        item: entry.item,
-        waits: entry.waits,
-    }
 }
 
 /// What a seat holds, once more.
@@ -42,18 +31,7 @@ fn copied_hold(hold: &Hold<u64>) -> Hold<u64>
     }
 }
 
-/// The same line once more. The only error is want of memory.
-fn copied_line(alloc: Global, line: &[Entry<u64>]) -> Result<Vec<Entry<u64>>, AllocError>
-    ensures { IfOk result (λ copy. copy.items ≡ line.now) }
-{
-    let mut copy = Vec::new(alloc);
-    for entry in line {
-        copy.push(copied_entry(entry))?;
-    }
-    Ok(copy)
-}
-
-/// The same table once more. The only error is want of memory.
+/// The same table once more. Fails only if an allocation fails.
 fn copied_holds(alloc: Global, holds: &[Hold<u64>]) -> Result<Vec<Hold<u64>>, AllocError>
     ensures { IfOk result (λ copy. copy.items ≡ holds.now) }
 {
@@ -64,11 +42,11 @@ fn copied_holds(alloc: Global, holds: &[Hold<u64>]) -> Result<Vec<Hold<u64>>, Al
     Ok(copy)
 }
 
-/// The same place once more. The only error is want of memory.
+/// The same place once more. Fails only if an allocation fails.
 pub(crate) fn copied(alloc: Global, place: &Place) -> Result<Place, AllocError>
     ensures { IfOk result (λ copy. scene copy ≡ scene place.now) }
 {
-    let line = copied_line(alloc, &place.line)?;
+    let line = place.line.copied(alloc)?;
     let holds = copied_holds(alloc, &place.holds)?;
     let flags = place.flags.as_slice().to_vec(alloc)?;
     Ok(Place {
@@ -79,7 +57,7 @@ pub(crate) fn copied(alloc: Global, place: &Place) -> Result<Place, AllocError>
     })
 }
 
-/// Puts what a seat holds in the place of what it held. The only error is want of memory.
+/// Puts what a seat holds in the place of what it held. Fails only if an allocation fails.
 pub(crate) fn put_hold(
     holds: &mut Vec<Hold<u64>>,
     seat: SeatNo,
@@ -95,7 +73,7 @@ pub(crate) fn put_hold(
     Ok(())
 }
 
-/// Sets or clears a seat's flag. The only error is want of memory.
+/// Sets or clears a seat's flag. Fails only if an allocation fails.
 pub(crate) fn put_flag(flags: &mut Vec<bool>, seat: SeatNo, flag: bool) -> Result<(), AllocError>
     ensures { OnOk result (flag_at flags.new.items ≡ put_at (flag_at flags.old.items) seat flag) }
 {
@@ -107,47 +85,12 @@ pub(crate) fn put_flag(flags: &mut Vec<bool>, seat: SeatNo, flag: bool) -> Resul
     Ok(())
 }
 
-/// The entry of this ticket leaves the line, if it is there.
-pub(crate) fn leave(line: &mut Vec<Entry<u64>>, ticket: Ticket)
-    ensures { line.new.items ≡ without_first (λ e. e.ticket == ticket) line.old.items }
-{
-    let found = line.iter().position(|entry| entry.ticket == ticket);
-    if let Some(index) = found {
-        let _left = line.remove(index);
-    }
-}
-
-/// The entry that is met leaves a line that isn't empty.
-pub(crate) fn leave_met(line: &mut Vec<Entry<u64>>, end: End)
-    requires { 0 < length line.old.items }
-    ensures { line.new.items ≡ unmet end line.old.items }
-{
-    match end {
-        End::Front => {
-            let _met = line.remove(0);
-        }
-        End::Back => {
-            let _met = line.pop();
-        }
-    }
-}
-
 /// The partner of a request of this side, if it has one.
 pub(crate) fn partner(kind: Kind, line: &[Entry<u64>], side: Side) -> Option<Entry<u64>>
     ensures { result ≡ partner (end_of kind.order) line.now side }
 {
     match kind.partner(line, side) {
         Some(met) => Some(copied_entry(met)),
-        None => None,
-    }
-}
-
-/// The entry of this ticket, if it stands in the line.
-pub(crate) fn entry(line: &[Entry<u64>], ticket: Ticket) -> Option<Entry<u64>>
-    ensures { result ≡ find (λ e. e.ticket == ticket) line.now }
-{
-    match line.iter().find(|entry| entry.ticket == ticket) {
-        Some(entry) => Some(copied_entry(entry)),
         None => None,
     }
 }

@@ -71,7 +71,7 @@ fn hash_of_holds(from: u64, holds: &[Hold<u64>]) -> u64 {
 fn hash_of(reached: &Reached) -> usize {
     let hash = mixed(reached.time, reached.window.first as u64);
     let hash = hash_of_stages(hash, &reached.window.stages);
-    let hash = hash_of_line(hash, &reached.place.line);
+    let hash = hash_of_line(hash, reached.place.line.as_slice());
     let hash = hash_of_holds(hash, &reached.place.holds);
     (hash >> 40) as usize % HASHES
 }

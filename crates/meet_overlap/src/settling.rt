@@ -34,7 +34,7 @@ fn is_settled(calls: &[Call], reached: &Reached, number: usize) -> bool
     if !is_settled_by(&held, ticket) {
         return false;
     }
-    is_alone(&reached.window, ticket, number) && is_gone(&reached.place.line, call.seat)
+    is_alone(&reached.window, ticket, number) && is_gone(reached.place.line.as_slice(), call.seat)
 }
 
 /// The ending of the first call in the window that was met or cut, and can end.

@@ -1,11 +1,12 @@
 //! What events leave: the place, how far each call is, and the time.
 
-ghost use Rattle.std.specs.Prelude.{◌≡◌, ◌≤◌, IfOk};
+ghost use Rattle.std.specs.Prelude.{◌≡◌, ◌≤◌, IfOk, OnOk};
 ghost use Rattle.meet_overlap.specs.Places.{world_of};
 ghost use Rattle.meet_overlap.specs.Search.{start, world_after};
 
 use crate::calls::Stage;
 use crate::fits::behind;
+use crate::line::Line;
 use crate::making::make;
 use crate::place::{Place, copied};
 use crate::stages::{Window, all_ahead, copied_window, put_stage, shift, stage};
@@ -27,7 +28,7 @@ pub(crate) fn beginning(alloc: Global) -> Reached
     Reached {
         place: Place {
             last: 0,
-            line: Vec::new(alloc),
+            line: Line::empty(alloc),
             holds: Vec::new(alloc),
             flags: Vec::new(alloc),
         },
@@ -60,4 +61,23 @@ pub(crate) fn after(
         window,
         time,
     })
+}
+
+/// The call of this number makes a record. The only error is want of memory.
+pub(crate) fn advance(
+    kind: Kind,
+    reached: &mut Reached,
+    number: usize,
+    time: u64,
+    entry: &Record<Deed>,
+) -> Result<(), AllocError>
+    requires { reached.old.window.first ≤ number }
+    ensures { OnOk result (world_of reached.new
+        ≡ world_after kind (world_of reached.old) (record { call = number; time = time; entry = entry.now })) }
+{
+    let was = stage(&reached.window, number);
+    put_stage(&mut reached.window, number, behind(was, entry))?;
+    make(kind, &mut reached.place, *entry)?;
+    reached.time = time;
+    Ok(())
 }

@@ -24,10 +24,10 @@ returns c =
     let tells : Tells call c.in-Some.deed = c.tells.ensures.0 c.if-not-tells.false in
     let within : IsWithin call c.if-reached-call.time c.in-Some.deed = c.is_within.ensures.0 c.if-not-is_within.false in
     let ticket : c.in-Some-next_ticket.ticket ≡ ticket_of w.moment call.verb (w.stages n) = c.in-Some-next_ticket.ensures ∙ ap (ticket_of w.moment call.verb) stage in
-    step_noted k calls w n call known c.in-Some.deed c.in-Some-next_ticket.ticket c.if-reached-call.time (world_of c.in_ok-then.then) c.args.history.now.items c.push.new.self.items made ticket time tells within c.in_ok-then.ensures c.in_ok-push.ensures.items
+    λ _. step_noted k calls w n call known c.in-Some.deed c.in-Some-next_ticket.ticket c.if-reached-call.time (world_of c.advance.new.reached) c.args.history.now.items c.push.new.self.items made ticket time tells within c.in_ok-advance.ensures c.in_ok-push.ensures.items
 
-pub after-requires : goal.after-requires
-after-requires c =
+pub advance-requires : goal.advance-requires
+advance-requires c =
     let n = c.args.number in
     let window = c.args.reached.now.window in
     let stage : c.stage-stage.result ≡ stage_at window n = c.stage-stage.ensures in

@@ -1,4 +1,4 @@
--- Proof of `written`, src/judging.rt. The history in which the calls, in this order, make their records.
+-- Proof of `written`, src/judging.rt. The history in which the calls, in this order, make their records, if they can.
 use Rattle.meet_overlap.specs.Known.{IsNoted}
 use Rattle.meet_overlap.specs.Places.{world_of}
 use Rattle.meet_overlap.specs.Search.{start}
@@ -7,8 +7,8 @@ use Rattle.meet_overlap.proofs.judging.written.Goals as goal
 
 pub loop-number-preserved : goal.loop-number-preserved
 loop-number-preserved c =
-    let noted : IsNoted c.args.kind c.args.calls.now (world_of c.loop-number.reached) (world_of c.in-Some.then) c.loop-number.history.items c.note.new.history.items = rw c.in-Some.is at c.in_ok-then.ensures in
-    there_more c.args.kind c.args.calls.now start (world_of c.loop-number.reached) (world_of c.in-Some.then) c.loop-number.history.items c.note.new.history.items c.loop-number.invariant noted
+    let noted : IsNoted c.args.kind c.args.calls.now (world_of c.loop-number.reached) (world_of c.note.new.reached) c.loop-number.history.items c.note.new.history.items = c.in_ok-note.ensures c.if-not-branch.false in
+    there_more c.args.kind c.args.calls.now start (world_of c.loop-number.reached) (world_of c.note.new.reached) c.loop-number.history.items c.note.new.history.items c.loop-number.invariant noted
 
 pub returns-then-may_all_stop : goal.returns-then-may_all_stop
 returns-then-may_all_stop c =

@@ -25,7 +25,7 @@ returns-then-is_alone c =
         stage = sym c.stage.ensures ∙ c.in-Open.is ∙ ap Open ticket;
         alone = λ other opens. c.is_alone.ensures c.if-is_alone.true other (opens ∙ ap Open (sym ticket));
         settled = subst (λ t. IsSettledBy t (hold_at place.holds.items call.seat)) ticket (subst (IsSettledBy c.in-Open.ticket) held settled);
-        gone = subst (IsGone call.seat) c.deref-then-is_alone.ensures.value (c.is_gone.ensures yes);
+        gone = subst (IsGone call.seat) c.as_slice.ensures (c.is_gone.ensures yes);
       },
       refl,
     )

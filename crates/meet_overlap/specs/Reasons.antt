@@ -1,0 +1,101 @@
+-- Reasons why no history explains calls, in the calls' own words.
+use Rattle.std.specs.Prelude.{◌≡◌, ℕ, ◌<◌, ◌≤◌, IfSome, List, ⊤, length}
+use Rattle.meet_tickets.specs.declared.places.Kind.{Kind}
+use Rattle.meet_tickets.specs.declared.places.End.TheVariants.{Front}
+use Rattle.meet_tickets.specs.Meeting.{end_of}
+use Rattle.meet_overlap.specs.declared.calls.Answer.{Answer}
+use Rattle.meet_overlap.specs.declared.calls.Answer.TheVariants.{Went, Got as GotItem, Nothing, Expired as TimeRanOut}
+use Rattle.meet_overlap.specs.declared.calls.Call.{Call}
+use Rattle.meet_overlap.specs.declared.calls.Patience.TheVariants.{Now, Timed}
+use Rattle.meet_overlap.specs.declared.calls.Verb.{Verb}
+use Rattle.meet_overlap.specs.declared.calls.Verb.TheVariants.{Take}
+use Rattle.meet_overlap.specs.declared.reasons.Reason.{Reason}
+use Rattle.meet_overlap.specs.declared.reasons.Reason.TheVariants.{Ungiven, Untaken, Overtaken, Doubled, Overlooked}
+use Rattle.meet_overlap.specs.declared.reasons.Reason.TheVariants.{Stuck}
+use Rattle.meet_overlap.specs.Marks.{HandsOver, IsKeeping, IsTaking, IsEnded, NoneGave, NoneMayGive, NoneTook}
+use Rattle.meet_overlap.specs.Marks.{IsOnlyGiver, IsGiverOf, IsTakerOf}
+
+-- a call got an item, and no call may have given it that began by its end
+pub record IsUngiven (calls : List Call) : Type 0 where
+  pub taken : IsEnded calls
+  pub mark : ℕ
+  pub got : taken.returned.answer ≡ GotItem mark
+  pub taking : IsTaking taken.call.verb
+  pub none : NoneMayGive calls (length calls) mark taken.returned.at
+
+-- a call handed its item over, and no call may have got it that began by its end
+pub record IsUntaken (calls : List Call) : Type 0 where
+  pub given : IsEnded calls
+  pub went : given.returned.answer ≡ Went
+  pub mark : ℕ
+  pub hands : HandsOver given.call.verb mark
+  pub none : NoneTook calls (length calls) mark given.returned.at
+
+-- the first item was put before any call began that gives the second one; and that was got before any call began that
+-- may have got the first
+pub record IsOvertaken (k : Kind) (calls : List Call) : Type 0 where
+  pub order : end_of k.order ≡ Front
+  pub put : IsEnded calls
+  pub first : ℕ
+  pub keeps : IsKeeping put.call.verb first
+  pub taken : IsEnded calls
+  pub second : ℕ
+  pub takes : IsTaking taken.call.verb
+  pub got : taken.returned.answer ≡ GotItem second
+  pub none_gave : NoneGave calls (length calls) second put.returned.at
+  pub none_took : NoneTook calls (length calls) first taken.returned.at
+  pub later : put.returned.at ≤ taken.returned.at
+
+-- two calls got an item that one call alone gives
+pub record IsDoubled (calls : List Call) : Type 0 where
+  pub mark : ℕ
+  pub giver : ℕ
+  pub only : IsOnlyGiver calls (length calls) mark giver
+  pub one : IsEnded calls
+  pub other : IsEnded calls
+  pub apart : one.number ≡ other.number → ⊥
+  pub takes_one : IsTaking one.call.verb
+  pub takes_other : IsTaking other.call.verb
+  pub got_one : one.returned.answer ≡ GotItem mark
+  pub got_other : other.returned.answer ≡ GotItem mark
+
+-- what is called takes an item, and this answer is that nothing was found
+abbrev pub FindsNothing : Verb → Answer → Type 0
+FindsNothing (Take Now) Nothing = Unit {0}
+FindsNothing (Take Timed) TimeRanOut = Unit {0}
+FindsNothing verb answer = ⊥
+
+-- an item was put before a call began that found nothing, and no call may have got it that began by the end of that one
+pub record IsOverlooked (k : Kind) (calls : List Call) : Type 0 where
+  pub order : end_of k.order ≡ Front
+  pub put : IsEnded calls
+  pub mark : ℕ
+  pub keeps : IsKeeping put.call.verb mark
+  pub looked : IsEnded calls
+  pub finds : FindsNothing looked.call.verb looked.returned.answer
+  pub before : put.returned.at < looked.call.begin
+  pub later : put.returned.at ≤ looked.returned.at
+  pub none_took : NoneTook calls (length calls) mark looked.returned.at
+
+-- the reason is true of the calls, with the numbers and items that it names; of how far a search came nothing is said
+abbrev pub IsReason : Kind → List Call → Reason → Type 0
+IsReason k calls (Ungiven item taker giver) =
+    ((is : IsUngiven calls) × (is.mark ≡ item) × (is.taken.number ≡ taker)) × IfSome giver (IsGiverOf calls item)
+IsReason k calls (Untaken item giver taker) =
+    ((is : IsUntaken calls) × (is.mark ≡ item) × (is.given.number ≡ giver)) × IfSome taker (IsTakerOf calls item)
+IsReason k calls (Overtaken item taker kept giver) = (is : IsOvertaken k calls) × (is.second ≡ item)
+    × (is.taken.number ≡ taker) × (is.first ≡ kept) × (is.put.number ≡ giver)
+IsReason k calls (Doubled item first second giver) = (is : IsDoubled calls) × (is.mark ≡ item)
+    × (is.one.number ≡ first) × (is.other.number ≡ second) × (is.giver ≡ giver)
+IsReason k calls (Overlooked item taker giver) = (is : IsOverlooked k calls) × (is.mark ≡ item)
+    × (is.looked.number ≡ taker) × (is.put.number ≡ giver)
+IsReason k calls (Stuck stuck) = ⊤
+
+-- the reason was found without a search
+abbrev pub IsFound : Reason → Type 0
+IsFound (Ungiven item taker giver) = ⊤
+IsFound (Untaken item giver taker) = ⊤
+IsFound (Overtaken item taker kept giver) = ⊤
+IsFound (Doubled item first second giver) = ⊤
+IsFound (Overlooked item taker giver) = ⊤
+IsFound (Stuck stuck) = ⊥
