@@ -54,3 +54,14 @@ appended_four o o1 o2 o3 o4 a b c d p1 p2 p3 p4 =
   where
     regrouped_four : (o a b c d : List ℕ) → o ++ a ++ b ++ c ++ d ≡ o ++ (a ++ b ++ c ++ d)
     regrouped_four o a b c d = simp append_assoc
+
+-- the same of three pieces
+pub appended_three : (o o1 o2 o3 a b c : List ℕ) → o1 ≡ o ++ a → o2 ≡ o1 ++ b → o3 ≡ o2 ++ c → o3 ≡ o ++ (a ++ b ++ c)
+appended_three o o1 o2 o3 a b c p1 p2 p3 =
+    p3
+    ∙ ap (λ t. t ++ c) p2
+    ∙ ap (λ t. t ++ b ++ c) p1
+    ∙ regrouped_three o a b c
+  where
+    regrouped_three : (o a b c : List ℕ) → o ++ a ++ b ++ c ≡ o ++ (a ++ b ++ c)
+    regrouped_three o a b c = simp append_assoc

@@ -11,6 +11,9 @@ use Rattle.meet_overlap.specs.declared.calls.Patience.TheVariants.{Now, Forever,
 use Rattle.meet_overlap.specs.declared.calls.Returned.{Returned}
 use Rattle.meet_overlap.specs.declared.calls.Verb.{Verb}
 use Rattle.meet_overlap.specs.declared.calls.Verb.TheVariants.{Keep, Give, Take, Interrupt}
+use Rattle.meet_overlap.specs.declared.reasons.Reason.{Reason}
+use Rattle.meet_overlap.specs.declared.reasons.Reason.TheVariants.{Ungiven, Untaken, Overtaken, Doubled, Overlooked}
+use Rattle.meet_overlap.specs.declared.reasons.Reason.TheVariants.{Stuck as SearchStuck}
 use Rattle.meet_overlap.specs.declared.search.Stuck.{Stuck}
 use Rattle.meet_run.specs.Scripts.Spelling.{place_text}
 
@@ -64,13 +67,50 @@ lines_text o (call ∷ calls) = call_text o call ++ lines_text o calls
 abbrev pub calls_text : Kind → List Call → List ℕ
 calls_text k calls = codes "calls 1 " ++ place_text k.order ++ codes "\n" ++ lines_text k.order calls
 
--- which call was not explained: its line, which is the second where it is the first call
-abbrev pub stuck_text : Option ℕ → List ℕ
-stuck_text None = codes "refused"
-stuck_text (Some call) = codes "refused line " ++ decimal (min (call + 2) (2 ^ 64 - 1))
+-- the line of a call: the second one is that of the first call
+abbrev pub line_number : (call : ℕ) → List ℕ
+line_number call = decimal (min (call + 2) (2 ^ 64 - 1))
 
--- how far so many calls were explained
-abbrev pub refused_text : Stuck → (count : ℕ) → List ℕ
-refused_text stuck count =
-    stuck_text stuck.call ++ (codes ", explained " ++ decimal stuck.explained) ++ (codes " of " ++ decimal count)
-    ++ codes "\n"
+-- what another call does, by its line, if there is one
+abbrev pub other_text : Option ℕ → (does : List ℕ) → List ℕ
+other_text None does = []
+other_text (Some call) does = (codes "; line " ++ line_number call) ++ does
+
+-- what became of an item in a call's line, and what another call does
+abbrev pub case_text : (call item : ℕ) → (was : List ℕ) → (other : Option ℕ) → (does : List ℕ) → List ℕ
+case_text call item was other does =
+    (codes "refused line " ++ line_number call) ++ (codes ": item " ++ decimal item) ++ was ++ other_text other does
+
+-- which call had put which item before
+abbrev pub put_text : (call item : ℕ) → List ℕ
+put_text call item =
+    (codes "; line " ++ line_number call) ++ (codes " had put item " ++ decimal item) ++ codes " before"
+
+-- which call a search stopped at, if it was one
+abbrev pub stuck_line : Option ℕ → List ℕ
+stuck_line None = codes "refused"
+stuck_line (Some call) = codes "refused line " ++ line_number call
+
+-- how far a search came among so many calls
+abbrev pub stuck_text : Stuck → (count : ℕ) → List ℕ
+stuck_text stuck count =
+    stuck_line stuck.call ++ (codes ", explained " ++ decimal stuck.explained) ++ (codes " of " ++ decimal count)
+
+-- why no history explains so many calls
+abbrev pub reason_text : Reason → (count : ℕ) → List ℕ
+reason_text (Ungiven item taker giver) count =
+    case_text taker item (codes " was got but never given in time") giver (codes " gives it")
+reason_text (Untaken item giver taker) count =
+    case_text giver item (codes " was handed over but never got in time") taker (codes " gets it")
+reason_text (Overtaken item taker kept giver) count =
+    case_text taker item (codes " was got out of order") None [] ++ put_text giver kept
+reason_text (Doubled item first second giver) count =
+    case_text second item (codes " was got twice") (Some first) (codes " got it too")
+    ++ other_text (Some giver) (codes " alone gives it")
+reason_text (Overlooked item taker giver) count =
+    (codes "refused line " ++ line_number taker) ++ codes ": nothing was found" ++ put_text giver item
+reason_text (SearchStuck stuck) count = stuck_text stuck count
+
+-- the same as a line
+abbrev pub refused_text : Reason → (count : ℕ) → List ℕ
+refused_text reason count = reason_text reason count ++ codes "\n"

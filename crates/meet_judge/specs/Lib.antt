@@ -1,2 +1,3 @@
 pub mod CallText
 pub mod Judging
+pub mod Reading

@@ -1,19 +1,19 @@
-//! Judges the text of calls.
+//! Judges the text of a concurrent history of calls.
 
-ghost use Rattle.std.specs.Prelude.{IfOk, IfSome, OnOk};
+ghost use Rattle.std.specs.Prelude.{◌≡◌, ℕ, List, IfOk, IfSome, OnOk};
 ghost use Rattle.std.specs.Io.KnownBytes.{Appends};
-ghost use Rattle.meet_judge.specs.CallText.{refused_text};
+ghost use Rattle.meet_judge.specs.CallText.{calls_text, refused_text};
 ghost use Rattle.meet_judge.specs.Judging.{JudgeEnds, Judged};
 
-use crate::reading::read_calls;
+use crate::reading::read_calls_from;
 use crate::writing::push_refused;
-use meet_overlap::{Fault, Stuck, judge};
+use meet_overlap::{Calls, Fault, Reason, judge};
 use meet_run::text::faults::cut_short;
 use meet_run::text::output::write_whole;
 use meet_run::{RunFault, write_trace};
 use meet_tickets::Refusal;
 use std::alloc::Global;
-use std::io::{ErrorKind, Read, Write};
+use std::io::{Read, Write};
 
 /// How many moves a search makes at most: our choice. They take a minute or so, and may take ten gigabytes of memory.
 pub const MOST_MOVES: u64 = 40_000_000;
@@ -28,27 +28,27 @@ fn why_of(fault: Fault) -> Refusal {
     }
 }
 
-/// Writes how far so many calls can be explained.
+/// Writes why no history explains so many calls.
 fn write_refused<W: Write>(
     alloc: Global,
     writer: &mut W,
-    stuck: Stuck,
+    reason: Reason,
     count: usize,
 ) -> Result<(), Refusal>
-    ensures { OnOk result (Appends (W.contents writer.old) (W.contents writer.new) (refused_text stuck count)) }
+    ensures { OnOk result (Appends (W.contents writer.old) (W.contents writer.new) (refused_text reason count)) }
 {
     let mut text = Vec::new(alloc);
-    match push_refused(&mut text, stuck, count as u64) {
+    match push_refused(&mut text, reason, count as u64) {
         Ok(()) => write_whole(writer, text.as_slice()),
         Err(_) => Err(Refusal::Memory),
     }
 }
 
-/// Judges these bytes as the text of calls.
-fn judge_text<W: Write>(alloc: Global, text: &[u8], writer: &mut W) -> Result<bool, RunFault>
-    ensures { IfOk result (Judged text.now (W.contents writer.old) (W.contents writer.new)) }
+/// Judges calls, and writes the verdict.
+fn judge_read<W: Write>(alloc: Global, calls: &Calls, writer: &mut W) -> Result<bool, RunFault>
+    ensures { IfOk result (λ found. (text : List ℕ) → text ≡ calls_text calls.now.kind calls.now.list.items
+        → Judged text (W.contents writer.old) (W.contents writer.new) found) }
 {
-    let calls = read_calls(alloc, text)?;
     let judged = match judge(alloc, calls.kind, calls.as_slice(), MOST_MOVES) {
         Ok(judged) => judged,
         Err(fault) => return Err(cut_short(why_of(fault))),
@@ -58,17 +58,26 @@ fn judge_text<W: Write>(alloc: Global, text: &[u8], writer: &mut W) -> Result<bo
             Ok(()) => Ok(true),
             Err(why) => Err(cut_short(why)),
         },
-        Err(stuck) => match write_refused(alloc, writer, stuck, calls.as_slice().len()) {
+        Err(reason) => match write_refused(alloc, writer, reason, calls.as_slice().len()) {
             Ok(()) => Ok(false),
             Err(why) => Err(cut_short(why)),
         },
     }
 }
 
-/// Reads the text of calls that overlap, and judges them: it writes the trace of a history that explains them, and
-/// answers true; or which call couldn't be explained, where no history explains them, and answers false. It refuses
-/// BadLine, with the line, where the text is not the one spelling of calls; ReadFault, WriteFault and Memory; and
-/// HistoryFull where 40,000,000 moves of the search weren't enough.
+/// Reads the text of a concurrent history of calls, and judges it: is it linearizable? If a history explains the calls
+/// it writes that as a trace, and returns true. If none does it writes one line that says why, and returns false.
+///
+/// The text is read line by line, and not kept. A call takes some 90 bytes while the text is read, and some 220 while
+/// the calls are judged, if that needs no search.
+///
+/// # Errors
+/// - `BadLine`, with the line: it isn't the one spelling of a call, and reading ended there.
+/// - `ReadFault` if a read fails, `WriteFault` if a write does.
+/// - `Memory` if an allocation fails.
+/// - `HistoryFull` if 40,000,000 moves of a search weren't enough: that is no verdict.
+/// - `TicketsSpent` if there are more calls than tickets.
+/// - `Differs` if an order was found that can't be written as a history: that was never seen.
 pub fn judge_calls<R: Read, W: Write>(
     alloc: Global,
     reader: &mut R,
@@ -77,10 +86,6 @@ pub fn judge_calls<R: Read, W: Write>(
     ensures { IfSome (R.remaining reader.old) (λ input.
         JudgeEnds input result (W.contents writer.old) (W.contents writer.new)) }
 {
-    let mut text = Vec::new(alloc);
-    match reader.read_to_end(&mut text) {
-        Ok(_) => judge_text(alloc, text.as_slice(), writer),
-        Err(error) if error.kind() == ErrorKind::OutOfMemory => Err(cut_short(Refusal::Memory)),
-        Err(_) => Err(cut_short(Refusal::ReadFault)),
-    }
+    let calls = read_calls_from(alloc, reader)?;
+    judge_read(alloc, &calls, writer)
 }

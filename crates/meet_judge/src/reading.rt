@@ -1,16 +1,20 @@
-//! Reads the text of calls.
+//! Reads the text of calls, line by line: it ends at the first line that can't be read, and keeps no text.
 
-ghost use Rattle.std.specs.Prelude.{◌≡◌, ◌<◌, length, IfOk, IfSome};
-ghost use Rattle.meet_judge.specs.CallText.{calls_text};
+ghost use Rattle.std.specs.Prelude.{◌≡◌, ◌<◌, [], length, IfOk, IfSome, IsTrue};
+ghost use Rattle.std.specs.Io.KnownBytes.{Consumes};
+ghost use Rattle.meet_judge.specs.CallText.{call_text, calls_text};
+ghost use Rattle.meet_judge.specs.Reading.{ReadsNext, Takes, TakesByte};
 
 use crate::writing::{push_call, push_calls};
 use meet_overlap::{Answer, Call, Calls, Patience, Returned, Verb};
 use meet_run::RunFault;
 use meet_run::script::first_line::{behind_prefix, read_order};
 use meet_run::text::faults::{at_line, cut_short};
+use meet_run::text::reading::LONGEST_LINE;
 use meet_run::text::words::read_number;
 use meet_tickets::{Kind, Order, Refusal, SeatNo};
 use std::alloc::Global;
+use std::io::{ErrorKind, Read};
 
 /// What stands before the first of these bytes, and what stands behind it, if it is there.
 fn cut(text: &[u8], byte: u8) -> Option<(&[u8], &[u8])>
@@ -129,72 +133,205 @@ fn read_call(order: Order, line: &[u8]) -> Option<Call> {
     })
 }
 
+/// What came of reading a line.
+#[derive(Clone, Copy, PartialEq, Eq, Debug)]
+pub(crate) enum Taken {
+    /// A line was read, with the line feed that ends it.
+    Line,
+    /// The text has ended.
+    End,
+    /// The line is too long, or its line feed is missing.
+    Faulty,
+}
+
+/// Reads a byte, if there is one. Fails with `ReadFault` if the read does, and with `Memory`.
+fn next_byte<R: Read>(reader: &mut R) -> Result<Option<u8>, Refusal>
+    ensures { IfOk result (TakesByte (R.remaining reader.old) (R.remaining reader.new)) }
+{
+    let mut byte = [0];
+    match reader.read(&mut byte) {
+        Ok(0) => Ok(None),
+        Ok(_) => Ok(Some(byte[0])),
+        Err(error) if error.kind() == ErrorKind::OutOfMemory => Err(Refusal::Memory),
+        Err(_) => Err(Refusal::ReadFault),
+    }
+}
+
+/// Reads the next line into `line`. Of a line that is too long it reads 129 bytes.
+fn take_line<R: Read>(reader: &mut R, line: &mut Vec<u8>) -> Result<Taken, Refusal>
+    ensures { IfOk result (Takes (R.remaining reader.old) (R.remaining reader.new) line.new.items) }
+{
+    line.clear();
+    while line.len() <= LONGEST_LINE {
+        let Some(byte) = next_byte(reader)? else {
+            return Ok(if line.is_empty() {
+                Taken::End
+            } else {
+                Taken::Faulty
+            });
+        };
+        if line.push(byte).is_err() {
+            return Err(Refusal::Memory);
+        }
+        if byte == b'\n' {
+            return Ok(Taken::Line);
+        }
+    }
+    Ok(Taken::Faulty)
+}
+
 /// Whether a line, with its end, is the one spelling of a call.
-fn is_spelled(scratch: &mut Vec<u8>, order: Order, call: &Call, line: &[u8]) -> Option<bool> {
+fn is_spelled(
+    scratch: &mut Vec<u8>,
+    order: Order,
+    call: &Call,
+    line: &[u8],
+) -> Result<bool, Refusal>
+    ensures { IfOk result (λ same. IsTrue same → line.now ≡ call_text order call.now) }
+{
     scratch.clear();
     match push_call(scratch, order, call) {
-        Ok(()) => {}
-        Err(_) => return None,
-    }
-    match scratch.as_slice() {
-        [spelled @ .., b'\n'] => Some(spelled == line),
-        _ => Some(false),
+        Ok(()) => Ok(scratch.as_slice() == line),
+        Err(_) => Err(Refusal::Memory),
     }
 }
 
-/// The calls of these lines, which stand behind the first line.
-fn read_lines(alloc: Global, kind: Kind, lines: &[u8]) -> Result<Calls, RunFault>
-    ensures { IfOk result (λ calls. calls.kind ≡ kind) }
+/// Whether a line, with its end, is the first line of calls at a place.
+fn is_head(scratch: &mut Vec<u8>, kind: Kind, line: &[u8]) -> Result<bool, Refusal>
+    ensures { IfOk result (λ same. IsTrue same → line.now ≡ calls_text kind []) }
 {
-    let order = kind.order;
-    let mut calls = Calls::none(alloc, kind);
-    let mut scratch = Vec::new(alloc);
-    let mut rest = lines;
-    let mut number = 1u64;
-    let mut begin = 0;
-    while !rest.is_empty() {
-        number = number.saturating_add(1);
-        let Some((line, behind)) = cut(rest, b'\n') else {
-            return Err(at_line(Refusal::BadLine, number));
-        };
-        let Some(call) = read_call(order, line) else {
-            return Err(at_line(Refusal::BadLine, number));
-        };
-        match is_spelled(&mut scratch, order, &call, line) {
-            None => return Err(cut_short(Refusal::Memory)),
-            Some(false) => return Err(at_line(Refusal::BadLine, number)),
-            Some(true) => {}
-        }
-        if call.begin < begin {
-            return Err(at_line(Refusal::BadLine, number));
-        }
-        begin = call.begin;
-        if calls.push(call).is_err() {
-            return Err(cut_short(Refusal::Memory));
-        }
-        rest = behind;
+    scratch.clear();
+    match push_calls(scratch, kind, &[]) {
+        Ok(()) => Ok(scratch.as_slice() == line),
+        Err(_) => Err(Refusal::Memory),
     }
-    Ok(calls)
 }
 
-/// Reads the text of calls, which stand by their begins. It refuses BadLine, with the line, where the text isn't the
-/// one spelling of such calls, and Memory.
+/// The call of a line, if it begins no earlier than this and is spelled as calls are.
+fn spelled_call(
+    scratch: &mut Vec<u8>,
+    order: Order,
+    begin: u64,
+    line: &[u8],
+) -> Result<Option<Call>, Refusal>
+    ensures { IfOk result (λ found. IfSome found (λ call. line.now ≡ call_text order call)) }
+{
+    let [words @ .., b'\n'] = line else {
+        return Ok(None);
+    };
+    let Some(call) = read_call(order, words) else {
+        return Ok(None);
+    };
+    if call.begin < begin {
+        return Ok(None);
+    }
+    if is_spelled(scratch, order, &call, line)? {
+        Ok(Some(call))
+    } else {
+        Ok(None)
+    }
+}
+
+/// The place that the first line names, if it is spelled as such lines are.
+fn spelled_kind(scratch: &mut Vec<u8>, line: &[u8]) -> Result<Option<Kind>, Refusal>
+    ensures { IfOk result (λ found. IfSome found (λ kind. line.now ≡ calls_text kind [])) }
+{
+    let [words @ .., b'\n'] = line else {
+        return Ok(None);
+    };
+    let Some(kind) = read_kind(words) else {
+        return Ok(None);
+    };
+    if is_head(scratch, kind, line)? {
+        Ok(Some(kind))
+    } else {
+        Ok(None)
+    }
+}
+
+/// Reads the first line.
+fn read_head<R: Read>(
+    reader: &mut R,
+    line: &mut Vec<u8>,
+    scratch: &mut Vec<u8>,
+) -> Result<Kind, RunFault>
+    ensures { IfOk result (λ kind. Consumes (R.remaining reader.old) (R.remaining reader.new) (calls_text kind [])) }
+{
+    match take_line(reader, line) {
+        Ok(Taken::Line) => {}
+        Ok(Taken::End) => return Err(at_line(Refusal::BadLine, 1)),
+        Ok(Taken::Faulty) => return Err(at_line(Refusal::BadLine, 1)),
+        Err(why) => return Err(cut_short(why)),
+    }
+    match spelled_kind(scratch, line.as_slice()) {
+        Ok(Some(kind)) => Ok(kind),
+        Ok(None) => Err(at_line(Refusal::BadLine, 1)),
+        Err(why) => Err(cut_short(why)),
+    }
+}
+
+/// Reads the line of this number, and adds its call. Whether there was one.
+fn read_next<R: Read>(
+    reader: &mut R,
+    line: &mut Vec<u8>,
+    scratch: &mut Vec<u8>,
+    calls: &mut Calls,
+    begin: u64,
+    number: u64,
+) -> Result<Option<u64>, RunFault>
+    ensures { IfOk result (λ begin. ReadsNext begin (R.remaining reader.old) (R.remaining reader.new) calls.old calls.new) }
+{
+    match take_line(reader, line) {
+        Ok(Taken::Line) => {}
+        Ok(Taken::End) => return Ok(None),
+        Ok(Taken::Faulty) => return Err(at_line(Refusal::BadLine, number)),
+        Err(why) => return Err(cut_short(why)),
+    }
+    let order = calls.kind.order;
+    let call = match spelled_call(scratch, order, begin, line.as_slice()) {
+        Ok(Some(call)) => call,
+        Ok(None) => return Err(at_line(Refusal::BadLine, number)),
+        Err(why) => return Err(cut_short(why)),
+    };
+    let next = call.begin;
+    if calls.push(call).is_err() {
+        return Err(cut_short(Refusal::Memory));
+    }
+    Ok(Some(next))
+}
+
+/// Reads the text of calls, which stand by their begins, from a reader. It ends at the first line that can't be read.
+///
+/// # Errors
+/// - `BadLine`, with the line: it isn't the one spelling of such a call, or its line feed is missing.
+/// - `ReadFault` if a read fails.
+/// - `Memory` if an allocation fails.
+pub(crate) fn read_calls_from<R: Read>(alloc: Global, reader: &mut R) -> Result<Calls, RunFault>
+    ensures spelled { IfOk result (λ read. IfSome (R.remaining reader.old) (λ input.
+        input ≡ calls_text read.kind read.list.items)) }
+{
+    let mut line = Vec::new(alloc);
+    let mut scratch = Vec::new(alloc);
+    let kind = read_head(reader, &mut line, &mut scratch)?;
+    let mut calls = Calls::none(alloc, kind);
+    let mut begin = 0;
+    for number in 2..u64::MAX {
+        match read_next(reader, &mut line, &mut scratch, &mut calls, begin, number)? {
+            Some(next) => begin = next,
+            None => return Ok(calls),
+        }
+    }
+    Err(cut_short(Refusal::ReadFault))
+}
+
+/// Reads the text of calls, which stand by their begins.
+///
+/// # Errors
+/// - `BadLine`, with the line: it isn't the one spelling of such a call, or its line feed is missing.
+/// - `Memory` if an allocation fails.
 pub fn read_calls(alloc: Global, text: &[u8]) -> Result<Calls, RunFault>
     ensures spelled { IfOk result (λ read. text.now ≡ calls_text read.kind read.list.items) }
 {
-    let Some((head, rest)) = cut(text, b'\n') else {
-        return Err(at_line(Refusal::BadLine, 1));
-    };
-    let Some(kind) = read_kind(head) else {
-        return Err(at_line(Refusal::BadLine, 1));
-    };
-    let calls = read_lines(alloc, kind, rest)?;
-    let mut spelled = Vec::new(alloc);
-    if push_calls(&mut spelled, kind, calls.as_slice()).is_err() {
-        return Err(cut_short(Refusal::Memory));
-    }
-    if spelled.as_slice() != text {
-        return Err(at_line(Refusal::BadLine, 1));
-    }
-    Ok(calls)
+    let mut reader = text;
+    read_calls_from(alloc, &mut reader)
 }

@@ -4,9 +4,10 @@ ghost use Rattle.std.specs.Prelude.{◌≡◌, ◌++◌, OnOk};
 ghost use Rattle.meet_overlap.specs.declared.calls.Verb.TheVariants.{Give, Take};
 ghost use Rattle.meet_judge.specs.CallText.{verb_text, answer_text, seen_text, end_text, told_text, call_text};
 ghost use Rattle.meet_judge.specs.CallText.{calls_text};
-ghost use Rattle.meet_judge.specs.CallText.{stuck_text, refused_text};
+ghost use Rattle.meet_judge.specs.CallText.{line_number, other_text, case_text, put_text, stuck_line, stuck_text};
+ghost use Rattle.meet_judge.specs.CallText.{reason_text, refused_text};
 
-use meet_overlap::{Answer, Call, Patience, Returned, Stuck, Verb};
+use meet_overlap::{Answer, Call, Patience, Reason, Returned, Stuck, Verb};
 use meet_run::text::wording::{push_number, push_numbered};
 use meet_run::trace::wording::order_word;
 use meet_tickets::{Kind, Order};
@@ -134,7 +135,7 @@ pub(crate) fn push_call(out: &mut Vec<u8>, order: Order, call: &Call) -> Result<
     Ok(())
 }
 
-/// Appends the text of calls at a place, whole. The only error is want of memory.
+/// Appends the text of calls at a place, whole. Fails only if an allocation fails.
 pub fn push_calls(out: &mut Vec<u8>, kind: Kind, calls: &[Call]) -> Result<(), AllocError>
     ensures { OnOk result (out.new.items ≡ out.old.items ++ calls_text kind calls.now) }
 {
@@ -147,24 +148,140 @@ pub fn push_calls(out: &mut Vec<u8>, kind: Kind, calls: &[Call]) -> Result<(), A
     Ok(())
 }
 
-/// Appends which call couldn't be explained, by its line.
-#[tactic(auto, unfolding(crate::specs::CallText::stuck_text))]
-fn push_line(out: &mut Vec<u8>, call: Option<usize>) -> Result<(), AllocError>
-    ensures { OnOk result (out.new.items ≡ out.old.items ++ stuck_text call) }
+/// Appends these words, and the line of a call: the second line is that of the first call.
+#[tactic(auto, unfolding(crate::specs::CallText::line_number))]
+fn push_at(out: &mut Vec<u8>, words: &[u8], call: usize) -> Result<(), AllocError>
+    ensures { OnOk result (out.new.items ≡ out.old.items ++ (words.now ++ line_number call)) }
 {
-    match call {
-        None => out.extend_from_slice(b"refused"),
-        Some(call) => push_numbered(out, b"refused line ", (call as u64).saturating_add(2)),
+    push_numbered(out, words, (call as u64).saturating_add(2))
+}
+
+/// Appends what another call does, by its line, if there is one, and ends the line.
+#[tactic(auto, unfolding(crate::specs::CallText::other_text))]
+fn push_other(out: &mut Vec<u8>, other: Option<usize>, does: &[u8]) -> Result<(), AllocError>
+    ensures { OnOk result (out.new.items ≡ out.old.items ++ other_text other does.now) }
+{
+    match other {
+        None => Ok(()),
+        Some(call) => {
+            push_at(out, b"; line ", call)?;
+            out.extend_from_slice(does)
+        }
     }
 }
 
-/// Appends how far so many calls can be explained.
-pub(crate) fn push_refused(out: &mut Vec<u8>, stuck: Stuck, count: u64) -> Result<(), AllocError>
-    ensures { OnOk result (out.new.items ≡ out.old.items ++ refused_text stuck count) }
+/// Appends a refusal of one call, and then what another call does.
+#[tactic(auto, unfolding(crate::specs::CallText::case_text))]
+fn push_case(
+    out: &mut Vec<u8>,
+    call: usize,
+    item: u64,
+    was: &[u8],
+    other: Option<usize>,
+    does: &[u8],
+) -> Result<(), AllocError>
+    ensures { OnOk result (out.new.items ≡ out.old.items ++ case_text call item was.now other does.now) }
+{
+    push_at(out, b"refused line ", call)?;
+    push_numbered(out, b": item ", item)?;
+    out.extend_from_slice(was)?;
+    push_other(out, other, does)?;
+    Ok(())
+}
+
+/// Appends that an item stood before another one.
+#[tactic(auto, unfolding(crate::specs::CallText::put_text))]
+fn push_put(out: &mut Vec<u8>, call: usize, item: u64) -> Result<(), AllocError>
+    ensures { OnOk result (out.new.items ≡ out.old.items ++ put_text call item) }
+{
+    push_at(out, b"; line ", call)?;
+    push_numbered(out, b" had put item ", item)?;
+    out.extend_from_slice(b" before")
+}
+
+/// Appends how far a search came among so many calls.
+#[tactic(auto, unfolding(crate::specs::CallText::stuck_text))]
+fn push_stuck(out: &mut Vec<u8>, stuck: Stuck, count: u64) -> Result<(), AllocError>
+    ensures { OnOk result (out.new.items ≡ out.old.items ++ stuck_text stuck count) }
 {
     push_line(out, stuck.call)?;
     push_numbered(out, b", explained ", stuck.explained as u64)?;
     push_numbered(out, b" of ", count)?;
-    out.extend_from_slice(b"\n")?;
     Ok(())
+}
+
+/// Appends the line of a call that can't be explained, if one is known.
+#[tactic(auto, unfolding(crate::specs::CallText::stuck_line))]
+fn push_line(out: &mut Vec<u8>, call: Option<usize>) -> Result<(), AllocError>
+    ensures { OnOk result (out.new.items ≡ out.old.items ++ stuck_line call) }
+{
+    match call {
+        None => out.extend_from_slice(b"refused"),
+        Some(call) => push_at(out, b"refused line ", call),
+    }
+}
+
+/// Appends why no history explains so many calls.
+#[tactic(auto, unfolding(crate::specs::CallText::reason_text))]
+fn push_reason(out: &mut Vec<u8>, reason: Reason, count: u64) -> Result<(), AllocError>
+    ensures { OnOk result (out.new.items ≡ out.old.items ++ reason_text reason count) }
+{
+    match reason {
+        Reason::Ungiven { item, taker, giver } => push_case(
+            out,
+            taker,
+            item,
+            b" was got but never given in time",
+            giver,
+            b" gives it",
+        ),
+        Reason::Untaken { item, giver, taker } => push_case(
+            out,
+            giver,
+            item,
+            b" was handed over but never got in time",
+            taker,
+            b" gets it",
+        ),
+        Reason::Overtaken {
+            item,
+            taker,
+            kept,
+            giver,
+        } => {
+            push_case(out, taker, item, b" was got out of order", None, b"")?;
+            push_put(out, giver, kept)
+        }
+        Reason::Doubled {
+            item,
+            first,
+            second,
+            giver,
+        } => {
+            push_case(
+                out,
+                second,
+                item,
+                b" was got twice",
+                Some(first),
+                b" got it too",
+            )?;
+            push_other(out, Some(giver), b" alone gives it")
+        }
+        Reason::Overlooked { item, taker, giver } => {
+            push_at(out, b"refused line ", taker)?;
+            out.extend_from_slice(b": nothing was found")?;
+            push_put(out, giver, item)?;
+            Ok(())
+        }
+        Reason::Stuck(stuck) => push_stuck(out, stuck, count),
+    }
+}
+
+/// Appends why no history explains so many calls, as a line.
+pub(crate) fn push_refused(out: &mut Vec<u8>, reason: Reason, count: u64) -> Result<(), AllocError>
+    ensures { OnOk result (out.new.items ≡ out.old.items ++ refused_text reason count) }
+{
+    push_reason(out, reason, count)?;
+    out.extend_from_slice(b"\n")
 }

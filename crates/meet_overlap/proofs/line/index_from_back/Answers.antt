@@ -23,12 +23,12 @@ returns-then-found-number-2 c =
     let own : e.ticket ≡ (get_or entries i e).ticket = ap (λ (f : Entry ℕ). f.ticket) c.index-entries-index.is in
     let below : e.ticket < c.args.ticket = omega (arith, own, c.number-found.ensures.value, c.number-in-loop-index.ensures.value, c.if-found-number-2.true) in
     sym (found_nowhere entries c.args.ticket e (λ k there is. ⊎_elim
-      (λ before. let lt : (get_or entries k e).ticket < (get_or entries i e).ticket = c.requires k i e before (omega arith) in omega arith)
-      (λ after. ⊎_elim
-      (λ same. let at : (get_or entries i e).ticket ≡ (get_or entries k e).ticket = ap (λ n. (get_or entries n e).ticket) (sym same) in omega arith)
-      (λ behind. let lt : c.args.ticket < (get_or entries k e).ticket = c.loop-index.invariant.1 k e (omega arith) there in omega arith)
-      (at_or_after k i after))
-      (cases_lt k i)))
+    (λ before. let lt : (get_or entries k e).ticket < (get_or entries i e).ticket = c.requires k i e before (omega arith) in omega arith)
+    (λ after. ⊎_elim
+    (λ same. let at : (get_or entries i e).ticket ≡ (get_or entries k e).ticket = ap (λ n. (get_or entries n e).ticket) (sym same) in omega arith)
+    (λ behind. let lt : c.args.ticket < (get_or entries k e).ticket = c.loop-index.invariant.1 k e (omega arith) there in omega arith)
+    (at_or_after k i after))
+    (cases_lt k i)))
   where
     at_or_after : (k i : ℕ) → i ≤ k → (k ≡ i) ⊎ (i < k)
     at_or_after k i le = grind (arith)
@@ -39,4 +39,4 @@ returns c =
     let none = c.loop-index-test.false in
     let nobody : Entry ℕ = record { ticket = 0; seat = 0; item = None; waits = false } in
     sym (found_nowhere entries c.args.ticket nobody (λ k there is.
-      let lt : c.args.ticket < (get_or entries k nobody).ticket = c.loop-index.invariant.1 k nobody (omega arith) there in omega arith))
+    let lt : c.args.ticket < (get_or entries k nobody).ticket = c.loop-index.invariant.1 k nobody (omega arith) there in omega arith))

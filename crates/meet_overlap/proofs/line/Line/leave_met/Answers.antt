@@ -12,8 +12,7 @@ use Rattle.meet_overlap.proofs.line.Line.leave_met.Goals as goal
 
 pub invariant_of-self : goal.invariant_of-self
 invariant_of-self c =
-    let some : 0 < length (drop c.self.inside.gone c.self.inside.entries.items) = subst (λ (l : List (Entry ℕ)). 0 < length l) (sym c.self.view_is) c.requires in
-    (
+    let some : 0 < length (drop c.self.inside.gone c.self.inside.entries.items) = subst (λ (l : List (Entry ℕ)). 0 < length l) (sym c.self.view_is) c.requires in (
       omega (arith, some, length-drop c.self.inside.gone c.self.inside.entries.items, c.self.invariant.0),
       λ rises. subst Rises (sym (drop_more c.self.inside.gone c.self.inside.entries.items))
           (AllPairs-unmet (λ e f. e.ticket < f.ticket) Front (drop c.self.inside.gone c.self.inside.entries.items) (c.self.invariant.1 rises)),
@@ -25,8 +24,7 @@ invariant_of-self-in-Back c =
     let items = c.self-in-Back.inside.entries.items in
     let some : 0 < length (drop gone items) = subst (λ (l : List (Entry ℕ)). 0 < length l) (sym c.self-in-Back.view_is) c.requires in
     let left : drop gone c.pop-met.new.self.items ≡ unmet Back (drop gone items) = ap (drop gone) c.pop-met.ensures.rest ∙ drop_last gone (vec_len c.self-in-Back.inside.entries) items (omega arith) (omega (arith, some, length-drop gone items)) in
-    let left_one : length c.pop-met.new.self.items ≡ min (vec_len c.self-in-Back.inside.entries - 1) (length items) = ap length c.pop-met.ensures.rest ∙ length-take (vec_len c.self-in-Back.inside.entries - 1) items in
-    (
+    let left_one : length c.pop-met.new.self.items ≡ min (vec_len c.self-in-Back.inside.entries - 1) (length items) = ap length c.pop-met.ensures.rest ∙ length-take (vec_len c.self-in-Back.inside.entries - 1) items in (
       omega (arith, some, length-drop gone items, left_one, c.self-in-Back.invariant.0),
       λ rises. subst Rises (sym left) (AllPairs-unmet (λ e f. e.ticket < f.ticket) Back (drop gone items) (c.self-in-Back.invariant.1 rises)),
     )

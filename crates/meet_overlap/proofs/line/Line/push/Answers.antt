@@ -14,8 +14,7 @@ invariant_of-self-2 c =
     let items = c.self.inside.entries.items in
     let within : gone ≤ length items = omega (arith, c.self.invariant.0) in
     let now : drop gone c.push.new.self.items ≡ drop gone items ++ c.args.entry ∷ [] = ap (drop gone) c.in_ok-push.ensures.items ∙ drop-append-le gone items (c.args.entry ∷ []) within in
-    let same_line : c.as_slice.result.now ≡ drop gone items = c.as_slice.ensures ∙ sym c.self.view_is in
-    (
+    let same_line : c.as_slice.result.now ≡ drop gone items = c.as_slice.ensures ∙ sym c.self.view_is in (
       omega (arith, within, c.in_ok-push.ensures.len),
       λ rises. subst Rises (sym now) (elim c.match-last.branch [
         | in-None w ↦ rises_alone (drop gone items) c.args.entry (subst (λ (l : List (Entry ℕ)). None ≡ slice_get l (length l - 1)) same_line w.in-None.ensures.value)
