@@ -21,7 +21,7 @@ fn main(rt: HostRuntime) -> Result<(), Refusal> {
     for told in done.told {
         let (item, fate) = match told {
             Ok(End::Got(_, number)) => (Some(number), "was taken"),
-            Ok(End::TimedOut(back)) => (back, "came back: nobody took it in time"),
+            Ok(End::TimedOut(back)) => (back, "was returned: no thread took it in time"),
             Ok(_) => (None, ""), // Gave or Done: the other thread has it (nobody interrupts here)
             Err(refused) => (refused.item, "was refused"),
         };
