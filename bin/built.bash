@@ -1,7 +1,7 @@
-# What the commands of this folder share: where the repository is, and its proved programs.
+# Shared by the commands of this folder: the path of the repository, and its proved programs.
 top=$(cd "$(dirname "${BASH_SOURCE[0]}")/.." && pwd)
 
-# Where the first word asks for help: tells what the command that runs is for, as the head of its file does, and ends.
+# Prints the head of the running command's file and ends, if the first word asks for help.
 help_if_asked() {
     case ${1:-} in
     -h | --help)
@@ -11,14 +11,14 @@ help_if_asked() {
     esac
 }
 
-# Ends with status 70 where the toolchain isn't there.
+# Ends with status 70 if the toolchain isn't on the path.
 need_rt() {
     command -v rt >/dev/null && return
     echo "bin/${0##*/}: the command rt of the Rattle toolchain isn't on the path; README.md, \"Two commands\", says what it is" >&2
     exit 70
 }
 
-# A crate and the crates of the repository that it stands on, the lowest first, as crates.txt lists them.
+# Prints a crate and the crates of the repository that it depends on, the lowest first, as crates.txt lists them.
 stack_of() {
     awk -F ': *' -v crate="$1" '
         /^[a-z]/ { uses[$1] = $2; names[++count] = $1 }
@@ -32,12 +32,12 @@ stack_of() {
         }' "$top/crates.txt"
 }
 
-# The proved program of a crate.
+# Prints the path of a crate's proved program.
 program_of() {
     echo "$top/crates/$1/out/$1"
 }
 
-# Whether this program of a crate is there, its own where none is named, and newer than all that it is made of.
+# Returns 0 if this program of a crate (by default its own) exists and is newer than all its sources.
 is_built() {
     local program=${2:-$(program_of "$1")} crate folders=()
     [ -x "$program" ] || return
@@ -47,7 +47,7 @@ is_built() {
     [ -z "$(find "${folders[@]}" "$top/crates.txt" -type f -newer "$program" -print -quit 2>/dev/null)" ]
 }
 
-# Does this in a crate's folder, and says on standard error which crate it is and how long it took. The status is 70 where it fails.
+# Runs this command in a crate's folder, and prints the crate and the seconds on standard error. Ends with status 70 if it fails.
 prove() {
     local crate=$1 where=$2 began=$SECONDS log
     shift 2
@@ -64,7 +64,7 @@ prove() {
     fi
 }
 
-# The status with which a crate's program ends on an empty input and without words: 3 is that of a fault of line 1, 2 of no words.
+# Prints the exit status of a crate's program with an empty input and without words: 3 for a fault of line 1, 2 for missing words.
 status_of() {
     case $1 in
     example_*) echo 0 ;;
@@ -73,14 +73,14 @@ status_of() {
     esac
 }
 
-# Makes a crate's program, and runs it once.
+# Builds a crate's program, and runs it once.
 make_program() {
     local status=0
     rt run || status=$?
     [ "$status" -eq "$(status_of "$1")" ] && [ -x "out/$1" ] && touch "out/$1"
 }
 
-# Proves a crate's program and all that it stands on, and builds it, where it isn't there or older than what it is made of.
+# Proves a crate's program and all crates that it depends on, and builds it, unless it is newer than its sources.
 build() {
     local crate number=0 stack
     is_built "$1" && return

@@ -1,4 +1,4 @@
-//! Two threads and a queue: one puts the number 7, and the other takes it.
+//! Two threads and a queue: one hands the number 7 over, and the other takes it.
 #![tactic(auto)]
 
 use ibisbookcase::crews::{CallRefused, Chair, Crew, End, Refusal, at_fair_queue};
@@ -10,8 +10,8 @@ impl Crew<u64> for Handing {
 
     fn work<C: Chair<u64>>(&self, chair: &mut C) -> Result<End<u64>, CallRefused<u64>> {
         match chair.number() {
-            0 => chair.put(7),
-            _ => chair.take(),
+            0 => chair.transfer_for(7, 60_000), // milliseconds
+            _ => chair.poll_for(60_000),
         }
     }
 }
@@ -19,8 +19,14 @@ impl Crew<u64> for Handing {
 fn main(rt: HostRuntime) -> Result<(), Refusal> {
     let done = at_fair_queue(&rt, rt.alloc(), 2, &Handing)?;
     for told in done.told {
-        if let Ok(End::Got(_, number)) = told {
-            println!(rt; "{number} was taken").map_err(|_| Refusal::WriteFault)?;
+        let (item, fate) = match told {
+            Ok(End::Got(_, number)) => (Some(number), "was taken"),
+            Ok(End::TimedOut(back)) => (back, "was returned: no thread took it in time"),
+            Ok(_) => (None, ""), // Gave or Done: the other thread has it (nobody interrupts here)
+            Err(refused) => (refused.item, "was refused"),
+        };
+        if let Some(number) = item {
+            println!(rt; "{number} {fate}").map_err(|_| Refusal::WriteFault)?;
         }
     }
     let chronicle = done.closed?;

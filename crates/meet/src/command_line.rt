@@ -9,87 +9,87 @@ use meet_run::{MOST_EACH, MOST_GIVERS};
 use pool_run::{MOST_CALLERS, MOST_JOBS, MOST_WORKERS};
 use std::alloc::{AllocError, Global};
 
-/// The version; which toolchain proved a build is told by what built it.
+/// The version. The command that built the program reports which toolchain proved it.
 const VERSION: &str = "0.1.0";
 
-/// What stands at the end of the help.
+/// The end of the help text.
 const REST_OF_HELP: &str = "\
-A script is a place and then calls, a line each, by the seat that makes them. A trace is the record of their steps.
+A script is a queue and then calls, one per line, by the seat that makes them. A trace is the log of their steps.
   printf 'fair\\n0 put 5\\n1 take\\n0 follow\\n' | meet run
-Where a record of a trace can't stand, explain says which may in its place, and who waits there. Where a line of a trace
-or a script can't be read, it says what was found there, and what can stand. Draw shows a trace as a picture, a row a
-record and a column a seat; sum counts its records, its tickets by what became of them, and its longest waits.
+If a record of a trace is illegal, explain prints the records that were legal there, and the requests that waited. If a
+line of a trace or a script can't be read, it prints the fault, and what can stand there. Draw prints a trace as a
+picture, with a row per record and a column per seat. Sum counts records, tickets by fate, and the longest waits.
 
-Places: fair, unfair, transfer
+Queues: fair, unfair, transfer
 Verbs: put N, offer N, take, poll, follow, cancel, expire, interrupt SEAT, drain N, size, room, peek, checkpoint;
        of a transfer queue also transfer N, try N, consumers
 
-A drive is threads that pass items through a fair queue, closed and checked: how many items were taken, their sum, how
-many pairs met, and what its history leaves.
+The command drive is a demo run: threads pass items through a fair queue, which is then closed and checked. It prints
+the number of items that were taken, their sum, the number of matched pairs, and the last line of a script.
   meet drive 4 100
 
-A pool's script names what the pool is made with, and then calls of callers and workers:
+A pool's script has the pool's parameters, and then calls of callers and workers:
   printf 'pool core 1 maximum 1 callers 1 keep 60000 unbounded policy abort\\n0 execute 7\\n1 ready\\n' | meet pool run
 
 Verbs of a pool: execute N, ready, follow, finish N, idle, leave, failed, shutdown, now, counters, checkpoint
 
-A drive of a pool is threads that hand jobs in, and workers that run them: how many jobs, the sum of their answers, how
-many are done by the records, and what the pool counts.
+The command pool drive is a demo run: threads execute jobs at a pool of workers. It prints the number of jobs, the sum
+of what they returned, the number of jobs done by the log, and the last line of a script.
   meet pool drive 4 100 2
 
-Calls that overlap have a line each: seat, begin, @ with a time by which the call was seen to wait, end (- where it
-never ended), what was called, and the answer. Where a history explains them, its trace is written.
+A concurrent history has a line per call: seat, begin, @ with a time by which the call was seen to wait, end (- if it
+never ended), the call, and what it returned. If it is linearizable, judge prints a legal history of it, as a trace.
   printf 'calls 1 fair\\n0 10 @14 25 put 5 done\\n1 12 20 take got 5\\n' | meet judge
 
 Exit status:
-  0  all is well
-  1  the trace isn't legal, the traces don't follow one another, or no history explains the calls
+  0  success
+  1  the trace is illegal, the traces aren't one history, or the concurrent history isn't linearizable
   2  a bad command line, or a request for help or the version
   3  a line that can't be read
-  4  no memory, too many moves of a search, or a drive or a pool that was refused
-  5  a failed read or write";
+  4  an allocation failed, a search reached its limit, or a demo run or a pool was refused
+  5  a read or a write failed";
 
-/// What is done with a text on standard input.
+/// What the program does with the text on standard input.
 #[derive(Clone, Copy, PartialEq, Eq, Debug)]
 pub enum Task {
-    /// A script on standard input, its replies on standard output.
+    /// Reads a script, and prints its replies.
     Run,
-    /// A script on standard input, the trace of its records on standard output.
+    /// Reads a script, and prints the trace of its records.
     Trace,
-    /// A trace on standard input, what is found of it on standard output.
+    /// Reads a trace, and prints whether it is legal.
     Check,
-    /// A trace on standard input, what is left of it once erased on standard output.
+    /// Reads a trace, and prints it without the tickets that were interrupted or withdrawn.
     Erase,
-    /// A chain of traces on standard input, what is found of it on standard output.
+    /// Reads a chain of traces, and prints whether it is one legal history.
     Chain,
-    /// A trace on standard input, what is found of it on standard output, and what would have been legal.
+    /// Reads a trace, and prints whether it is legal, and what would have been legal.
     Explain,
-    /// A trace on standard input, a picture of it on standard output, with these signs and rows so wide.
+    /// Reads a trace, and prints a picture of it, with these signs and rows of this width.
     Draw(Style, Width),
-    /// A trace on standard input, its sums on standard output.
+    /// Reads a trace, and prints its sums.
     Sum,
-    /// Calls that overlap on standard input, the trace of a history that explains them on standard output.
+    /// Reads a concurrent history, and prints the trace of a legal history that explains it.
     Judge,
-    /// A pool's script on standard input, its replies on standard output.
+    /// Reads a pool's script, and prints its replies.
     PoolRun,
-    /// A pool's script on standard input, the trace of its records on standard output.
+    /// Reads a pool's script, and prints the trace of its records.
     PoolTrace,
-    /// A pool's trace on standard input, what is found of it on standard output.
+    /// Reads a pool's trace, and prints whether it is legal.
     PoolCheck,
 }
 
 /// What a command line asks for.
 #[derive(Clone, Copy, PartialEq, Eq, Debug)]
 pub enum Wanted {
-    /// Something with a text.
+    /// A task with a text.
     Text(Task),
-    /// A drive with so many givers, 1 to 64, and so many items of each, 1 to 1,000.
+    /// A demo run: the number of producers, 1 to 64, and of items per producer, 1 to 1,000.
     Drive(u64, u64),
-    /// A drive of a pool with so many callers, 1 to 64, so many jobs of each, 1 to 1,000, and so many workers, 1 to 64.
+    /// A demo run of a pool: the number of callers, 1 to 64, of jobs per caller, 1 to 1,000, and of workers, 1 to 64.
     PoolDrive(u64, u64, u64),
 }
 
-/// A number of a drive, 1 to the greatest.
+/// The argument for a number of a demo run, from 1 to `most`.
 fn number<'a>(alloc: Global, name: &'a str, most: u64, help: &'a str) -> Arg<'a>
     requires { most ≤ 1000 }
 {
@@ -99,7 +99,7 @@ fn number<'a>(alloc: Global, name: &'a str, most: u64, help: &'a str) -> Arg<'a>
         .value_parser(value_parser!(u64).range(1..=most as i64))
 }
 
-/// The number of a drive that was given, which the parser let pass, so that it is within 1 and the greatest.
+/// Returns the given number of a demo run. The parser checked that it is from 1 to `most`.
 fn given(asked: &ArgMatches<'_>, name: &str, most: u64) -> u64
     requires { 0 < most }
     ensures from { 0 < result }
@@ -108,11 +108,11 @@ fn given(asked: &ArgMatches<'_>, name: &str, most: u64) -> u64
     asked.get_one::<u64>(name).unwrap_or(1).clamp(1, most)
 }
 
-/// The flag for a trace.
+/// The flag `--trace`.
 fn trace_flag<'a>(alloc: Global) -> Arg<'a> {
     Arg::new(alloc, "trace")
         .long("trace")
-        .help("Writes the script's records as a trace, instead of its replies")
+        .help("Prints the script's records as a trace, instead of its replies")
         .action(ArgAction::SetTrue)
 }
 
@@ -128,9 +128,7 @@ fn run_command<'a>(alloc: Global) -> Result<Command<'a>, AllocError> {
 fn check_command<'a>(alloc: Global) -> Result<Command<'a>, AllocError> {
     let erase = Arg::new(alloc, "erase")
         .long("erase")
-        .help(
-            "Writes the trace without the tickets that were cut, withdrawn or refused at their entry",
-        )
+        .help("Prints the trace without the tickets that were interrupted or withdrawn")
         .action(ArgAction::SetTrue);
     Command::new(alloc, "check")
         .about("Checks the trace on standard input")
@@ -141,14 +139,14 @@ fn check_command<'a>(alloc: Global) -> Result<Command<'a>, AllocError> {
 /// The command `chain`.
 fn chain_command<'a>(alloc: Global) -> Command<'a> {
     Command::new(alloc, "chain")
-        .about("Checks the traces on standard input, each on the base that those before it leave")
+        .about("Checks the traces on standard input, one after another, as one history")
         .override_usage("cat TRACE.. | meet chain")
 }
 
 /// The command `explain`.
 fn explain_command<'a>(alloc: Global) -> Command<'a> {
     Command::new(alloc, "explain")
-        .about("Checks the trace on standard input, and says what may stand where a record can't")
+        .about("Explains why the trace on standard input is illegal, and which records were legal")
         .override_usage("meet explain < TRACE")
 }
 
@@ -156,15 +154,15 @@ fn explain_command<'a>(alloc: Global) -> Command<'a> {
 fn draw_command<'a>(alloc: Global) -> Result<Command<'a>, AllocError> {
     let unicode = Arg::new(alloc, "unicode")
         .long("unicode")
-        .help("Draws with the signs of Unicode, instead of plain ones")
+        .help("Draws with signs of Unicode, instead of plain ones")
         .action(ArgAction::SetTrue);
     let width = Arg::new(alloc, "width")
         .long("width")
         .value_name("COLUMNS")
-        .help("How wide a row is at most: 20 to 1000, 100 where it isn't said")
+        .help("The most columns of a row: 20 to 1000, by default 100")
         .value_parser(value_parser!(u64).range(LEAST_WIDTH as i64..=MOST_WIDTH as i64));
     Command::new(alloc, "draw")
-        .about("Draws the trace on standard input: a row a record, a column a seat")
+        .about("Draws the trace on standard input: a row per record, a column per seat")
         .override_usage("meet draw [--unicode] [--width COLUMNS] < TRACE")
         .arg(unicode)?
         .arg(width)
@@ -173,16 +171,14 @@ fn draw_command<'a>(alloc: Global) -> Result<Command<'a>, AllocError> {
 /// The command `sum`.
 fn sum_command<'a>(alloc: Global) -> Command<'a> {
     Command::new(alloc, "sum")
-        .about("Sums the trace on standard input up: records, tickets, the longest line and waits")
+        .about("Sums up the trace on standard input: records, tickets, the longest queue and waits")
         .override_usage("meet sum < TRACE")
 }
 
 /// The command `judge`.
 fn judge_command<'a>(alloc: Global) -> Command<'a> {
     Command::new(alloc, "judge")
-        .about(
-            "Judges the calls on standard input, which overlap: is there a history that explains them?",
-        )
+        .about("Checks whether the concurrent history on standard input is linearizable")
         .override_usage("meet judge < CALLS")
 }
 
@@ -192,16 +188,16 @@ fn drive_command<'a>(alloc: Global) -> Result<Command<'a>, AllocError> {
         alloc,
         "N",
         MOST_GIVERS,
-        "How many threads give, and how many take: 1 to 64",
+        "The number of producers, and of consumers: 1 to 64",
     );
     let each = number(
         alloc,
         "M",
         MOST_EACH,
-        "How many items each gives and takes: 1 to 1000",
+        "The number of items of each: 1 to 1000",
     );
     Command::new(alloc, "drive")
-        .about("Drives N givers and N takers through a fair queue, M items each")
+        .about("Runs N producers and N consumers at a fair queue, M items each")
         .override_usage("meet drive N M")
         .arg(givers)?
         .arg(each)
@@ -228,22 +224,22 @@ fn pool_drive_command<'a>(alloc: Global) -> Result<Command<'a>, AllocError> {
         alloc,
         "N",
         MOST_CALLERS,
-        "How many callers, each a thread: 1 to 64",
+        "The number of callers, each a thread: 1 to 64",
     );
     let each = number(
         alloc,
         "M",
         MOST_JOBS,
-        "How many jobs each hands in: 1 to 1000",
+        "The number of jobs of each caller: 1 to 1000",
     );
     let workers = number(
         alloc,
         "W",
         MOST_WORKERS,
-        "How many workers, each a thread: 1 to 64",
+        "The number of workers, each a thread: 1 to 64",
     );
     Command::new(alloc, "drive")
-        .about("Drives N callers, M jobs each, through a pool of W workers")
+        .about("Runs N callers, M jobs each, at a pool of W workers")
         .override_usage("meet pool drive N M W")
         .arg(callers)?
         .arg(each)?
@@ -253,7 +249,7 @@ fn pool_drive_command<'a>(alloc: Global) -> Result<Command<'a>, AllocError> {
 /// The command `pool`.
 fn pool_command<'a>(alloc: Global) -> Result<Command<'a>, AllocError> {
     Command::new(alloc, "pool")
-        .about("The same for a pool of workers, in words of its own")
+        .about("Does the same for a pool of workers, by words of its own")
         .override_usage("meet pool <COMMAND> < TEXT")
         .subcommand_required(true)
         .subcommand(pool_run_command(alloc)?)?
@@ -261,13 +257,11 @@ fn pool_command<'a>(alloc: Global) -> Result<Command<'a>, AllocError> {
         .subcommand(pool_drive_command(alloc)?)
 }
 
-/// The program's command, without the others.
+/// The program's command, without its subcommands.
 fn bare_command<'a>(alloc: Global) -> Command<'a> {
     Command::new(alloc, "meet")
         .version(VERSION)
-        .about(
-            "Runs calls on a meeting place of java.util.concurrent, and checks what was recorded",
-        )
+        .about("Runs calls at the rendezvous queues of java.util.concurrent, and checks their logs")
         .override_usage("meet [COMMAND] < TEXT")
         .after_help(REST_OF_HELP)
 }
@@ -286,7 +280,7 @@ fn command<'a>(alloc: Global) -> Result<Command<'a>, AllocError> {
         .subcommand(pool_command(alloc)?)
 }
 
-/// The picture that the words behind `draw` ask for.
+/// Returns the task that the words after `draw` name.
 fn drawn_by(asked: &ArgMatches<'_>) -> Task {
     let style = if asked.get_flag("unicode") {
         Style::Unicode
@@ -294,11 +288,11 @@ fn drawn_by(asked: &ArgMatches<'_>) -> Task {
         Style::Plain
     };
     let columns = asked.get_one::<u64>("width").unwrap_or(USUAL_WIDTH);
-    // The parser let no other through.
+    // The parser let no other number through.
     Task::Draw(style, Width::new(columns).unwrap_or(Width::usual()))
 }
 
-/// What the words behind `pool` ask for.
+/// Returns what the words after `pool` name.
 fn pool_wanted_by(asked: &ArgMatches<'_>) -> Wanted
     ensures { IsWithin result }
 {
@@ -315,7 +309,7 @@ fn pool_wanted_by(asked: &ArgMatches<'_>) -> Wanted
     }
 }
 
-/// What these words ask for.
+/// Returns what these words name.
 fn wanted_by(matches: &ArgMatches<'_>) -> Wanted
     ensures { IsWithin result }
 {
@@ -339,10 +333,12 @@ fn wanted_by(matches: &ArgMatches<'_>) -> Wanted
     }
 }
 
-/// Reads the words of a command line, the program's name first: none, `run`, `run --trace`, `check`, `check --erase`,
-/// `chain`, `explain`, `draw`, with `--unicode` and `--width COLUMNS` or without, `sum`, `judge`, `drive N M`, or
-/// behind `pool` `run`, `run --trace`, `check` or `drive N M W`. The error has the text to show; a request for help or
-/// for the version is one.
+/// Parses the words of a command line, the program's name first: none, `run`, `run --trace`, `check`, `check --erase`,
+/// `chain`, `explain`, `draw`, with `--unicode` and `--width COLUMNS` or without, `sum`, `judge`, `drive N M`, or after
+/// `pool` `run`, `run --trace`, `check` or `drive N M W`.
+///
+/// # Errors
+/// The text to print, for a bad command line and for a request for help or the version.
 pub fn wanted_of(alloc: Global, words: &[String]) -> Result<Wanted, Error>
     ensures { IfOk result IsWithin }
 {
