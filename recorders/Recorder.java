@@ -1,8 +1,6 @@
-import static java.util.concurrent.TimeUnit.NANOSECONDS;
-
 import java.util.*;
 import java.util.concurrent.*;
-import java.util.concurrent.atomic.AtomicInteger;
+import java.util.concurrent.atomic.*;
 import java.util.concurrent.locks.LockSupport;
 import java.util.stream.*;
 
@@ -14,16 +12,10 @@ import java.util.stream.*;
  */
 public final class Recorder {
     /** A call, and its line in the log. A call that never returned has `-` for its end, and no answer. */
-    private static final class Call {
-        private final int seat;
-        private final String asked;
-        private final long begin = System.nanoTime() - ZERO;
-        private volatile long end;
-        private String answer;
-
-        Call(int seat, String asked) { this.seat = seat; this.asked = asked; }
-
-        public String toString() { return seat + " " + begin + " " + (end > 0 ? end + " " + asked + " " + answer : "- " + asked); }
+    private record Call(int seat, String asked, long begin, AtomicReference<String> ended) {
+        public String toString() {
+            return seat + " " + begin + " " + (ended.get() == null ? "- " + asked : ended.get());
+        }
     }
 
     private static final long ZERO = System.nanoTime(), STALLED = 1_000_000_000L;
@@ -33,31 +25,36 @@ public final class Recorder {
     private static final TransferQueue<Integer> transfers = new LinkedTransferQueue<>();
     private static BlockingQueue<Integer> queue = transfers;
 
-    /** Makes a call of a seat: a thread's number. All threads read one clock, right before the call and right after it. */
+    /** Logs a call of a seat, a thread's number. All threads read one clock, right before the call and right after it. */
     private static void record(int seat, String verb, int number, long nanos) {
-        Call call = new Call(seat, verb.equals("take") || verb.startsWith("poll") ? verb : verb + " " + number);
+        String asked = verb.equals("take") || verb.startsWith("poll") ? verb : verb + " " + number;
+        Call call = new Call(seat, asked, System.nanoTime() - ZERO, new AtomicReference<>());
         logs.get(seat).add(call);
-        Object found = found(verb, number, nanos);
+        Object found = make(verb, number, nanos);
         long end = System.nanoTime() - ZERO;
-        call.answer = found == null || found.equals(false) ? (verb.endsWith("-for") ? "expired" : "none")
-            : found.equals(true) ? "done" : found instanceof Integer ? "got " + found : "interrupted";
-        call.end = end;
+        String nothing = verb.endsWith("-for") ? "expired" : "none";
+        String answer = found == null || found.equals(false) ? nothing : found.equals(true) ? "done"
+            : found instanceof Integer ? "got " + found : "interrupted";
+        call.ended.set(end + " " + asked + " " + answer);
     }
 
-    private static Object found(String verb, int number, long nanos) {
+    /** Calls the queue. Returns the item that was got or null, whether one was given, or an interrupt. */
+    private static Object make(String verb, int number, long nanos) {
         try {
             switch (verb) {
                 case "put": queue.put(number); return true;
                 case "offer": return queue.offer(number);
-                case "offer-for": return queue.offer(number, nanos, NANOSECONDS);
+                case "offer-for": return queue.offer(number, nanos, TimeUnit.NANOSECONDS);
                 case "transfer": transfers.transfer(number); return true;
                 case "try": return transfers.tryTransfer(number);
-                case "try-for": return transfers.tryTransfer(number, nanos, NANOSECONDS);
+                case "try-for": return transfers.tryTransfer(number, nanos, TimeUnit.NANOSECONDS);
                 case "take": return queue.take();
                 case "poll": return queue.poll();
-                case "poll-for": return queue.poll(nanos, NANOSECONDS);
+                case "poll-for": return queue.poll(nanos, TimeUnit.NANOSECONDS);
             }
-        } catch (InterruptedException interrupted) { return interrupted; }
+        } catch (InterruptedException interrupted) {
+            return interrupted;
+        }
         // Java doesn't say when an interrupt takes effect: this call ends when the thread has seen it, or has ended.
         threads.get(number).interrupt();
         while (threads.get(number).isInterrupted() && threads.get(number).isAlive()) Thread.yield();
@@ -91,10 +88,10 @@ public final class Recorder {
         long since = System.nanoTime();
         for (long begun = 0; givers.get() + takers.get() > 0 && System.nanoTime() - since < STALLED; Thread.sleep(1)) {
             long now = logs.subList(0, count).stream().mapToLong(List::size).sum();
-            if (now > begun) since = System.nanoTime();
+            since = now > begun ? System.nanoTime() : since;
             begun = now;
         }
-        Stream<Call> all = logs.stream().flatMap(log -> List.copyOf(log).stream()).sorted(Comparator.comparing(it -> it.begin));
+        Stream<Call> all = logs.stream().flatMap(it -> List.copyOf(it).stream()).sorted(Comparator.comparing(Call::begin));
         System.out.print(all.map(Call::toString).collect(Collectors.joining("\n", "calls 1 " + words[0] + "\n", "\n")));
         System.exit(0);
     }
