@@ -1,8 +1,9 @@
-//! Calls that overlap, of whichever program: which history explains them, or that none does.
+//! A linearizability checker for concurrent histories of any program's synchronous or transfer queue: a legal history
+//! that explains the calls, or why there is none.
 
 pub use meet_judge::{MOST_MOVES, judge_calls, push_calls, read_calls};
 pub use meet_overlap::{
-    Answer, Call, Calls, Fault, Patience, Returned, Stuck, Verb, judge, times_are_order,
+    Answer, Call, Calls, Fault, Patience, Reason, Returned, Stuck, Verb, judge, times_are_order,
 };
 pub use meet_run::RunFault;
 pub use meet_tickets::{Deed, Kind, Order, Record, Refusal, SeatNo};

@@ -56,10 +56,10 @@ fn may_give(call: &Call) -> bool
 fn may_get(call: &Call, mark: u64) -> bool
     ensures { IsFalse result → MayGet call.now mark → ⊥ }
 {
-    match call.returned {
-        None => true,
-        Some(returned) => returned.answer == Answer::Got(mark),
-    }
+    let Some(returned) = call.returned else {
+        return true;
+    };
+    returned.answer == Answer::Got(mark)
 }
 
 /// Whether no call that began by this time gives an item of this mark.
