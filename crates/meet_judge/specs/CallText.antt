@@ -91,12 +91,12 @@ abbrev pub stuck_line : Option ℕ → List ℕ
 stuck_line None = codes "refused"
 stuck_line (Some call) = codes "refused line " ++ line_number call
 
--- how far a search came among so many calls
+-- how far a search came, and the number of all calls
 abbrev pub stuck_text : Stuck → (count : ℕ) → List ℕ
 stuck_text stuck count =
     stuck_line stuck.call ++ (codes ", explained " ++ decimal stuck.explained) ++ (codes " of " ++ decimal count)
 
--- why no history explains so many calls
+-- why no history explains the calls
 abbrev pub reason_text : Reason → (count : ℕ) → List ℕ
 reason_text (Ungiven item taker giver) count =
     case_text taker item (codes " was got but never given in time") giver (codes " gives it")

@@ -28,7 +28,7 @@ fn why_of(fault: Fault) -> Refusal {
     }
 }
 
-/// Writes why no history explains so many calls.
+/// Writes why no history explains the calls, of which there are `count`.
 fn write_refused<W: Write>(
     alloc: Global,
     writer: &mut W,

@@ -199,7 +199,7 @@ fn push_put(out: &mut Vec<u8>, call: usize, item: u64) -> Result<(), AllocError>
     out.extend_from_slice(b" before")
 }
 
-/// Appends how far a search came among so many calls.
+/// Appends how far a search came; `count` is the number of all calls.
 #[tactic(auto, unfolding(crate::specs::CallText::stuck_text))]
 fn push_stuck(out: &mut Vec<u8>, stuck: Stuck, count: u64) -> Result<(), AllocError>
     ensures { OnOk result (out.new.items ≡ out.old.items ++ stuck_text stuck count) }
@@ -221,7 +221,7 @@ fn push_line(out: &mut Vec<u8>, call: Option<usize>) -> Result<(), AllocError>
     }
 }
 
-/// Appends why no history explains so many calls.
+/// Appends why no history explains the calls, of which there are `count`.
 #[tactic(auto, unfolding(crate::specs::CallText::reason_text))]
 fn push_reason(out: &mut Vec<u8>, reason: Reason, count: u64) -> Result<(), AllocError>
     ensures { OnOk result (out.new.items ≡ out.old.items ++ reason_text reason count) }
@@ -278,7 +278,7 @@ fn push_reason(out: &mut Vec<u8>, reason: Reason, count: u64) -> Result<(), Allo
     }
 }
 
-/// Appends why no history explains so many calls, as a line.
+/// Appends the line that says why no history explains the calls, of which there are `count`.
 pub(crate) fn push_refused(out: &mut Vec<u8>, reason: Reason, count: u64) -> Result<(), AllocError>
     ensures { OnOk result (out.new.items ≡ out.old.items ++ refused_text reason count) }
 {

@@ -96,7 +96,7 @@ impl Calls {
         }
     }
 
-    /// Puts a call behind the others. The only error is want of memory.
+    /// Puts a call behind the others. Fails only if an allocation fails.
     pub fn push(&mut self, call: Call) -> Result<(), AllocError>
         ensures kind { self.new.kind ≡ self.old.kind }
         ensures list { OnOk result (self.new.list.items ≡ self.old.list.items ++ call ∷ []) }

@@ -1,4 +1,11 @@
-//! The search for an order in which calls make their records: depth first, with a memory of what leads nowhere.
+//! The search for an order in which calls make their records: depth first, each move the next record of one call (Wing and
+//! Gong 1993), with a memory of what leads nowhere (Lowe 2017).
+//!
+//! - A call has at most one next record at a known place, so a move is a call (`next`, `moving`).
+//! - A call that was met or cut ends at once, since no other call sees that (`settling`).
+//! - What leads nowhere is left early: a call is late (`due`), was met in a way that it doesn't answer (`misled`), or the
+//!   state was seen before (`seen`).
+//! - What is found is written once more with tickets in their order, which makes it a history (`judging`).
 
 ghost use Rattle.std.specs.Prelude.{IfOk, IfErr, IsTrue, List};
 ghost use Rattle.meet_tickets.specs.declared.records.Record.{Record};
@@ -66,7 +73,7 @@ fn leads_nowhere(kind: Kind, calls: &[Call], reached: &Reached, seen: &Seen) -> 
 }
 
 /// The calls that make their records, in order, to where each may be left as it is; or how far the search came, where
-/// no history explains the calls. It makes at most so many moves, else it refuses Limit.
+/// no history explains the calls. It makes at most `limit` moves, and else fails with Limit.
 pub(crate) fn search(
     alloc: Global,
     kind: Kind,

@@ -82,7 +82,7 @@ fn number_at(list: &[usize], index: usize) -> usize {
 }
 
 impl Seen {
-    /// Nothing was seen yet. The only error is want of memory.
+    /// Nothing was seen yet. Fails only if an allocation fails.
     pub(crate) fn nothing(alloc: Global) -> Result<Seen, AllocError>
         ensures { IfOk result (λ seen. seen.worlds.items ≡ []) }
     {
@@ -114,7 +114,7 @@ impl Seen {
         false
     }
 
-    /// Puts one more there. The only error is want of memory.
+    /// Puts one more there. Fails only if an allocation fails.
     pub(crate) fn note(&mut self, reached: Reached) -> Result<(), AllocError>
         ensures { OnOk result (self.new.worlds.items ≡ self.old.worlds.items ++ reached ∷ []) }
     {

@@ -26,7 +26,7 @@ pub(crate) fn all_ahead(alloc: Global) -> Window
     }
 }
 
-/// The same window once more. The only error is want of memory.
+/// The same window once more. Fails only if an allocation fails.
 pub(crate) fn copied_window(alloc: Global, window: &Window) -> Result<Window, AllocError>
     ensures stages { IfOk result (λ copy. stage_at copy ≡ stage_at window.now) }
     ensures first { IfOk result (λ copy. copy.first ≡ window.now.first) }
@@ -53,7 +53,7 @@ pub(crate) fn stage(window: &Window, number: usize) -> Stage
     }
 }
 
-/// Notes how far the call of this number is. The only error is want of memory.
+/// Notes how far the call of this number is. Fails only if an allocation fails.
 pub(crate) fn put_stage(window: &mut Window, number: usize, stage: Stage) -> Result<(), AllocError>
     requires { window.old.first ≤ number }
     ensures { OnOk result (stage_at window.new ≡ put_at (stage_at window.old) number stage) }

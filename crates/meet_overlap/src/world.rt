@@ -37,7 +37,7 @@ pub(crate) fn beginning(alloc: Global) -> Reached
     }
 }
 
-/// What a record of the call of this number leaves. The only error is want of memory.
+/// What a record of the call of this number leaves. Fails only if an allocation fails.
 pub(crate) fn after(
     alloc: Global,
     kind: Kind,
@@ -63,7 +63,7 @@ pub(crate) fn after(
     })
 }
 
-/// The call of this number makes a record. The only error is want of memory.
+/// The call of this number makes a record. Fails only if an allocation fails.
 pub(crate) fn advance(
     kind: Kind,
     reached: &mut Reached,

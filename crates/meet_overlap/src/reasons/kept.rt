@@ -66,7 +66,7 @@ fn longer(one: Option<Kept>, other: Kept) -> Option<Kept> {
 }
 
 /// For each of these calls, an item that was put before the time from which it must have been there, and that is likely
-/// to have been there until the call ended; at most so many. Fails only if an allocation fails.
+/// to have been there until the call ended. Returns at most `most` of them. Fails only if an allocation fails.
 pub(crate) fn kept_throughout(
     alloc: Global,
     calls: &[Call],
