@@ -12,9 +12,14 @@ use std::alloc::{AllocError, Global};
 /// How often a moment looks for a time at which both sides of the wait queue are empty.
 const LOOKS: usize = 64;
 
-/// What is planned for one time stands by its rank: those that leave the wait queue come first.
+/// How often a plan is made anew because calls that were to pass have to stay in the wait queue.
+const ROUNDS: usize = 16;
+
+/// What is planned for one time stands by its rank.
 #[derive(Clone, Copy, PartialEq, Eq, PartialOrd, Ord)]
 enum Rank {
+    /// A seat is flagged, whose next call is interrupted at its entry at this time.
+    Strikes,
     /// An entry leaves the wait queue.
     Leaves,
     /// Two calls meet, or a call fails: the wait queue is as it was before.
@@ -59,6 +64,17 @@ struct Moment {
     no_givers: bool,
     no_takers: bool,
     row: Row,
+    /// The producer, if its pair could stay in the wait queue as well.
+    pair: Option<usize>,
+}
+
+/// How a pair goes through the wait queue.
+#[derive(Clone, Copy, PartialEq, Eq)]
+enum Way {
+    /// As it likes: in a moment, if it can.
+    Free,
+    /// One side stays until the other one comes.
+    Stays(Side),
 }
 
 /// What a call does.
@@ -68,8 +84,6 @@ enum Part {
     Nothing,
     Stays(Stay),
     Passes(Moment),
-    /// Its interrupt flags a seat.
-    Flags,
 }
 
 /// One call's record, and then its ending if it waited.
@@ -172,6 +186,17 @@ fn stay(calls: &[Call], owner: usize, other: Option<usize>) -> Part {
     })
 }
 
+/// Whether a call may wait.
+fn can_wait(call: &Call) -> bool {
+    match call.verb {
+        Verb::Keep(_) => true,
+        Verb::Give(Patience::Now, _) => false,
+        Verb::Take(Patience::Now) => false,
+        Verb::Interrupt(_) => false,
+        _ => true,
+    }
+}
+
 /// What is known of all calls.
 #[derive(Clone, Copy)]
 struct Known<'a> {
@@ -179,9 +204,20 @@ struct Known<'a> {
     calls: &'a [Call],
     partners: &'a Partners,
     flags: &'a Flags,
+    /// For each producer how its pair goes through the wait queue.
+    ways: &'a [Way],
 }
 
 impl Known<'_> {
+    /// How the pair of this producer goes through the wait queue.
+    fn way(&self, giving: usize) -> Way {
+        if giving < self.ways.len() {
+            self.ways[giving]
+        } else {
+            Way::Free
+        }
+    }
+
     /// Whether a call's seat is flagged at this time.
     fn is_flagged(&self, call: &Call, at: u64) -> bool {
         self.flags.has(call.seat.number(), at)
@@ -215,6 +251,15 @@ impl Known<'_> {
             return Part::Nothing;
         }
         let (giver, taker) = (&self.calls[giving], &self.calls[taking]);
+        match self.way(giving) {
+            Way::Stays(Side::Giver) if can_wait(giver) => {
+                return stay(self.calls, giving, Some(taking));
+            }
+            Way::Stays(Side::Taker) if can_wait(taker) => {
+                return stay(self.calls, taking, Some(giving));
+            }
+            _ => {}
+        }
         let span = overlap(giver, taker);
         let in_line = match self.kind.order.end() {
             End::Front => true,
@@ -229,6 +274,7 @@ impl Known<'_> {
                 no_givers: true,
                 no_takers: in_line,
                 row: met(taking, giving),
+                pair: Some(giving),
             });
         }
         if self.kind.order.keeps() || waits_before(giver, span.from) {
@@ -239,6 +285,7 @@ impl Known<'_> {
             no_givers: in_line,
             no_takers: true,
             row: met(giving, taking),
+            pair: Some(giving),
         })
     }
 
@@ -275,6 +322,7 @@ impl Known<'_> {
             no_givers: !is_giver(call),
             no_takers: is_giver(call),
             row: met(number, by),
+            pair: None,
         })
     }
 
@@ -297,6 +345,7 @@ impl Known<'_> {
                 no_givers: !is_giver(call),
                 no_takers: is_giver(call),
                 row: alone(number, returned.answer == Answer::Expired),
+                pair: None,
             }),
         }
     }
@@ -309,13 +358,7 @@ impl Known<'_> {
         let partner = self.partners.of(number);
         match self.calls[number].verb {
             Verb::Keep(_) => self.kept(number, partner),
-            Verb::Interrupt(_) => {
-                if partner.is_none() && self.calls[number].returned.is_some() {
-                    Part::Flags
-                } else {
-                    Part::Nothing
-                }
-            }
+            Verb::Interrupt(_) => Part::Nothing,
             Verb::Give(_, _) => match partner {
                 None => self.unmet(number),
                 Some(other) => {
@@ -407,59 +450,136 @@ impl Draft {
         }
     }
 
-    /// The first time of its span at which a moment can be, if there is one.
-    fn time_of(&self, moment: &Moment) -> Option<u64> {
+    /// The first time of its span at which a moment can be; or the side of the wait queue that isn't empty.
+    fn time_of(&self, moment: &Moment) -> Result<u64, Side> {
         let mut at = moment.span.from;
+        let mut side = Side::Giver;
         for _ in 0..LOOKS {
             let mut next = at;
             if moment.no_givers {
                 next = self.givers.free_from(next);
+                if next != at {
+                    side = Side::Giver;
+                }
             }
             if moment.no_takers {
-                next = self.takers.free_from(next);
+                let then = self.takers.free_from(next);
+                if then != next {
+                    side = Side::Taker;
+                }
+                next = then;
             }
             if next == at {
-                return if at <= moment.span.by { Some(at) } else { None };
+                return Ok(at);
+            }
+            if moment.span.by < next {
+                return Err(side);
             }
             at = next;
         }
-        None
+        Err(side)
     }
 
-    /// Plans a moment. Whether there is a time for it.
-    fn put_moment(&mut self, moment: &Moment) -> Result<bool, AllocError> {
-        let Some(at) = self.time_of(moment) else {
-            return Ok(false);
-        };
-        let row = &moment.row;
+    /// Plans a moment for this time.
+    fn put_moment(&mut self, at: u64, row: &Row) -> Result<(), AllocError> {
         self.put(at, Rank::Passes, row.first, 0, Some(row.first))?;
         self.put(at, Rank::Passes, row.first, 1, row.second)?;
-        self.put(at, Rank::Passes, row.first, 2, row.third)?;
-        Ok(true)
+        self.put(at, Rank::Passes, row.first, 2, row.third)
     }
 
-    /// Plans what passes, and what flags seats. Whether there is a time for each.
-    fn put_moments(&mut self, known: Known<'_>) -> Result<bool, AllocError> {
+    /// Plans the interrupts that flag seats.
+    fn put_flags(&mut self, flags: &Flags) -> Result<(), AllocError> {
+        for flag in &flags.flags {
+            let rank = if flag.from < flag.until {
+                Rank::Flags
+            } else {
+                Rank::Strikes
+            };
+            self.put(flag.from, rank, flag.number, 0, Some(flag.number))?;
+        }
+        Ok(())
+    }
+
+    /// Plans what passes. Returns the pairs that find no time for it, each with the side of the wait queue that isn't
+    /// empty; none if there is no time for a call that can't stay there.
+    fn put_moments(
+        &mut self,
+        alloc: Global,
+        known: Known<'_>,
+    ) -> Result<Option<Vec<Blocked>>, AllocError> {
+        let mut blocked = Vec::new(alloc);
         for number in 0..known.calls.len() {
-            match known.part(number) {
-                Part::Nothing => {}
-                Part::Stays(_) => {}
-                Part::Passes(moment) => {
-                    if !self.put_moment(&moment)? {
-                        return Ok(false);
-                    }
+            if let Part::Passes(moment) = known.part(number) {
+                match self.time_of(&moment) {
+                    Ok(at) => self.put_moment(at, &moment.row)?,
+                    Err(side) => match moment.pair {
+                        Some(giver) => blocked.push(Blocked { giver, side })?,
+                        None => return Ok(None),
+                    },
                 }
-                Part::Flags => self.put(
-                    end(&known.calls[number]),
-                    Rank::Flags,
-                    number,
-                    0,
-                    Some(number),
-                )?,
             }
         }
-        Ok(true)
+        Ok(Some(blocked))
     }
+}
+
+/// A pair that can't pass in a moment, by its producer, and the side of the wait queue that isn't empty.
+#[derive(Clone, Copy)]
+struct Blocked {
+    giver: usize,
+    side: Side,
+}
+
+/// What came of one plan.
+#[derive(Drop)]
+enum Planned {
+    /// The order in which the calls make their records.
+    Order(Vec<usize>),
+    /// These pairs have to stay in the wait queue.
+    Blocked(Vec<Blocked>),
+    /// There is no time for a call.
+    Nothing,
+}
+
+/// Makes a plan.
+fn plan(alloc: Global, known: Known<'_>) -> Result<Planned, AllocError> {
+    let stays = known.stays(alloc)?;
+    let Some(placed) = place(alloc, known.kind.order.end(), &stays)? else {
+        return Ok(Planned::Nothing);
+    };
+    let mut draft = Draft {
+        turns: Vec::new(alloc),
+        givers: Busy::never(alloc),
+        takers: Busy::never(alloc),
+    };
+    for item in 0..placed.len() {
+        draft.put_stay(known.calls, &placed[item], item)?;
+    }
+    draft.givers.settle(alloc)?;
+    draft.takers.settle(alloc)?;
+    draft.put_flags(known.flags)?;
+    let Some(blocked) = draft.put_moments(alloc, known)? else {
+        return Ok(Planned::Nothing);
+    };
+    if !blocked.is_empty() {
+        return Ok(Planned::Blocked(blocked));
+    }
+    draft.turns.sort_unstable();
+    let order = in_order(alloc, known.calls, &draft.turns)?;
+    Ok(Planned::Order(order))
+}
+
+/// Has these pairs stay in the wait queue. Whether one of them hadn't yet.
+fn keep_in_line(ways: &mut Vec<Way>, blocked: &[Blocked]) -> bool {
+    let mut changed = false;
+    for pair in blocked {
+        let way = Way::Stays(pair.side);
+        if pair.giver < ways.len() && ways[pair.giver] != way {
+            ways[pair.giver] = way;
+            changed = true;
+        }
+    }
+    changed
 }
 
 /// A guess at the order in which the calls make their records, by their numbers; none if the calls leave no time for
@@ -471,30 +591,27 @@ pub(crate) fn guess(
     partners: &Partners,
 ) -> Result<Option<Vec<usize>>, AllocError> {
     let flags = Flags::of(alloc, calls, partners)?;
-    let known = Known {
-        kind,
-        calls,
-        partners,
-        flags: &flags,
-    };
-    let stays = known.stays(alloc)?;
-    let Some(placed) = place(alloc, kind.order.end(), &stays)? else {
-        return Ok(None);
-    };
-    let mut draft = Draft {
-        turns: Vec::new(alloc),
-        givers: Busy::never(alloc),
-        takers: Busy::never(alloc),
-    };
-    for item in 0..placed.len() {
-        draft.put_stay(calls, &placed[item], item)?;
+    let mut ways = Vec::with_capacity(alloc, calls.len())?;
+    for _ in 0..calls.len() {
+        ways.push(Way::Free)?;
     }
-    draft.givers.settle(alloc)?;
-    draft.takers.settle(alloc)?;
-    if !draft.put_moments(known)? {
-        return Ok(None);
+    for _ in 0..ROUNDS {
+        let known = Known {
+            kind,
+            calls,
+            partners,
+            flags: &flags,
+            ways: &ways,
+        };
+        match plan(alloc, known)? {
+            Planned::Order(order) => return Ok(Some(order)),
+            Planned::Nothing => return Ok(None),
+            Planned::Blocked(blocked) => {
+                if !keep_in_line(&mut ways, &blocked) {
+                    return Ok(None);
+                }
+            }
+        }
     }
-    draft.turns.sort_unstable();
-    let order = in_order(alloc, calls, &draft.turns)?;
-    Ok(Some(order))
+    Ok(None)
 }
