@@ -1,4 +1,5 @@
 pub mod Changes
+pub mod DrawnLines
 pub mod DrawnTickets
 pub mod Repeats
 pub mod Rowing

@@ -1,10 +1,9 @@
 //! Drawing a trace.
 
-ghost use Rattle.std.specs.Prelude.{◌≡◌, ◌+◌, ◌<◌, length, None, IfOk, IfErr, IfSome};
-ghost use Rattle.meet_history.specs.Pushing.{HasSeen};
+ghost use Rattle.std.specs.Prelude.{◌+◌, ◌^◌, ◌<◌, ℕ, List, length, IsTrue, IfOk, IfErr, IfSome};
 ghost use Rattle.meet_run.specs.Texts.Reading.{lines_of};
-ghost use Rattle.meet_run.specs.Tracing.Traces.{trace_fault_in, NamesLine, IsUnreadTrace, IsTraceFault};
-ghost use Rattle.meet_draw.specs.Drawn.{IsPicture, IsDrawn, DrawEnds};
+ghost use Rattle.meet_run.specs.Tracing.Traces.{IsReadWith, trace_fault_in, NamesLine, IsUnreadTrace, IsTraceFault};
+ghost use Rattle.meet_draw.specs.Drawn.{IsDrawn, DrawEnds};
 
 use crate::picture::draw_records;
 use crate::style::{Style, Width};
@@ -15,11 +14,18 @@ use meet_run::text::wording::push_last_line;
 use meet_run::trace::check::{ReadTrace, read_records};
 use meet_run::trace::wording::push_illegal;
 use meet_run::{MOST_READS, RunFault};
-use meet_tickets::{Deed, Record, Refusal};
+use meet_tickets::{Base, Deed, Record, Refusal};
 use std::alloc::{AllocError, Global};
-use std::io::{ErrorKind, Read, Write};
+use std::io::{Read, Write};
 
-/// Draws a trace with these records, and tells whether it is legal.
+/// Whether this many records can be numbered after a base.
+fn may_follow(base: &Base, records: &[Record<Deed>]) -> bool
+    ensures { IsTrue result → base.now.gone + length records.now < 2 ^ 64 }
+{
+    records.len() as u64 <= u64::MAX - base.gone
+}
+
+/// Draws a trace with these records that was read, and returns whether it is legal. It fails where memory runs out.
 fn picture_of(
     alloc: Global,
     style: Style,
@@ -27,14 +33,14 @@ fn picture_of(
     trace: &ReadTrace,
     records: Vec<Record<Deed>>,
 ) -> Result<(bool, Vec<u8>), AllocError>
-    requires seen { HasSeen trace.now.base trace.now.checker records.items }
-    requires counted { trace.now.count ≡ trace.now.base.gone + length records.items }
-    requires own { trace.now.checker.place.kind ≡ trace.now.kind }
-    ensures { IfOk result (λ drawn. IsPicture style width trace.now.kind trace.now.base records.items drawn.0
-        drawn.1.items) }
+    ensures { IfOk result (λ drawn. (lines : List (List ℕ)) → IsReadWith lines trace.now records.items
+        → IsDrawn style width lines drawn.0 drawn.1.items) }
 {
     let count = trace.count;
     let (kind, base) = (trace.kind, &trace.base);
+    if !may_follow(base, records.as_slice()) {
+        return Err(AllocError);
+    }
     match trace.checker.standing() {
         Ok(standing) => {
             let mut out = draw_records(alloc, style, width, kind, base, records.as_slice(), None)?;
@@ -53,40 +59,24 @@ fn picture_of(
     }
 }
 
-/// What is drawn of these bytes, and whether they are a legal trace.
-fn picture_in(
+/// Reads a trace up to its first faulty line, and draws it where it has none; returns whether it is legal, and the
+/// picture.
+fn picture_in<R: Read>(
     alloc: Global,
     style: Style,
     width: Width,
-    text: &[u8],
+    reader: &mut R,
 ) -> Result<(bool, Vec<u8>), RunFault>
-    ensures drawn { IfOk result (λ drawn. IsDrawn style width (lines_of text.now) drawn.0 drawn.1.items) }
-    ensures bad { IfErr result (λ fault. NamesLine fault (trace_fault_in (lines_of text.now))) }
+    ensures drawn { IfOk result (λ drawn. IfSome (R.remaining reader.old) (λ input.
+        IsDrawn style width (lines_of input) drawn.0 drawn.1.items)) }
+    ensures bad { IfErr result (λ fault. IfSome (R.remaining reader.old) (λ input.
+        NamesLine fault (trace_fault_in (lines_of input)))) }
     ensures faults { IfErr result IsUnreadTrace }
 {
-    let mut reader = text;
-    let (trace, records) = read_records(alloc, &mut reader, MOST_READS)?;
+    let (trace, records) = read_records(alloc, reader, MOST_READS)?;
     match picture_of(alloc, style, width, &trace, records) {
         Ok(drawn) => Ok(drawn),
         Err(_) => Err(cut_short(Refusal::Memory)),
-    }
-}
-
-/// Draws these bytes.
-fn draw_text<W: Write>(
-    alloc: Global,
-    text: &[u8],
-    writer: &mut W,
-    style: Style,
-    width: Width,
-) -> Result<bool, RunFault>
-    ensures drawn { DrawEnds style width (lines_of text.now) result (W.contents writer.old) (W.contents writer.new) }
-    ensures faults { IfErr result IsTraceFault }
-{
-    let (legal, out) = picture_in(alloc, style, width, text)?;
-    match write_whole(writer, out.as_slice()) {
-        Ok(()) => Ok(legal),
-        Err(why) => Err(cut_short(why)),
     }
 }
 
@@ -97,9 +87,10 @@ fn draw_text<W: Write>(
 /// writes.
 ///
 /// Where the trace is legal the answer is true. Else only the records up to the first that can't stand are drawn, which
-/// is marked, and the answer is false. The whole text is read before anything is written. It refuses BadTrace with the
-/// line that can't be read, ReadFault and Memory, and then nothing is written; and WriteFault, and then a prefix of the
-/// picture is.
+/// is marked, and the answer is false. The text is read to its end before anything is written, or up to the first line
+/// that can't be read: no byte after that line is asked for. It refuses BadTrace with that line, ReadFault (also for a
+/// text of 2^32 bytes or more) and Memory, and then nothing is written; and WriteFault, and then a prefix of the picture
+/// is.
 pub fn draw_trace<R: Read, W: Write>(
     alloc: Global,
     reader: &mut R,
@@ -111,10 +102,9 @@ pub fn draw_trace<R: Read, W: Write>(
         DrawEnds style width (lines_of input) result (W.contents writer.old) (W.contents writer.new)) }
     ensures faults { IfErr result IsTraceFault }
 {
-    let mut text = Vec::new(alloc);
-    match reader.read_to_end(&mut text) {
-        Ok(_) => draw_text(alloc, text.as_slice(), writer, style, width),
-        Err(error) if error.kind() == ErrorKind::OutOfMemory => Err(cut_short(Refusal::Memory)),
-        Err(_) => Err(cut_short(Refusal::ReadFault)),
+    let (legal, out) = picture_in(alloc, style, width, reader)?;
+    match write_whole(writer, out.as_slice()) {
+        Ok(()) => Ok(legal),
+        Err(why) => Err(cut_short(why)),
     }
 }

@@ -2,10 +2,12 @@
 
 ghost use Rattle.std.specs.Prelude.{IfOk, IfSome};
 ghost use Rattle.meet_run.specs.Texts.Reading.{lines_of};
-ghost use Rattle.meet_explain.specs.Explained.{IsTold, IsExplained, ExplainEnds};
+ghost use Rattle.meet_explain.specs.Explained.{IsTold, ExplainEnds};
 
 use crate::faulty::push_faulty;
 use crate::lines::{before, count_lines, line_at};
+use crate::onward::read_on;
+use crate::tee::Tee;
 use crate::wording::{push_instead, push_line, push_moment};
 use meet_answers::comes_instead;
 use meet_history::CheckFault;
@@ -16,7 +18,7 @@ use meet_run::trace::grammar::read_record;
 use meet_run::{MOST_READS, RunFault};
 use meet_tickets::{Base, Deed, Kind, Record, Refusal};
 use std::alloc::{AllocError, Global};
-use std::io::{ErrorKind, Read, Write};
+use std::io::{Read, Write};
 
 /// Reads these bytes as a trace; none where they are none, or there is no memory.
 fn trace_in(alloc: Global, text: &[u8]) -> Option<ReadTrace> {
@@ -83,17 +85,18 @@ fn explanation(alloc: Global, text: &[u8]) -> Result<Vec<u8>, AllocError> {
     Ok(out)
 }
 
-/// What is said of these bytes: what the checker finds, and behind it what explains it.
-fn told(alloc: Global, text: &[u8]) -> Result<(bool, Vec<u8>), RunFault>
-    ensures { IfOk result (λ told. IsTold (lines_of text.now) told.0 told.1.items) }
+/// Reads a trace up to its first faulty line, and returns whether it is legal, and what is said of it: what the checker
+/// finds, and behind it what explains it.
+fn told<R: Read>(alloc: Global, tee: &mut Tee<R>) -> Result<(bool, Vec<u8>), RunFault>
+    ensures { IfOk result (λ told. IfSome (R.remaining tee.old.reader) (λ input.
+        IsTold (lines_of input) told.0 told.1.items)) }
 {
-    let mut reader = text;
-    let (legal, line) = find_trace(alloc, &mut reader, MOST_READS)?;
+    let (legal, line) = find_trace(alloc, tee, MOST_READS)?;
     if legal {
         return Ok((true, line));
     }
     let mut out = line;
-    let more = match explanation(alloc, text) {
+    let more = match explanation(alloc, tee.text()) {
         Ok(more) => more,
         Err(_) => return Err(cut_short(Refusal::Memory)),
     };
@@ -114,21 +117,27 @@ fn write_fault<W: Write>(alloc: Global, text: &[u8], writer: &mut W, fault: RunF
     }
 }
 
-/// Explains these bytes.
-fn explain_text<W: Write>(alloc: Global, text: &[u8], writer: &mut W) -> Result<bool, RunFault>
-    ensures { IfOk result (λ legal. IsExplained (lines_of text.now) legal (W.contents writer.old)
-        (W.contents writer.new)) }
-{
-    let (legal, out) = match told(alloc, text) {
-        Ok(told) => told,
-        Err(fault) => {
-            write_fault(alloc, text, writer, fault);
-            return Err(fault);
-        }
+/// Reads as much more as the explanation of a line's fault takes, and writes the explanation. It returns the fault; or
+/// ReadFault or Memory, where the text can't be read on or kept.
+fn explain_fault<R: Read, W: Write>(
+    alloc: Global,
+    tee: &mut Tee<R>,
+    writer: &mut W,
+    fault: RunFault,
+) -> RunFault {
+    let onward = match fault.line {
+        Some(number) => read_on(alloc, tee, number),
+        None => Err(fault),
     };
-    match write_whole(writer, out.as_slice()) {
-        Ok(()) => Ok(legal),
-        Err(why) => Err(cut_short(why)),
+    if tee.is_out_of_memory() {
+        return cut_short(Refusal::Memory);
+    }
+    match onward {
+        Ok(()) => {
+            write_fault(alloc, tee.text(), writer, fault);
+            fault
+        }
+        Err(why) => why,
     }
 }
 
@@ -137,6 +146,9 @@ fn explain_text<W: Write>(alloc: Global, text: &[u8], writer: &mut W) -> Result<
 /// number of its line; each record that may come in its place; and where the place stands there: its line from the
 /// front, the open tickets that were met or cut, and the flagged seats. It refuses BadTrace with the line that can't be
 /// read, ReadFault, WriteFault and Memory.
+///
+/// The text is read, and kept, to its end or to its first faulty line, of which at most 1,024 bytes; a script, which is
+/// no trace, to its first line that is no call.
 pub fn explain_trace<R: Read, W: Write>(
     alloc: Global,
     reader: &mut R,
@@ -145,10 +157,13 @@ pub fn explain_trace<R: Read, W: Write>(
     ensures { IfSome (R.remaining reader.old) (λ input.
         ExplainEnds (lines_of input) result (W.contents writer.old) (W.contents writer.new)) }
 {
-    let mut text = Vec::new(alloc);
-    match reader.read_to_end(&mut text) {
-        Ok(_) => explain_text(alloc, text.as_slice(), writer),
-        Err(error) if error.kind() == ErrorKind::OutOfMemory => Err(cut_short(Refusal::Memory)),
-        Err(_) => Err(cut_short(Refusal::ReadFault)),
+    let mut tee = Tee::new(alloc, reader);
+    let (legal, out) = match told(alloc, &mut tee) {
+        Ok(told) => told,
+        Err(fault) => return Err(explain_fault(alloc, &mut tee, writer, fault)),
+    };
+    match write_whole(writer, out.as_slice()) {
+        Ok(()) => Ok(legal),
+        Err(why) => Err(cut_short(why)),
     }
 }

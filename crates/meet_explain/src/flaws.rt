@@ -1,9 +1,10 @@
 //! What is wrong with the bytes of a line, whatever its words say.
 
+use meet_run::text::reading::LONGEST_LINE;
 use std::alloc::{AllocError, Global};
 
-/// How many bytes a line has at most.
-const LONGEST: usize = 128;
+/// How many bytes of a line are shown at most: of a longer one this many were read.
+pub(crate) const MOST_SHOWN: usize = 1024;
 
 /// The mark that some editors put before a text.
 const BYTE_ORDER_MARK: &[u8] = b"\xEF\xBB\xBF";
@@ -36,26 +37,31 @@ fn is_plain(byte: u8) -> bool {
 }
 
 impl Flaw {
-    /// The first that is wrong with a line, if one is.
+    /// The first that is wrong with a line, if one is. A line that was read only in part has no end.
     pub(crate) fn of(line: &[u8]) -> Option<Flaw> {
         let ends = |byte: Option<&u8>, with: u8| byte.copied() == Some(with);
+        let last = if line.len() < MOST_SHOWN {
+            line.last()
+        } else {
+            None
+        };
         if line.is_empty() {
             Some(Flaw::Nothing)
         } else if line.starts_with(BYTE_ORDER_MARK) {
             Some(Flaw::ByteOrderMark)
-        } else if ends(line.last(), b'\r') {
+        } else if ends(last, b'\r') {
             Some(Flaw::CarriageReturn)
         } else if line.contains(&b'\t') {
             Some(Flaw::Tab)
         } else if ends(line.first(), b' ') {
             Some(Flaw::SpaceBefore)
-        } else if ends(line.last(), b' ') {
+        } else if ends(last, b' ') {
             Some(Flaw::SpaceBehind)
         } else if has_two_spaces(line) {
             Some(Flaw::TwoSpaces)
         } else if line.iter().any(|byte| !is_plain(*byte)) {
             Some(Flaw::Unprintable)
-        } else if line.len() > LONGEST {
+        } else if line.len() > LONGEST_LINE {
             Some(Flaw::TooLong)
         } else {
             None

@@ -9,6 +9,8 @@ mod explaining;
 mod faulty;
 mod flaws;
 mod lines;
+mod onward;
+mod tee;
 mod wording;
 mod words;
 
