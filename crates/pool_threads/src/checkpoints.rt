@@ -97,10 +97,10 @@ impl<W: Work, C: Drop, G: Gate + Drop, S: Drop, N: PoolLedgers> Pool<W, C, G, S,
     {
         let mut shared = hold(rt, &self.home.shared);
         let made = shared.checkpoint(seat);
-        drop(shared);
         if let Ok((_, gone)) = &made {
             self.home.folded.store(*gone, Ordering::Relaxed);
         }
+        drop(shared);
         made
     }
 
