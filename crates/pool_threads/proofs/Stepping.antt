@@ -1,5 +1,5 @@
 -- A worker's step under the lock is its core's.
-use Rattle.std.proofs.Common.{◌≡◌, ℕ, ap, inl, inr, sym, subst, Option, None}
+use Rattle.std.proofs.Common.{◌≡◌, ℕ, ap, inl, inr, sym, subst, Option}
 use Rattle.std.specs.Prelude.{option_to_list}
 use Rattle.meet_place.specs.Seats.{SeatView, Adds}
 use Rattle.pool_core.specs.Moves.{IsMade, Jobs, Moves, FailMoves, jobs_of}

@@ -1,5 +1,5 @@
 -- Proof of `PoolShared::idle_end`, src/steps.rt.
-use Rattle.std.proofs.Common.{refl, ap, inr}
+use Rattle.std.proofs.Common.{ap, inr}
 use Rattle.pool_threads.specs.declared.steps.Next.TheVariants as next
 use Rattle.pool_threads.proofs.Stepping.{works}
 use Rattle.pool_threads.proofs.shared.PoolShared.idle_end.Goals as goal

@@ -1,5 +1,5 @@
 -- Proof of `PoolShared::start_failed`, src/steps.rt. A worker couldn't be started.
-use Rattle.std.proofs.Common.{◌≡◌, ◌∙◌, sym, map}
+use Rattle.std.proofs.Common.{◌∙◌, sym, map}
 use Rattle.pool_core.specs.Moves.{jobs_of}
 use Rattle.pool_core.specs.Pools.{worker_of}
 use Rattle.pool_threads.specs.Mirrored.{tags_of, tag_in, away}
