@@ -1,5 +1,5 @@
 -- What is answered of the book behind the lock is so of some book.
-use Rattle.std.proofs.Common.{◌≡◌, ◌⊎◌, ◌+◌, ◌∙◌, ap, sym, subst, ℕ, None, Ok, Err, inl, inr, true, length}
+use Rattle.std.proofs.Common.{◌≡◌, ◌⊎◌, ◌+◌, subst, ℕ, Ok, Err, inl, inr, true}
 use Rattle.std.specs.Prelude.{Result, IfOk, IfErr}
 use Rattle.meet_tickets.specs.declared.refusals.Refusal.{Refusal}
 use Rattle.meet_tickets.specs.Refusals.{IsWhy}
