@@ -1,7 +1,8 @@
 //! What a seat tries, as far as a record tells.
 
 ghost use Rattle.meet_tickets.specs.declared.records.Deed.TheVariants.{EntryInterrupted};
-ghost use Rattle.meet_answers.specs.Answers.{Answers};
+ghost use Rattle.std.specs.Prelude.{◌≡◌};
+ghost use Rattle.meet_answers.specs.Answers.{Answers, attempt_of};
 
 use meet_tickets::{Deed, SeatNo, Side};
 
@@ -20,7 +21,8 @@ pub enum Attempt {
 
 /// What a seat of this side tried that was interrupted at its entry.
 fn at_entry(side: Side) -> Attempt
-    ensures { Answers result (EntryInterrupted side) }
+    ensures answers { Answers result (EntryInterrupted side) }
+    ensures is { result ≡ attempt_of (EntryInterrupted side) }
 {
     match side {
         Side::Giver => Attempt::Give(0),
@@ -32,7 +34,8 @@ impl Attempt {
     /// What a seat tried whose record has this deed. A record of a giver that was interrupted at its entry tells no
     /// mark: there it is 0.
     pub fn of(deed: Deed) -> Attempt
-        ensures { Answers result deed }
+        ensures answers { Answers result deed }
+        ensures is { result ≡ attempt_of deed }
     {
         match deed {
             Deed::GiveWaits(mark) => Attempt::Give(mark),

@@ -5,7 +5,7 @@ ghost use Rattle.meet_tickets.specs.Bases.{moment_of_base};
 ghost use Rattle.meet_tickets.specs.BySeat.{cut_ticket, is_open, is_request, open_ticket};
 ghost use Rattle.meet_tickets.specs.Limits.{last_ticket};
 ghost use Rattle.meet_tickets.specs.declared.places.Kind.{Kind};
-ghost use Rattle.meet_answers.specs.Answers.{Answers, IsBest, IsInstead};
+ghost use Rattle.meet_answers.specs.Answers.{Answers, IsBest, IsInstead, IsNew, NewFor, attempt_instead};
 ghost use Rattle.meet_answers.specs.declared.attempts.Attempt.TheVariants.{End};
 
 use crate::answering::answers;
@@ -23,7 +23,8 @@ pub struct Instead {
 
 /// A ticket that is new behind a base, this one where it is; this one too where there is none.
 fn new_ticket(base: &Base, ticket: Ticket) -> Ticket
-    ensures { (t : ℕ) → t ≤ last_ticket → base.now.last < t → base.now.last < result }
+    ensures new { (t : ℕ) → t ≤ last_ticket → base.now.last < t → base.now.last < result }
+    ensures is { IsNew base.now.last ticket result }
 {
     if base.last.number() < ticket.number() {
         return ticket;
@@ -52,7 +53,8 @@ fn open_ticket(base: &Base, seat: SeatNo, ticket: Ticket) -> Ticket
 /// The ticket with which a seat may answer what it tries: its open one; that which an interrupt cuts, or 0; or a new
 /// one.
 fn ticket_for(base: &Base, seat: SeatNo, attempt: &Attempt, ticket: Ticket) -> Ticket
-    ensures { (k : Kind) → IsBest k base.now seat attempt.now result }
+    ensures best { (k : Kind) → IsBest k base.now seat attempt.now result }
+    ensures new { NewFor attempt.now base.now.last ticket result }
 {
     match attempt {
         Attempt::Give(_) => new_ticket(base, ticket),
@@ -66,6 +68,7 @@ fn ticket_for(base: &Base, seat: SeatNo, attempt: &Attempt, ticket: Ticket) -> T
 fn attempt_for(deed: &Deed, is_open: bool) -> Attempt
     ensures tried { Answers result deed.now ⊎ ((result ≡ End) × (is_open ≡ true)) }
     ensures ends { is_open ≡ true → is_request deed.now ≡ true → result ≡ End }
+    ensures is { result ≡ attempt_instead deed.now is_open }
 {
     if is_open && deed.is_request() {
         return Attempt::End;

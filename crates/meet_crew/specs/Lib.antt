@@ -1,1 +1,2 @@
 pub mod Chairs
+pub mod Crews

@@ -1,6 +1,8 @@
 //! A chair at a queue of any kind.
 
-ghost use Rattle.std.specs.Prelude.{◌≡◌, ◌<◌, ℕ, None, [], ◌∷◌, IsSome, IfSome, IfOk, IfErr};
+ghost use Rattle.std.specs.Prelude.{◌≡◌, ◌<◌, ◌≤◌, ℕ, None, true, false, [], ◌∷◌, IsOk, IsSome, IsErrAnd, IfSome, IfOk, IfErr, length};
+ghost use Rattle.meet_tickets.specs.declared.refusals.Refusal.TheVariants.{NoSuchSeat};
+ghost use Rattle.meet_place.specs.Tending.{Tends, is_to_look, may_lie};
 ghost use Rattle.meet_sync.specs.Asking.{item_of};
 ghost use Rattle.meet_sync.specs.Ending.{MayRunOut};
 ghost use Rattle.meet_sync.specs.Told.{IsRequestWhy, IsInterruptWhy, IsCutWhy};
@@ -54,6 +56,8 @@ where
 
     ghost count = { N.parts };
 
+    ghost cap = { N.cap };
+
     ghost seat_of = { λ at. at.seat };
 
     fn number(&self) -> u64
@@ -86,6 +90,7 @@ where
 
     fn interrupt(&mut self, target: u64) -> Result<(), CallRefused<T>>
         ensures interrupted { IfOk result (λ _. InterruptsAs self.old.seat self.new.seat (target ∷ [])) }
+        ensures missing { N.parts ≤ target → IsErrAnd result (λ refused. refused.why ≡ NoSuchSeat) }
         ensures there { IfOk result (λ _. target < N.parts) }
         ensures same { IfErr result (λ _. Keeps self.old.seat self.new.seat) }
         ensures item { IfErr result (λ refused. refused.item ≡ None) }
@@ -134,6 +139,12 @@ where
     }
 
     fn tend(&mut self) -> Result<(), CallRefused<T>>
+        ensures few { IfSome self.old.seat (λ seat. length seat.list ≤ may_lie N.cap N.parts
+            → IsOk result × (self.new.seat ≡ self.old.seat)) }
+        ensures idle { IfSome self.old.seat (λ seat. is_to_look N.cap N.parts seat ≡ false
+            → IsOk result × (self.new.seat ≡ self.old.seat)) }
+        ensures looked { IfSome self.old.seat (λ seat. is_to_look N.cap N.parts seat ≡ true
+            → IfOk result (λ _. IfSome self.new.seat (Tends seat))) }
         ensures tended { IfOk result (λ _. TendsAs self.old.seat self.new.seat) }
         ensures trimmed { IfErr result (λ _. TrimsAs self.old.seat self.new.seat) }
         ensures item { IfErr result (λ refused. refused.item ≡ None) }

@@ -1,6 +1,8 @@
 //! Chairs: what a thread has in its hand at a queue.
 
-ghost use Rattle.std.specs.Prelude.{◌≡◌, ◌<◌, ⊤, ℕ, Option, IfSome, IfOk, IfErr, None, ◌∷◌, []};
+ghost use Rattle.std.specs.Prelude.{◌≡◌, ◌<◌, ◌≤◌, ⊤, ℕ, Option, true, false, IsOk, IsErrAnd, IfSome, IfOk, IfErr, None, ◌∷◌, [], length};
+ghost use Rattle.meet_tickets.specs.declared.refusals.Refusal.TheVariants.{NoSuchSeat};
+ghost use Rattle.meet_place.specs.Tending.{Tends, is_to_look, may_lie};
 ghost use Rattle.meet_tickets.specs.declared.places.Kind.{Kind};
 ghost use Rattle.meet_tickets.specs.declared.records.Deed.{Deed};
 ghost use Rattle.meet_place.specs.Seats.{SeatView};
@@ -29,6 +31,9 @@ pub trait Chair<T: Marked> {
     /// How many seats its queue has.
     ghost count: { ℕ };
 
+    /// How many records its queue has at most at a time.
+    ghost cap: { ℕ };
+
     /// Its seat, which is there but while it makes a call.
     ghost seat_of: { Self → Option (SeatView Deed) };
 
@@ -50,10 +55,15 @@ pub trait Chair<T: Marked> {
         ensures item { IfErr result (λ refused. refused.item ≡ item_of request) }
         ensures why { IfErr result (λ refused. IsRequestWhy refused.why) };
 
-    /// `Thread.interrupt` of who has the seat of this number: its call is cut where it waits, else it is flagged, so
-    /// that its next call that would wait doesn't. It refuses NoSuchSeat, HistoryFull or Memory.
+    /// `Thread.interrupt` of the thread that has the seat of this number: its call is cut if it waits; else the seat is
+    /// flagged, so that its next call that would wait doesn't.
+    ///
+    /// # Errors
+    /// - NoSuchSeat, exactly if the queue has no seat of this number.
+    /// - HistoryFull, Memory: nothing has changed.
     fn interrupt(&mut self, target: u64) -> Result<(), CallRefused<T>>
         ensures interrupted { IfOk result (λ _. InterruptsAs (seat_of self.old) (seat_of self.new) (target ∷ [])) }
+        ensures missing { count ≤ target → IsErrAnd result (λ refused. refused.why ≡ NoSuchSeat) }
         ensures there { IfOk result (λ _. target < count) }
         ensures same { IfErr result (λ _. Keeps (seat_of self.old) (seat_of self.new)) }
         ensures item { IfErr result (λ refused. refused.item ≡ None) }
@@ -68,8 +78,19 @@ pub trait Chair<T: Marked> {
         ensures item { IfErr result (λ refused. refused.item ≡ None) }
         ensures why { IfErr result (λ refused. IsCutWhy refused.why) };
 
-    /// Sees to it that the history never fills: behind each call, by each thread. It refuses HistoryFull or Memory.
+    /// Keeps the history from filling, if each thread calls it after each of its calls. It does nothing if few receipts
+    /// lie in the seat's list, or the last of them doesn't show that the history may be more than half full
+    /// (`is_to_look`).
+    ///
+    /// # Errors
+    /// - HistoryFull, Memory: as a checkpoint; the receipts for what was folded away before are dropped.
     fn tend(&mut self) -> Result<(), CallRefused<T>>
+        ensures few { IfSome (seat_of self.old) (λ seat. length seat.list ≤ may_lie cap count
+            → IsOk result × ((seat_of self.new) ≡ (seat_of self.old))) }
+        ensures idle { IfSome (seat_of self.old) (λ seat. is_to_look cap count seat ≡ false
+            → IsOk result × ((seat_of self.new) ≡ (seat_of self.old))) }
+        ensures looked { IfSome (seat_of self.old) (λ seat. is_to_look cap count seat ≡ true
+            → IfOk result (λ _. IfSome (seat_of self.new) (Tends seat))) }
         ensures tended { IfOk result (λ _. TendsAs (seat_of self.old) (seat_of self.new)) }
         ensures trimmed { IfErr result (λ _. TrimsAs (seat_of self.old) (seat_of self.new)) }
         ensures item { IfErr result (λ refused. refused.item ≡ None) }

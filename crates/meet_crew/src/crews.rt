@@ -1,25 +1,28 @@
 //! Crews, from the making of their queue to its end.
 
-ghost use Rattle.std.specs.Prelude.{◌≡◌, ◌≤◌, None, map, IfOk, vec_len};
+ghost use Rattle.std.specs.Prelude.{◌≡◌, ◌≤◌, None, IfOk, IfErr, MatchResult, vec_len, if◌then◌else◌, Some, Ok, Err};
 ghost use Rattle.std.specs.Vec.{vec_capacity};
 ghost use Rattle.meet_core.specs.QueueSteps.{kind_of, bounded_kind};
 ghost use Rattle.meet_tickets.specs.declared.places.End.TheVariants.{Front, Back as AtBack};
 ghost use Rattle.meet_place.specs.Ledgers.{AreOf};
-ghost use Rattle.meet_sync.specs.Chronicles.{IsChronicle};
+ghost use Rattle.meet_sync.specs.Making.{making_refusal};
+ghost use Rattle.meet_sync.specs.Faults.{why_of};
+ghost use Rattle.meet_crew.specs.Crews.{IsHistory, IsUnclosed, IsCrewWhy};
+ghost use Rattle.meet_tickets.specs.declared.refusals.Refusal.TheVariants.{BadSizes};
 ghost use Rattle.meet_tickets.specs.Limits.{most_records};
 
 use crate::chair::Chair;
 use crate::seating::{seated_fair, seated_transfer, seated_unfair};
-use crate::slots::{EndRoom, Slot, seats_of, slots_of};
+use crate::slots::{Room, joined};
 use crate::start::Start;
 use meet_cells::ParkGate;
 use meet_core::{Dual, QueueLeaves};
-use meet_sync::{Chronicle, FairLine, Ledgers, NewQueue, Queue, QueueFault, StackLine};
-use meet_tickets::{Marked, Refusal};
+use meet_sync::{Back, Chronicle, FairLine, Ledgers, NewQueue, Queue, QueueFault, Seat, StackLine};
+use meet_tickets::{Deed, MOST_SEATS, Marked, Refusal};
 use meet_transfer::Unbounded;
 use std::alloc::Global;
 use std::marker::Brand;
-use std::sync::{Mutex, Wait};
+use std::sync::Wait;
 use std::thread::Threads;
 use std::time::Clock;
 
@@ -35,66 +38,78 @@ pub trait Crew<T: Marked> {
 /// What a crew leaves.
 #[derive(Debug, Drop)]
 pub struct Done<T, A> {
-    /// What each thread answered, in the order of their seats.
+    /// The result of each thread, in the order of their seats.
     pub told: Vec<A>,
-    /// What the queue left, with its records, or Memory where the queue couldn't be closed; then it is let go.
+    /// What the queue left, with its records; or why it couldn't be closed, Memory or Differs, and then it is dropped.
     pub closed: Result<Chronicle<T>, Refusal>,
 }
 
-/// A queue for a crew, with a slot for each of its seats.
+/// A queue for a crew, its seats, and room for its threads.
 #[derive(Drop)]
 struct Hall<O: QueueLeaves + Drop, N: Ledgers, A> {
     queue: Queue<O, ParkGate, N>,
-    slots: Vec<Mutex<Slot<N, A>>>,
-    room: EndRoom<N, A>,
-    start: Start,
-    ghost roomy: { (vec_len slots ≤ vec_capacity room.backs) × (vec_len slots ≤ vec_capacity room.answers) },
+    seats: Vec<Seat<Deed, N>>,
+    room: Room<N, A>,
+    ghost whole: { queue ≡ vec_len seats },
+    ghost handles: { vec_len seats ≤ vec_capacity room.handles },
+    ghost backs: { vec_len seats ≤ vec_capacity room.backs },
+    ghost answers: { vec_len seats ≤ vec_capacity room.answers },
 }
 
 impl<O: QueueLeaves + Drop, N: Ledgers, A: Drop> Hall<O, N, A>
 where
     O::Item: Drop,
 {
-    /// A new queue of these parts, and its slots. It refuses BadSizes or Memory.
+    /// Creates a queue of these parts, and room for a thread at each of its seats. The only error is Memory.
     fn new(alloc: Global, parts: NewQueue<ParkGate>) -> Result<Self, Refusal>
         requires ledgers { AreOf N.name N.folds N.parts parts.blanks }
         requires one_each { N.parts ≡ vec_len parts.gates }
         requires cap { N.cap ≡ most_records }
+        requires sizes { making_refusal N.parts most_records ≡ None }
+        ensures all { IfOk result (λ hall. vec_len hall.seats ≡ N.parts) }
+        ensures why { IfErr result (IsCrewWhy N.parts) }
     {
-        let count = parts.gates.len();
-        let room = EndRoom::new(alloc, count)?;
-        let Ok(empty) = Vec::with_capacity(alloc, count) else {
-            return Err(Refusal::Memory);
-        };
+        let room = Room::new(alloc, parts.gates.len())?;
         match Queue::new(alloc, parts) {
-            Ok((queue, seats)) => Ok(Hall {
-                queue,
-                slots: slots_of(seats, empty),
-                room,
-                start: Start::new(),
-            }),
-            Err(refused) => Err(refused.into_why()), // the gates and the ledgers are let go
+            Ok((queue, seats)) => Ok(Hall { queue, seats, room }),
+            Err(refused) => Err(refused.into_why()), // the gates and the ledgers are dropped
         }
     }
+}
 
-    /// Ends the queue with the seats of its slots, whose threads have ended, or never began: then NoThread.
-    fn close(self, alloc: Global, all_there: bool) -> Result<Done<O::Item, A>, Refusal>
-        ensures history { IfOk result (λ done. IfOk done.closed (λ c. IsChronicle O.Item.mark_of O.kind c.base
-            c.records.items (map (λ list. list.items) c.lists.items) c.left.items)) }
-    {
-        let Hall {
-            queue,
-            slots,
-            room,
-            ..
-        } = self;
-        let (backs, told) = seats_of(slots, room);
-        let closed = queue.close(alloc, backs).map_err(QueueFault::into_why);
-        if !all_there {
-            return Err(Refusal::NoThread);
-        }
-        Ok(Done { told, closed })
+/// What a closed queue left, or why it wasn't closed.
+fn told_of<T, Q: Drop, B: Drop, N: Ledgers>(
+    closed: Result<Chronicle<T>, QueueFault<Q, B, N>>,
+) -> Result<Chronicle<T>, Refusal>
+    ensures { MatchResult closed (λ c. result ≡ Ok c) (λ fault. result ≡ Err (why_of fault)) }
+{
+    match closed {
+        Ok(chronicle) => Ok(chronicle),
+        Err(fault) => Err(fault.into_why()),
     }
+}
+
+/// Ends a crew's queue with all its seats.
+fn closed<O: QueueLeaves + Drop, N: Ledgers>(
+    alloc: Global,
+    queue: Queue<O, ParkGate, N>,
+    seats: Vec<Back<Deed, N>>,
+) -> Result<Chronicle<O::Item>, Refusal>
+where
+    O::Item: Drop,
+    requires whole { queue ≡ N.parts }
+    requires all { vec_len seats ≡ N.parts }
+    requires cap { N.cap ≡ most_records }
+    ensures { MatchResult result (IsHistory O.Item.mark_of O.kind N.parts) IsUnclosed }
+{
+    told_of(queue.close(alloc, seats))
+}
+
+/// Whether a crew may have so many threads.
+fn fits(threads: u64) -> bool
+    ensures { making_refusal threads most_records ≡ (if result then None else Some BadSizes) }
+{
+    threads != 0 && threads <= MOST_SEATS
 }
 
 /// A crew at a synchronous queue in fair mode of these parts.
@@ -113,12 +128,29 @@ where
     requires ledgers { AreOf N.name N.folds N.parts parts.blanks }
     requires one_each { N.parts ≡ vec_len parts.gates }
     requires cap { N.cap ≡ most_records }
-    ensures history { IfOk result (λ done. IfOk done.closed (λ c. IsChronicle T.mark_of (kind_of Front) c.base
-        c.records.items (map (λ list. list.items) c.lists.items) c.left.items)) }
+    requires sizes { making_refusal N.parts most_records ≡ None }
+    ensures told { IfOk result (λ done. vec_len done.told ≡ N.parts) }
+    ensures history { IfOk result (λ done. MatchResult done.closed (IsHistory T.mark_of (kind_of Front) N.parts)
+        IsUnclosed) }
+    ensures why { IfErr result (IsCrewWhy N.parts) }
 {
-    let hall = Hall::<Dual<T, FairLine<T>>, N, V::Told>::new(alloc, parts)?;
-    let all_there = seated_fair(rt, &hall.queue, crew, &hall.start, hall.slots.as_slice());
-    hall.close(alloc, all_there)
+    let Hall { queue, seats, room } = Hall::<Dual<T, FairLine<T>>, N, V::Told>::new(alloc, parts)?;
+    let Room {
+        handles,
+        backs,
+        answers,
+    } = room;
+    let start = Start::new();
+    let Some(threads) = seated_fair(rt, &queue, crew, &start, seats, handles) else {
+        return Err(Refusal::NoThread);
+    };
+    let Some((backs, told)) = joined(rt, threads, backs, answers) else {
+        return Err(Refusal::NoThread);
+    };
+    Ok(Done {
+        told,
+        closed: closed(alloc, queue, backs),
+    })
 }
 
 /// A crew at a synchronous queue in its default mode of these parts.
@@ -137,12 +169,29 @@ where
     requires ledgers { AreOf N.name N.folds N.parts parts.blanks }
     requires one_each { N.parts ≡ vec_len parts.gates }
     requires cap { N.cap ≡ most_records }
-    ensures history { IfOk result (λ done. IfOk done.closed (λ c. IsChronicle T.mark_of (kind_of AtBack) c.base
-        c.records.items (map (λ list. list.items) c.lists.items) c.left.items)) }
+    requires sizes { making_refusal N.parts most_records ≡ None }
+    ensures told { IfOk result (λ done. vec_len done.told ≡ N.parts) }
+    ensures history { IfOk result (λ done. MatchResult done.closed (IsHistory T.mark_of (kind_of AtBack) N.parts)
+        IsUnclosed) }
+    ensures why { IfErr result (IsCrewWhy N.parts) }
 {
-    let hall = Hall::<Dual<T, StackLine<T>>, N, V::Told>::new(alloc, parts)?;
-    let all_there = seated_unfair(rt, &hall.queue, crew, &hall.start, hall.slots.as_slice());
-    hall.close(alloc, all_there)
+    let Hall { queue, seats, room } = Hall::<Dual<T, StackLine<T>>, N, V::Told>::new(alloc, parts)?;
+    let Room {
+        handles,
+        backs,
+        answers,
+    } = room;
+    let start = Start::new();
+    let Some(threads) = seated_unfair(rt, &queue, crew, &start, seats, handles) else {
+        return Err(Refusal::NoThread);
+    };
+    let Some((backs, told)) = joined(rt, threads, backs, answers) else {
+        return Err(Refusal::NoThread);
+    };
+    Ok(Done {
+        told,
+        closed: closed(alloc, queue, backs),
+    })
 }
 
 /// A crew at a transfer queue of these parts.
@@ -161,18 +210,39 @@ where
     requires ledgers { AreOf N.name N.folds N.parts parts.blanks }
     requires one_each { N.parts ≡ vec_len parts.gates }
     requires cap { N.cap ≡ most_records }
-    ensures history { IfOk result (λ done. IfOk done.closed (λ c. IsChronicle T.mark_of (bounded_kind None) c.base
-        c.records.items (map (λ list. list.items) c.lists.items) c.left.items)) }
+    requires sizes { making_refusal N.parts most_records ≡ None }
+    ensures told { IfOk result (λ done. vec_len done.told ≡ N.parts) }
+    ensures history { IfOk result (λ done. MatchResult done.closed (IsHistory T.mark_of (bounded_kind None) N.parts)
+        IsUnclosed) }
+    ensures why { IfErr result (IsCrewWhy N.parts) }
 {
-    let hall = Hall::<Unbounded<T>, N, V::Told>::new(alloc, parts)?;
-    let all_there = seated_transfer(rt, &hall.queue, crew, &hall.start, hall.slots.as_slice());
-    hall.close(alloc, all_there)
+    let Hall { queue, seats, room } = Hall::<Unbounded<T>, N, V::Told>::new(alloc, parts)?;
+    let Room {
+        handles,
+        backs,
+        answers,
+    } = room;
+    let start = Start::new();
+    let Some(threads) = seated_transfer(rt, &queue, crew, &start, seats, handles) else {
+        return Err(Refusal::NoThread);
+    };
+    let Some((backs, told)) = joined(rt, threads, backs, answers) else {
+        return Err(Refusal::NoThread);
+    };
+    Ok(Done {
+        told,
+        closed: closed(alloc, queue, backs),
+    })
 }
 
-/// Has so many threads work at a new `SynchronousQueue` in fair mode, each with a chair, and closes it once all have
-/// ended: it waits for them, for ever where one never ends. Its records are a legal history, in which each seat's calls
-/// stand once, in its order, and no others. It refuses BadSizes where the threads are none or more than 65,536, Memory,
-/// or NoThread where one can't be started; then nobody began.
+/// Starts `threads` threads at a new `SynchronousQueue` in fair mode, each with a chair, waits until all have ended, for
+/// ever if one never ends, and closes the queue. Its records are a legal history, in which each seat's calls stand once,
+/// in its order, and no others.
+///
+/// # Errors
+/// - BadSizes, exactly if `threads` is 0 or more than 65,536.
+/// - Memory, if an allocation fails before the first thread is started.
+/// - NoThread, if a thread can't be started; then no thread has begun to work.
 pub fn at_fair_queue<T, R, V>(
     rt: &R,
     alloc: Global,
@@ -184,9 +254,15 @@ where
     R: Threads + Wait + Clock + Sync,
     V: Crew<T> + Sync,
     V::Told: Send + Drop,
-    ensures history { IfOk result (λ done. IfOk done.closed (λ c. IsChronicle T.mark_of (kind_of Front) c.base
-        c.records.items (map (λ list. list.items) c.lists.items) c.left.items)) }
+    ensures told { IfOk result (λ done. vec_len done.told ≡ threads) }
+    ensures history { IfOk result (λ done. MatchResult done.closed (IsHistory T.mark_of (kind_of Front) threads)
+        IsUnclosed) }
+    ensures sizes { IfOk result (λ _. making_refusal threads most_records ≡ None) }
+    ensures why { IfErr result (IsCrewWhy threads) }
 {
+    if !fits(threads) {
+        return Err(Refusal::BadSizes);
+    }
     let parts = NewQueue::parked(alloc, threads)?;
     at_fair::<T, Brand, R, V>(rt, alloc, parts, crew)
 }
@@ -203,9 +279,15 @@ where
     R: Threads + Wait + Clock + Sync,
     V: Crew<T> + Sync,
     V::Told: Send + Drop,
-    ensures history { IfOk result (λ done. IfOk done.closed (λ c. IsChronicle T.mark_of (kind_of AtBack) c.base
-        c.records.items (map (λ list. list.items) c.lists.items) c.left.items)) }
+    ensures told { IfOk result (λ done. vec_len done.told ≡ threads) }
+    ensures history { IfOk result (λ done. MatchResult done.closed (IsHistory T.mark_of (kind_of AtBack) threads)
+        IsUnclosed) }
+    ensures sizes { IfOk result (λ _. making_refusal threads most_records ≡ None) }
+    ensures why { IfErr result (IsCrewWhy threads) }
 {
+    if !fits(threads) {
+        return Err(Refusal::BadSizes);
+    }
     let parts = NewQueue::parked(alloc, threads)?;
     at_unfair::<T, Brand, R, V>(rt, alloc, parts, crew)
 }
@@ -222,9 +304,15 @@ where
     R: Threads + Wait + Clock + Sync,
     V: Crew<T> + Sync,
     V::Told: Send + Drop,
-    ensures history { IfOk result (λ done. IfOk done.closed (λ c. IsChronicle T.mark_of (bounded_kind None) c.base
-        c.records.items (map (λ list. list.items) c.lists.items) c.left.items)) }
+    ensures told { IfOk result (λ done. vec_len done.told ≡ threads) }
+    ensures history { IfOk result (λ done. MatchResult done.closed (IsHistory T.mark_of (bounded_kind None) threads)
+        IsUnclosed) }
+    ensures sizes { IfOk result (λ _. making_refusal threads most_records ≡ None) }
+    ensures why { IfErr result (IsCrewWhy threads) }
 {
+    if !fits(threads) {
+        return Err(Refusal::BadSizes);
+    }
     let parts = NewQueue::parked(alloc, threads)?;
     at_transfer::<T, Brand, R, V>(rt, alloc, parts, crew)
 }

@@ -1,132 +1,169 @@
 //! The threads of a crew. Those of each kind of queue are started by a function of its own: a queue of whatever kind
 //! can't be handed to what starts threads (docs/DECISIONS.md, at the end).
 
+ghost use Rattle.std.specs.Prelude.{◌≡◌, ◌≤◌, [], IfSome, vec_len};
+ghost use Rattle.std.specs.Vec.{vec_capacity};
+
 use crate::at::At;
 use crate::crews::Crew;
-use crate::slots::Slot;
+use crate::slots::Sat;
 use crate::start::Start;
 use meet_book::Bases;
 use meet_cells::ParkGate;
 use meet_core::QueuePlace;
-use meet_sync::{FairLine, Ledgers, Queue, StackLine, SyncQueue, TransferQueue};
-use meet_tickets::Marked;
-use std::sync::{Mutex, Wait};
+use meet_sync::{FairLine, Ledgers, Queue, Seat, StackLine, SyncQueue, TransferQueue};
+use meet_tickets::{Deed, Marked};
+use std::sync::Wait;
 use std::thread;
-use std::thread::Threads;
+use std::thread::{JoinHandle, Threads};
 use std::time::Clock;
 
-/// One thread of a crew: with the seat of this slot, once all are there.
+/// What one thread of a crew does with its seat, after all threads are there.
 fn sit<T, O, N, R, V>(
     rt: &R,
     queue: &Queue<O, ParkGate, N>,
     crew: &V,
     start: &Start,
-    slot: &Mutex<Slot<N, V::Told>>,
-)
+    seat: Seat<Deed, N>,
+) -> Sat<N, V::Told>
 where
     T: Marked,
     O: QueuePlace<Item = T> + Bases,
     N: Ledgers,
     R: Wait + Clock,
     V: Crew<T>,
-    V::Told: Drop,
 {
     if !start.wait(rt) {
-        return;
+        return Sat { seat, told: None };
     }
-    let taken = slot.lock(rt).seat.take();
-    if let Some(seat) = taken {
-        let mut chair = At::new(rt, queue, seat);
-        let told = crew.work(&mut chair);
-        let mut slot = slot.lock(rt);
-        slot.told = Some(told);
-        slot.seat = Some(chair.into_seat());
+    let mut chair = At::new(rt, queue, seat);
+    let told = crew.work(&mut chair);
+    Sat {
+        seat: chair.into_seat(),
+        told: Some(told),
     }
 }
 
-/// All threads of a crew at a synchronous queue in fair mode, until each has ended: whether all could be started. Else
-/// none began.
+/// Starts all threads of a crew at a synchronous queue in fair mode, waits until each has ended, and returns their
+/// handles; None if one couldn't be started, and then no thread began to work. The empty list has room for them.
 pub(crate) fn seated_fair<T, N, R, V>(
     rt: &R,
     queue: &SyncQueue<T, FairLine<T>, ParkGate, N>,
     crew: &V,
     start: &Start,
-    slots: &[Mutex<Slot<N, V::Told>>],
-) -> bool
+    seats: Vec<Seat<Deed, N>>,
+    empty: Vec<JoinHandle<Sat<N, V::Told>>>,
+) -> Option<Vec<JoinHandle<Sat<N, V::Told>>>>
 where
     T: Marked + Send,
     N: Ledgers + Send + Sync,
     R: Threads + Wait + Clock + Sync,
     V: Crew<T> + Sync,
     V::Told: Send + Drop,
+    requires empty { empty.items ≡ [] }
+    requires room { vec_len seats ≤ vec_capacity empty }
+    ensures { IfSome result (λ threads. vec_len threads ≡ vec_len seats) }
 {
-    thread::scope(thread::scope_env(), rt, |scope| {
-        let mut all_there = true;
-        for slot in slots {
-            all_there = all_there
-                && scope
-                    .spawn(move || sit(rt, queue, crew, start, slot))
-                    .is_ok();
-        }
-        start.give(rt, all_there);
-        all_there
-    })
+    thread::scope(
+        thread::scope_env(),
+        rt,
+        |scope| -> Option<Vec<JoinHandle<Sat<N, V::Told>>>>
+            requires empty { empty.items ≡ [] }
+            requires room { vec_len seats ≤ vec_capacity empty }
+            ensures { IfSome result (λ threads. vec_len threads ≡ vec_len seats) }
+        {
+            let mut threads = empty;
+            for seat in seats {
+                let Ok(thread) = scope.spawn(move || sit(rt, queue, crew, start, seat)) else {
+                    start.give(rt, false);
+                    return None;
+                };
+                threads.push_reserved(thread);
+            }
+            start.give(rt, true);
+            Some(threads)
+        },
+    )
 }
 
-/// All threads of a crew at a synchronous queue in its default mode, until each has ended: whether all could be
-/// started. Else none began.
+/// The same at a synchronous queue in its default mode.
 pub(crate) fn seated_unfair<T, N, R, V>(
     rt: &R,
     queue: &SyncQueue<T, StackLine<T>, ParkGate, N>,
     crew: &V,
     start: &Start,
-    slots: &[Mutex<Slot<N, V::Told>>],
-) -> bool
+    seats: Vec<Seat<Deed, N>>,
+    empty: Vec<JoinHandle<Sat<N, V::Told>>>,
+) -> Option<Vec<JoinHandle<Sat<N, V::Told>>>>
 where
     T: Marked + Send,
     N: Ledgers + Send + Sync,
     R: Threads + Wait + Clock + Sync,
     V: Crew<T> + Sync,
     V::Told: Send + Drop,
+    requires empty { empty.items ≡ [] }
+    requires room { vec_len seats ≤ vec_capacity empty }
+    ensures { IfSome result (λ threads. vec_len threads ≡ vec_len seats) }
 {
-    thread::scope(thread::scope_env(), rt, |scope| {
-        let mut all_there = true;
-        for slot in slots {
-            all_there = all_there
-                && scope
-                    .spawn(move || sit(rt, queue, crew, start, slot))
-                    .is_ok();
-        }
-        start.give(rt, all_there);
-        all_there
-    })
+    thread::scope(
+        thread::scope_env(),
+        rt,
+        |scope| -> Option<Vec<JoinHandle<Sat<N, V::Told>>>>
+            requires empty { empty.items ≡ [] }
+            requires room { vec_len seats ≤ vec_capacity empty }
+            ensures { IfSome result (λ threads. vec_len threads ≡ vec_len seats) }
+        {
+            let mut threads = empty;
+            for seat in seats {
+                let Ok(thread) = scope.spawn(move || sit(rt, queue, crew, start, seat)) else {
+                    start.give(rt, false);
+                    return None;
+                };
+                threads.push_reserved(thread);
+            }
+            start.give(rt, true);
+            Some(threads)
+        },
+    )
 }
 
-/// All threads of a crew at a transfer queue, until each has ended: whether all could be started. Else none
-/// began.
+/// The same at a transfer queue.
 pub(crate) fn seated_transfer<T, N, R, V>(
     rt: &R,
     queue: &TransferQueue<T, ParkGate, N>,
     crew: &V,
     start: &Start,
-    slots: &[Mutex<Slot<N, V::Told>>],
-) -> bool
+    seats: Vec<Seat<Deed, N>>,
+    empty: Vec<JoinHandle<Sat<N, V::Told>>>,
+) -> Option<Vec<JoinHandle<Sat<N, V::Told>>>>
 where
     T: Marked + Send,
     N: Ledgers + Send + Sync,
     R: Threads + Wait + Clock + Sync,
     V: Crew<T> + Sync,
     V::Told: Send + Drop,
+    requires empty { empty.items ≡ [] }
+    requires room { vec_len seats ≤ vec_capacity empty }
+    ensures { IfSome result (λ threads. vec_len threads ≡ vec_len seats) }
 {
-    thread::scope(thread::scope_env(), rt, |scope| {
-        let mut all_there = true;
-        for slot in slots {
-            all_there = all_there
-                && scope
-                    .spawn(move || sit(rt, queue, crew, start, slot))
-                    .is_ok();
-        }
-        start.give(rt, all_there);
-        all_there
-    })
+    thread::scope(
+        thread::scope_env(),
+        rt,
+        |scope| -> Option<Vec<JoinHandle<Sat<N, V::Told>>>>
+            requires empty { empty.items ≡ [] }
+            requires room { vec_len seats ≤ vec_capacity empty }
+            ensures { IfSome result (λ threads. vec_len threads ≡ vec_len seats) }
+        {
+            let mut threads = empty;
+            for seat in seats {
+                let Ok(thread) = scope.spawn(move || sit(rt, queue, crew, start, seat)) else {
+                    start.give(rt, false);
+                    return None;
+                };
+                threads.push_reserved(thread);
+            }
+            start.give(rt, true);
+            Some(threads)
+        },
+    )
 }

@@ -1,81 +1,79 @@
-//! Where the seats of a crew lie while nobody sits there.
+//! What the threads of a crew return.
 
-ghost use Rattle.std.specs.Prelude.{◌≡◌, ◌≤◌, [], IfOk, vec_len};
+ghost use Rattle.std.specs.Prelude.{◌≡◌, ◌≤◌, [], IfOk, IfErr, IfSome, vec_len};
 ghost use Rattle.std.specs.Vec.{vec_capacity};
+ghost use Rattle.meet_tickets.specs.declared.refusals.Refusal.TheVariants.{Memory};
 
 use meet_sync::{Back, Ledgers, Seat};
 use meet_tickets::{Deed, Refusal};
 use std::alloc::Global;
-use std::sync::Mutex;
+use std::thread::{JoinHandle, Threads};
 
-/// Where a seat lies before its thread starts and after it ended, and what the thread answered.
+/// What a thread of a crew returns: its seat, and its result, or None if it left before it began to work.
 #[derive(Drop)]
-pub(crate) struct Slot<N: Ledgers, A> {
-    pub(crate) seat: Option<Seat<Deed, N>>,
+pub(crate) struct Sat<N: Ledgers, A> {
+    pub(crate) seat: Seat<Deed, N>,
     pub(crate) told: Option<A>,
 }
 
-/// Room for what comes at the end: the seats that are given back, and what the threads answered.
+/// Room for the threads that are started, and for what they return: their seats and their results.
 #[derive(Drop)]
-pub(crate) struct EndRoom<N: Ledgers, A> {
+pub(crate) struct Room<N: Ledgers, A> {
+    pub(crate) handles: Vec<JoinHandle<Sat<N, A>>>,
     pub(crate) backs: Vec<Back<Deed, N>>,
     pub(crate) answers: Vec<A>,
-    ghost empty: { (backs.items ≡ []) × (answers.items ≡ []) },
+    ghost empty: { (handles.items ≡ []) × (backs.items ≡ []) × (answers.items ≡ []) },
 }
 
-impl<N: Ledgers, A> EndRoom<N, A> {
-    /// Room for so many. The only refusal is Memory.
+impl<N: Ledgers, A: Drop> Room<N, A> {
+    /// Makes room for `count` threads. The only error is Memory.
     pub(crate) fn new(alloc: Global, count: usize) -> Result<Self, Refusal>
-        ensures { IfOk result (λ room. (count ≤ vec_capacity room.backs) × (count ≤ vec_capacity room.answers)) }
+        ensures handles { IfOk result (λ room. count ≤ vec_capacity room.handles) }
+        ensures backs { IfOk result (λ room. count ≤ vec_capacity room.backs) }
+        ensures answers { IfOk result (λ room. count ≤ vec_capacity room.answers) }
+        ensures memory { IfErr result (λ why. why ≡ Memory) }
     {
+        let Ok(handles) = Vec::with_capacity(alloc, count) else {
+            return Err(Refusal::Memory);
+        };
         let Ok(backs) = Vec::with_capacity(alloc, count) else {
             return Err(Refusal::Memory);
         };
         let Ok(answers) = Vec::with_capacity(alloc, count) else {
             return Err(Refusal::Memory);
         };
-        Ok(EndRoom { backs, answers })
+        Ok(Room {
+            handles,
+            backs,
+            answers,
+        })
     }
 }
 
-/// Slots with these seats, in their order. The empty list has room for them.
-pub(crate) fn slots_of<N: Ledgers, A>(
-    seats: Vec<Seat<Deed, N>>,
-    empty: Vec<Mutex<Slot<N, A>>>,
-) -> Vec<Mutex<Slot<N, A>>>
-    requires empty { empty.items ≡ [] }
-    requires room { vec_len seats ≤ vec_capacity empty }
-    ensures count { vec_len result ≡ vec_len seats }
+/// Joins these threads, and returns their seats and their results, in the order of the threads; None if one left before
+/// it began to work. The empty lists have room for them.
+pub(crate) fn joined<N: Ledgers, A: Drop, R: Threads>(
+    rt: &R,
+    threads: Vec<JoinHandle<Sat<N, A>>>,
+    backs: Vec<Back<Deed, N>>,
+    answers: Vec<A>,
+) -> Option<(Vec<Back<Deed, N>>, Vec<A>)>
+    requires no_seat { backs.items ≡ [] }
+    requires no_answer { answers.items ≡ [] }
+    requires backs { vec_len threads ≤ vec_capacity backs }
+    requires answers { vec_len threads ≤ vec_capacity answers }
+    ensures seats { IfSome result (λ ended. vec_len ended.0 ≡ vec_len threads) }
+    ensures told { IfSome result (λ ended. vec_len ended.1 ≡ vec_len threads) }
 {
-    let mut slots = empty;
-    for seat in seats {
-        slots.push_reserved(Mutex::new(Slot {
-            seat: Some(seat),
-            told: None,
-        }));
-    }
-    slots
-}
-
-/// The seats of these slots, and what their threads answered, in the order of their seats. There is room for them.
-pub(crate) fn seats_of<N: Ledgers, A: Drop>(
-    slots: Vec<Mutex<Slot<N, A>>>,
-    room: EndRoom<N, A>,
-) -> (Vec<Back<Deed, N>>, Vec<A>)
-    requires backs { vec_len slots ≤ vec_capacity room.backs }
-    requires answers { vec_len slots ≤ vec_capacity room.answers }
-{
-    let EndRoom { backs, answers, .. } = room;
     let mut backs = backs;
     let mut answers = answers;
-    for slot in slots {
-        let Slot { seat, told } = slot.into_inner();
-        if let Some(seat) = seat {
-            backs.push_reserved(Back::Free(seat));
-        }
-        if let Some(told) = told {
-            answers.push_reserved(told);
-        }
+    for thread in threads {
+        let Sat { seat, told } = thread.join(rt);
+        let Some(told) = told else {
+            return None;
+        };
+        backs.push_reserved(Back::Free(seat));
+        answers.push_reserved(told);
     }
-    (backs, answers)
+    Some((backs, answers))
 }

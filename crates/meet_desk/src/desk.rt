@@ -1,6 +1,6 @@
 //! The desk.
 
-ghost use Rattle.std.specs.Prelude.{◌≡◌, IfErr, vec_len};
+ghost use Rattle.std.specs.Prelude.{◌≡◌, ◌≤◌, IfErr, vec_len};
 ghost use Rattle.meet_tickets.specs.declared.refusals.Refusal.TheVariants.{Memory};
 
 use crate::free::Free;
@@ -21,36 +21,33 @@ pub struct Desk<D: Copy + Drop, N: Ledgers> {
 }
 
 impl<D: Copy + Drop, N: Ledgers> Desk<D, N> {
-    /// A desk with all seats of a place, where they are free. The only refusal is Memory; then they come back.
+    /// Creates a desk at which all seats of a place are free.
+    ///
+    /// # Errors
+    /// - Memory, if the allocation fails; the seats are returned.
     pub fn new(alloc: Global, seats: Vec<Seat<D, N>>) -> Result<Self, Refused<Vec<Seat<D, N>>>>
         requires all { vec_len seats ≡ N.parts }
         ensures why { IfErr result (λ refused. refused.why ≡ Memory) }
         ensures back { IfErr result (λ refused. refused.back ≡ seats) }
     {
-        let count = seats.len();
-        let mut slots = Vec::new(alloc);
-        let mut backs = Vec::new(alloc);
-        if slots.reserve(count).is_err() || backs.reserve(count).is_err() {
+        let Ok(backs) = Vec::with_capacity(alloc, seats.len()) else {
             return Err(Refused {
                 why: Refusal::Memory,
                 back: seats,
             });
-        }
-        for seat in seats {
-            slots.push_reserved(Some(seat));
-        }
+        };
         Ok(Desk {
-            free: Mutex::new(Free::of(slots, backs)),
+            free: Mutex::new(Free::of(seats, backs)),
             came: Condvar::new(),
         })
     }
 
-    /// A seat, where one is free now: the one with the least number. It waits for the lock alone.
+    /// Returns the free seat that came back last, or None if no seat is free now. It waits only for the lock.
     pub fn sit<R: Wait>(&self, rt: &R) -> Option<Seat<D, N>> {
         self.free.lock(rt).take()
     }
 
-    /// A seat, once one is free. It may wait for ever, where no seat comes back.
+    /// Returns a seat after one is free. It waits for ever if no seat comes back.
     pub fn wait_to_sit<R: Wait>(&self, rt: &R) -> Seat<D, N> {
         let mut free = self.free.lock(rt);
         for _ in rt.forever() {
@@ -62,16 +59,17 @@ impl<D: Copy + Drop, N: Ledgers> Desk<D, N> {
         unreachable!()
     }
 
-    /// Gives a seat back, and lets one go on who waits for it.
+    /// Gives a seat back, and wakes one thread that waits for a seat.
     pub fn rise<R: Wait>(&self, rt: &R, seat: Seat<D, N>) {
-        let before = self.free.lock(rt).put(seat);
-        let _empty = ManuallyDrop::new(before);
+        let left_over = self.free.lock(rt).put(seat);
+        let _none = ManuallyDrop::new(left_over);
         self.came.notify_one();
     }
 
-    /// The seats that are free, in the order of their numbers, for the end of their place: all, where each thread rose
-    /// that sat down. It takes no memory.
-    pub fn into_seats(self) -> Vec<Back<D, N>> {
+    /// Returns the free seats, for the end of their place: all, if each thread rose that sat down. It takes no memory.
+    pub fn into_seats(self) -> Vec<Back<D, N>>
+        ensures { vec_len result ≤ N.parts }
+    {
         self.free.into_inner().into_backs()
     }
 }

@@ -1,84 +1,78 @@
 //! The seats that are free.
 
-ghost use Rattle.std.specs.Prelude.{◌≡◌, ◌<◌, ◌≤◌, ℕ, [], None, Some, IfSome, length, vec_len, slice_get, slice_set};
+ghost use Rattle.std.specs.Prelude.{◌≡◌, ◌<◌, ◌≤◌, ◌++◌, ◌∷◌, [], None, Some, length, map, vec_len, MatchOption};
 ghost use Rattle.std.specs.Vec.{vec_capacity};
+ghost use Rattle.meet_place.specs.declared.seats.Back.TheVariants.{Free as IsFree};
 
 use meet_place::{Back, Ledgers, Seat};
 use std::marker::Model;
-use std::mem;
 
-/// For each seat of a place, by its number, the seat where it is free; and room for all of them, for the end.
+/// The free seats of a place, as a stack, and room for all seats of the place, for its end.
 #[derive(Drop)]
 pub(crate) struct Free<D: Copy + Drop, N: Ledgers> {
-    slots: Vec<Option<Seat<D, N>>>,
+    seats: Vec<Seat<D, N>>,
     backs: Vec<Back<D, N>>,
+    made: usize,
 }
 
 impl<D: Copy + Drop, N: Ledgers> Model for Free<D, N> {
-    ghost use Rattle.std.specs.Prelude.{◌≡◌, ◌≤◌, [], List, Option, vec_len};
+    ghost use Rattle.std.specs.Prelude.{◌≡◌, ◌≤◌, [], List, vec_len};
     ghost use Rattle.std.specs.Vec.{vec_capacity};
     ghost use Rattle.meet_place.specs.Seats.{SeatView};
 
-    ghost Value = { List (Option (SeatView D)) };
+    ghost Value = { List (SeatView D) };
 
-    ghost view = { λ free. free.slots.items };
+    ghost view = { λ free. free.seats.items };
 
-    ghost invariant = { λ free. (vec_len free.slots ≡ N.parts) × (free.backs.items ≡ [])
-        × (N.parts ≤ vec_capacity free.backs) };
+    ghost invariant = { λ free. (free.made ≡ N.parts) × (vec_len free.seats ≤ N.parts)
+        × (N.parts ≤ vec_capacity free.seats) × (free.backs.items ≡ []) × (N.parts ≤ vec_capacity free.backs) };
 }
 
 impl<D: Copy + Drop, N: Ledgers> Free<D, N> {
-    /// These seats, of which there is one for each part. The empty list has room for them.
-    pub(crate) fn of(slots: Vec<Option<Seat<D, N>>>, empty: Vec<Back<D, N>>) -> Self
-        requires each { vec_len slots ≡ N.parts }
+    /// Creates a stack of all seats of a place. The empty list has room for them.
+    pub(crate) fn of(seats: Vec<Seat<D, N>>, empty: Vec<Back<D, N>>) -> Self
+        requires all { vec_len seats ≡ N.parts }
         requires empty { empty.items ≡ [] }
         requires room { N.parts ≤ vec_capacity empty }
-        ensures { result ≡ slots.items }
+        ensures { result ≡ seats.items }
     {
         Free {
-            slots,
+            made: seats.len(),
+            seats,
             backs: empty,
         }
     }
 
-    /// The least number of a seat that is free.
-    fn first(&self) -> Option<usize>
-        ensures { IfSome result (λ i. i < length self.now) }
-    {
-        for i in 0..self.slots.len() {
-            if self.slots[i].is_some() {
-                return Some(i);
-            }
-        }
-        None
-    }
-
-    /// A seat that was free, and isn't there any more.
+    /// Removes and returns the seat that came back last; None exactly if no seat is free.
     pub(crate) fn take(&mut self) -> Option<Seat<D, N>>
-        ensures { IfSome result (λ seat. (i : ℕ) × (slice_get self.old i ≡ Some (Some seat))
-            × (self.new ≡ slice_set self.old i None)) }
+        ensures { MatchOption result ((self.old ≡ []) × (self.new ≡ [])) (λ seat. self.old ≡ self.new ++ seat ∷ []) }
     {
-        let i = self.first()?;
-        self.slots[i].take()
+        self.seats.pop()
     }
 
-    /// Puts a seat back, and answers what lay in its slot: nothing, since no other has its number.
+    /// Pushes a seat that comes back. If all seats of the place are here it returns the seat instead, which never
+    /// happens: this is one of them.
     pub(crate) fn put(&mut self, seat: Seat<D, N>) -> Option<Seat<D, N>>
-        ensures there { self.new ≡ slice_set self.old seat.number (Some seat) }
-        ensures before { slice_get self.old seat.number ≡ Some result }
+        ensures there { length self.old < N.parts → (self.new ≡ self.old ++ seat ∷ []) × (result ≡ None) }
+        ensures full { N.parts ≤ length self.old → (self.new ≡ self.old) × (result ≡ Some seat) }
     {
-        let at = seat.number().number() as usize;
-        mem::replace(&mut self.slots[at], Some(seat))
+        if self.seats.len() < self.made {
+            self.seats.push_reserved(seat);
+            None
+        } else {
+            Some(seat)
+        }
     }
 
-    /// All seats that are free, in the order of their numbers.
-    pub(crate) fn into_backs(self) -> Vec<Back<D, N>> {
-        let Free { slots, backs } = self;
+    /// Returns all free seats.
+    pub(crate) fn into_backs(self) -> Vec<Back<D, N>>
+        ensures all { result.items ≡ map IsFree self }
+        ensures most { vec_len result ≤ N.parts }
+    {
+        let Free { seats, backs, .. } = self;
         let mut backs = backs;
-        for slot in slots {
-            if let Some(seat) = slot {
-                backs.push_reserved(Back::Free(seat));
-            }
+        for seat in seats {
+            backs.push_reserved(Back::Free(seat));
         }
         backs
     }

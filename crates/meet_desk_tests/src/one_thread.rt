@@ -71,8 +71,8 @@ fn each_seat_is_given_out_once(rt: HostRuntime) {
     let parts = NewQueue::parked(rt.alloc(), 3).expect(&rt, "memory");
     let told = looked::<Brand, HostRuntime>(&rt, rt.alloc(), parts);
     let (numbers, none, again, count) = told.expect(&rt, "a queue");
-    assert_eq!(&rt; numbers.as_slice(), [0, 1, 2].as_slice());
+    assert_eq!(&rt; numbers.as_slice(), [2, 1, 0].as_slice());
     assert_eq!(&rt; none, None);
-    assert_eq!(&rt; again, Some(0)); // the seats 0 and 1 are back, and the least is given out
+    assert_eq!(&rt; again, Some(1)); // the seats 2 and 1 are back, and the last is given out
     assert_eq!(&rt; count, 3);
 }

@@ -1,5 +1,5 @@
 -- What is answered of the book behind the lock is so of some book.
-use Rattle.std.proofs.Common.{◌≡◌, ◌⊎◌, ◌+◌, ◌∙◌, ap, sym, subst, ℕ, None, Ok, Err, inl, inr, true, length}
+use Rattle.std.proofs.Common.{◌≡◌, ◌⊎◌, ◌+◌, subst, ℕ, Ok, Err, inl, inr, true}
 use Rattle.std.specs.Prelude.{Result, IfOk, IfErr}
 use Rattle.meet_tickets.specs.declared.refusals.Refusal.{Refusal}
 use Rattle.meet_tickets.specs.Refusals.{IsWhy}
@@ -44,6 +44,15 @@ module _ {O B D A : Type 0} (gone_of : B → ℕ) (seat_count_of : O → ℕ) (p
   looks_after (Ok done) (b, place, is, counted) =
       inr (b, place, (between, counted, subst (λ n. Trims n between new) is trims))
   looks_after (Err why) looked = looked
+
+  -- so it did, and changed something
+  pub has_looked : (r : Result A Refusal)
+      → IfOk r (λ _. (b : Booked O B D) × IsBookOf seat_count_of parts cap b × (gone ≡ gone_of b.base + to_fold b)
+      × Checkpoints (to_fold b) old between)
+      → IfOk r (λ _. (b : Booked O B D) × IsBookOf seat_count_of parts cap b × LooksAfter gone_of b old new)
+  has_looked (Ok done) (b, place, is, counted) =
+      (b, place, (between, counted, subst (λ n. Trims n between new) is trims))
+  has_looked (Err why) looked = looked
 
   -- who looked at one that stays full let go of receipts alone
   pub folds_none : (r : Result A Refusal)

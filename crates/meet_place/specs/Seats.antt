@@ -6,8 +6,8 @@ use Rattle.meet_book.specs.Listed.{is_since}
 use Rattle.meet_book.specs.Received.{Received}
 use Rattle.meet_place.specs.declared.seats.Past.{Past}
 
--- a seat's number, what it has behind it (how many receipts were dropped from its list, and how many records its
--- checkpoints folded away), the receipts that it has in order, and how many more the list has room for
+-- a seat's number, what it has behind it (how many receipts were dropped from its list, how many records its checkpoints
+-- folded away, and how many it saw folded away), the receipts that it has in order, and how many more the list has room for
 pub record SeatView (D : Type 0) : Type 0 where
   pub number : ℕ
   pub past : Past
@@ -40,7 +40,7 @@ module _ {D : Type 0} where
   -- seats in the order of their numbers, from 0, without receipts, and with nothing behind them
   abbrev pub AreFresh : List (SeatView D) → Type 0
   AreFresh seats = (i : ℕ) (seat : SeatView D) → slice_get seats i ≡ Some seat
-      → (seat.number ≡ i) × (seat.list ≡ []) × (seat.past.trimmed ≡ 0) × (seat.past.folded ≡ 0)
+      → (seat.number ≡ i) × (seat.list ≡ []) × (seat.past.trimmed ≡ 0) × (seat.past.folded ≡ 0) × (seat.past.seen ≡ 0)
 
   -- a seat's share of the number of records: how many receipts it ever got
   abbrev pub share_in : SeatView D → ℕ
@@ -64,6 +64,7 @@ module _ {D : Type 0} where
     pub list : new.list ≡ filter (is_since gone) old.list
     pub share : share_in new ≡ share_in old
     pub folded : new.past.folded ≡ old.past.folded
+    pub seen : new.past.seen ≡ gone
     pub room : length new.list + new.room ≡ length old.list + old.room
 
   -- the same, of a seat whose ticket is open: that stays open
@@ -74,11 +75,13 @@ module _ {D : Type 0} where
     pub list : new.list ≡ filter (is_since gone) old.list
     pub share : new.past.trimmed + length new.list ≡ old.past.trimmed + length old.list
     pub folded : new.past.folded ≡ old.past.folded
+    pub seen : new.past.seen ≡ gone
 
   -- a checkpoint of the seat folded so many records away, and changed nothing else of it
   pub record Checkpoints (more : ℕ) (old new : SeatView D) : Type 0 where
     pub folded : new.past.folded ≡ old.past.folded + more
     pub trimmed : new.past.trimmed ≡ old.past.trimmed
+    pub seen : new.past.seen ≡ old.past.seen
     pub number : new.number ≡ old.number
     pub list : new.list ≡ old.list
     pub room : new.room ≡ old.room

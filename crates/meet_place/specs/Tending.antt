@@ -1,5 +1,7 @@
 -- What a seat does that tends its place (our choice).
-use Rattle.std.specs.Prelude.{◌≡◌, ◌⊎◌, ℕ, ◌+◌, ◌*◌, ◌/◌, nat_lt, Bool, true, List, length, if◌then◌else◌}
+use Rattle.std.specs.Prelude.{◌≡◌, ℕ, ◌+◌, ◌-◌, ◌*◌, ◌/◌, nat_lt, ◌&&◌, Bool, true, List, length, if◌then◌else◌}
+use Rattle.std.specs.Prelude.{Option, Some, None, slice_get}
+use Rattle.meet_book.specs.Received.{Received}
 use Rattle.meet_tickets.specs.declared.refusals.Refusal.{Refusal}
 use Rattle.meet_tickets.specs.Refusals.{IsWhy}
 use Rattle.meet_book.specs.Booked.{Booked}
@@ -10,6 +12,22 @@ use Rattle.meet_place.specs.Seats.{SeatView, Checkpoints, Trims}
 -- the book may hold
 abbrev pub may_lie : (cap seats : ℕ) → ℕ
 may_lie cap seats = cap / seats / 4
+
+module _ {D : Type 0} where
+  -- where a receipt's record stands among all records
+  abbrev pub place_of : Option (Received D) → ℕ
+  place_of None = 0
+  place_of (Some receipt) = receipt.place
+
+  -- where the last receipt of a list stands; 0 where there is none
+  abbrev pub last_place : List (Received D) → ℕ
+  last_place list = place_of (slice_get list (length list - 1))
+
+  -- a seat that tends looks at the book exactly where more receipts lie in its list than may, and its last record stands
+  -- more than half of what the book may hold after those that the seat saw folded away
+  abbrev pub is_to_look : (cap seats : ℕ) → SeatView D → Bool
+  is_to_look cap seats seat =
+      nat_lt (may_lie cap seats) (length seat.list) && nat_lt (cap / 2) (last_place seat.list - seat.past.seen)
 
 module _ {O B D : Type 0} where
   -- a book holds more than half of the records that it may hold

@@ -52,7 +52,6 @@ impl<D: Copy, N: Ledgers> BareSeat<D, N> {
             past,
             list,
             share,
-            seen: 0,
         };
         match held {
             None => Back::Free(seat),

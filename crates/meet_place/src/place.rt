@@ -3,13 +3,14 @@
 ghost use Rattle.std.specs.Prelude.{◌≡◌, ◌+◌, ◌<◌, ◌≤◌, [], None, length, option_to_list, IfOk, IfErr};
 ghost use Rattle.std.specs.Prelude.{vec_len};
 ghost use Rattle.std.specs.Fn.{FnOnceReturnsAt};
+ghost use Rattle.std.specs.Sync.Mutex.{mutex_guard_value};
 ghost use Rattle.std.specs.Vec.{vec_capacity};
 ghost use Rattle.meet_tickets.specs.Limits.{most_seats};
 ghost use Rattle.meet_tickets.specs.Refusals.{IsWhy};
 ghost use Rattle.meet_book.specs.Booked.{Booked};
 ghost use Rattle.meet_book.specs.Booking.{book_refusal, cut_refusal};
 ghost use Rattle.meet_place.specs.Ledgers.{AreOf};
-ghost use Rattle.meet_place.specs.Seats.{Adds, AreFresh, Trims, TrimsPending, Checkpoints};
+ghost use Rattle.meet_place.specs.Seats.{Adds, AreFresh, Trims, TrimsPending, Checkpoints, share_in};
 ghost use Rattle.meet_place.specs.Holds.{BookRefuses, IsBookOf, sizes_refusal};
 
 use crate::ledgers::{Blanks, Ledgers};
@@ -173,15 +174,16 @@ impl<O: Object, G, N: Ledgers> Place<O, G, N> {
     /// Drops the receipts for the records that are folded away by now from a seat's list. Under the lock it looks how
     /// many these are; it takes no memory.
     pub fn trim<R: Wait>(&self, rt: &R, seat: &mut Seat<O::Deed, N>)
-        ensures { (base : O.Base) × Trims (O.gone_of base) seat.old seat.new }
+        ensures { (base : O.Base) × Trims (O.gone_of base) seat.old seat.new
+            × (seat.old.past.folded ≤ O.gone_of base) }
     {
-        let gone = self.hold(rt).gone_for(seat);
-        seat.forget(gone);
+        trim_after(self.hold(rt), seat);
     }
 
     /// The same with a seat whose ticket is open, and stays open.
     pub fn trim_pending<R: Wait>(&self, rt: &R, pending: Pending<O::Deed, N>) -> Pending<O::Deed, N>
-        ensures { (base : O.Base) × TrimsPending (O.gone_of base) pending result }
+        ensures { (base : O.Base) × TrimsPending (O.gone_of base) pending result
+            × (pending.past.folded ≤ O.gone_of base) }
     {
         let (mut seat, ticket, mark) = pending.into_parts();
         self.trim(rt, &mut seat);
@@ -209,6 +211,19 @@ impl<O: Object, G, N: Ledgers> Place<O, G, N> {
     }
 }
 
+/// Drops a seat's receipts for the records that the book under this lock folded away. It releases the lock first.
+fn trim_after<O: Object, N: Ledgers>(
+    mut shared: MutexGuard<'_, Shared<O, N>>,
+    seat: &mut Seat<O::Deed, N>,
+)
+    ensures trims { Trims (O.gone_of (mutex_guard_value shared.entry).base) seat.old seat.new }
+    ensures folded { seat.old.past.folded ≤ O.gone_of (mutex_guard_value shared.entry).base }
+{
+    let gone = shared.gone_for(seat);
+    drop(shared);
+    seat.forget(gone);
+}
+
 impl<O: Bases, G, N: Ledgers> Place<O, G, N>
 where
     O::Base: Drop,
@@ -220,6 +235,7 @@ where
         ensures gone { IfOk result (λ gone. (book : Booked O O.Base O.Deed)
             × (gone ≡ O.gone_of book.base + length book.records) × (cut_refusal (O.gone_of book.base) book ≡ None)
             × Checkpoints (length book.records) seat.old seat.new) }
+        ensures all { IfOk result (λ gone. share_in seat.new ≤ gone) }
         ensures why { IfErr result (λ why. (book : Booked O O.Base O.Deed)
             × IsWhy (cut_refusal (O.gone_of book.base) book) why) }
         ensures same { IfErr result (λ _. seat.new ≡ seat.old) }

@@ -1,12 +1,12 @@
 //! Seats, and seats whose ticket is open.
 
-ghost use Rattle.std.specs.Prelude.{◌≡◌, ◌<◌, ◌≤◌, ◌+◌, ◌^◌, [], length, filter, vec_len, IsOk, IfErr, OnOk, true};
+ghost use Rattle.std.specs.Prelude.{◌≡◌, ◌<◌, ◌≤◌, ◌+◌, ◌^◌, [], length, filter, vec_len, IsOk, IfErr, OnOk};
 ghost use Rattle.std.specs.Vec.{vec_capacity};
 ghost use Rattle.meet_tickets.specs.declared.refusals.Refusal.TheVariants.{Memory};
 ghost use Rattle.meet_place.specs.Backs.{number_of, list_of};
 ghost use Rattle.meet_book.specs.Listed.{is_since};
 ghost use Rattle.meet_place.specs.Seats.{SeatView, PendingView, Trims, share_in};
-ghost use Rattle.meet_place.specs.Tending.{may_lie};
+ghost use Rattle.meet_place.specs.Tending.{is_to_look, last_place};
 
 use crate::ledgers::{Ledgers, Stake};
 use meet_book::Receipt;
@@ -23,6 +23,8 @@ pub struct Past {
     pub trimmed: u64,
     /// How many records its checkpoints folded away.
     pub folded: u64,
+    /// How many records had been folded away when it last dropped receipts; 0 before.
+    pub seen: u64,
 }
 
 /// A seat of a place: its number, its receipts, and its share of the number of records, which is the number of the
@@ -35,8 +37,6 @@ pub struct Seat<D: Copy, N: Ledgers> {
     pub(crate) past: Past,
     pub(crate) list: Vec<Receipt<D>>,
     pub(crate) share: Stake<N>,
-    /// How many records were folded away when it let go of receipts last.
-    pub(crate) seen: u64,
 }
 
 impl<D: Copy, N: Ledgers> Model for Seat<D, N> {
@@ -71,17 +71,17 @@ impl<D: Copy, N: Ledgers> Seat<D, N> {
         requires number { number < N.parts }
         ensures number { result.number ≡ number }
         ensures list { result.list ≡ [] }
-        ensures past { (result.past.trimmed ≡ 0) × (result.past.folded ≡ 0) }
+        ensures past { (result.past.trimmed ≡ 0) × (result.past.folded ≡ 0) × (result.past.seen ≡ 0) }
     {
         Seat {
             number,
             past: Past {
                 trimmed: 0,
                 folded: 0,
+                seen: 0,
             },
             list: Vec::new(alloc),
             share,
-            seen: 0,
         }
     }
 
@@ -114,31 +114,33 @@ impl<D: Copy, N: Ledgers> Seat<D, N> {
         self.past.folded
     }
 
+    /// How many records had been folded away when it last dropped receipts; 0 before.
+    pub fn seen(&self) -> u64
+        ensures { result ≡ self.now.past.seen }
+    {
+        self.past.seen
+    }
+
     /// Drops the receipts for the first `gone` records. It takes no memory.
     pub fn forget(&mut self, gone: u64)
         requires { share_in self.old < 2 ^ 64 }
         ensures { Trims gone self.old self.new }
     {
-        let Seat {
-            past,
-            list,
-            seen,
-            ..
-        } = self;
+        let Seat { past, list, .. } = self;
         past.trimmed += drop_folded(list, gone);
-        *seen = gone;
+        past.seen = gone;
     }
 
-    /// Whether a seat that tends a place of so many seats, whose book holds this many records at most, looks at the
-    /// book: more receipts lie in its list than may, and by the number of the last, and by what was folded away when
-    /// it let go of receipts last, the book may be more than half full.
+    /// Whether a seat that tends a place of so many seats, whose book holds at most `cap` records, looks at the book:
+    /// its list has more receipts than may lie there, and its last record stands more than half of `cap` after those
+    /// that it saw folded away. Then the book may be more than half full.
     pub fn is_to_look(&self, cap: u64, seats: u64) -> bool
         requires { seats ≡ N.parts }
-        ensures { result ≡ true → may_lie cap seats < length self.now.list }
+        ensures { result ≡ is_to_look cap seats self.now }
     {
         let _ = self.number;
-        let last = self.list.last().map_or(0, |receipt| receipt.place());
-        self.list.len() as u64 > cap / seats / 4 && last.saturating_sub(self.seen) > cap / 2
+        let last = last_place(self.list.as_slice());
+        self.list.len() as u64 > cap / seats / 4 && last.saturating_sub(self.past.seen) > cap / 2
     }
 
     /// How many more receipts its list has room for.
@@ -164,6 +166,16 @@ impl<D: Copy, N: Ledgers> Seat<D, N> {
             Ok(()) => Ok(()),
             Err(_) => Err(Refusal::Memory),
         }
+    }
+}
+
+/// Where the last of these receipts stands among all records; 0 if there is none.
+fn last_place<D: Copy>(list: &[Receipt<D>]) -> u64
+    ensures { result ≡ last_place list.now }
+{
+    match list.last() {
+        Some(receipt) => receipt.place(),
+        None => 0,
     }
 }
 

@@ -161,6 +161,7 @@ impl<O: Object, N: Ledgers> Shared<O, N> {
     /// How many records were folded away, looked at for a seat, whose share is no more than all records.
     pub fn gone_for(&mut self, seat: &mut Seat<O::Deed, N>) -> u64
         ensures gone { result ≡ O.gone_of self.old.base }
+        ensures folded { seat.old.past.folded ≤ result }
         ensures fits { share_in seat.new < 2 ^ 64 }
         ensures seat { seat.new ≡ seat.old }
         ensures same { self.new ≡ self.old }
@@ -185,6 +186,7 @@ where
         ensures counted { IfOk result (λ _. Checkpoints (length self.old.records) seat.old seat.new) }
         ensures same { IfErr result (λ _. seat.new ≡ seat.old) }
         ensures gone { IfOk result (λ gone. gone ≡ O.gone_of self.old.base + length self.old.records) }
+        ensures all { IfOk result (λ gone. share_in seat.new ≤ gone) }
         ensures folded { IfOk result (λ gone. O.gone_of self.new.base ≡ gone) }
         ensures base { IfOk result (λ gone. 0 < gone → O.is_base self.old.object gone self.new.base) }
         ensures records { IfOk result (λ _. self.new.records ≡ []) }
@@ -196,6 +198,7 @@ where
     {
         let Seat { past, share, .. } = seat;
         let Shared { book, total, .. } = self;
+        total.audit(share);
         if book.written() == 0 {
             return Ok(0);
         }

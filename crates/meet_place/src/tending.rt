@@ -1,12 +1,12 @@
 //! A seat tends its place: where each does so behind each call, the history never fills, and the lists stay short.
 
-ghost use Rattle.std.specs.Prelude.{◌≡◌, ◌⊎◌, ◌+◌, ◌<◌, ◌≤◌, ◌^◌, length, true, IsOk, IfOk, IfErr};
+ghost use Rattle.std.specs.Prelude.{◌≡◌, ◌⊎◌, ◌+◌, ◌<◌, ◌≤◌, ◌^◌, length, true, false, IsOk, IfOk, IfErr};
 ghost use Rattle.meet_tickets.specs.Refusals.{IsWhy};
 ghost use Rattle.meet_book.specs.Booked.{Booked};
 ghost use Rattle.meet_book.specs.Booking.{cut_refusal};
 ghost use Rattle.meet_place.specs.Holds.{IsBookOf};
 ghost use Rattle.meet_place.specs.Seats.{Checkpoints, share_in};
-ghost use Rattle.meet_place.specs.Tending.{FoldsNone, LooksAfter, is_half_full, may_lie, to_fold};
+ghost use Rattle.meet_place.specs.Tending.{FoldsNone, LooksAfter, is_half_full, is_to_look, may_lie, to_fold};
 
 use crate::ledgers::Ledgers;
 use crate::place::Place;
@@ -81,12 +81,15 @@ where
         shared.look_after(seat)
     }
 
-    /// Looks at the seat's own list. Where more receipts lie there than may, and the book may be more than half full,
-    /// it takes the lock once, folds the records away where the book is, which count for the seat then, and lets go of
-    /// the seat's receipts for all that is folded away. It takes no memory but for the base. It is refused as the
-    /// book's `cut` is, and the receipts are let go then too.
+    /// Looks at the seat's own list. If more receipts lie there than may, and the book may be more than half full by the
+    /// last of them (`is_to_look`), it takes the lock once, folds the records away if the book is, which count for the
+    /// seat then, and drops the seat's receipts for all that is folded away. Else it does nothing. It takes no memory
+    /// but for the base. It is refused as the book's `cut` is, and the receipts are dropped then too.
     pub fn tend<R: Wait>(&self, rt: &R, seat: &mut Seat<O::Deed, N>) -> Result<(), Refusal>
         ensures few { length seat.old.list ≤ may_lie N.cap N.parts → IsOk result × (seat.new ≡ seat.old) }
+        ensures idle { is_to_look N.cap N.parts seat.old ≡ false → IsOk result × (seat.new ≡ seat.old) }
+        ensures looked { is_to_look N.cap N.parts seat.old ≡ true → IfOk result (λ _. (book : Booked O O.Base O.Deed)
+            × IsBookOf O.seat_count_of N.parts N.cap book × LooksAfter O.gone_of book seat.old seat.new) }
         ensures tended { IfOk result (λ _. (seat.new ≡ seat.old) ⊎ ((book : Booked O O.Base O.Deed)
             × IsBookOf O.seat_count_of N.parts N.cap book × LooksAfter O.gone_of book seat.old seat.new)) }
         ensures why { IfErr result (λ why. (book : Booked O O.Base O.Deed)

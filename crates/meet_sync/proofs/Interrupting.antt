@@ -1,5 +1,5 @@
 -- Interrupts of several seats, one after another.
-use Rattle.std.proofs.Common.{◌≡◌, ℕ, ◌+◌, ◌++◌, ◌∙◌, ap, sym, refl, subst, true, false, List, [], ◌∷◌}
+use Rattle.std.proofs.Common.{◌≡◌, ℕ, ◌+◌, ◌++◌, ◌∙◌, ap, refl, subst, true, false, List, [], ◌∷◌}
 use Rattle.std.specs.Prelude.{not, nat_eq}
 use Rattle.std.proofs.lemmas.List.{append_assoc, map-append}
 use Rattle.meet_tickets.specs.declared.records.Record.{Record}

@@ -1,11 +1,11 @@
 //! A queue for threads that lives long: its history is tended, handed out chapter by chapter, or looked at, while its
 //! threads go on.
 
-ghost use Rattle.std.specs.Prelude.{◌≡◌, ◌⊎◌, ◌+◌, ◌<◌, ◌≤◌, ℕ, None, length, IsOk, IsOkAnd, IfOk, IfErr};
+ghost use Rattle.std.specs.Prelude.{◌≡◌, ◌⊎◌, ◌+◌, ◌<◌, ◌≤◌, ℕ, None, true, false, length, IsOk, IsOkAnd, IfOk, IfErr};
 ghost use Rattle.meet_tickets.specs.Limits.{most_gone};
 ghost use Rattle.meet_tickets.specs.declared.refusals.Refusal.TheVariants.{Memory};
 ghost use Rattle.meet_place.specs.Seats.{Checkpoints, Trims};
-ghost use Rattle.meet_place.specs.Tending.{Tends, may_lie};
+ghost use Rattle.meet_place.specs.Tending.{Tends, is_to_look, may_lie};
 ghost use Rattle.meet_sync.specs.Chronicles.{IsChapter};
 ghost use Rattle.meet_sync.specs.Told.{IsCutWhy};
 
@@ -37,6 +37,8 @@ fn tend<O: Bases, G, N: Ledgers, R: Wait>(
 where
     O::Base: Drop,
     ensures few { length seat.old.list ≤ may_lie N.cap N.parts → IsOk result × (seat.new ≡ seat.old) }
+    ensures idle { is_to_look N.cap N.parts seat.old ≡ false → IsOk result × (seat.new ≡ seat.old) }
+    ensures looked { is_to_look N.cap N.parts seat.old ≡ true → IfOk result (λ _. Tends seat.old seat.new) }
     ensures tended { IfOk result (λ _. (seat.new ≡ seat.old) ⊎ Tends seat.old seat.new) }
     ensures trimmed { IfErr result (λ _. (gone : ℕ) × Trims gone seat.old seat.new) }
     ensures why { IfErr result IsCutWhy }
@@ -66,17 +68,21 @@ where
 }
 
 impl<O: QueuePlace + Bases, G, N: Ledgers> Queue<O, G, N> {
-    /// Sees to it that the history never fills: behind each call, by each seat. Where more receipts lie in the seat's
-    /// list than the history's greatest number of records, parted by the seats, and that by four, and the history may
-    /// be more than half full, it takes the lock once, makes a checkpoint where it is, and lets go of the seat's
-    /// receipts for all that is folded away. Most calls touch no lock. It is refused as a checkpoint is; the receipts
-    /// are let go then too.
+    /// Keeps the history from filling, if each seat calls it after each of its calls. If the seat's list has more
+    /// receipts than a quarter of its part of the history's cap, and the last of them shows that the history may be
+    /// more than half full (`is_to_look`), it takes the lock once, makes a checkpoint if the history is, and drops the
+    /// seat's receipts for all that is folded away. Else it does nothing and touches no lock, as most calls do.
+    ///
+    /// # Errors
+    /// - HistoryFull, Memory: as `checkpoint`; the receipts for what was folded away before are dropped.
     pub fn tend<R: Wait>(
         &self,
         rt: &R,
         mut seat: Seat<Deed, N>,
     ) -> Result<Seat<Deed, N>, SeatRefused<O::Item, N>>
         ensures few { length seat.list ≤ may_lie N.cap N.parts → IsOkAnd result (λ tended. tended ≡ seat) }
+        ensures idle { is_to_look N.cap N.parts seat ≡ false → IsOkAnd result (λ tended. tended ≡ seat) }
+        ensures looked { is_to_look N.cap N.parts seat ≡ true → IfOk result (Tends seat) }
         ensures tended { IfOk result (λ tended. (tended ≡ seat) ⊎ Tends seat tended) }
         ensures trimmed { IfErr result (λ refused. (gone : ℕ) × Trims gone seat refused.seat) }
         ensures item { IfErr result (λ refused. refused.item ≡ None) }

@@ -3,7 +3,7 @@
 
 ghost use Rattle.std.specs.Prelude.{◌≡◌, ◌≤◌, ℕ, None, IfOk, IfErr};
 ghost use Rattle.meet_tickets.specs.Limits.{most_gone};
-ghost use Rattle.meet_place.specs.Seats.{Checkpoints, Trims, TrimsPending};
+ghost use Rattle.meet_place.specs.Seats.{Checkpoints, Trims, TrimsPending, share_in};
 ghost use Rattle.meet_sync.specs.Told.{IsCutWhy};
 
 use crate::asked::SeatRefused;
@@ -24,6 +24,7 @@ where
     O::Base: Drop,
     ensures gone { IfOk result (λ gone. gone ≤ most_gone) }
     ensures counted { IfOk result (λ gone. (more : ℕ) × (more ≤ gone) × Checkpoints more seat.old seat.new) }
+    ensures all { IfOk result (λ gone. share_in seat.new ≤ gone) }
     ensures why { IfErr result IsCutWhy }
     ensures same { IfErr result (λ _. seat.new ≡ seat.old) }
 {
@@ -31,9 +32,13 @@ where
 }
 
 impl<O: QueuePlace + Bases, G, N: Ledgers> Queue<O, G, N> {
-    /// Folds the records so far into the queue's base, under one hold of the lock, and answers how many were folded
-    /// away since the first; those of this time count for the seat. It writes no record. It refuses HistoryFull where
-    /// these would be more than 2^63 - 1, else Memory; then nothing has changed.
+    /// Folds the records so far into the queue's base, under one hold of the lock, and returns how many were folded away
+    /// since the queue was made: all that there are, so no fewer than the seat ever got receipts. Those of this time
+    /// count for the seat. It writes no record.
+    ///
+    /// # Errors
+    /// - HistoryFull, if more than 2^63 - 1 records would be folded away; nothing has changed.
+    /// - Memory, if the base can't grow; nothing has changed.
     pub fn checkpoint<R: Wait>(
         &self,
         rt: &R,
@@ -41,6 +46,7 @@ impl<O: QueuePlace + Bases, G, N: Ledgers> Queue<O, G, N> {
     ) -> Result<(Seat<Deed, N>, u64), SeatRefused<O::Item, N>>
         ensures seat { IfOk result (λ made. (more : ℕ) × (more ≤ made.1) × Checkpoints more seat made.0) }
         ensures gone { IfOk result (λ made. made.1 ≤ most_gone) }
+        ensures all { IfOk result (λ made. share_in made.0 ≤ made.1) }
         ensures back { IfErr result (λ refused. refused.seat ≡ seat) }
         ensures item { IfErr result (λ refused. refused.item ≡ None) }
         ensures why { IfErr result (λ refused. IsCutWhy refused.why) }
@@ -57,10 +63,10 @@ impl<O: QueuePlace + Bases, G, N: Ledgers> Queue<O, G, N> {
 }
 
 impl<O: QueuePlace, G, N: Ledgers> Queue<O, G, N> {
-    /// Drops the seat's receipts for records that are folded away by now. It waits for the lock alone, and takes no
-    /// memory.
+    /// Drops the seat's receipts for the records that are folded away by now, and no other: at least those that its own
+    /// checkpoints folded away. It waits only for the lock, and takes no memory.
     pub fn trim<R: Wait>(&self, rt: &R, mut seat: Seat<Deed, N>) -> Seat<Deed, N>
-        ensures { (gone : ℕ) × Trims gone seat result }
+        ensures { (gone : ℕ) × Trims gone seat result × (seat.past.folded ≤ gone) }
     {
         self.place.trim(rt, &mut seat);
         seat
@@ -68,7 +74,7 @@ impl<O: QueuePlace, G, N: Ledgers> Queue<O, G, N> {
 
     /// The same with a seat whose ticket is open, and stays open.
     pub fn trim_pending<R: Wait>(&self, rt: &R, pending: Pending<Deed, N>) -> Pending<Deed, N>
-        ensures { (gone : ℕ) × TrimsPending gone pending result }
+        ensures { (gone : ℕ) × TrimsPending gone pending result × (pending.past.folded ≤ gone) }
     {
         self.place.trim_pending(rt, pending)
     }

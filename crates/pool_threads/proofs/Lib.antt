@@ -11,3 +11,4 @@ pub mod Lying
 pub mod Rising
 pub mod Unstarted
 pub mod Worthy
+pub mod Stepping

@@ -1,6 +1,7 @@
 pub mod Duties
 pub mod Faults
 pub mod Seated
+pub mod Stepped
 pub mod Mirrored
 pub mod NextFits
 pub mod Outcomes

@@ -1,11 +1,12 @@
 //! A pool that lives long: its history is tended by its callers, handed out chapter by chapter, or looked at, while its
 //! workers go on.
 
-ghost use Rattle.std.specs.Prelude.{◌≡◌, ◌⊎◌, ◌+◌, ◌<◌, ◌≤◌, ◌^◌, ℕ, length, IsOkAnd, IfOk, IfErr};
+ghost use Rattle.std.specs.Prelude.{◌≡◌, ◌⊎◌, ◌+◌, ◌<◌, ◌≤◌, ◌^◌, ℕ, true, false, length, IsOkAnd, IfOk, IfErr};
+ghost use Rattle.std.specs.Sync.Mutex.{mutex_guard_value};
 ghost use Rattle.meet_tickets.specs.Limits.{most_gone, most_records};
 ghost use Rattle.meet_tickets.specs.declared.refusals.Refusal.TheVariants.{Memory};
 ghost use Rattle.meet_place.specs.Seats.{Checkpoints, Trims, share_in};
-ghost use Rattle.meet_place.specs.Tending.{Tends, may_lie};
+ghost use Rattle.meet_place.specs.Tending.{LooksAfter, Tends, is_to_look, may_lie, to_fold};
 ghost use Rattle.pool_core.specs.Bases.{LeadsTo};
 ghost use Rattle.pool_core.specs.Histories.{no_base};
 ghost use Rattle.pool_core.specs.Shown.{Shown};
@@ -21,8 +22,8 @@ use meet_cells::Gate;
 use meet_place::{Seat, hold};
 use meet_tickets::{MOST_RECORDS, Record, Refusal};
 use pool_core::{PoolBase, PoolCore, PoolDeed};
-use std::sync::Wait;
-use std::sync::atomic::Ordering;
+use std::sync::atomic::{AtomicU64, Ordering};
+use std::sync::{MutexGuard, Wait};
 
 /// Records of a pool that followed one another, and what stands for all that came before them.
 #[derive(Debug, Drop)]
@@ -38,7 +39,9 @@ impl<W: Work, C: Drop, N: PoolLedgers> PoolShared<W, C, N> {
     /// then. It refuses HistoryFull or Memory; then nothing has changed.
     fn look_after(&mut self, seat: &mut Seat<PoolDeed<u64>, N>) -> (Result<(), Refusal>, u64)
         ensures fits { share_in seat.new < 2 ^ 64 }
-        ensures counted { IfOk result.0 (λ _. (more : ℕ) × Checkpoints more seat.old seat.new) }
+        ensures gone { IfOk result.0 (λ _. result.1 ≡ self.old.base.gone + to_fold self.old) }
+        ensures counted { IfOk result.0 (λ _. Checkpoints (to_fold self.old) seat.old seat.new) }
+        ensures none { IfErr result.0 (λ _. result.1 ≡ self.old.base.gone) }
         ensures why { IfErr result.0 IsCutWhy }
         ensures same { IfErr result.0 (λ _. seat.new ≡ seat.old) }
     {
@@ -55,6 +58,8 @@ impl<W: Work, C: Drop, N: PoolLedgers> PoolShared<W, C, N> {
         ensures legal { IfOk result (λ chapter. (core : Shown ℕ) × (core.settings ≡ N.settings)
             × LeadsTo (λ tag. tag) chapter.base chapter.records.items core) }
         ensures first { IfOk result (λ chapter. chapter.base.gone ≡ 0 → chapter.base ≡ no_base) }
+        ensures taken { IfOk result (λ chapter. (chapter.base ≡ self.old.base)
+            × (chapter.records.items ≡ self.old.records)) }
         ensures counted { IfOk result (λ chapter. Checkpoints (length chapter.records.items) seat.old seat.new) }
         ensures few { IfOk result (λ chapter. chapter.base.gone + length chapter.records.items ≤ most_gone) }
         ensures cap { IfOk result (λ chapter. length chapter.records.items ≤ N.cap) }
@@ -66,6 +71,8 @@ impl<W: Work, C: Drop, N: PoolLedgers> PoolShared<W, C, N> {
 
     /// Base and records once more. The only refusal is Memory.
     fn copy(&self) -> Result<Chapter<PoolCore<u64>>, Refusal>
+        ensures copied { IfOk result (λ chapter. (chapter.base ≡ self.now.base)
+            × (chapter.records.items ≡ self.now.records)) }
         ensures legal { IfOk result (λ chapter. (core : Shown ℕ) × (core.settings ≡ N.settings)
             × LeadsTo (λ tag. tag) chapter.base chapter.records.items core) }
         ensures first { IfOk result (λ chapter. chapter.base.gone ≡ 0 → chapter.base ≡ no_base) }
@@ -76,17 +83,94 @@ impl<W: Work, C: Drop, N: PoolLedgers> PoolShared<W, C, N> {
     }
 }
 
+/// Looks at the book under this lock for a seat, and publishes how many records are folded away then. With the lock
+/// free, it drops the seat's receipts for these. It refuses HistoryFull or Memory.
+fn look_after<W: Work, C: Drop, N: PoolLedgers>(
+    published: &AtomicU64,
+    mut shared: MutexGuard<'_, PoolShared<W, C, N>>,
+    mut seat: Seat<PoolDeed<u64>, N>,
+) -> Result<Seat<PoolDeed<u64>, N>, SeatRefused<N>>
+    ensures looked { IfOk result (LooksAfter (λ base. base.gone) (mutex_guard_value shared.entry) seat) }
+    ensures trimmed { IfErr result (λ refused. Trims (mutex_guard_value shared.entry).base.gone seat refused.seat) }
+    ensures why { IfErr result (λ refused. IsCutWhy refused.why) }
+{
+    let (folded, gone) = shared.look_after(&mut seat);
+    drop(shared);
+    published.store(gone, Ordering::Relaxed);
+    seat.forget(gone);
+    match folded {
+        Ok(()) => Ok(seat),
+        Err(why) => Err(SeatRefused { why, seat }),
+    }
+}
+
+/// A checkpoint of a seat that hands out what the book under this lock holds, and publishes how many records are folded
+/// away then. It refuses HistoryFull or Memory; then nothing has changed but the room, which is dropped.
+fn rotate<W: Work, C: Drop, N: PoolLedgers>(
+    published: &AtomicU64,
+    mut shared: MutexGuard<'_, PoolShared<W, C, N>>,
+    mut seat: Seat<PoolDeed<u64>, N>,
+    room: Vec<Record<PoolDeed<u64>>>,
+) -> Result<(Seat<PoolDeed<u64>, N>, PoolChapter), SeatRefused<N>>
+    ensures base { IfOk result (λ made. made.1.base ≡ (mutex_guard_value shared.entry).base) }
+    ensures records { IfOk result (λ made. made.1.records.items ≡ (mutex_guard_value shared.entry).records) }
+    ensures legal { IfOk result (λ made. (core : Shown ℕ) × (core.settings ≡ N.settings)
+        × LeadsTo (λ tag. tag) made.1.base made.1.records.items core) }
+    ensures first { IfOk result (λ made. made.1.base.gone ≡ 0 → made.1.base ≡ no_base) }
+    ensures counted { IfOk result (λ made. Checkpoints (length made.1.records.items) seat made.0) }
+    ensures few { IfOk result (λ made. made.1.base.gone + length made.1.records.items ≤ most_gone) }
+    ensures cap { IfOk result (λ made. length made.1.records.items ≤ N.cap) }
+    ensures back { IfErr result (λ refused. refused.seat ≡ seat) }
+    ensures why { IfErr result (λ refused. IsCutWhy refused.why) }
+{
+    match shared.rotate(&mut seat, room) {
+        Ok(chapter) => {
+            let Chapter { base, records } = chapter;
+            let gone = base.gone.saturating_add(records.len() as u64);
+            published.store(gone, Ordering::Relaxed);
+            Ok((seat, PoolChapter { base, records }))
+        }
+        Err(why) => Err(SeatRefused { why, seat }),
+    }
+}
+
+/// What the book under this lock holds, copied. The only refusal is Memory.
+fn copy<W: Work, C: Drop, N: PoolLedgers>(
+    shared: MutexGuard<'_, PoolShared<W, C, N>>,
+) -> Result<PoolChapter, Refusal>
+    ensures base { IfOk result (λ chapter. chapter.base ≡ (mutex_guard_value shared.entry).base) }
+    ensures records { IfOk result (λ chapter. chapter.records.items ≡ (mutex_guard_value shared.entry).records) }
+    ensures legal { IfOk result (λ chapter. (core : Shown ℕ) × (core.settings ≡ N.settings)
+        × LeadsTo (λ tag. tag) chapter.base chapter.records.items core) }
+    ensures first { IfOk result (λ chapter. chapter.base.gone ≡ 0 → chapter.base ≡ no_base) }
+    ensures cap { IfOk result (λ chapter. length chapter.records.items ≤ N.cap) }
+    ensures why { IfErr result (λ why. why ≡ Memory) }
+{
+    match shared.copy() {
+        Ok(chapter) => {
+            let Chapter { base, records } = chapter;
+            Ok(PoolChapter { base, records })
+        }
+        Err(why) => Err(why),
+    }
+}
+
 impl<W: Work, C: Drop, G: Gate + Drop, S: Drop, N: PoolLedgers> Pool<W, C, G, S, N> {
-    /// Sees to it that the history never fills: behind each call, by each caller. Where more receipts lie in the seat's
-    /// list than 1,048,576 parted by the seats, and that by four, and the history may be more than half full, it takes
-    /// the lock once, makes a checkpoint where it is, and lets go of the seat's receipts for all that is folded away.
-    /// Most calls touch no lock. It is refused as a checkpoint is; the receipts are let go then too.
+    /// Keeps the history from filling, if each caller calls it after each of its calls. If the seat's list has more
+    /// receipts than a quarter of its part of 1,048,576, and the last of them shows that the history may be more than
+    /// half full (`is_to_look`), it takes the lock once, makes a checkpoint if the history is, and drops the seat's
+    /// receipts for all that is folded away. Else it does nothing and touches no lock, as most calls do.
+    ///
+    /// # Errors
+    /// - HistoryFull, Memory: as `checkpoint`; the receipts for what was folded away before are dropped.
     pub fn tend<R: Wait>(
         &self,
         rt: &R,
-        mut seat: Seat<PoolDeed<u64>, N>,
+        seat: Seat<PoolDeed<u64>, N>,
     ) -> Result<Seat<PoolDeed<u64>, N>, SeatRefused<N>>
         ensures few { length seat.list ≤ may_lie most_records N.parts → IsOkAnd result (λ tended. tended ≡ seat) }
+        ensures idle { is_to_look most_records N.parts seat ≡ false → IsOkAnd result (λ tended. tended ≡ seat) }
+        ensures looked { is_to_look most_records N.parts seat ≡ true → IfOk result (Tends seat) }
         ensures tended { IfOk result (λ tended. (tended ≡ seat) ⊎ Tends seat tended) }
         ensures trimmed { IfErr result (λ refused. (gone : ℕ) × Trims gone seat refused.seat) }
         ensures why { IfErr result (λ refused. IsCutWhy refused.why) }
@@ -94,15 +178,7 @@ impl<W: Work, C: Drop, G: Gate + Drop, S: Drop, N: PoolLedgers> Pool<W, C, G, S,
         if !seat.is_to_look(MOST_RECORDS, self.home.made.count() as u64) {
             return Ok(seat);
         }
-        let mut shared = hold(rt, &self.home.shared);
-        let (folded, gone) = shared.look_after(&mut seat);
-        drop(shared);
-        self.home.folded.store(gone, Ordering::Relaxed);
-        seat.forget(gone);
-        match folded {
-            Ok(()) => Ok(seat),
-            Err(why) => Err(SeatRefused { why, seat }),
-        }
+        look_after(&self.home.folded, hold(rt, &self.home.shared), seat)
     }
 
     /// A checkpoint that hands out what it folds away: the records so far, and the base on which they stand. They count
@@ -112,7 +188,7 @@ impl<W: Work, C: Drop, G: Gate + Drop, S: Drop, N: PoolLedgers> Pool<W, C, G, S,
     pub fn rotate<R: Wait>(
         &self,
         rt: &R,
-        mut seat: Seat<PoolDeed<u64>, N>,
+        seat: Seat<PoolDeed<u64>, N>,
         room: Vec<Record<PoolDeed<u64>>>,
     ) -> Result<(Seat<PoolDeed<u64>, N>, PoolChapter), SeatRefused<N>>
         ensures legal { IfOk result (λ made. (core : Shown ℕ) × (core.settings ≡ N.settings)
@@ -124,16 +200,7 @@ impl<W: Work, C: Drop, G: Gate + Drop, S: Drop, N: PoolLedgers> Pool<W, C, G, S,
         ensures back { IfErr result (λ refused. refused.seat ≡ seat) }
         ensures why { IfErr result (λ refused. IsCutWhy refused.why) }
     {
-        let mut shared = hold(rt, &self.home.shared);
-        match shared.rotate(&mut seat, room) {
-            Ok(chapter) => {
-                let Chapter { base, records } = chapter;
-                let gone = base.gone.saturating_add(records.len() as u64);
-                self.home.folded.store(gone, Ordering::Relaxed);
-                Ok((seat, PoolChapter { base, records }))
-            }
-            Err(why) => Err(SeatRefused { why, seat }),
-        }
+        rotate(&self.home.folded, hold(rt, &self.home.shared), seat, room)
     }
 
     /// The records so far, and the base on which they stand, copied under one hold of the lock. Nothing changes, and no
@@ -146,13 +213,6 @@ impl<W: Work, C: Drop, G: Gate + Drop, S: Drop, N: PoolLedgers> Pool<W, C, G, S,
         ensures cap { IfOk result (λ chapter. length chapter.records.items ≤ N.cap) }
         ensures why { IfErr result (λ why. why ≡ Memory) }
     {
-        let shared = hold(rt, &self.home.shared);
-        match shared.copy() {
-            Ok(chapter) => {
-                let Chapter { base, records } = chapter;
-                Ok(PoolChapter { base, records })
-            }
-            Err(why) => Err(why),
-        }
+        copy(hold(rt, &self.home.shared))
     }
 }

@@ -1,7 +1,10 @@
 //! Checkpoints of a pool: the records so far are folded into its base, and callers' seats can let go of their receipts
 //! for them. So a pool that lives long never fills for good.
 
-ghost use Rattle.std.specs.Prelude.{◌≡◌, ◌<◌, ◌≤◌, ◌^◌, ℕ, IfOk, IfErr};
+ghost use Rattle.std.specs.Prelude.{◌≡◌, ◌+◌, ◌<◌, ◌≤◌, ◌^◌, ℕ, length, IfOk, IfErr};
+ghost use Rattle.std.specs.Sync.Mutex.{mutex_guard_value};
+ghost use Rattle.meet_book.specs.Booking.{cut_refusal};
+ghost use Rattle.meet_tickets.specs.Refusals.{IsWhy};
 ghost use Rattle.meet_tickets.specs.Limits.{most_gone};
 ghost use Rattle.meet_place.specs.Seats.{Checkpoints, Trims, share_in};
 ghost use Rattle.pool_threads.specs.Told.{IsCutWhy};
@@ -14,25 +17,36 @@ use crate::shared::PoolShared;
 use crate::worth::WorkerSeat;
 use meet_cells::Gate;
 use meet_place::{Seat, hold};
-use meet_tickets::Refusal;
 use pool_core::PoolDeed;
-use std::sync::Wait;
 use std::sync::atomic::Ordering;
+use std::sync::{MutexGuard, Wait};
 
 impl<W: Work, C: Drop, N: PoolLedgers> PoolShared<W, C, N> {
-    /// Folds the records away, counts them for the seat, and answers how many were folded away since the first. It
-    /// refuses HistoryFull or Memory; then nothing has changed.
-    fn cut(&mut self, seat: &mut Seat<PoolDeed<u64>, N>) -> Result<u64, Refusal>
-        ensures gone { IfOk result (λ gone. gone ≤ most_gone) }
-        ensures counted { IfOk result (λ gone. (more : ℕ) × (more ≤ gone) × Checkpoints more seat.old seat.new) }
-        ensures why { IfErr result IsCutWhy }
-        ensures same { IfErr result (λ _. seat.new ≡ seat.old) }
+    /// Folds the records away, counts them for the seat, and returns how many were folded away since the pool was made.
+    /// It refuses HistoryFull or Memory; then nothing has changed.
+    fn checkpoint(
+        &mut self,
+        mut seat: Seat<PoolDeed<u64>, N>,
+    ) -> Result<(Seat<PoolDeed<u64>, N>, u64), SeatRefused<N>>
+        ensures is { IfOk result (λ made. made.1 ≡ self.old.base.gone + length self.old.records) }
+        ensures folds { IfOk result (λ made. Checkpoints (length self.old.records) seat made.0) }
+        ensures seat { IfOk result (λ made. (more : ℕ) × (more ≤ made.1) × Checkpoints more seat made.0) }
+        ensures all { IfOk result (λ made. share_in made.0 ≤ made.1) }
+        ensures gone { IfOk result (λ made. made.1 ≤ most_gone) }
+        ensures back { IfErr result (λ refused. refused.seat ≡ seat) }
+        ensures exact { IfErr result (λ refused. IsWhy (cut_refusal self.old.base.gone self.old) refused.why) }
+        ensures why { IfErr result (λ refused. IsCutWhy refused.why) }
     {
-        self.shared.cut(seat)
+        match self.shared.cut(&mut seat) {
+            Ok(gone) => Ok((seat, gone)),
+            Err(why) => Err(SeatRefused { why, seat }),
+        }
     }
 
     /// How many records were folded away, looked at for a seat, whose share is no more than all records.
     fn gone_for(&mut self, seat: &mut Seat<PoolDeed<u64>, N>) -> u64
+        ensures gone { result ≡ self.old.base.gone }
+        ensures folded { seat.old.past.folded ≤ result }
         ensures fits { share_in seat.new < 2 ^ 64 }
         ensures seat { seat.new ≡ seat.old }
     {
@@ -48,39 +62,53 @@ impl<W: Work, C: Drop, N: PoolLedgers> PoolShared<W, C, N> {
     }
 }
 
+/// Drops a seat's receipts for the records that the book under this lock folded away. It releases the lock first.
+fn trim_after<W: Work, C: Drop, N: PoolLedgers>(
+    mut shared: MutexGuard<'_, PoolShared<W, C, N>>,
+    mut seat: Seat<PoolDeed<u64>, N>,
+) -> Seat<PoolDeed<u64>, N>
+    ensures trims { Trims (mutex_guard_value shared.entry).base.gone seat result }
+    ensures folded { seat.past.folded ≤ (mutex_guard_value shared.entry).base.gone }
+{
+    let gone = shared.gone_for(&mut seat);
+    drop(shared);
+    seat.forget(gone);
+    seat
+}
+
 impl<W: Work, C: Drop, G: Gate + Drop, S: Drop, N: PoolLedgers> Pool<W, C, G, S, N> {
-    /// Folds the records so far into the pool's base, under one hold of the lock, and answers how many were folded away
-    /// since the first; those of this time count for the seat. It writes no record. It refuses HistoryFull where these
-    /// would be more than 2^63 - 1, else Memory; then nothing has changed.
+    /// Folds the records so far into the pool's base, under one hold of the lock, and returns how many were folded away
+    /// since the pool was made: all that there are, so no fewer than the seat ever got receipts. Those of this time count
+    /// for the seat. It writes no record.
+    ///
+    /// # Errors
+    /// - HistoryFull, if more than 2^63 - 1 records would be folded away; nothing has changed.
+    /// - Memory, if the base can't grow; nothing has changed.
     pub fn checkpoint<R: Wait>(
         &self,
         rt: &R,
-        mut seat: Seat<PoolDeed<u64>, N>,
+        seat: Seat<PoolDeed<u64>, N>,
     ) -> Result<(Seat<PoolDeed<u64>, N>, u64), SeatRefused<N>>
         ensures seat { IfOk result (λ made. (more : ℕ) × (more ≤ made.1) × Checkpoints more seat made.0) }
+        ensures all { IfOk result (λ made. share_in made.0 ≤ made.1) }
         ensures gone { IfOk result (λ made. made.1 ≤ most_gone) }
         ensures back { IfErr result (λ refused. refused.seat ≡ seat) }
         ensures why { IfErr result (λ refused. IsCutWhy refused.why) }
     {
         let mut shared = hold(rt, &self.home.shared);
-        match shared.cut(&mut seat) {
-            Ok(gone) => {
-                self.home.folded.store(gone, Ordering::Relaxed);
-                Ok((seat, gone))
-            }
-            Err(why) => Err(SeatRefused { why, seat }),
+        let made = shared.checkpoint(seat);
+        if let Ok((_, gone)) = &made {
+            self.home.folded.store(*gone, Ordering::Relaxed);
         }
+        drop(shared);
+        made
     }
 
-    /// Drops the seat's receipts for records that are folded away by now. It waits for the lock alone, and takes no
-    /// memory.
-    pub fn trim<R: Wait>(&self, rt: &R, mut seat: Seat<PoolDeed<u64>, N>) -> Seat<PoolDeed<u64>, N>
-        ensures { (gone : ℕ) × Trims gone seat result }
+    /// Drops the seat's receipts for the records that are folded away by now, and no other: at least those that its own
+    /// checkpoints folded away. It waits only for the lock, and takes no memory.
+    pub fn trim<R: Wait>(&self, rt: &R, seat: Seat<PoolDeed<u64>, N>) -> Seat<PoolDeed<u64>, N>
+        ensures { (gone : ℕ) × Trims gone seat result × (seat.past.folded ≤ gone) }
     {
-        let mut shared = hold(rt, &self.home.shared);
-        let gone = shared.gone_for(&mut seat);
-        drop(shared);
-        seat.forget(gone);
-        seat
+        trim_after(hold(rt, &self.home.shared), seat)
     }
 }

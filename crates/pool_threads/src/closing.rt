@@ -1,7 +1,7 @@
 //! Shutting a pool down, and its end.
 
 ghost use Rattle.std.specs.Prelude.{◌≡◌, ◌+◌, ◌<◌, ◌≤◌, ◌^◌, ◌++◌, [], ◌∷◌, ℕ, length, map, IfOk, IfErr, vec_len, List};
-ghost use Rattle.std.specs.Prelude.{IsSome, Some, is_some, count_by, AllPairs, if◌then◌else◌};
+ghost use Rattle.std.specs.Prelude.{IsSome, Some, is_some, count_by, AllPairs, if◌then◌else◌, ◌&&◌, ◌==◌};
 ghost use Rattle.std.specs.Arc.{arc_value};
 ghost use Rattle.std.specs.Vec.{vec_capacity};
 ghost use Rattle.std.specs.VecDeque.{deque_len};
@@ -12,7 +12,10 @@ ghost use Rattle.meet_place.specs.declared.seats.Back.{Back};
 ghost use Rattle.pool_core.specs.Bases.{LeadsTo};
 ghost use Rattle.pool_core.specs.Histories.{no_base};
 ghost use Rattle.pool_core.specs.Moves.{job_in};
-ghost use Rattle.pool_core.specs.Pools.{Pool as CorePool, kept_tasks};
+ghost use Rattle.pool_core.specs.Pools.{Pool as CorePool, kept_tasks, working};
+ghost use Rattle.pool_core.specs.Calls.{is_running};
+ghost use Rattle.meet_tickets.specs.Meeting.{kept_count};
+ghost use Rattle.pool_threads.specs.Told.{IsShutWhy};
 ghost use Rattle.pool_core.specs.Shown.{Shown};
 ghost use Rattle.pool_core.specs.declared.deeds.PoolDeed.{PoolDeed as Told};
 ghost use Rattle.pool_core.specs.declared.deeds.PoolDeed.TheVariants.{ShutDown, ShutDownNow};
@@ -66,6 +69,27 @@ impl<W: Work, C: Drop, N: PoolLedgers> PoolShared<W, C, N> {
         ensures { result ≡ absent self.now.object.pool }
     {
         seats_in(self.seats.as_slice())
+    }
+
+    /// Returns what the core counts.
+    fn counters(&self) -> Counters
+        ensures { result ≡ record {
+          workers = working self.now.object.pool;
+          running = count_by is_running self.now.object.pool.workers;
+          kept = kept_count self.now.object.pool.line;
+          done = self.now.object.pool.done;
+          largest = self.now.object.pool.largest;
+        } }
+    {
+        self.probe().counters()
+    }
+
+    /// Whether the pool is shut down and has no worker.
+    fn has_ended(&self) -> bool
+        ensures { result ≡ self.now.object.pool.shut && (working self.now.object.pool == 0) }
+    {
+        let core = self.probe();
+        core.is_shut() && core.workers() == 0
     }
 }
 
@@ -189,6 +213,10 @@ fn unclosed<W: Work, C, G, S, N: PoolLedgers>(
 impl<W: Work, C: Drop, G: Gate + Drop, S: Drop, N: PoolLedgers> Pool<W, C, G, S, N> {
     /// `ThreadPoolExecutor.shutdown`: no more jobs are taken, and workers that find none end. It waits for the lock
     /// alone, and does no harm when repeated.
+    ///
+    /// # Errors
+    /// - NoSuchSeat, if the seat is no caller's.
+    /// - HistoryFull, Memory: nothing has changed.
     pub fn shutdown<R: Wait>(
         &self,
         rt: &R,
@@ -197,6 +225,7 @@ impl<W: Work, C: Drop, G: Gate + Drop, S: Drop, N: PoolLedgers> Pool<W, C, G, S,
         ensures seat { IfOk result (λ after. SameSeat seat after) }
         ensures adds { IfOk result (λ after. Adds seat.list after.list
             (record { seat = seat.number; ticket = 0; deed = ShutDown } ∷ [])) }
+        ensures why { IfErr result (λ refused. IsShutWhy N.settings.sizes.callers seat.number refused.why) }
         ensures same { IfErr result (λ refused. SameSeat seat refused.seat × (refused.seat.list ≡ seat.list)) }
     {
         if seat.reserve(1).is_err() {
@@ -217,6 +246,10 @@ impl<W: Work, C: Drop, G: Gate + Drop, S: Drop, N: PoolLedgers> Pool<W, C, G, S,
 
     /// `ThreadPoolExecutor.shutdownNow`: shuts the pool down, and takes all kept jobs out, in their order. It waits for
     /// the lock alone.
+    ///
+    /// # Errors
+    /// - NoSuchSeat, if the seat is no caller's.
+    /// - HistoryFull, Memory: nothing has changed.
     pub fn shutdown_now<R: Wait>(
         &self,
         rt: &R,
@@ -225,6 +258,7 @@ impl<W: Work, C: Drop, G: Gate + Drop, S: Drop, N: PoolLedgers> Pool<W, C, G, S,
         ensures seat { IfOk result (λ done. SameSeat seat done.0) }
         ensures adds { IfOk result (λ done. Adds seat.list done.0.list
             (record { seat = seat.number; ticket = 0; deed = ShutDownNow (length done.1.items) } ∷ [])) }
+        ensures why { IfErr result (λ refused. IsShutWhy N.settings.sizes.callers seat.number refused.why) }
         ensures same { IfErr result (λ refused. SameSeat seat refused.seat × (refused.seat.list ≡ seat.list)) }
     {
         if seat.reserve(1).is_err() {
@@ -254,20 +288,17 @@ impl<W: Work, C: Drop, G: Gate + Drop, S: Drop, N: PoolLedgers> Pool<W, C, G, S,
     /// What the pool shows of itself: its workers, the jobs that run, are kept and were done, and the most workers that
     /// there were. It waits for the lock alone.
     pub fn counters<R: Wait>(&self, rt: &R) -> Counters {
-        let shared = hold(rt, &self.home.shared);
-        shared.probe().counters()
+        hold(rt, &self.home.shared).counters()
     }
 
     /// `ThreadPoolExecutor.awaitTermination` without a limit: waits until the pool is shut down and has no worker,
     /// which may be never.
     pub fn await_end<R: Wait>(&self, rt: &R) {
-        let guard = self
-            .home
-            .moved
-            .wait_while(rt, hold(rt, &self.home.shared), |shared| {
-                let core = shared.probe();
-                !(core.is_shut() && core.workers() == 0)
-            });
+        let guard = self.home.moved.wait_while(
+            rt,
+            hold(rt, &self.home.shared),
+            |shared| !shared.has_ended(),
+        );
         drop(guard);
     }
 

@@ -1,6 +1,6 @@
 //! Jobs, and what becomes of one that is handed in.
 
-ghost use Rattle.std.specs.Prelude.{◌≡◌, ℕ, IfSome};
+ghost use Rattle.std.specs.Prelude.{◌≡◌, ◌≢◌, ℕ, MatchOption};
 
 use meet_tickets::Ticket;
 use std::fmt;
@@ -67,11 +67,12 @@ impl<C> Job<C> {
         call
     }
 
-    /// Does it, if it is of its tag; all are that were made by `new`. It answers what its tag is worth.
+    /// Runs the job if it is of its tag, as all are that `new` made, and returns what the tag is worth; None exactly if it
+    /// isn't of its tag.
     pub fn run<W: Work>(self) -> Option<u64>
     where
         C: Call<W> + Drop,
-        ensures { IfSome result (λ answer. answer ≡ W.worth self.tag) }
+        ensures { MatchOption result (C.tag_of self.call ≢ self.tag) (λ answer. answer ≡ W.worth self.tag) }
     {
         let Job { tag, call } = self;
         if call.tag() != tag {

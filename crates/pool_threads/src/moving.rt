@@ -6,7 +6,7 @@ ghost use Rattle.std.specs.VecDeque.{deque_len, deque_capacity};
 ghost use Rattle.pool_core.specs.Calls.{ComesBack};
 ghost use Rattle.pool_core.specs.Moves.{Jobs, ExecuteMoves, Own, First};
 ghost use Rattle.pool_threads.specs.Mirrored.{tags_of, tag_in, given_tag, away};
-ghost use Rattle.pool_threads.specs.Told.{answer_told, IsItself, Starts};
+ghost use Rattle.pool_threads.specs.Told.{answer_told, IsItself, Starts, StartsOne};
 
 use crate::jobs::{Executed, Job};
 use crate::shared::Placed;
@@ -31,6 +31,7 @@ pub(crate) fn place<C: Drop, S: Drop>(
     ensures told { answer_told result.executed ≡ answer }
     ensures worker { IfSome result.worker (λ worker. (w : ℕ) × Starts answer w
         × (slice_get seats.old.items w ≡ Some (Some worker))) }
+    ensures starts { StartsOne answer result.worker }
     ensures moves { (new : Jobs ℕ)
         → ExecuteMoves job.tag answer (tags_of kept.old.items given.old.items (away seats.old.items)) new
         → tags_of kept.new.items given.new.items (away seats.new.items) ≡ new }

@@ -5,7 +5,7 @@ ghost use Rattle.std.specs.Prelude.{IfErr, IfSome, Some, None};
 ghost use Rattle.meet_tickets.specs.declared.refusals.Refusal.TheVariants.{NoThread};
 ghost use Rattle.meet_place.specs.Seats.{SameSeat};
 ghost use Rattle.pool_core.specs.declared.answers.Executed.TheVariants as answer;
-ghost use Rattle.pool_threads.specs.Told.{answer_told, IsItself, Starts};
+ghost use Rattle.pool_threads.specs.Told.{answer_told, IsItself, Starts, IsExecuteWhy, woken_by, StartsOne};
 ghost use Rattle.pool_threads.specs.Outcomes.{Handed, IsUnstarted, IsBack, answer_of, ItemFits};
 
 use crate::home::Home;
@@ -34,7 +34,9 @@ pub struct Pool<W: Work, C, G, S, N: PoolLedgers> {
 }
 
 /// The worker that is to be woken.
-fn wakes<C>(executed: &Executed<C>) -> Option<u64> {
+fn wakes<C>(executed: &Executed<C>) -> Option<u64>
+    ensures { result ≡ woken_by (answer_told executed.now) }
+{
     match executed {
         Executed::Handed(w) => Some(*w),
         _ => None,
@@ -98,7 +100,9 @@ impl<W: Work, C: Drop, G: Gate + Drop, S, N: PoolLedgers> Pool<W, C, G, S, N> {
         ensures itself { IfOk result (λ placed. IsItself job placed.executed) }
         ensures worker { IfOk result (λ placed. IfSome placed.worker (λ worker. (w : ℕ)
             × Starts (answer_told placed.executed) w × (4 ≤ worker.room))) }
+        ensures starts { IfOk result (λ placed. StartsOne (answer_told placed.executed) placed.worker) }
         ensures why { IfErr result (λ refused. refused.why ≢ NoThread) }
+        ensures reason { IfErr result (λ refused. IsExecuteWhy N.settings.sizes.callers seat.old.number refused.why) }
         ensures back { IfErr result (λ refused. refused.back ≡ job) }
         ensures same { IfErr result (λ _. seat.new ≡ seat.old) }
     {
@@ -159,10 +163,14 @@ impl<W: Work, C: Call<W> + Drop, G: Gate + Drop, S: Starter, N: PoolLedgers> Poo
         }
     }
 
-    /// `ThreadPoolExecutor.execute`: hands a job in. It waits for the lock alone. Where a new worker is needed it
-    /// makes its thread; where the policy has the caller run the job, it runs here, and its answer is told. It refuses
-    /// Memory, what the core refuses, or NoThread, which leaves the job's own record; the job comes back exactly where
-    /// that says that a worker was started with it, and else it is kept.
+    /// `ThreadPoolExecutor.execute`: hands a job in. It waits for the lock alone. If a new worker is needed it makes its
+    /// thread; if the policy has the caller run the job, it runs here, and its answer is returned.
+    ///
+    /// # Errors
+    /// - Memory, HistoryFull; TicketsSpent; NoSuchSeat, if the seat is no caller's: nothing has changed, and the job is
+    ///   returned.
+    /// - NoThread, if the worker's thread can't be made: the record of its start stays. The job is returned exactly if
+    ///   the worker was started with it, and else it is kept.
     pub fn execute<R>(
         &self,
         rt: &R,
@@ -181,6 +189,8 @@ impl<W: Work, C: Call<W> + Drop, G: Gate + Drop, S: Starter, N: PoolLedgers> Poo
             → IsUnstarted seat refused.seat job refused.job) }
         ensures back { IfErr result (λ refused. refused.why ≢ NoThread
             → SameSeat seat refused.seat × (refused.seat.list ≡ seat.list) × (refused.job ≡ Some job)) }
+        ensures why { IfErr result (λ refused. refused.why ≢ NoThread
+            → IsExecuteWhy N.settings.sizes.callers seat.number refused.why) }
     {
         let tag = job.tag();
         if seat.reserve(1).is_err() {

@@ -1,14 +1,18 @@
 //! What the lock of a pool guards.
 
-ghost use Rattle.std.specs.Prelude.{ℕ, ◌≡◌, ◌≢◌, ◌<◌, ◌≤◌, is_none, [], ◌∷◌, Some, None, true, Option, length, IfOk};
+ghost use Rattle.std.specs.Prelude.{ℕ, ◌≡◌, ◌≢◌, ◌<◌, ◌≤◌, ◌⊎◌, map, is_none, [], ◌∷◌, Some, None, true, Option, length, IfOk};
 ghost use Rattle.std.specs.Prelude.{IfErr, IfSome, OnOk, IsTrue};
 ghost use Rattle.meet_tickets.specs.declared.refusals.Refusal.TheVariants.{NoThread, Memory};
 ghost use Rattle.meet_place.specs.Seats.{Adds, SameSeat};
+ghost use Rattle.meet_book.specs.Booking.{book_refusal};
+ghost use Rattle.meet_tickets.specs.Refusals.{IsWhy};
+ghost use Rattle.pool_core.specs.Calls.{execute_refusal, shutdown_refusal};
+ghost use Rattle.pool_core.specs.Pools.{owed};
 ghost use Rattle.pool_core.specs.Moves.{jobs_of};
 ghost use Rattle.pool_core.specs.declared.deeds.PoolDeed.TheVariants.{ShutDown, ShutDownNow};
-ghost use Rattle.pool_threads.specs.Mirrored.{tags_of, away, HasFour};
+ghost use Rattle.pool_threads.specs.Mirrored.{tags_of, tag_in, away, HasFour};
 ghost use Rattle.pool_threads.specs.Outcomes.{Handed};
-ghost use Rattle.pool_threads.specs.Told.{answer_told, IsItself, Starts};
+ghost use Rattle.pool_threads.specs.Told.{answer_told, IsItself, Starts, IsExecuteWhy, IsShutWhy, StartsOne};
 
 use crate::jobs::{Executed, Job, Work};
 use crate::ledgers::PoolLedgers;
@@ -79,7 +83,12 @@ impl<W: Work, C: Drop, N: PoolLedgers> PoolShared<W, C, N> {
         ensures itself { IfOk result (λ placed. IsItself job placed.executed) }
         ensures worker { IfOk result (λ placed. IfSome placed.worker (λ worker. (w : ℕ)
             × Starts (answer_told placed.executed) w × (4 ≤ worker.room))) }
+        ensures starts { IfOk result (λ placed. StartsOne (answer_told placed.executed) placed.worker) }
         ensures why { IfErr result (λ refused. refused.why ≢ NoThread) }
+        ensures exact { IfErr result (λ refused. (refused.why ≡ Memory)
+            ⊎ IsWhy (book_refusal (execute_refusal self.old.object seat.old.number) (owed self.old.object.pool) 6 self.old)
+            refused.why) }
+        ensures reason { IfErr result (λ refused. IsExecuteWhy N.settings.sizes.callers seat.old.number refused.why) }
         ensures back { IfErr result (λ refused. refused.back ≡ job) }
         ensures same { IfErr result (λ _. seat.new ≡ seat.old) }
     {
@@ -101,10 +110,7 @@ impl<W: Work, C: Drop, N: PoolLedgers> PoolShared<W, C, N> {
                 PoolAnswer::Executed(_ticket, answer) => Ok(place(kept, given, seats, job, answer)),
                 _ => unreachable!(),
             },
-            Err(refused) => Err(Refused {
-                why: refused.why,
-                back: job,
-            }),
+            Err(refused) => Err(back_with(refused, job)),
         }
     }
 
@@ -114,6 +120,9 @@ impl<W: Work, C: Drop, N: PoolLedgers> PoolShared<W, C, N> {
         ensures seat { SameSeat seat.old seat.new }
         ensures adds { OnOk result (Adds seat.old.list seat.new.list
             (record { seat = seat.old.number; ticket = 0; deed = ShutDown } ∷ [])) }
+        ensures exact { IfErr result (IsWhy (book_refusal (shutdown_refusal self.old.object seat.old.number)
+            (owed self.old.object.pool) 1 self.old)) }
+        ensures why { IfErr result (IsShutWhy N.settings.sizes.callers seat.old.number) }
         ensures same { IfErr result (λ _. seat.new ≡ seat.old) }
     {
         match self.shared.step(seat, PoolCall::ShutDown) {
@@ -135,6 +144,10 @@ impl<W: Work, C: Drop, N: PoolLedgers> PoolShared<W, C, N> {
         ensures seat { SameSeat seat.old seat.new }
         ensures adds { IfOk result (λ jobs. Adds seat.old.list seat.new.list
             (record { seat = seat.old.number; ticket = 0; deed = ShutDownNow (length jobs.items) } ∷ [])) }
+        ensures jobs { IfOk result (λ jobs. map tag_in jobs.items ≡ (jobs_of self.old.object.pool).kept) }
+        ensures exact { IfErr result (IsWhy (book_refusal (shutdown_refusal self.old.object seat.old.number)
+            (owed self.old.object.pool) 1 self.old)) }
+        ensures why { IfErr result (IsShutWhy N.settings.sizes.callers seat.old.number) }
         ensures same { IfErr result (λ _. seat.new ≡ seat.old) }
     {
         let PoolShared { shared, kept, .. } = self;
@@ -145,6 +158,17 @@ impl<W: Work, C: Drop, N: PoolLedgers> PoolShared<W, C, N> {
             },
             Err(refused) => Err(refused.why),
         }
+    }
+}
+
+/// Returns why a call was refused, with the job that it brought.
+fn back_with<A: Drop, C>(refused: Refused<A>, job: Job<C>) -> Refused<Job<C>>
+    ensures why { result.why ≡ refused.why }
+    ensures back { result.back ≡ job }
+{
+    Refused {
+        why: refused.why,
+        back: job,
     }
 }
 

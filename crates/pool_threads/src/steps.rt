@@ -4,7 +4,9 @@ ghost use Rattle.std.specs.Prelude.{List, ℕ, map, ◌≡◌, ◌<◌, Some, No
 ghost use Rattle.pool_core.specs.Moves.{Jobs, ReadyMoves, FollowMoves, IdleMoves, FailMoves};
 ghost use Rattle.pool_threads.specs.Mirrored.{tags_of, given_tag, away};
 ghost use Rattle.pool_threads.specs.NextFits.{NextFits, ReadyNext, FollowNext, IdleNext};
+ghost use Rattle.pool_threads.specs.Stepped.{Works, Fails, core_call};
 ghost use Rattle.pool_threads.specs.Worthy.{EndsRunningWorth};
+ghost use Rattle.pool_core.specs.declared.calls.PoolCall.TheVariants as core;
 ghost use Rattle.pool_threads.specs.declared.steps.WorkerCall.TheVariants.{Finish as FinishCall};
 
 use crate::jobs::{Job, Work};
@@ -52,7 +54,8 @@ impl<W: Work, C: Drop, N: PoolLedgers> PoolShared<W, C, N> {
     pub fn work(&mut self, seat: WorkerSeat<W, N>, call: WorkerCall) -> Next<C, WorkerSeat<W, N>>
         requires room { 0 < seat.room }
         requires finish { (answer : _) → (call ≡ FinishCall answer) → EndsRunningWorth W.worth seat.list answer }
-        ensures { NextFits seat result }
+        ensures fits { NextFits seat result }
+        ensures step { Works self.old.object self.new.object seat (core_call call) result }
     {
         match call {
             WorkerCall::Ready => self.ready(seat),
@@ -66,7 +69,8 @@ impl<W: Work, C: Drop, N: PoolLedgers> PoolShared<W, C, N> {
     /// A worker's `ready`.
     fn ready(&mut self, mut seat: WorkerSeat<W, N>) -> Next<C, WorkerSeat<W, N>>
         requires room { 0 < seat.room }
-        ensures { NextFits seat result }
+        ensures fits { NextFits seat result }
+        ensures step { Works self.old.object self.new.object seat core.Ready result }
     {
         let PoolShared {
             shared,
@@ -89,7 +93,8 @@ impl<W: Work, C: Drop, N: PoolLedgers> PoolShared<W, C, N> {
     /// A worker's `follow`.
     fn follow(&mut self, mut seat: WorkerSeat<W, N>) -> Next<C, WorkerSeat<W, N>>
         requires room { 0 < seat.room }
-        ensures { NextFits seat result }
+        ensures fits { NextFits seat result }
+        ensures step { Works self.old.object self.new.object seat core.Follow result }
     {
         let PoolShared {
             shared,
@@ -113,7 +118,8 @@ impl<W: Work, C: Drop, N: PoolLedgers> PoolShared<W, C, N> {
     fn finish(&mut self, mut seat: WorkerSeat<W, N>, answer: u64) -> Next<C, WorkerSeat<W, N>>
         requires room { 0 < seat.room }
         requires worth { EndsRunningWorth W.worth seat.list answer }
-        ensures { NextFits seat result }
+        ensures fits { NextFits seat result }
+        ensures step { Works self.old.object self.new.object seat (core.Finish answer) result }
     {
         match seat.step(&mut self.shared, PoolCall::Finish(answer)) {
             Err(_) => Next::Refused(seat),
@@ -127,7 +133,8 @@ impl<W: Work, C: Drop, N: PoolLedgers> PoolShared<W, C, N> {
     /// A worker's time ran out.
     fn idle_end(&mut self, mut seat: WorkerSeat<W, N>) -> Next<C, WorkerSeat<W, N>>
         requires room { 0 < seat.room }
-        ensures { NextFits seat result }
+        ensures fits { NextFits seat result }
+        ensures step { Works self.old.object self.new.object seat core.IdleEnd result }
     {
         let PoolShared { shared, seats, .. } = self;
         let w = shared.probe().worker_of(seat.number()) as usize;
@@ -143,7 +150,8 @@ impl<W: Work, C: Drop, N: PoolLedgers> PoolShared<W, C, N> {
     /// A worker that has no job leaves.
     fn leave(&mut self, mut seat: WorkerSeat<W, N>) -> Next<C, WorkerSeat<W, N>>
         requires room { 0 < seat.room }
-        ensures { NextFits seat result }
+        ensures fits { NextFits seat result }
+        ensures step { Works self.old.object self.new.object seat core.Leave result }
     {
         let PoolShared { shared, seats, .. } = self;
         let w = shared.probe().worker_of(seat.number()) as usize;
@@ -163,6 +171,7 @@ impl<W: Work, C: Drop, N: PoolLedgers> PoolShared<W, C, N> {
     /// again; a step that is refused, which none is, lets it go.
     pub fn start_failed(&mut self, mut seat: WorkerSeat<W, N>) -> Option<Job<C>>
         requires room { 0 < seat.room }
+        ensures { Fails self.old.object self.new.object seat result }
     {
         let PoolShared {
             shared,
@@ -275,6 +284,7 @@ fn after_failed<C: Drop, S: Drop>(
     requires moves { (kept : List ℕ) × (new : Jobs ℕ)
         × FailMoves w first
         (record { kept = kept; given = map given_tag given.old.items; there = away seats.old.items }) new }
+    ensures job { given_tag result ≡ first }
     ensures moves { (kept : List ℕ) (new : Jobs ℕ)
         → FailMoves w first
         (record { kept = kept; given = map given_tag given.old.items; there = away seats.old.items }) new

@@ -7,7 +7,7 @@ ghost use Rattle.meet_book.specs.Listed.{is_since};
 ghost use Rattle.meet_place.specs.Seats.{Adds, Trims, share_in};
 ghost use Rattle.pool_core.specs.Placed.{pool_record};
 ghost use Rattle.pool_core.specs.Pools.{worker_of};
-ghost use Rattle.pool_core.specs.Moves.{Moves, jobs_of};
+ghost use Rattle.pool_core.specs.Moves.{IsMade, Moves, jobs_of};
 ghost use Rattle.pool_core.specs.declared.calls.PoolCall.TheVariants.{Finish};
 ghost use Rattle.pool_threads.specs.Worthy.{IsWorthy, EndsRunningWorth, stay_together};
 
@@ -163,6 +163,7 @@ impl<W: Work, N: Ledgers> WorkerSeat<W, N> {
             (option_to_list (pool_record (λ x. x) self.old.number call answer))) }
         ensures moves { IfOk result (λ answer. Moves (worker_of shared.old.object.settings self.old.number) call answer
             (jobs_of shared.old.object.pool) (jobs_of shared.new.object.pool)) }
+        ensures made { IfOk result (λ answer. IsMade shared.old.object self.old.number call answer shared.new.object) }
         ensures settings { shared.new.object.settings ≡ shared.old.object.settings }
         ensures same { IfErr result (λ _. (self.new ≡ self.old)
             × (jobs_of shared.new.object.pool ≡ jobs_of shared.old.object.pool)) }

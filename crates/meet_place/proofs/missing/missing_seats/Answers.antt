@@ -1,6 +1,6 @@
 -- Proof of `missing_seats`, src/missing.rt. The numbers of those of so many seats that aren't among these, in rising
 -- order.
-use Rattle.std.proofs.Common.{◌≡◌, ◌∙◌, ◌++◌, [], ◌∷◌, ap, sym, true, false, arith, rules}
+use Rattle.std.proofs.Common.{◌≡◌, ◌∙◌, ◌++◌, [], ◌∷◌, ap, sym, arith, rules}
 use Rattle.std.specs.Prelude.{not}
 use Rattle.meet_place.specs.Backs.{is_back}
 use Rattle.meet_place.proofs.Numbered.{passes, falls}

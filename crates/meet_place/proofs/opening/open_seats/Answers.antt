@@ -13,5 +13,5 @@ loop-at-preserved g c = record {
   folds = omega arith;
   fresh = rw c.push_reserved.ensures.items
       (fresh_push _ _ c.loop-at.invariant.fresh (omega (arith, c.new.ensures.number))
-      c.new.ensures.list c.new.ensures.past.0 c.new.ensures.past.1);
+      c.new.ensures.list c.new.ensures.past.0 c.new.ensures.past.1 c.new.ensures.past.2);
 }

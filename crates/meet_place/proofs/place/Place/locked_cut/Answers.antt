@@ -1,9 +1,8 @@
 -- Proof of `Place::locked_cut`, src/place.rt. A checkpoint of a seat: folds the records away, under one hold of the
 -- lock, and answers how many were folded away since the first.
 use Rattle.std.proofs.Common.{◌≡◌, ◌+◌, ℕ, None, Ok, Err, length}
-use Rattle.std.specs.Prelude.{Result, IfOk, IfErr}
+use Rattle.std.specs.Prelude.{Result, IfOk}
 use Rattle.meet_tickets.specs.declared.refusals.Refusal.{Refusal}
-use Rattle.meet_tickets.specs.Refusals.{IsWhy}
 use Rattle.meet_book.specs.Booked.{Booked}
 use Rattle.meet_book.specs.Booking.{cut_refusal}
 use Rattle.meet_place.specs.Seats.{SeatView, Checkpoints}

@@ -16,5 +16,6 @@ loop-gate-preserved g c = record {
   folds = omega arith;
   fresh = rw c.push_reserved-in-loop-gate.ensures.items
       (fresh_push _ _ c.loop-gate.invariant.fresh (omega (arith, c.new-in-loop-gate.ensures.number))
-      c.new-in-loop-gate.ensures.list c.new-in-loop-gate.ensures.past.0 c.new-in-loop-gate.ensures.past.1);
+      c.new-in-loop-gate.ensures.list c.new-in-loop-gate.ensures.past.0 c.new-in-loop-gate.ensures.past.1
+      c.new-in-loop-gate.ensures.past.2);
 }

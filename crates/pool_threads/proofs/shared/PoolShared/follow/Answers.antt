@@ -1,18 +1,27 @@
 -- Proof of `PoolShared::follow`, src/steps.rt. A worker's `follow`.
-use Rattle.std.proofs.Common.{subst}
+use Rattle.std.proofs.Common.{subst, ap, inr}
 use Rattle.std.specs.Prelude.{option_to_list}
 use Rattle.meet_place.specs.Seats.{Adds}
 use Rattle.pool_core.specs.Placed.{pool_record}
 use Rattle.pool_core.specs.declared.calls.PoolCall.TheVariants.{Follow}
 use Rattle.pool_threads.proofs.Fitting.{refused_fits, follow_fits}
+use Rattle.pool_threads.specs.declared.steps.Next.TheVariants as next
+use Rattle.pool_threads.proofs.Stepping.{works}
 use Rattle.pool_threads.proofs.shared.PoolShared.follow.Goals as goal
 use Rattle.pool_threads.proofs.shared.PoolShared.follow.Goals.{in-Err, in-Ok+in-Followed}
 
-pub returns : goal.returns
-returns g c = elim c.match-step.branch [
+pub returns-clause-fits : goal.returns-clause-fits
+returns-clause-fits g c = elim c.match-step.branch [
   | in-Err b ↦ rw b.result-is (refused_fits c.args.seat c.step.new.self b.in-Err.ensures.same.0)
   | in-Ok+in-Followed b ↦ rw b.result-is
       (follow_fits c.args.seat c.step.new.self b.in-Followed._ticket c.step.ensures.number c.step.ensures.room b.in-Followed.answer _
       (subst (λ x. Adds c.args.seat.list c.step.new.self.list (option_to_list (pool_record (λ y. y) c.args.seat.number Follow x))) b.in-Followed.is b.in-Ok.ensures.adds)
       b.after_follow.ensures.next)
+]
+
+pub returns-clause-step : goal.returns-clause-step
+returns-clause-step g c = elim c.match-step.branch [
+  | in-Err b ↦ rw (b.result-is, b.self-inside-is, ← c.self.view_is) (inr (ap next.Refused b.in-Err.ensures.same.0, b.in-Err.ensures.same.1))
+  | in-Ok+in-Followed b ↦ rw (b.result-is, b.self-inside-is, ← c.self.view_is)
+      (works _ _ c.args.seat c.step.new.self _ b.in-Ok.answer _ _ b.in-Followed.is b.in-Ok.ensures.made c.step.ensures.number b.in-Ok.ensures.adds b.after_follow.ensures.next)
 ]

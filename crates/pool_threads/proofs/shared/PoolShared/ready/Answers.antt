@@ -1,18 +1,27 @@
 -- Proof of `PoolShared::ready`, src/steps.rt. A worker's `ready`.
-use Rattle.std.proofs.Common.{subst}
+use Rattle.std.proofs.Common.{subst, ap, inr}
 use Rattle.std.specs.Prelude.{option_to_list}
 use Rattle.meet_place.specs.Seats.{Adds}
 use Rattle.pool_core.specs.Placed.{pool_record}
 use Rattle.pool_core.specs.declared.calls.PoolCall.TheVariants.{Ready}
 use Rattle.pool_threads.proofs.Fitting.{refused_fits, ready_fits}
+use Rattle.pool_threads.specs.declared.steps.Next.TheVariants as next
+use Rattle.pool_threads.proofs.Stepping.{works}
 use Rattle.pool_threads.proofs.shared.PoolShared.ready.Goals as goal
 use Rattle.pool_threads.proofs.shared.PoolShared.ready.Goals.{in-Err, in-Ok+in-BeReady}
 
-pub returns : goal.returns
-returns g c = elim c.match-step.branch [
+pub returns-clause-fits : goal.returns-clause-fits
+returns-clause-fits g c = elim c.match-step.branch [
   | in-Err b ↦ rw b.result-is (refused_fits c.args.seat c.step.new.self b.in-Err.ensures.same.0)
   | in-Ok+in-BeReady b ↦ rw b.result-is
       (ready_fits c.args.seat c.step.new.self b.in-BeReady._ticket c.step.ensures.number c.step.ensures.room b.in-BeReady.answer _
       (subst (λ x. Adds c.args.seat.list c.step.new.self.list (option_to_list (pool_record (λ y. y) c.args.seat.number Ready x))) b.in-BeReady.is b.in-Ok.ensures.adds)
       b.after_ready.ensures.next)
+]
+
+pub returns-clause-step : goal.returns-clause-step
+returns-clause-step g c = elim c.match-step.branch [
+  | in-Err b ↦ rw (b.result-is, b.self-inside-is, ← c.self.view_is) (inr (ap next.Refused b.in-Err.ensures.same.0, b.in-Err.ensures.same.1))
+  | in-Ok+in-BeReady b ↦ rw (b.result-is, b.self-inside-is, ← c.self.view_is)
+      (works _ _ c.args.seat c.step.new.self _ b.in-Ok.answer _ _ b.in-BeReady.is b.in-Ok.ensures.made c.step.ensures.number b.in-Ok.ensures.adds b.after_ready.ensures.next)
 ]

@@ -1,13 +1,13 @@
--- What stays true from turn to turn of `Desk::new`, src/desk.rt.
+-- What stays true from turn to turn of the closure of `seated_fair`, src/seating.rt.
 use Rattle.std.proofs.Common.{◌≡◌, ◌+◌, ◌≤◌, vec_len}
 use Rattle.std.specs.Vec.{vec_capacity}
 use Rattle.std.specs.Vec.Iter.{into_iter_len}
-use Rattle.meet_desk.proofs.desk.Desk.new.Given as goal
+use Rattle.meet_crew.proofs.seating.fn.seated_fair.scope.Given as goal
 
 abbrev pub invariant-loop-seat : goal.invariant-loop-seat
 invariant-loop-seat g l = record {
   can : (goal.iterator-loop-seat g).can_next l.seat-iterator;
   finite : (goal.iterator-loop-seat g).is_finite l.seat-iterator;
-  left : into_iter_len l.seat-iterator + vec_len l.slots ≡ vec_len l.fn.seats;
-  room : vec_len l.fn.seats ≤ vec_capacity l.slots;
+  rest : into_iter_len l.seat-iterator + vec_len l.threads ≡ into_iter_len l.initial.seat-iterator;
+  room : into_iter_len l.initial.seat-iterator ≤ vec_capacity l.threads;
 }

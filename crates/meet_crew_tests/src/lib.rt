@@ -1,0 +1,4 @@
+//! Tests of crews, on public calls alone.
+#![tactic(auto)]
+
+mod numbers;
