@@ -1,16 +1,24 @@
 //! What a thread gave to calls, and what came to it.
 
+ghost use Rattle.std.specs.Prelude.{◌≡◌, ◌++◌, IsSome, IfNone};
+ghost use Rattle.std.specs.Option.{option_or};
+ghost use Rattle.soak_queues.specs.Seen.{answer_of, open_after, over_after};
+
+use crate::seen::Log;
+use meet_overlap::Call;
 use meet_shop::Told;
 use soak_stamps::Stamped;
 use std::alloc::Global;
 
-/// The items that a thread gave, those that it took or got back, its calls that wrote records, and what went wrong
-/// first.
+/// The items that a thread gave, those that it took or got back, its calls that wrote records, its calls as a judge sees
+/// them, how many checkpoints it made, and what went wrong first.
 #[derive(Drop)]
 pub struct Account {
     pub given: Vec<u64>,
     pub came: Vec<u64>,
     pub calls: Vec<Stamped>,
+    pub log: Log,
+    pub checkpoints: u64,
     pub fault: Option<&'static str>,
 }
 
@@ -44,12 +52,16 @@ impl Account {
             given: Vec::new(alloc),
             came: Vec::new(alloc),
             calls: Vec::new(alloc),
+            log: Log::new(alloc),
+            checkpoints: 0,
             fault: None,
         }
     }
 
     /// Notes what went wrong, unless something did before.
-    fn blame(&mut self, fault: &'static str) {
+    fn blame(&mut self, fault: &'static str)
+        ensures { IsSome self.new.fault }
+    {
         if self.fault.is_none() {
             self.fault = Some(fault);
         }
@@ -81,6 +93,23 @@ impl Account {
         self.call(&[call]);
     }
 
+    /// An act that ended at this stamp was told this. It began this call, or none.
+    pub fn note_seen(&mut self, begun: Option<Call>, end: u64, told: Told)
+        ensures open { IfNone self.new.fault (self.new.log.open
+            ≡ open_after (option_or self.old.log.open begun) (answer_of told)) }
+        ensures over { IfNone self.new.fault (self.new.log.over.items
+            ≡ self.old.log.over.items ++ over_after (option_or self.old.log.open begun) end (answer_of told)) }
+    {
+        if self.log.note(begun, end, told).is_err() {
+            self.blame("memory");
+        }
+    }
+
+    /// A checkpoint was made.
+    pub fn note_checkpoint(&mut self) {
+        self.checkpoints = self.checkpoints.saturating_add(1);
+    }
+
     /// Who gave this item, or none, was told this. No call of a round is refused.
     pub fn note(&mut self, given: Option<u64>, told: Told) {
         if let Some(item) = given {
@@ -107,6 +136,10 @@ impl Account {
         self.give(other.given.as_slice());
         self.take(other.came.as_slice());
         self.call(other.calls.as_slice());
+        if self.log.add(other.log).is_err() {
+            self.blame("memory");
+        }
+        self.checkpoints = self.checkpoints.saturating_add(other.checkpoints);
         if let Some(fault) = other.fault {
             self.blame(fault);
         }

@@ -208,19 +208,20 @@ fn finds_all(
     }
 }
 
-/// What came of a queue that is closed, or why it isn't.
+/// The account of all at a queue that is closed and stands, or what went wrong.
 fn judged<Q: Drop, B: Drop, N: Ledgers>(
     alloc: Global,
     order: Order,
     closed: Result<Chronicle<u64>, QueueFault<Q, B, N>>,
     account: Account,
-) -> Result<(), Fault>
+) -> Result<Account, Fault>
     requires { IfOk closed (λ c. IsWellFormed (record { order = order; bound = None }) c.base) }
 {
     match closed {
         Ok(chronicle) => {
             let mut account = account;
-            finds_all(alloc, order, &chronicle, &mut account)
+            finds_all(alloc, order, &chronicle, &mut account)?;
+            Ok(account)
         }
         Err(fault) => {
             let why = fault.why();
@@ -230,13 +231,13 @@ fn judged<Q: Drop, B: Drop, N: Ledgers>(
     }
 }
 
-/// A shop is closed with all its seats, and what came of it.
+/// A shop is closed with all its seats: the account of all, or what went wrong.
 fn closed<G: Fresh, N: Ledgers>(
     alloc: Global,
     shop: Shop<G, N>,
     backs: Vec<Back<Deed, N>>,
     account: Account,
-) -> Result<(), Fault> {
+) -> Result<Account, Fault> {
     match shop {
         Shop::Fair(queue) => judged(alloc, Order::Fair, queue.close(alloc, backs), account),
         Shop::Unfair(queue) => judged(alloc, Order::Unfair, queue.close(alloc, backs), account),
@@ -272,7 +273,7 @@ fn held<G: Fresh + Sync, N: Ledgers + Send + Sync, R: Threads + Wait + Clock + S
     alloc: Global,
     parts: NewQueue<G>,
     round: Round,
-) -> Result<(), Fault>
+) -> Result<Account, Fault>
     requires ledgers { AreOf N.name N.folds N.parts parts.blanks }
     requires one_each { N.parts ≡ vec_len parts.gates }
     requires cap { N.cap ≡ round.cap }
@@ -290,12 +291,12 @@ fn held<G: Fresh + Sync, N: Ledgers + Send + Sync, R: Threads + Wait + Clock + S
     }
 }
 
-/// Holds a round over gates of this kind: what went wrong, if anything did.
+/// Holds a round over gates of this kind: the account of all, or what went wrong.
 pub fn hold<G: Fresh + Sync, R: Threads + Wait + Clock + Sync>(
     rt: &R,
     alloc: Global,
     round: Round,
-) -> Result<(), Fault> {
+) -> Result<Account, Fault> {
     let gates = gates::<G>(alloc, round.seats)?;
     let blanks = Blanks::new(gates.len() as u64);
     let parts = NewQueue { gates, blanks };

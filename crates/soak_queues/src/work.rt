@@ -1,7 +1,14 @@
 //! What one thread does in a round: a worker makes calls of chance, and another interrupts the workers.
 
+ghost use Rattle.std.specs.Prelude.{◌≡◌, IsTrue, IsFalse};
+ghost use Rattle.meet_shop.specs.declared.calls.Call.TheVariants.{Poll};
+ghost use Rattle.soak_queues.specs.declared.work.Act.TheVariants.{Whole, Drain};
+ghost use Rattle.soak_queues.specs.Seen.{verb_of_act};
+
 use crate::accounts::Account;
+use crate::seen::{begun, part_verb, whole_verb};
 use meet_cells::ParkGate;
+use meet_overlap::Verb;
 use meet_shop::{Ask, Call, Chance, Shop, Told, answer, called, drained, trimmed};
 use meet_sync::{Back, Gate, Ledgers, Seat, SeatRefused};
 use meet_tickets::{Deed, Order};
@@ -24,6 +31,8 @@ pub struct Round {
     pub cap: u64,
     /// Where its numbers of chance begin.
     pub seed: u64,
+    /// Whether a judge is to see it. A judge knows no drains: each is a poll then.
+    pub is_judged: bool,
 }
 
 impl Round {
@@ -51,9 +60,21 @@ enum Act {
     Trim,
 }
 
+/// Drains up to so many items, or polls where a judge is to see the round.
+fn drain(round: Round, max: u64) -> Act
+    ensures judged { IsTrue round.is_judged → result ≡ Whole Poll }
+    ensures drains { IsFalse round.is_judged → result ≡ Drain max }
+{
+    if round.is_judged {
+        Act::Whole(Call::Poll)
+    } else {
+        Act::Drain(max)
+    }
+}
+
 /// What a seat does that has no open ticket, with this item. A timed call waits for 3 milliseconds at most, others
 /// until they are met or interrupted.
-fn act_of_chance(chance: &mut Chance, item: u64, seats: u64) -> Act {
+fn act_of_chance(chance: &mut Chance, item: u64, round: Round) -> Act {
     match chance.below(18) {
         0 => Act::Whole(Call::Put(item)),
         1 => Act::Whole(Call::Transfer(item)),
@@ -66,8 +87,8 @@ fn act_of_chance(chance: &mut Chance, item: u64, seats: u64) -> Act {
         8 => Act::Whole(Call::Poll),
         9 => Act::Whole(Call::PollFor(chance.below(4))),
         10 => Act::Whole(Call::PollFor(chance.below(4))),
-        11 => Act::Drain(chance.below(4)),
-        12 => Act::Part(Ask::Interrupt(chance.below(seats))),
+        11 => drain(round, chance.below(4)),
+        12 => Act::Part(Ask::Interrupt(chance.below(round.seats))),
         13 => Act::Part(Ask::Give(item)),
         14 => Act::Part(Ask::Give(item)),
         15 => Act::Fold,
@@ -155,7 +176,10 @@ fn folds<G: Gate, N: Ledgers, R: Wait>(
 ) -> Back<Deed, N> {
     match back {
         Back::Free(seat) => match shop.checkpoint(rt, seat) {
-            Ok((seat, _gone)) => Back::Free(seat),
+            Ok((seat, _gone)) => {
+                account.note_checkpoint();
+                Back::Free(seat)
+            }
             Err(refused) => {
                 let SeatRefused { why, seat, item: _ } = refused;
                 account.note(None, Told::Refused(why, None));
@@ -166,7 +190,21 @@ fn folds<G: Gate, N: Ledgers, R: Wait>(
     }
 }
 
-/// A seat does this.
+/// What an act begins, to a judge, at a queue of this order.
+#[tactic(auto, unfolding(crate::specs::Seen::verb_of_act))]
+fn verb_of(order: Order, act: Act) -> Option<Verb>
+    ensures { result ≡ verb_of_act order act }
+{
+    match act {
+        Act::Whole(call) => whole_verb(order, call),
+        Act::Part(ask) => part_verb(order, ask),
+        Act::Drain(_) => None,
+        Act::Fold => None,
+        Act::Trim => None,
+    }
+}
+
+/// A seat does this, and is told what; of a drain, a checkpoint and a trim nothing.
 fn does<G: Gate + Drop, N: Ledgers, R: Wait + Clock>(
     rt: &R,
     alloc: Global,
@@ -174,21 +212,21 @@ fn does<G: Gate + Drop, N: Ledgers, R: Wait + Clock>(
     back: Back<Deed, N>,
     account: &mut Account,
     act: Act,
-) -> Back<Deed, N> {
+) -> (Back<Deed, N>, Told) {
     match act {
         Act::Whole(call) => {
             let (back, told) = called(rt, shop, back, call);
             account.note(given_by_call(call), told);
-            back
+            (back, told)
         }
         Act::Part(ask) => {
             let (back, told) = answer(rt, shop, back, ask);
             account.note(given_by_part(ask), told);
-            back
+            (back, told)
         }
-        Act::Drain(max) => drains(rt, alloc, shop, back, account, max),
-        Act::Fold => folds(rt, shop, back, account),
-        Act::Trim => trimmed(rt, shop, back),
+        Act::Drain(max) => (drains(rt, alloc, shop, back, account, max), Told::Unasked),
+        Act::Fold => (folds(rt, shop, back, account), Told::Unasked),
+        Act::Trim => (trimmed(rt, shop, back), Told::Unasked),
     }
 }
 
@@ -216,7 +254,7 @@ fn stamped<N: Ledgers>(
     })
 }
 
-/// A seat does this, and notes between which stamps it wrote records.
+/// A seat does this, and notes between which stamps it wrote records, and what a judge sees of it.
 fn acts<G: Gate + Drop, N: Ledgers, R: Wait + Clock>(
     rt: &R,
     alloc: Global,
@@ -224,12 +262,15 @@ fn acts<G: Gate + Drop, N: Ledgers, R: Wait + Clock>(
     stamps: &Stamps,
     back: Back<Deed, N>,
     account: &mut Account,
+    order: Order,
     act: Act,
 ) -> Back<Deed, N> {
     let behind = back.receipts().len();
+    let seat = back.number();
     let begin = stamps.take();
-    let back = does(rt, alloc, shop, back, account, act);
+    let (back, told) = does(rt, alloc, shop, back, account, act);
     let end = stamps.take();
+    account.note_seen(begun(seat, begin, verb_of(order, act)), end, told);
     if let Some(call) = stamped(&back, behind, begin, end) {
         account.note_call(call);
     }
@@ -252,10 +293,19 @@ pub fn works<G: Gate + Drop, N: Ledgers, R: Wait + Clock>(
     for step in 0..CALLS {
         let item = number.wrapping_mul(CALLS).wrapping_add(step);
         let act = match &back {
-            Back::Free(_) => act_of_chance(&mut chance, item, round.seats),
+            Back::Free(_) => act_of_chance(&mut chance, item, round),
             Back::Held(_) => ending_of_chance(&mut chance),
         };
-        back = acts(rt, alloc, shop, stamps, back, &mut account, act);
+        back = acts(
+            rt,
+            alloc,
+            shop,
+            stamps,
+            back,
+            &mut account,
+            round.order,
+            act,
+        );
         back = tends(rt, shop, back, &mut account);
     }
     (back, account)
@@ -283,7 +333,16 @@ pub fn interrupts<G: Gate + Drop, N: Ledgers, R: Wait + Clock>(
         for target in 0..workers {
             if chance.below(2) == 0 {
                 let act = Act::Part(Ask::Interrupt(target));
-                back = acts(rt, alloc, shop, stamps, back, &mut account, act);
+                back = acts(
+                    rt,
+                    alloc,
+                    shop,
+                    stamps,
+                    back,
+                    &mut account,
+                    round.order,
+                    act,
+                );
                 back = tends(rt, shop, back, &mut account);
             }
         }
