@@ -13,7 +13,7 @@ use Rattle.meet_overlap.specs.declared.calls.Verb.{Verb}
 use Rattle.meet_overlap.specs.declared.calls.Verb.TheVariants.{Keep, Give, Take, Interrupt}
 use Rattle.meet_overlap.specs.declared.reasons.Reason.{Reason}
 use Rattle.meet_overlap.specs.declared.reasons.Reason.TheVariants.{Ungiven, Untaken, Overtaken, Doubled, Overlooked}
-use Rattle.meet_overlap.specs.declared.reasons.Reason.TheVariants.{Stuck as SearchStuck}
+use Rattle.meet_overlap.specs.declared.reasons.Reason.TheVariants.{Missed, Stuck as SearchStuck}
 use Rattle.meet_overlap.specs.declared.search.Stuck.{Stuck}
 use Rattle.meet_run.specs.Scripts.Spelling.{place_text}
 
@@ -86,6 +86,16 @@ abbrev pub put_text : (call item : ℕ) → List ℕ
 put_text call item =
     (codes "; line " ++ line_number call) ++ (codes " had put item " ++ decimal item) ++ codes " before"
 
+-- which call waited, and with which item, if it gives one
+abbrev pub waited_text : (call : ℕ) → Option ℕ → List ℕ
+waited_text call None = (codes "; line " ++ line_number call) ++ codes " waited"
+waited_text call (Some item) = (codes "; line " ++ line_number call) ++ (codes " waited with item " ++ decimal item)
+
+-- a call that found nobody, and one that waited
+abbrev pub missed_text : (caller waiting : ℕ) → Option ℕ → List ℕ
+missed_text caller waiting item =
+    (codes "refused line " ++ line_number caller) ++ codes ": nobody was found" ++ waited_text waiting item
+
 -- which call a search stopped at, if it was one
 abbrev pub stuck_line : Option ℕ → List ℕ
 stuck_line None = codes "refused"
@@ -109,6 +119,7 @@ reason_text (Doubled item first second giver) count =
     ++ other_text (Some giver) (codes " alone gives it")
 reason_text (Overlooked item taker giver) count =
     (codes "refused line " ++ line_number taker) ++ codes ": nothing was found" ++ put_text giver item
+reason_text (Missed item caller waiting) count = missed_text caller waiting item
 reason_text (SearchStuck stuck) count = stuck_text stuck count
 
 -- the same as a line

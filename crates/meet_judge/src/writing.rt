@@ -3,6 +3,7 @@
 ghost use Rattle.std.specs.Prelude.{◌≡◌, ◌++◌, OnOk};
 ghost use Rattle.meet_overlap.specs.declared.calls.Verb.TheVariants.{Give, Take};
 ghost use Rattle.meet_judge.specs.CallText.{verb_text, answer_text, seen_text, end_text, told_text, call_text};
+ghost use Rattle.meet_judge.specs.CallText.{missed_text, waited_text};
 ghost use Rattle.meet_judge.specs.CallText.{calls_text};
 ghost use Rattle.meet_judge.specs.CallText.{line_number, other_text, case_text, put_text, stuck_line, stuck_text};
 ghost use Rattle.meet_judge.specs.CallText.{reason_text, refused_text};
@@ -199,6 +200,39 @@ fn push_put(out: &mut Vec<u8>, call: usize, item: u64) -> Result<(), AllocError>
     out.extend_from_slice(b" before")
 }
 
+/// Appends which call waited, and with which item, if it gives one.
+#[tactic(auto, unfolding(crate::specs::CallText::waited_text))]
+fn push_waited(out: &mut Vec<u8>, call: usize, item: Option<u64>) -> Result<(), AllocError>
+    ensures { OnOk result (out.new.items ≡ out.old.items ++ waited_text call item) }
+{
+    match item {
+        None => {
+            push_at(out, b"; line ", call)?;
+            out.extend_from_slice(b" waited")
+        }
+        Some(item) => {
+            push_at(out, b"; line ", call)?;
+            push_numbered(out, b" waited with item ", item)
+        }
+    }
+}
+
+/// Appends that a call found nobody, and which one waited.
+#[tactic(auto, unfolding(crate::specs::CallText::missed_text))]
+fn push_missed(
+    out: &mut Vec<u8>,
+    caller: usize,
+    waiting: usize,
+    item: Option<u64>,
+) -> Result<(), AllocError>
+    ensures { OnOk result (out.new.items ≡ out.old.items ++ missed_text caller waiting item) }
+{
+    push_at(out, b"refused line ", caller)?;
+    out.extend_from_slice(b": nobody was found")?;
+    push_waited(out, waiting, item)?;
+    Ok(())
+}
+
 /// Appends how far a search came; `count` is the number of all calls.
 #[tactic(auto, unfolding(crate::specs::CallText::stuck_text))]
 fn push_stuck(out: &mut Vec<u8>, stuck: Stuck, count: u64) -> Result<(), AllocError>
@@ -274,6 +308,11 @@ fn push_reason(out: &mut Vec<u8>, reason: Reason, count: u64) -> Result<(), Allo
             push_put(out, giver, item)?;
             Ok(())
         }
+        Reason::Missed {
+            item,
+            caller,
+            waiting,
+        } => push_missed(out, caller, waiting, item),
         Reason::Stuck(stuck) => push_stuck(out, stuck, count),
     }
 }

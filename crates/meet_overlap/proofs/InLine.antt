@@ -1,14 +1,15 @@
 -- The wait queue of a place that is met at its front: its tickets rise, nobody of the other side stands in it, and an item
 -- that is kept stays until a call takes it.
-use Rattle.std.proofs.Common.{◌≡◌, ℕ, suc, zero, ◌<◌, ◌≤◌, Bool, true, false, not, Option, Some, None, List, [], ◌∷◌, ◌++◌, filter, Contains, sym, ap, ◌∙◌, subst, ⊎_elim, arith, refl}
-use Rattle.std.specs.Prelude.{◌==◌, is_some, is_none, if◌then◌else◌}
+use Rattle.std.proofs.Common.{◌≡◌, ℕ, suc, zero, ◌<◌, ◌≤◌, Bool, true, false, not, Option, Some, None, List, [], ◌∷◌, ◌++◌, filter, length, Contains, sym, ap, ◌∙◌, subst, ⊎_elim, arith, refl}
+use Rattle.std.specs.Prelude.{◌==◌, ◌-◌, slice_get, is_some, is_none, if◌then◌else◌}
 use Rattle.std.proofs.lemmas.Bool.{ne_eqb}
 use Rattle.std.proofs.lemmas.List.Elements.{Contains-push, Contains-push_cases, Contains-append_left}
 use Rattle.meet_tickets.specs.declared.lines.Entry.{Entry}
 use Rattle.meet_tickets.specs.declared.places.Kind.{Kind}
 use Rattle.meet_tickets.specs.declared.places.Side.{Side}
 use Rattle.meet_tickets.specs.declared.places.Side.TheVariants.{Giver, Taker}
-use Rattle.meet_tickets.specs.declared.places.End.TheVariants.{Front}
+use Rattle.meet_tickets.specs.declared.places.End.{End}
+use Rattle.meet_tickets.specs.declared.places.End.TheVariants.{Front, Back}
 use Rattle.meet_tickets.specs.declared.records.Cause.TheVariants.{Cancelled, Expired, Interrupted}
 use Rattle.meet_tickets.specs.declared.records.Deed.{Deed}
 use Rattle.meet_tickets.specs.declared.records.Deed.TheVariants.{GiveWaits, GiveMeets, GiveFails, GiveKept, TakeWaits, TakeMeets, TakeFails, EntryInterrupted, Done, Got, Withdrawn, Interrupt}
@@ -49,7 +50,7 @@ abbrev pub IsUnmixed : List (Entry ℕ) → Type 0
 IsUnmixed line = (e f : Entry ℕ) (m : ℕ) → Contains line e → Contains line f → e.item ≡ None → f.item ≡ Some m → ⊥
 
 -- where a giver finds nobody no taker stands in the line, and where a taker finds nobody no giver
-alone_giver : (line : List (Entry ℕ)) → partner Front line Giver ≡ None → IsUnmixed line → (e : Entry ℕ) → Contains line e → e.item ≡ None → ⊥
+pub alone_giver : (line : List (Entry ℕ)) → partner Front line Giver ≡ None → IsUnmixed line → (e : Entry ℕ) → Contains line e → e.item ≡ None → ⊥
 alone_giver [] alone unmixed e there none = Contains-nil e there
 alone_giver (h ∷ line) alone unmixed e there none = here h.item refl
   where
@@ -105,57 +106,70 @@ unmixed_taker line x item none e f n e_there f_there e_none f_some = ⊎_elim
 unmixed_filter : (p : Entry ℕ → Bool) (line : List (Entry ℕ)) → IsUnmixed line → IsUnmixed (filter p line)
 unmixed_filter p line unmixed e f n e_there f_there e_none f_some = unmixed e f n (Contains-unfiltered p line e e_there) (Contains-unfiltered p line f f_there) e_none f_some
 
-module _ (k : Kind) (front : end_of k.order ≡ Front) where
-  pub find_none : (line : List (Entry ℕ)) (side : Side) → partner (end_of k.order) line side ≡ None → partner Front line side ≡ None
-  find_none line side is = ap (λ x. partner x line side) (sym front) ∙ is
+-- a line that begins has a last entry
+last_some : (x : Entry ℕ) (line : List (Entry ℕ)) → slice_get (x ∷ line) (length line) ≡ None → ⊥
+last_some x [] none = absurd (cc)
+last_some x (y ∷ line) none = last_some y line none
 
+-- where nobody is met at one end, nobody is met at the other
+pub none_front : (end : End) (line : List (Entry ℕ)) (side : Side) → partner end line side ≡ None → partner Front line side ≡ None
+none_front end [] side is = refl
+none_front Front (e ∷ line) side is = is
+none_front Back (e ∷ line) side is = here (is_on side e) is
+  where
+    here : (b : Bool) → (if b then None else met Back (e ∷ line)) ≡ None → (if b then None else met Front (e ∷ line)) ≡ None
+    here true q = refl
+    here false q = absurd (last_some e line (let at : length line ≡ length (e ∷ line) - 1 = omega arith in ap (slice_get (e ∷ line)) at ∙ q))
+
+module _ (k : Kind) (front : end_of k.order ≡ Front) where
   pub find_some : (line : List (Entry ℕ)) (side : Side) (e : Entry ℕ) → partner (end_of k.order) line side ≡ Some e → partner Front line side ≡ Some e
   find_some line side e is = ap (λ x. partner x line side) (sym front) ∙ is
 
-  pub ordered_stays : (s : State) (i t : ℕ) (d : Deed) → IsWell s → IsOrdered s → IsStep k s i t d → IsOrdered (after s i t d)
-  ordered_stays s i t (GiveWaits m) well o step =
-      let above = step.0.above in
-      record {
-        sorted = sorted_push s.line _ (λ e there. let low = well.line e there in omega arith) o.sorted;
-        unmixed = unmixed_giver s.line _ m refl (alone_giver s.line (find_none s.line Giver step.1) o.unmixed);
-        open_low = λ x there. ⊎_elim (λ q. let low = o.open_low x q in omega arith) (λ q. let is = ap (λ (y : Ticket). y.ticket) q in omega arith) (Contains-push_cases s.unended _ x there);
-      }
-  ordered_stays s i t (GiveMeets m v) well o step =
-      let above = step.0.above in
-      record { sorted = sorted_filter _ s.line o.sorted; unmixed = unmixed_filter _ s.line o.unmixed; open_low = λ x there. let low = o.open_low x there in omega arith }
-  ordered_stays s i t (GiveFails m) well o step =
-      let above = step.0.above in
-      record { sorted = o.sorted; unmixed = o.unmixed; open_low = λ x there. let low = o.open_low x there in omega arith }
-  ordered_stays s i t (GiveKept m) well o step =
-      let above = step.0.above in
-      record {
-        sorted = sorted_push s.line _ (λ e there. let low = well.line e there in omega arith) o.sorted;
-        unmixed = unmixed_giver s.line _ m refl (alone_giver s.line (find_none s.line Giver step.1) o.unmixed);
-        open_low = λ x there. let low = o.open_low x there in omega arith;
-      }
-  ordered_stays s i t TakeWaits well o step =
-      let above = step.0.above in
-      record {
-        sorted = sorted_push s.line _ (λ e there. let low = well.line e there in omega arith) o.sorted;
-        unmixed = unmixed_taker s.line _ refl (alone_taker s.line (find_none s.line Taker step.1) o.unmixed);
-        open_low = λ x there. ⊎_elim (λ q. let low = o.open_low x q in omega arith) (λ q. let is = ap (λ (y : Ticket). y.ticket) q in omega arith) (Contains-push_cases s.unended _ x there);
-      }
-  ordered_stays s i t (TakeMeets m v) well o step =
-      let above = step.0.above in
-      record { sorted = sorted_filter _ s.line o.sorted; unmixed = unmixed_filter _ s.line o.unmixed; open_low = λ x there. let low = o.open_low x there in omega arith }
-  ordered_stays s i t TakeFails well o step =
-      let above = step.0.above in
-      record { sorted = o.sorted; unmixed = o.unmixed; open_low = λ x there. let low = o.open_low x there in omega arith }
-  ordered_stays s i t (EntryInterrupted side) well o step =
-      let above = step.0.above in
-      record { sorted = o.sorted; unmixed = o.unmixed; open_low = λ x there. let low = o.open_low x there in omega arith }
-  ordered_stays s i t Done well o step = record { sorted = o.sorted; unmixed = o.unmixed; open_low = λ x there. o.open_low x (Contains-unfiltered _ s.unended x there) }
-  ordered_stays s i t (Got m v) well o step = record { sorted = o.sorted; unmixed = o.unmixed; open_low = λ x there. o.open_low x (Contains-unfiltered _ s.unended x there) }
-  ordered_stays s i t (Withdrawn Cancelled) well o step = record { sorted = sorted_filter _ s.line o.sorted; unmixed = unmixed_filter _ s.line o.unmixed; open_low = λ x there. o.open_low x (Contains-unfiltered _ s.unended x there) }
-  ordered_stays s i t (Withdrawn Expired) well o step = record { sorted = sorted_filter _ s.line o.sorted; unmixed = unmixed_filter _ s.line o.unmixed; open_low = λ x there. o.open_low x (Contains-unfiltered _ s.unended x there) }
-  ordered_stays s i t (Withdrawn Interrupted) well o step = record { sorted = o.sorted; unmixed = o.unmixed; open_low = λ x there. o.open_low x (Contains-unfiltered _ s.unended x there) }
-  ordered_stays s i zero (Interrupt j) well o step = record { sorted = o.sorted; unmixed = o.unmixed; open_low = o.open_low }
-  ordered_stays s i (suc t) (Interrupt j) well o step = record { sorted = sorted_filter _ s.line o.sorted; unmixed = unmixed_filter _ s.line o.unmixed; open_low = o.open_low }
+-- it stays so, at whichever end it is met
+pub ordered_stays : (k : Kind) (s : State) (i t : ℕ) (d : Deed) → IsWell s → IsOrdered s → IsStep k s i t d → IsOrdered (after s i t d)
+ordered_stays k s i t (GiveWaits m) well o step =
+    let above = step.0.above in
+    record {
+      sorted = sorted_push s.line _ (λ e there. let low = well.line e there in omega arith) o.sorted;
+      unmixed = unmixed_giver s.line _ m refl (alone_giver s.line (none_front (end_of k.order) s.line Giver step.1) o.unmixed);
+      open_low = λ x there. ⊎_elim (λ q. let low = o.open_low x q in omega arith) (λ q. let is = ap (λ (y : Ticket). y.ticket) q in omega arith) (Contains-push_cases s.unended _ x there);
+    }
+ordered_stays k s i t (GiveMeets m v) well o step =
+    let above = step.0.above in
+    record { sorted = sorted_filter _ s.line o.sorted; unmixed = unmixed_filter _ s.line o.unmixed; open_low = λ x there. let low = o.open_low x there in omega arith }
+ordered_stays k s i t (GiveFails m) well o step =
+    let above = step.0.above in
+    record { sorted = o.sorted; unmixed = o.unmixed; open_low = λ x there. let low = o.open_low x there in omega arith }
+ordered_stays k s i t (GiveKept m) well o step =
+    let above = step.0.above in
+    record {
+      sorted = sorted_push s.line _ (λ e there. let low = well.line e there in omega arith) o.sorted;
+      unmixed = unmixed_giver s.line _ m refl (alone_giver s.line (none_front (end_of k.order) s.line Giver step.1) o.unmixed);
+      open_low = λ x there. let low = o.open_low x there in omega arith;
+    }
+ordered_stays k s i t TakeWaits well o step =
+    let above = step.0.above in
+    record {
+      sorted = sorted_push s.line _ (λ e there. let low = well.line e there in omega arith) o.sorted;
+      unmixed = unmixed_taker s.line _ refl (alone_taker s.line (none_front (end_of k.order) s.line Taker step.1) o.unmixed);
+      open_low = λ x there. ⊎_elim (λ q. let low = o.open_low x q in omega arith) (λ q. let is = ap (λ (y : Ticket). y.ticket) q in omega arith) (Contains-push_cases s.unended _ x there);
+    }
+ordered_stays k s i t (TakeMeets m v) well o step =
+    let above = step.0.above in
+    record { sorted = sorted_filter _ s.line o.sorted; unmixed = unmixed_filter _ s.line o.unmixed; open_low = λ x there. let low = o.open_low x there in omega arith }
+ordered_stays k s i t TakeFails well o step =
+    let above = step.0.above in
+    record { sorted = o.sorted; unmixed = o.unmixed; open_low = λ x there. let low = o.open_low x there in omega arith }
+ordered_stays k s i t (EntryInterrupted side) well o step =
+    let above = step.0.above in
+    record { sorted = o.sorted; unmixed = o.unmixed; open_low = λ x there. let low = o.open_low x there in omega arith }
+ordered_stays k s i t Done well o step = record { sorted = o.sorted; unmixed = o.unmixed; open_low = λ x there. o.open_low x (Contains-unfiltered _ s.unended x there) }
+ordered_stays k s i t (Got m v) well o step = record { sorted = o.sorted; unmixed = o.unmixed; open_low = λ x there. o.open_low x (Contains-unfiltered _ s.unended x there) }
+ordered_stays k s i t (Withdrawn Cancelled) well o step = record { sorted = sorted_filter _ s.line o.sorted; unmixed = unmixed_filter _ s.line o.unmixed; open_low = λ x there. o.open_low x (Contains-unfiltered _ s.unended x there) }
+ordered_stays k s i t (Withdrawn Expired) well o step = record { sorted = sorted_filter _ s.line o.sorted; unmixed = unmixed_filter _ s.line o.unmixed; open_low = λ x there. o.open_low x (Contains-unfiltered _ s.unended x there) }
+ordered_stays k s i t (Withdrawn Interrupted) well o step = record { sorted = o.sorted; unmixed = o.unmixed; open_low = λ x there. o.open_low x (Contains-unfiltered _ s.unended x there) }
+ordered_stays k s i zero (Interrupt j) well o step = record { sorted = o.sorted; unmixed = o.unmixed; open_low = o.open_low }
+ordered_stays k s i (suc t) (Interrupt j) well o step = record { sorted = sorted_filter _ s.line o.sorted; unmixed = unmixed_filter _ s.line o.unmixed; open_low = o.open_low }
 
 -- an entry that isn't taken out stays
 kept_passes : (line : List (Entry ℕ)) (v : ℕ) (e : Entry ℕ) → Contains line e → (e.ticket ≡ v → ⊥) → Contains (filter (λ f. not (f.ticket == v)) line) e
@@ -221,7 +235,7 @@ module _ (k : Kind) (front : end_of k.order ≡ Front) (mark : ℕ) where
 
   -- and no taker finds nobody
   pub finds_one : (s : State) (entry : Entry ℕ) (b : IsKept s entry) → partner (end_of k.order) s.line Taker ≡ None → ⊥
-  finds_one s entry b none = alone_taker s.line (find_none k front s.line Taker none) b.ordered.unmixed entry mark b.there (b.items entry b.there refl)
+  finds_one s entry b none = alone_taker s.line (none_front (end_of k.order) s.line Taker none) b.ordered.unmixed entry mark b.there (b.items entry b.there refl)
 
   -- only a call that gets it takes it out of the line
   pub leaves_by : (s : State) (entry : Entry ℕ) (b : IsKept s entry) (i t : ℕ) (d : Deed) → IsStep k s i t d → Leaves d t entry.ticket → (v : ℕ) × (d ≡ TakeMeets mark v)
@@ -244,7 +258,7 @@ module _ (k : Kind) (front : end_of k.order ≡ Front) (mark : ℕ) where
       let low = b.well.line entry b.there in
       record {
         well = well_stays k s i t d b.well step;
-        ordered = ordered_stays k front s i t d b.well b.ordered step;
+        ordered = ordered_stays k s i t d b.well b.ordered step;
         there = stays_in s i t d entry b.there stays;
         items = λ g there same. ⊎_elim (λ q. b.items g q.0 same) (λ q. let above = q.above in let at = q.ticket in absurd (omega arith)) (f.line g there);
         closed = closed_stays k s i t entry.ticket d step low b.closed;
@@ -260,7 +274,7 @@ module _ (k : Kind) (front : end_of k.order ≡ Front) (mark : ℕ) where
       let above = step.0.above in
       record {
         well = well_stays k s i t (GiveKept mark) well step;
-        ordered = ordered_stays k front s i t (GiveKept mark) well ordered step;
+        ordered = ordered_stays k s i t (GiveKept mark) well ordered step;
         there = Contains-push s.line (own_entry i t);
         items = λ g there same. ⊎_elim (λ q. let low = well.line g q.0 in absurd (omega arith)) (λ q. q.item) (f.line g there);
         closed = λ o there is. let low = ordered.open_low o there in absurd (omega arith);

@@ -9,6 +9,7 @@ pub mod Giving
 pub mod InLine
 pub mod Keeping
 pub mod LineParts
+pub mod Missing
 pub mod NeverGiven
 pub mod NeverTaken
 pub mod Overlooking
@@ -24,6 +25,7 @@ pub mod Renamed
 pub mod Rising
 pub mod Settled
 pub mod Sound
+pub mod Standing
 pub mod Tables
 pub mod Timed
 pub mod Twice

@@ -115,7 +115,7 @@ module _ (k : Kind) (calls : List Call) (u : IsOverlooked k calls) where
       let hap = happens k calls s time stages e events c in
       before_it events (after_event s e) e.time (later stages e) (record {
         well = well_stays k s e.entry.seat e.entry.ticket e.entry.deed b.well hap.step;
-        ordered = ordered_stays k u.order s e.entry.seat e.entry.ticket e.entry.deed b.well b.ordered hap.step;
+        ordered = ordered_stays k s e.entry.seat e.entry.ticket e.entry.deed b.well b.ordered hap.step;
         takers = takers_stay k calls s time stages e b.well b.takers hap;
         going = λ over. b.going (sym (still k calls u.put stages e q.1) ∙ over);
         ahead = still k calls u.looked stages e other.1 ∙ b.ahead;

@@ -193,7 +193,7 @@ module _ (k : Kind) (calls : List Call) (u : IsOvertaken k calls) where
         let f = effect k s e.entry.seat e.entry.ticket e.entry.deed h.step in
         record {
           well = well_stays k s e.entry.seat e.entry.ticket e.entry.deed b.well h.step;
-          ordered = ordered_stays k u.order s e.entry.seat e.entry.ticket e.entry.deed b.well b.ordered h.step;
+          ordered = ordered_stays k s e.entry.seat e.entry.ticket e.entry.deed b.well b.ordered h.step;
           takers = takers_stay k calls s time stages e b.well b.takers h;
           ahead = λ over. b.ahead (sym (still k calls u.put stages e other) ∙ over);
           going = going_on s time stages e h (λ v met. none_met s time stages b e.entry.seat e.entry.ticket v met) b.pairs b.going;

@@ -1,5 +1,5 @@
 -- Reasons why no history explains calls, in the calls' own words.
-use Rattle.std.specs.Prelude.{◌≡◌, ℕ, ◌<◌, ◌≤◌, IfSome, List, ⊤, length}
+use Rattle.std.specs.Prelude.{◌≡◌, ℕ, ◌<◌, ◌≤◌, IfSome, List, Option, Some, None, ⊤, length}
 use Rattle.meet_tickets.specs.declared.places.Kind.{Kind}
 use Rattle.meet_tickets.specs.declared.places.End.TheVariants.{Front}
 use Rattle.meet_tickets.specs.Meeting.{end_of}
@@ -8,10 +8,10 @@ use Rattle.meet_overlap.specs.declared.calls.Answer.TheVariants.{Went, Got as Go
 use Rattle.meet_overlap.specs.declared.calls.Call.{Call}
 use Rattle.meet_overlap.specs.declared.calls.Patience.TheVariants.{Now, Timed}
 use Rattle.meet_overlap.specs.declared.calls.Verb.{Verb}
-use Rattle.meet_overlap.specs.declared.calls.Verb.TheVariants.{Take}
+use Rattle.meet_overlap.specs.declared.calls.Verb.TheVariants.{Keep, Give, Take, Interrupt as InterruptSeat}
 use Rattle.meet_overlap.specs.declared.reasons.Reason.{Reason}
 use Rattle.meet_overlap.specs.declared.reasons.Reason.TheVariants.{Ungiven, Untaken, Overtaken, Doubled, Overlooked}
-use Rattle.meet_overlap.specs.declared.reasons.Reason.TheVariants.{Stuck}
+use Rattle.meet_overlap.specs.declared.reasons.Reason.TheVariants.{Missed, Stuck}
 use Rattle.meet_overlap.specs.Marks.{HandsOver, IsKeeping, IsTaking, IsEnded, NoneGave, NoneMayGive, NoneTook}
 use Rattle.meet_overlap.specs.Marks.{IsOnlyGiver, IsGiverOf, IsTakerOf}
 
@@ -77,6 +77,38 @@ pub record IsOverlooked (k : Kind) (calls : List Call) : Type 0 where
   pub later : put.returned.at ≤ looked.returned.at
   pub none_took : NoneTook calls (length calls) mark looked.returned.at
 
+-- the first call's answer is that nobody was there, and the second one is of the other side
+abbrev pub Misses : Verb → Answer → Verb → Type 0
+Misses (Take Now) Nothing (Give p m) = Unit {0}
+Misses (Take Timed) TimeRanOut (Give p m) = Unit {0}
+Misses (Give Now m) Nothing (Take p) = Unit {0}
+Misses (Give Timed m) TimeRanOut (Take p) = Unit {0}
+Misses verb answer other = ⊥
+
+-- the call's answer is that it was met, and none may have met it that began by this time
+abbrev pub IsUnmet : List Call → Verb → Answer → (by : ℕ) → Type 0
+IsUnmet calls (Give p m) Went by = NoneTook calls (length calls) m by
+IsUnmet calls (Take p) (GotItem m) by = NoneMayGive calls (length calls) m by
+IsUnmet calls verb answer by = ⊥
+
+-- the item with which a call waits, if it gives one
+abbrev pub item_of : Verb → Option ℕ
+item_of (Keep m) = Some m
+item_of (Give p m) = Some m
+item_of (Take p) = None
+item_of (InterruptSeat j) = None
+
+-- a call was seen to wait before one of the other side began that found nobody, and none may have met it that began by
+-- the end of that one
+pub record IsMissed (calls : List Call) : Type 0 where
+  pub waiting : IsEnded calls
+  pub seen : ℕ
+  pub waits : waiting.call.waits ≡ Some seen
+  pub caller : IsEnded calls
+  pub misses : Misses caller.call.verb caller.returned.answer waiting.call.verb
+  pub before : seen < caller.call.begin
+  pub unmet : IsUnmet calls waiting.call.verb waiting.returned.answer caller.returned.at
+
 -- the reason is true of the calls, with the numbers and items that it names; of how far a search came nothing is said
 abbrev pub IsReason : Kind → List Call → Reason → Type 0
 IsReason k calls (Ungiven item taker giver) =
@@ -89,6 +121,8 @@ IsReason k calls (Doubled item first second giver) = (is : IsDoubled calls) × (
     × (is.one.number ≡ first) × (is.other.number ≡ second) × (is.giver ≡ giver)
 IsReason k calls (Overlooked item taker giver) = (is : IsOverlooked k calls) × (is.mark ≡ item)
     × (is.looked.number ≡ taker) × (is.put.number ≡ giver)
+IsReason k calls (Missed item caller waiting) = (is : IsMissed calls) × (item_of is.waiting.call.verb ≡ item)
+    × (is.caller.number ≡ caller) × (is.waiting.number ≡ waiting)
 IsReason k calls (Stuck stuck) = ⊤
 
 -- the reason was found without a search
@@ -98,4 +132,5 @@ IsFound (Untaken item giver taker) = ⊤
 IsFound (Overtaken item taker kept giver) = ⊤
 IsFound (Doubled item first second giver) = ⊤
 IsFound (Overlooked item taker giver) = ⊤
+IsFound (Missed item caller waiting) = ⊤
 IsFound (Stuck stuck) = ⊥

@@ -11,6 +11,7 @@ ghost use Rattle.meet_overlap.specs.Reasons.{IsFound, IsReason};
 mod doubled;
 mod kept;
 mod marks;
+mod missed;
 mod overlooked;
 mod overtaken;
 mod ungiven;
@@ -21,6 +22,7 @@ use crate::guess::Partners;
 use crate::search::Stuck;
 use doubled::find_doubled;
 use meet_tickets::Kind;
+use missed::find_missed;
 use overlooked::find_overlooked;
 use overtaken::find_overtaken;
 use std::alloc::{AllocError, Global};
@@ -69,6 +71,14 @@ pub enum Reason {
         taker: usize,
         giver: usize,
     },
+    /// `caller` found nobody, though `waiting`, a call of the other side, waited all the time: it was seen to wait before
+    /// `caller` began, and no call can have met it by the end of that. `item` is the one that `waiting` gives, if it
+    /// gives one.
+    Missed {
+        item: Option<u64>,
+        caller: usize,
+        waiting: usize,
+    },
     /// None of these was found. A search came through all orders, and this far.
     Stuck(Stuck),
 }
@@ -95,5 +105,8 @@ pub(crate) fn find_reason(
     if let Some(reason) = find_overlooked(alloc, kind, calls, partners)? {
         return Ok(Some(reason));
     }
-    find_overtaken(alloc, kind, calls, partners)
+    if let Some(reason) = find_overtaken(alloc, kind, calls, partners)? {
+        return Ok(Some(reason));
+    }
+    find_missed(alloc, kind, calls, partners)
 }

@@ -1,29 +1,37 @@
-//! Items that were kept in the queue throughout a call.
+//! Calls whose item was kept in the queue, or that waited there themselves, throughout another call.
 
-use crate::calls::{Call, Verb};
+use crate::calls::{Answer, Call, Verb};
 use crate::guess::{Partners, end};
 use std::alloc::{AllocError, Global};
 
-/// An item that was put: when its call ended, and when the call began that got it.
+/// A call that stood in the wait queue, or whose item did: from when it surely stood there, and when the call began that
+/// met it.
 #[derive(Clone, Copy, PartialEq, Eq, PartialOrd, Ord)]
-struct Kept {
-    put: u64,
-    taken: u64,
+struct Stay {
+    from: u64,
+    met: u64,
     number: usize,
 }
 
-/// A call, and the time from which the item must have been there.
+/// A call, and the time from which another one must have been there.
 #[derive(Clone, Copy, PartialEq, Eq, PartialOrd, Ord)]
 pub(crate) struct Look {
     pub(crate) from: u64,
     pub(crate) number: usize,
 }
 
-/// Two calls: one put an item, which was there throughout the other.
+/// Two calls: one stood in the wait queue, or its item did, throughout the other.
 #[derive(Clone, Copy)]
 pub(crate) struct There {
     pub(crate) put: usize,
     pub(crate) looked: usize,
+}
+
+/// A side of a meeting.
+#[derive(Clone, Copy, PartialEq, Eq)]
+pub(crate) enum Side {
+    Producers,
+    Consumers,
 }
 
 /// When a call began, or the last time there is if there is no call.
@@ -41,28 +49,100 @@ pub(crate) fn begin(calls: &[Call], number: Option<usize>) -> u64 {
 }
 
 /// The items that were put.
-fn all_kept(alloc: Global, calls: &[Call], partners: &Partners) -> Result<Vec<Kept>, AllocError> {
+fn all_kept(alloc: Global, calls: &[Call], partners: &Partners) -> Result<Vec<Stay>, AllocError> {
     let mut kept = Vec::new(alloc);
     for number in 0..calls.len() {
         let call = &calls[number];
         if let Verb::Keep(_) = call.verb {
-            kept.push(Kept {
-                put: end(call),
-                taken: begin(calls, partners.of(number)),
+            kept.push(Stay {
+                from: end(call),
+                met: begin(calls, partners.of(number)),
                 number,
             })?;
         }
     }
-    kept.sort_unstable();
     Ok(kept)
 }
 
-/// The item that stays longer.
-fn longer(one: Option<Kept>, other: Kept) -> Option<Kept> {
+/// Whether a call is of this side, and was met.
+fn was_met(call: &Call, side: Side) -> bool {
+    let Some(returned) = call.returned else {
+        return false;
+    };
+    match (call.verb, returned.answer) {
+        (Verb::Give(_, _), Answer::Went) => side == Side::Producers,
+        (Verb::Take(_), Answer::Got(_)) => side == Side::Consumers,
+        _ => false,
+    }
+}
+
+/// The calls of this side that were seen to wait, and were met.
+fn all_waiting(
+    alloc: Global,
+    calls: &[Call],
+    partners: &Partners,
+    side: Side,
+) -> Result<Vec<Stay>, AllocError> {
+    let mut waiting = Vec::new(alloc);
+    for number in 0..calls.len() {
+        let call = &calls[number];
+        if let Some(seen) = call.waits {
+            if was_met(call, side) {
+                waiting.push(Stay {
+                    from: seen,
+                    met: begin(calls, partners.of(number)),
+                    number,
+                })?;
+            }
+        }
+    }
+    Ok(waiting)
+}
+
+/// The one that stays longer.
+fn longer(one: Option<Stay>, other: Stay) -> Option<Stay> {
     match one {
         None => Some(other),
-        Some(one) => Some(if one.taken < other.taken { other } else { one }),
+        Some(one) => Some(if one.met < other.met { other } else { one }),
     }
+}
+
+/// For each of these looks, a stay that began before the time from which it must have been there, and that is likely to
+/// have lasted until the call ended. Returns at most `most` of them. Fails only if an allocation fails.
+fn throughout(
+    alloc: Global,
+    calls: &[Call],
+    mut stays: Vec<Stay>,
+    mut looks: Vec<Look>,
+    most: usize,
+) -> Result<Vec<There>, AllocError> {
+    stays.sort_unstable();
+    looks.sort_unstable();
+    let mut found = Vec::new(alloc);
+    let mut next = 0;
+    let mut longest: Option<Stay> = None;
+    for look in &looks {
+        for _ in next..stays.len() {
+            if next < stays.len() && stays[next].from < look.from {
+                longest = longer(longest, stays[next]);
+                next += 1;
+            } else {
+                break;
+            }
+        }
+        if let Some(stay) = longest {
+            if look.number < calls.len()
+                && end(&calls[look.number]) < stay.met
+                && found.len() < most
+            {
+                found.push(There {
+                    put: stay.number,
+                    looked: look.number,
+                })?;
+            }
+        }
+    }
+    Ok(found)
 }
 
 /// For each of these calls, an item that was put before the time from which it must have been there, and that is likely
@@ -71,34 +151,22 @@ pub(crate) fn kept_throughout(
     alloc: Global,
     calls: &[Call],
     partners: &Partners,
-    mut looks: Vec<Look>,
+    looks: Vec<Look>,
     most: usize,
 ) -> Result<Vec<There>, AllocError> {
     let kept = all_kept(alloc, calls, partners)?;
-    looks.sort_unstable();
-    let mut found = Vec::new(alloc);
-    let mut next = 0;
-    let mut longest: Option<Kept> = None;
-    for look in &looks {
-        for _ in next..kept.len() {
-            if next < kept.len() && kept[next].put < look.from {
-                longest = longer(longest, kept[next]);
-                next += 1;
-            } else {
-                break;
-            }
-        }
-        if let Some(item) = longest {
-            if look.number < calls.len()
-                && end(&calls[look.number]) < item.taken
-                && found.len() < most
-            {
-                found.push(There {
-                    put: item.number,
-                    looked: look.number,
-                })?;
-            }
-        }
-    }
-    Ok(found)
+    throughout(alloc, calls, kept, looks, most)
+}
+
+/// The same, of the calls of this side that were seen to wait by the time from which they must have been there.
+pub(crate) fn waiting_throughout(
+    alloc: Global,
+    calls: &[Call],
+    partners: &Partners,
+    side: Side,
+    looks: Vec<Look>,
+    most: usize,
+) -> Result<Vec<There>, AllocError> {
+    let waiting = all_waiting(alloc, calls, partners, side)?;
+    throughout(alloc, calls, waiting, looks, most)
 }
