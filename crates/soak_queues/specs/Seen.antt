@@ -1,6 +1,5 @@
 -- What a judge sees of a round: which call an act begins, what a call answered, and which calls are over.
 use Rattle.std.specs.Prelude.{ℕ, ◌==◌, nat_lt, Option, Some, None, List, [], ◌∷◌, if◌then◌else◌}
-use Rattle.std.specs.Option.{option_map}
 use Rattle.meet_tickets.specs.declared.places.Order.{Order}
 use Rattle.meet_tickets.specs.Limits.{most_seats}
 use Rattle.meet_tickets.specs.Meeting.{keeps}

@@ -15,10 +15,9 @@ mod work;
 
 use accounts::Account;
 use meet_cells::{ParkGate, SpinGate};
-use meet_overlap::Call;
 use meet_tickets::{MOST_RECORDS, Order};
 use rounds::{Fault, hold};
-use seen::{Line, sort};
+use seen::{sort, write_calls};
 use std::alloc::Global;
 use std::process::ExitCode;
 use std::sync::Wait;
@@ -131,30 +130,11 @@ fn tell_calls(rt: &HostRuntime, order: Order, account: Account) -> ExitCode {
     let checkpoints = account.checkpoints;
     let _ = eprintln!(rt; "checkpoints {checkpoints}");
     sort(&mut account.log.over);
-    match write_calls(rt, order, account.log.over.as_slice()) {
+    let calls = account.log.over.as_slice();
+    match write_calls(rt.alloc(), order, calls, &mut rt.stdout()) {
         Ok(()) => ExitCode::from(0),
         Err(_) => ExitCode::from(1),
     }
-}
-
-/// The word of an order.
-fn order_word(order: Order) -> &'static str {
-    match order {
-        Order::Fair => "fair",
-        Order::Unfair => "unfair",
-        Order::Transfer => "transfer",
-    }
-}
-
-/// Writes the text of calls at a queue of this order.
-fn write_calls(rt: &HostRuntime, order: Order, calls: &[Call]) -> io::Result<()> {
-    let word = order_word(order);
-    println!(rt; "calls 1 {word}")?;
-    for call in calls {
-        let line = Line { order, call: *call };
-        println!(rt; "{line}")?;
-    }
-    Ok(())
 }
 
 fn main(rt: HostRuntime) -> ExitCode {

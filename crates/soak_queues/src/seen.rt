@@ -3,15 +3,18 @@
 ghost use Rattle.std.specs.Prelude.{◌≡◌, ◌++◌, [], None, OnOk};
 ghost use Rattle.std.specs.List.Sorted.{IsNonDecreasingBy, IsPermutation};
 ghost use Rattle.std.specs.Option.{option_map, option_or};
+ghost use Rattle.std.specs.Io.KnownBytes.{Appends};
+ghost use Rattle.meet_judge.specs.CallText.{calls_text};
 ghost use Rattle.soak_queues.specs.Seen.{patience_of, offering, transferring, verb_of_whole, verb_of_part, answer_of};
 ghost use Rattle.soak_queues.specs.Seen.{call_from, open_after, over_after, never_ending, begin_of};
 
+use meet_judge::push_calls;
 use meet_overlap::{Answer, Call, Patience, Returned, Verb};
+use meet_run::text::output::write_whole;
 use meet_shop::{Ask, Call as Whole, Told};
-use meet_tickets::{Order, SeatNo};
+use meet_tickets::{Kind, Order, Refusal, SeatNo};
 use std::alloc::{AllocError, Global};
-use std::fmt;
-use std::fmt::{Display, Formatter, Write};
+use std::io::Write;
 
 /// How long a call with this limit in milliseconds waits: with a limit of 0 it doesn't.
 #[tactic(auto, unfolding(crate::specs::Seen::patience_of))]
@@ -200,81 +203,23 @@ pub fn sort(calls: &mut Vec<Call>)
     calls.sort_unstable_by_key(|call| call.begin);
 }
 
-/// A call, as its line in the text that `meet judge` reads of a queue of this order.
-#[derive(Clone, Copy)]
-pub struct Line {
-    pub order: Order,
-    pub call: Call,
-}
-
-/// The word of a call that gives.
-fn give_word(order: Order, patience: Patience) -> &'static str {
-    match (order.keeps(), patience) {
-        (true, Patience::Now) => "try",
-        (true, Patience::Forever) => "transfer",
-        (true, Patience::Timed) => "try-for",
-        (false, Patience::Now) => "offer",
-        (false, Patience::Forever) => "put",
-        (false, Patience::Timed) => "offer-for",
+/// Writes the text of calls at a queue.
+///
+/// # Errors
+/// - `WriteFault` if a write fails.
+/// - `Memory` if an allocation fails.
+pub fn write_calls<W: Write>(
+    alloc: Global,
+    order: Order,
+    calls: &[Call],
+    writer: &mut W,
+) -> Result<(), Refusal>
+    ensures { OnOk result (Appends (W.contents writer.old) (W.contents writer.new)
+        (calls_text (record { order = order; bound = None }) calls.now)) }
+{
+    let mut text = Vec::new(alloc);
+    if push_calls(&mut text, Kind { order, bound: None }, calls).is_err() {
+        return Err(Refusal::Memory);
     }
-}
-
-/// The word of a call that takes.
-fn take_word(patience: Patience) -> &'static str {
-    match patience {
-        Patience::Now => "poll",
-        Patience::Forever => "take",
-        Patience::Timed => "poll-for",
-    }
-}
-
-/// Writes what is called.
-fn write_verb<W: Write>(f: &mut Formatter<W>, order: Order, verb: Verb) -> fmt::Result {
-    match verb {
-        Verb::Keep(item) => write!(f, "put {item}"),
-        Verb::Give(patience, item) => {
-            let word = give_word(order, patience);
-            write!(f, "{word} {item}")
-        }
-        Verb::Take(patience) => {
-            let word = take_word(patience);
-            write!(f, "{word}")
-        }
-        Verb::Interrupt(seat) => {
-            let seat = seat.number();
-            write!(f, "interrupt {seat}")
-        }
-    }
-}
-
-/// Writes what was answered.
-fn write_answer<W: Write>(f: &mut Formatter<W>, answer: Answer) -> fmt::Result {
-    match answer {
-        Answer::Went => write!(f, " done"),
-        Answer::Got(item) => write!(f, " got {item}"),
-        Answer::Nothing => write!(f, " none"),
-        Answer::Expired => write!(f, " expired"),
-        Answer::Interrupted => write!(f, " interrupted"),
-        Answer::Made => write!(f, " done"),
-    }
-}
-
-impl Display for Line {
-    fn fmt<W: Write>(&self, f: &mut Formatter<W>) -> fmt::Result {
-        let Line { order, call } = *self;
-        let seat = call.seat.number();
-        let begin = call.begin;
-        match call.returned {
-            None => {
-                write!(f, "{seat} {begin} - ")?;
-                write_verb(f, order, call.verb)
-            }
-            Some(returned) => {
-                let end = returned.at;
-                write!(f, "{seat} {begin} {end} ")?;
-                write_verb(f, order, call.verb)?;
-                write_answer(f, returned.answer)
-            }
-        }
-    }
+    write_whole(writer, text.as_slice())
 }
