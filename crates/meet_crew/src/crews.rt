@@ -105,7 +105,7 @@ where
     told_of(queue.close(alloc, seats))
 }
 
-/// Whether a crew may have so many threads.
+/// Whether a crew may have this number of threads.
 fn fits(threads: u64) -> bool
     ensures { making_refusal threads most_records ≡ (if result then None else Some BadSizes) }
 {

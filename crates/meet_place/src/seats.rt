@@ -131,9 +131,9 @@ impl<D: Copy, N: Ledgers> Seat<D, N> {
         past.seen = gone;
     }
 
-    /// Whether a seat that tends a place of so many seats, whose book holds at most `cap` records, looks at the book:
-    /// its list has more receipts than may lie there, and its last record stands more than half of `cap` after those
-    /// that it saw folded away. Then the book may be more than half full.
+    /// Whether a seat that tends its place, which has `seats` seats and a book of at most `cap` records, looks at the
+    /// book: its list has more receipts than may lie there, and its last record stands more than half of `cap` after
+    /// those that it saw folded away. Then the book may be more than half full.
     pub fn is_to_look(&self, cap: u64, seats: u64) -> bool
         requires { seats ≡ N.parts }
         ensures { result ≡ is_to_look cap seats self.now }

@@ -4,8 +4,8 @@
 //!     soak_queues ROUNDS FIRST
 //!     soak_queues calls NUMBER
 //!
-//! The first holds so many rounds, whose numbers of chance begin at this one, by which a round that fails is found
-//! again. The second holds one round without drains, and prints its calls as `meet judge` reads them.
+//! The first holds ROUNDS rounds, with the random seeds FIRST, FIRST + 1 and so on. With its seed a round that fails is
+//! played again. The second holds one round without drains, and prints its calls as `meet judge` reads them.
 #![tactic(auto)]
 
 mod accounts;

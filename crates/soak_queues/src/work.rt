@@ -60,7 +60,7 @@ enum Act {
     Trim,
 }
 
-/// Drains up to so many items, or polls where a judge is to see the round.
+/// A drain of up to `max` items. In a round that is judged it is a poll, since a log of calls has no drains.
 fn drain(round: Round, max: u64) -> Act
     ensures judged { IsTrue round.is_judged → result ≡ Whole Poll }
     ensures drains { IsFalse round.is_judged → result ≡ Drain max }
@@ -204,7 +204,7 @@ fn verb_of(order: Order, act: Act) -> Option<Verb>
     }
 }
 
-/// A seat does this, and is told what; of a drain, a checkpoint and a trim nothing.
+/// Makes this step for a seat, and returns the answer of its call. A drain, a checkpoint and a trim have none.
 fn does<G: Gate + Drop, N: Ledgers, R: Wait + Clock>(
     rt: &R,
     alloc: Global,
