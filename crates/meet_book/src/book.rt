@@ -125,6 +125,7 @@ impl<O: Object> Book<O> {
     }
 
     /// Why a call is refused, Memory aside: the first that applies.
+    #[inline(always)]
     fn refusal(&self, seat: SeatNo, call: &O::Call) -> Option<Refusal>
         ensures first { result ≡ book_refusal (O.refusal_of self.now.object seat call.now)
             (O.owed_of self.now.object) (O.need_of call.now) self.now }
@@ -146,6 +147,7 @@ impl<O: Object> Book<O> {
     /// that are owed and those that this call may need are more than the book may have; else Memory, but never where
     /// there is room for them and for the call in its place. Then nothing but room has changed, and the call comes
     /// back. An admitted call that needs no record is never refused.
+    #[inline(always)]
     pub fn step(
         &mut self,
         seat: SeatNo,
@@ -235,7 +237,23 @@ where
     }
 }
 
+/// Makes a list of records longer, where it has no room for so many more. The only refusal is Memory.
+#[cold]
+#[inline(never)]
+fn grow<D: Copy>(records: &mut Vec<Record<D>>, wanted: usize) -> Result<(), Refusal>
+    ensures records { records.new.items ≡ records.old.items }
+    ensures capacity { vec_capacity records.old ≤ vec_capacity records.new }
+    ensures free { OnOk result (vec_len records.new + wanted ≤ vec_capacity records.new) }
+    ensures memory { IfErr result (λ why. why ≡ Memory) }
+{
+    match records.reserve(wanted) {
+        Ok(()) => Ok(()),
+        Err(_) => Err(Refusal::Memory),
+    }
+}
+
 /// Makes room for this many records beside those that are owed, and this much in the place.
+#[inline(always)]
 fn make_room<O: Object>(
     object: &mut O,
     records: &mut Vec<Record<O::Deed>>,
@@ -259,8 +277,8 @@ fn make_room<O: Object>(
         → room ≤ O.spare object.old → IsOk result }
 {
     let wanted = object.owed() + need;
-    if records.reserve(wanted as usize).is_err() {
-        return Err(Refusal::Memory);
+    if records.capacity() - records.len() < wanted as usize {
+        grow(records, wanted as usize)?;
     }
     if room == 0 {
         return Ok(());
@@ -269,6 +287,7 @@ fn make_room<O: Object>(
 }
 
 /// Puts a record behind the others, where there is one, and answers its receipt.
+#[inline(always)]
 fn write<D: Copy>(
     gone: u64,
     records: &mut Vec<Record<D>>,

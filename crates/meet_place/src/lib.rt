@@ -28,7 +28,7 @@ pub use draining::DrainRoom;
 pub use ledgers::{Blanks, Folds, Ledgers, Stake, Totals};
 pub use meet_cells::{Gate, Turn};
 pub use missing::missing_seats;
-pub use opening::{hold, open_seats};
+pub use opening::{hold, hold_patiently, open_seats};
 pub use place::{NewPlace, Place};
 pub use seats::{Back, Past, Pending, Seat};
 pub use settling::{SeatRoom, Settled, Unsettled, settle};

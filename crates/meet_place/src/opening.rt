@@ -20,12 +20,39 @@ use std::thread;
 const LOCK_TURNS: u64 = 16;
 
 /// Takes a lock, once no other thread has it, and holds it until the guard is let go.
+#[inline(always)]
 pub fn hold<'a, T, R: Wait>(rt: &R, lock: &'a Mutex<T>) -> MutexGuard<'a, T> {
-    for _ in 0..LOCK_TURNS {
+    match lock.try_lock() {
+        Some(guard) => guard,
+        None => hold_later(rt, lock, 1),
+    }
+}
+
+/// The same, where a thread lets others run twice as often after each try as after the one before, up to so many times:
+/// who holds the lock may come back at once, and finds what it guards in its cache.
+#[inline(always)]
+pub fn hold_patiently<'a, T, R: Wait>(rt: &R, lock: &'a Mutex<T>, most: u64) -> MutexGuard<'a, T> {
+    match lock.try_lock() {
+        Some(guard) => guard,
+        None => hold_later(rt, lock, most),
+    }
+}
+
+/// The same where the lock was taken.
+#[cold]
+#[inline(never)]
+fn hold_later<'a, T, R: Wait>(rt: &R, lock: &'a Mutex<T>, most: u64) -> MutexGuard<'a, T> {
+    let mut yields: u64 = 1;
+    for _ in 1..LOCK_TURNS {
+        for _ in 0..yields {
+            thread::yield_now();
+        }
         if let Some(guard) = lock.try_lock() {
             return guard;
         }
-        thread::yield_now();
+        if yields < most {
+            yields = yields.saturating_mul(2);
+        }
     }
     lock.lock(rt)
 }

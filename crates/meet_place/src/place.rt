@@ -249,6 +249,7 @@ impl<O: Wakes, G, N: Ledgers> Place<O, G, N> {
     /// Makes a call of a seat under one hold of the lock: its answer, and whom it should wake, once the lock is free
     /// again. The seat's list has room for the receipt, so under the lock nothing grows but the book's records. It
     /// refuses what the book's `step` does; then the seat is as it was, and the call comes back.
+    #[inline(always)]
     pub fn locked_step<R: Wait>(
         &self,
         rt: &R,

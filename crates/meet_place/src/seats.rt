@@ -140,7 +140,7 @@ impl<D: Copy, N: Ledgers> Seat<D, N> {
     {
         let _ = self.number;
         let last = last_place(self.list.as_slice());
-        self.list.len() as u64 > cap / seats / 4 && last.saturating_sub(self.past.seen) > cap / 2
+        last.saturating_sub(self.past.seen) > cap / 2 && self.list.len() as u64 > cap / seats / 4
     }
 
     /// How many more receipts its list has room for.

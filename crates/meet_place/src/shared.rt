@@ -107,6 +107,7 @@ impl<O: Object, N: Ledgers> Shared<O, N> {
 
     /// Makes a call of a seat, whose list has room for its receipt. It refuses what the book's `step` does; then the
     /// seat is as it was, and the call comes back.
+    #[inline(always)]
     pub fn step(
         &mut self,
         seat: &mut Seat<O::Deed, N>,

@@ -54,12 +54,12 @@ pub enum Asked<T, N: Ledgers> {
 /// reason. It is no error type, and no `From` makes it a `Refusal`: a `?` hands it on whole or doesn't compile.
 #[derive(Drop)]
 pub struct SeatRefused<T, N: Ledgers> {
-    /// Why.
-    pub why: Refusal,
     /// The seat as it was, with room for more receipts perhaps.
     pub seat: Seat<Deed, N>,
     /// The item that the call brought.
     pub item: Option<T>,
+    /// Why.
+    pub why: Refusal,
 }
 
 /// The name of the reason.

@@ -14,6 +14,7 @@ use std::sync::Wait;
 impl<O: QueuePlace, G: Gate, N: Ledgers> Queue<O, G, N> {
     /// Follows an open ticket up: how it ended, or NotYet while it stands in the line. It waits for the lock alone, and
     /// is never refused.
+    #[inline(always)]
     pub fn follow_up<R: Wait>(&self, rt: &R, pending: Pending<Deed, N>) -> Followed<O::Item, N>
         ensures { FollowedAs O.Item.mark_of pending result }
     {

@@ -64,6 +64,7 @@ impl<O: QueuePlace, G, N: Ledgers> Queue<O, G, N> {
 impl<O: QueuePlace, G: Gate, N: Ledgers> Queue<O, G, N> {
     /// Makes a call of a seat, whose list has room for its receipt, under one hold of the lock, and wakes whom it
     /// should. It refuses what the queue's book does; then the seat is as it was, and the call comes back.
+    #[inline(always)]
     pub(crate) fn step<R: Wait>(
         &self,
         rt: &R,
@@ -93,6 +94,7 @@ impl<O: QueuePlace, G: Gate, N: Ledgers> Queue<O, G, N> {
     /// Ends a ticket, where it is the seat's open one, and its item, if it lies in the queue, has the mark that its
     /// request brought: looked at under the hold that ends it, since behind a lock a caller can't know. Else nothing is
     /// done; with a seat and its own open ticket that can't come.
+    #[inline(always)]
     pub(crate) fn end<R: Wait>(
         &self,
         rt: &R,

@@ -75,6 +75,7 @@ impl<O: QueuePlace, G: Gate, N: Ledgers> Queue<O, G, N> {
     /// seat's list can't grow, else SeatOpen, TicketsSpent, HistoryFull or Memory, the first that applies; then nothing
     /// was written, and the seat and the item come back. Where it waits, its ending grows nothing. A seat, or a parked
     /// ticket, that is dropped is missing at `close`.
+    #[inline(always)]
     pub fn request<R: Wait>(
         &self,
         rt: &R,

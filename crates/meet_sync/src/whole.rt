@@ -27,6 +27,7 @@ fn remaining_until<R: Clock>(rt: &R, deadline: Option<Deadline>) -> Option<u64>
 
 impl<O: QueuePlace, G: Gate, N: Ledgers> Queue<O, G, N> {
     /// Follows an open ticket up: how it ended, or the ticket as it was.
+    #[inline(always)]
     fn look<R: Wait>(
         &self,
         rt: &R,
@@ -126,6 +127,7 @@ impl<O: QueuePlace, G: Gate, N: Ledgers> Queue<O, G, N> {
     /// there is a limit; without one it may wait for ever. Put is `BlockingQueue.put`, Give `TransferQueue.transfer`,
     /// Offer `TransferQueue.tryTransfer`; in a synchronous queue the first two are the same, and the last is its
     /// `offer`. Refuses as `request`.
+    #[inline(always)]
     pub fn ask<R: Wait + Clock>(
         &self,
         rt: &R,

@@ -131,6 +131,7 @@ impl<J> Crew<J> {
 }
 
 /// One for what is so, and else none.
+#[inline(always)]
 fn one_if(is: bool) -> u64
     ensures value { result ≡ (if is then 1 else 0) }
     ensures few { result ≤ 1 }
@@ -140,6 +141,7 @@ fn one_if(is: bool) -> u64
 
 impl<J> Crew<J> {
     /// The worker of this number comes to another stage: the one that it leaves.
+    #[inline(always)]
     pub fn put(&mut self, worker: u64, stage: Stage<J>) -> Stage<J>
         requires { worker < length self.old }
         ensures was { result ≡ slice_index_or self.old worker Absent }
@@ -150,9 +152,10 @@ impl<J> Crew<J> {
             one_if(stage.is_running()),
             stage.owes(),
         );
-        self.free.put(worker, !stage.is_there());
-        self.cut.put(worker, stage.is_cut());
+        let (is_there, is_cut) = (stage.is_there(), stage.is_cut());
         let was = mem::replace(&mut self.stages[worker as usize], stage);
+        self.free.change(worker, !was.is_there(), !is_there);
+        self.cut.change(worker, was.is_cut(), is_cut);
         self.there = self.there + there - one_if(was.is_there());
         self.running = self.running + running - one_if(was.is_running());
         self.owes = self.owes + owes - was.owes();
@@ -161,6 +164,7 @@ impl<J> Crew<J> {
 }
 
 /// The worker of this number comes to another stage. What it leaves has no job in it.
+#[inline(always)]
 pub fn set_stage<J>(workers: &mut Crew<J>, worker: u64, stage: Stage<J>)
     requires there { worker < length workers.old }
     requires no_job { HasNoJob (slice_index_or workers.old worker Absent) }
@@ -177,6 +181,7 @@ pub fn set_stage<J>(workers: &mut Crew<J>, worker: u64, stage: Stage<J>)
 }
 
 /// Takes what the worker of this number does out; it is absent then.
+#[inline(always)]
 pub fn take_stage<J>(workers: &mut Crew<J>, worker: u64) -> Stage<J>
     requires { worker < length workers.old }
     ensures was { result ≡ slice_index_or workers.old worker Absent }

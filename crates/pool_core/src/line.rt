@@ -90,6 +90,7 @@ impl<J> JobLine<J> {
     }
 
     /// A take comes to the line's end.
+    #[inline(always)]
     pub fn push_take(&mut self, entry: Entry<J>)
         requires room { 0 < self.old.room }
         requires fresh { All (λ e. e.ticket ≢ entry.ticket) self.old.entries }
@@ -102,6 +103,7 @@ impl<J> JobLine<J> {
     }
 
     /// A kept job comes to the line's end.
+    #[inline(always)]
     pub fn push_kept(&mut self, entry: Entry<J>)
         requires room { 0 < self.old.room }
         requires fresh { All (λ e. e.ticket ≢ entry.ticket) self.old.entries }
@@ -116,6 +118,7 @@ impl<J> JobLine<J> {
     }
 
     /// The partner of a request of this side leaves the line, if it has one.
+    #[inline(always)]
     pub fn partner(&mut self, side: Side) -> Option<Entry<J>>
         ensures end { self.new.end ≡ self.old.end }
         ensures partner { result ≡ partner self.old.end self.old.entries side }
@@ -202,6 +205,7 @@ impl<J> JobLine<J> {
     }
 
     /// Whether a request of this side has a partner.
+    #[inline(always)]
     pub fn has_partner(&self, side: Side) -> bool
         ensures { result ≡ is_some (partner self.now.end self.now.entries side) }
     {
@@ -245,6 +249,7 @@ fn kept_first<J>(line: &FairLine<J>) -> Option<&Entry<J>>
 }
 
 /// Whether a request of this side has a partner in this line.
+#[inline(always)]
 fn has_partner<J, L: Line<J>>(line: &L, side: Side) -> bool
     ensures { result ≡ is_some (partner L.end (L.entries line.now) side) }
 {
@@ -255,6 +260,7 @@ fn has_partner<J, L: Line<J>>(line: &L, side: Side) -> bool
 }
 
 /// The partner of a request of this side leaves its line.
+#[inline(always)]
 fn meet<J, L: Line<J>>(line: &mut L, side: Side) -> Option<Entry<J>>
     ensures partner { result ≡ partner L.end (L.entries line.old) side }
     ensures entries { L.entries line.new ≡ (if is_some result then unmet L.end (L.entries line.old)
@@ -290,6 +296,7 @@ fn empty_line<J>(line: &mut FairLine<J>, list: &mut Vec<Task<J>>)
 }
 
 /// An entry comes to a line's end.
+#[inline(always)]
 fn push_by<J>(line: &mut ByEnd<J>, entry: Entry<J>)
     requires room { 0 < room_of line.old }
     requires fresh { All (λ e. e.ticket ≢ entry.ticket) (entries_of line.old) }
@@ -304,6 +311,7 @@ fn push_by<J>(line: &mut ByEnd<J>, entry: Entry<J>)
 }
 
 /// The partner of a request of this side leaves its line.
+#[inline(always)]
 fn partner_by<J>(line: &mut ByEnd<J>, side: Side) -> Option<Entry<J>>
     ensures end { line_end line.new ≡ line_end line.old }
     ensures partner { result ≡ partner (line_end line.old) (entries_of line.old) side }
@@ -331,6 +339,7 @@ fn remove_by<J>(line: &mut ByEnd<J>, ticket: Ticket) -> Option<Entry<J>>
 }
 
 /// One for a kept job, else 0.
+#[inline(always)]
 fn kept_one<J>(entry: &Option<Entry<J>>) -> u64
     ensures { result ≡ kept_one entry.now }
 {

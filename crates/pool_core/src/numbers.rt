@@ -54,6 +54,7 @@ impl Numbers {
     }
 
     /// From now on a number is in it, or isn't.
+    #[inline(always)]
     pub(crate) fn put(&mut self, number: u64, is: bool)
         requires { number < 64 * length self.old.words.items }
         ensures room { length self.new.words.items ≡ length self.old.words.items }
@@ -63,6 +64,21 @@ impl Numbers {
         let place = (number / 64) as usize;
         let word = self.words[place];
         self.words[place] = with_bit(word, number % 64, is);
+    }
+
+    /// The same of a number that was in it, or wasn't, as is told. Where that stays so it writes nothing, and other
+    /// threads keep what they have of the set in their caches.
+    #[inline(always)]
+    pub(crate) fn change(&mut self, number: u64, was: bool, is: bool)
+        requires within { number < 64 * length self.old.words.items }
+        requires was { holds self.old.words.items number ≡ (if was then 1 else 0) }
+        ensures room { length self.new.words.items ≡ length self.old.words.items }
+        ensures own { holds self.new.words.items number ≡ (if is then 1 else 0) }
+        ensures others { (n : ℕ) → n ≢ number → holds self.new.words.items n ≡ holds self.old.words.items n }
+    {
+        if was != is {
+            self.put(number, is);
+        }
     }
 }
 
@@ -84,6 +100,7 @@ fn lowest_bit(word: u64) -> u64
 }
 
 /// A word with this bit one or zero.
+#[inline(always)]
 fn with_bit(word: u64, bit: u64, is: bool) -> u64
     requires { bit < 64 }
     ensures own { bit_at result bit ≡ (if is then 1 else 0) }

@@ -87,6 +87,7 @@ impl<J: Marked> Object for PoolCore<J> {
         base.gone
     }
 
+    #[inline(always)]
     fn admit(&self, seat: SeatNo, call: &PoolCall<J>) -> Result<(), Refusal> {
         match call {
             PoolCall::Execute(_) => self.admit_execute(seat),
@@ -137,6 +138,7 @@ impl<J: Marked> Object for PoolCore<J> {
         PoolCore::reserve(self, room)
     }
 
+    #[inline(always)]
     fn step(
         &mut self,
         seat: SeatNo,
@@ -194,6 +196,7 @@ impl<J: Marked> Leaves for PoolCore<J> {
 
 impl<J: Marked> PoolCore<J> {
     /// Makes an admitted call, for which there is room.
+    #[inline(always)]
     fn make(
         &mut self,
         seat: SeatNo,

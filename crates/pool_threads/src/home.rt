@@ -14,7 +14,7 @@ use crate::steps::{Next, WorkerCall};
 use crate::worth::WorkerSeat;
 use crossbeam_utils::CachePadded;
 use meet_cells::{Gate, Turn};
-use meet_place::{Ledgers, hold};
+use meet_place::{Ledgers, hold_patiently};
 use std::marker::{Model, PhantomData};
 use std::sync::atomic::{AtomicU64, Ordering};
 use std::sync::{Condvar, Mutex, Wait};
@@ -29,6 +29,8 @@ pub struct Home<W: Work, C, G, N: PoolLedgers> {
     pub(crate) moved: Condvar,
     pub(crate) made: Made<N>,
     pub(crate) callers: u64,
+    /// How often a thread that finds the lock taken lets others run at most, before it tries again.
+    pub(crate) patience: u64,
     pub(crate) keep_alive: u64,
     /// How many records callers folded away or had handed out so far: a hint, by which workers let go of receipts.
     pub(crate) folded: AtomicU64,
@@ -86,6 +88,7 @@ pub enum Duty<C, S> {
 }
 
 /// What a worker does that was ready; none where it has gone.
+#[inline(always)]
 fn duty_of<W: Work, C: Drop, N: PoolLedgers>(
     next: Next<C, WorkerSeat<W, N>>,
 ) -> Option<Duty<C, WorkerSeat<W, N>>>
@@ -111,7 +114,7 @@ impl<W: Work, C: Drop, G, N: PoolLedgers> Home<W, C, G, N> {
         requires finish { (answer : _) → (call ≡ Finish answer) → EndsRunningWorth W.worth seat.list answer }
         ensures { NextFits seat result }
     {
-        let mut shared = hold(rt, &self.shared);
+        let mut shared = hold_patiently(rt, &self.shared, self.patience);
         let next = shared.work(seat, call);
         drop(shared);
         next
@@ -119,6 +122,7 @@ impl<W: Work, C: Drop, G, N: PoolLedgers> Home<W, C, G, N> {
 
     /// Records what a worker's job answered, and that it is ready for the next, under one hold of the lock: what it
     /// does then; none where it has gone, or a step is refused.
+    #[inline(always)]
     fn step_twice<R: Wait>(
         &self,
         rt: &R,
@@ -129,7 +133,7 @@ impl<W: Work, C: Drop, G, N: PoolLedgers> Home<W, C, G, N> {
         requires worth { EndsRunningWorth W.worth seat.list answer }
         ensures { IfSome result DutyFits }
     {
-        let mut shared = hold(rt, &self.shared);
+        let mut shared = hold_patiently(rt, &self.shared, self.patience);
         let next = match shared.work(seat, WorkerCall::Finish(answer)) {
             Next::Ended(seat) => shared.work(seat, WorkerCall::Ready),
             _ => return None,
@@ -148,7 +152,7 @@ impl<W: Work, C: Drop, G, N: PoolLedgers> Home<W, C, G, N> {
         ensures { seat.old.room ≤ seat.new.room }
     {
         if self.is_to_forget(seat) {
-            let mut shared = hold(rt, &self.shared);
+            let mut shared = hold_patiently(rt, &self.shared, self.patience);
             let gone = shared.gone_for_worker(seat);
             drop(shared);
             seat.forget(gone);

@@ -86,6 +86,16 @@ where
     Ok(padded)
 }
 
+/// How often a thread that finds the lock of a pool taken lets others run before it tries again: where jobs are kept who
+/// holds the lock mostly comes back at once, and it pays to leave it to them for a while. Our choice, of which nothing
+/// is promised.
+fn patience_of(queue: PoolQueue) -> u64 {
+    match queue {
+        PoolQueue::Hand(_) => 1,
+        PoolQueue::Unbounded | PoolQueue::Bounded(_) => 32,
+    }
+}
+
 impl<W: Work, C: Drop, G: Drop, S: Drop, N: PoolLedgers> Pool<W, C, G, S, N> {
     /// A pool without a job, and a seat for each caller, numbered from 0. It refuses what doesn't fit
     /// (`settings_refusal`), and else Memory alone.
@@ -141,6 +151,7 @@ impl<W: Work, C: Drop, G: Drop, S: Drop, N: PoolLedgers> Pool<W, C, G, S, N> {
             moved: Condvar::new(),
             made: Made::new(callers + maximum),
             callers: sizes.callers,
+            patience: patience_of(queue),
             keep_alive: sizes.keep_alive,
             folded: AtomicU64::new(0),
         };

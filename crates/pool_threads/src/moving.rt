@@ -16,6 +16,7 @@ use std::mem;
 use std::mem::ManuallyDrop;
 
 /// Places a job beside the core as the core's answer says.
+#[inline(always)]
 pub(crate) fn place<C: Drop, S: Drop>(
     kept: &mut VecDeque<Job<C>>,
     given: &mut Vec<Option<Job<C>>>,
@@ -110,6 +111,7 @@ pub(crate) fn put_back<S: Drop>(seats: &mut Vec<Option<S>>, at: usize, seat: S)
 }
 
 /// The job that a worker runs now: the one that it was given, or the first kept one.
+#[inline(always)]
 pub(crate) fn run<C: Drop>(
     kept: &mut VecDeque<Job<C>>,
     given: &mut Vec<Option<Job<C>>>,
@@ -131,6 +133,7 @@ pub(crate) fn run<C: Drop>(
 }
 
 /// Gives a worker that has none a job.
+#[inline(always)]
 pub(crate) fn put<C: Drop>(given: &mut Vec<Option<Job<C>>>, at: usize, job: Job<C>)
     requires none { slice_get (map given_tag given.old.items) at ≡ Some None }
     ensures { map given_tag given.new.items ≡ slice_set (map given_tag given.old.items) at (Some job.tag) }
@@ -140,6 +143,7 @@ pub(crate) fn put<C: Drop>(given: &mut Vec<Option<Job<C>>>, at: usize, job: Job<
 }
 
 /// Takes the job that a worker was given.
+#[inline(always)]
 pub(crate) fn take<C>(given: &mut Vec<Option<Job<C>>>, at: usize) -> Job<C>
     requires some { (tag : ℕ) × (slice_get (map given_tag given.old.items) at ≡ Some (Some tag)) }
     ensures job { slice_get (map given_tag given.old.items) at ≡ Some (Some result.tag) }
@@ -152,6 +156,7 @@ pub(crate) fn take<C>(given: &mut Vec<Option<Job<C>>>, at: usize) -> Job<C>
 }
 
 /// Keeps a job.
+#[inline(always)]
 pub(crate) fn keep<C>(kept: &mut VecDeque<Job<C>>, job: Job<C>)
     requires room { deque_len kept.old < deque_capacity kept.old }
     ensures { map tag_in kept.new.items ≡ map tag_in kept.old.items ++ job.tag ∷ [] }
@@ -160,6 +165,7 @@ pub(crate) fn keep<C>(kept: &mut VecDeque<Job<C>>, job: Job<C>)
 }
 
 /// Takes the first kept job.
+#[inline(always)]
 pub(crate) fn take_first<C>(kept: &mut VecDeque<Job<C>>) -> Job<C>
     requires some { (tag : ℕ) × (rest : List ℕ) × (map tag_in kept.old.items ≡ tag ∷ rest) }
     ensures kept { map tag_in kept.old.items ≡ result.tag ∷ map tag_in kept.new.items }

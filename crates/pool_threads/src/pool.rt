@@ -17,7 +17,7 @@ use crate::shared::Placed;
 use crate::workers::{Starter, Worker, start};
 use crate::worth::WorkerSeat;
 use meet_cells::Gate;
-use meet_place::{Seat, hold};
+use meet_place::{Seat, hold, hold_patiently};
 use meet_tickets::{Refusal, Refused};
 use pool_core::PoolDeed;
 use std::alloc::Global;
@@ -89,6 +89,7 @@ fn outcome_of<W: Work, C: Call<W> + Drop>(executed: Executed<C>) -> Outcome<C>
 
 impl<W: Work, C: Drop, G: Gate + Drop, S, N: PoolLedgers> Pool<W, C, G, S, N> {
     /// Hands a job in under one hold of the lock, and wakes the worker that it was handed to.
+    #[inline(always)]
     fn hand<R: Wait>(
         &self,
         rt: &R,
@@ -106,7 +107,7 @@ impl<W: Work, C: Drop, G: Gate + Drop, S, N: PoolLedgers> Pool<W, C, G, S, N> {
         ensures back { IfErr result (λ refused. refused.back ≡ job) }
         ensures same { IfErr result (λ _. seat.new ≡ seat.old) }
     {
-        let mut shared = hold(rt, &self.home.shared);
+        let mut shared = hold_patiently(rt, &self.home.shared, self.home.patience);
         let placed = shared.execute(seat, job);
         drop(shared);
         if let Ok(placed) = &placed {

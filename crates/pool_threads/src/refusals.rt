@@ -62,10 +62,10 @@ impl<C: Drop, N: Ledgers> PoolRefused<C, N> {
 /// A call of a seat that was refused: the seat comes back. Its text is the name of the reason.
 #[derive(Drop)]
 pub struct SeatRefused<N: Ledgers> {
-    /// Why.
-    pub why: Refusal,
     /// The seat, as it was.
     pub seat: Seat<PoolDeed<u64>, N>,
+    /// Why.
+    pub why: Refusal,
 }
 
 /// The name of the reason.

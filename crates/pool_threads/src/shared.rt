@@ -73,6 +73,7 @@ impl<W: Work, C: Drop, N: PoolLedgers> PoolShared<W, C, N> {
     }
 
     /// Hands a job in. The seat's list has room for the receipt. It refuses Memory, or what the core refuses.
+    #[inline(always)]
     pub fn execute(
         &mut self,
         seat: &mut Seat<PoolDeed<u64>, N>,

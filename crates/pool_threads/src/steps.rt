@@ -51,6 +51,7 @@ pub enum Next<C, S> {
 
 impl<W: Work, C: Drop, N: PoolLedgers> PoolShared<W, C, N> {
     /// Makes a step of a worker, whose list has room for the receipt.
+    #[inline(always)]
     pub fn work(&mut self, seat: WorkerSeat<W, N>, call: WorkerCall) -> Next<C, WorkerSeat<W, N>>
         requires room { 0 < seat.room }
         requires finish { (answer : _) → (call ≡ FinishCall answer) → EndsRunningWorth W.worth seat.list answer }
@@ -67,6 +68,7 @@ impl<W: Work, C: Drop, N: PoolLedgers> PoolShared<W, C, N> {
     }
 
     /// A worker's `ready`.
+    #[inline(always)]
     fn ready(&mut self, mut seat: WorkerSeat<W, N>) -> Next<C, WorkerSeat<W, N>>
         requires room { 0 < seat.room }
         ensures fits { NextFits seat result }
@@ -91,6 +93,7 @@ impl<W: Work, C: Drop, N: PoolLedgers> PoolShared<W, C, N> {
     }
 
     /// A worker's `follow`.
+    #[inline(always)]
     fn follow(&mut self, mut seat: WorkerSeat<W, N>) -> Next<C, WorkerSeat<W, N>>
         requires room { 0 < seat.room }
         ensures fits { NextFits seat result }
@@ -115,6 +118,7 @@ impl<W: Work, C: Drop, N: PoolLedgers> PoolShared<W, C, N> {
     }
 
     /// A worker's job answered this.
+    #[inline(always)]
     fn finish(&mut self, mut seat: WorkerSeat<W, N>, answer: u64) -> Next<C, WorkerSeat<W, N>>
         requires room { 0 < seat.room }
         requires worth { EndsRunningWorth W.worth seat.list answer }
@@ -193,6 +197,7 @@ impl<W: Work, C: Drop, N: PoolLedgers> PoolShared<W, C, N> {
 }
 
 /// Moves the jobs and the seat as an answer to `ready` says.
+#[inline(always)]
 fn after_ready<C: Drop, S: Drop>(
     kept: &mut VecDeque<Job<C>>,
     given: &mut Vec<Option<Job<C>>>,
@@ -222,6 +227,7 @@ fn after_ready<C: Drop, S: Drop>(
 }
 
 /// Moves the jobs and the seat as an answer to `follow` says.
+#[inline(always)]
 fn after_follow<C: Drop, S: Drop>(
     kept: &mut VecDeque<Job<C>>,
     given: &mut Vec<Option<Job<C>>>,

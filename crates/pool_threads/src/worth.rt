@@ -149,6 +149,7 @@ impl<W: Work, N: Ledgers> WorkerSeat<W, N> {
     }
 
     /// Makes a step. A Finish says what the job that the list ends with is worth.
+    #[inline(always)]
     pub fn step(
         &mut self,
         shared: &mut Shared<PoolCore<u64>, N>,

@@ -15,6 +15,7 @@ use meet_tickets::{Cause, Marked, Refusal, SeatNo};
 
 /// Whether this seat's call is admitted, or why it is refused: the first reason that applies, of NoSuchSeat,
 /// SeatOpen, TicketsSpent and NotOpen. It takes no memory.
+#[inline(always)]
 pub fn admit_call<T: Marked, L: Line<T>>(
     queue: &Meetings<T, L>,
     seat: SeatNo,

@@ -12,6 +12,7 @@ use meet_tickets::{Cause, Deed, Marked, Record, SeatNo, Side, Ticket};
 pub type Answered<T> = (QueueAnswer<T>, Option<Record<Deed>>);
 
 /// The answer to a give of an item with this mark.
+#[inline(always)]
 pub(crate) fn of_give<T>(seat: SeatNo, mark: u64, gave: Gave<T>) -> Answered<T>
     ensures { result ≡ (QueueAnswer.Gave gave, Some (give_record seat mark gave)) }
 {
@@ -38,6 +39,7 @@ pub fn answered_put<T>(seat: SeatNo, mark: u64, put: Put<T>) -> Answered<T>
 }
 
 /// The answer to an offer of an item with this mark.
+#[inline(always)]
 pub(crate) fn of_offer<T>(seat: SeatNo, mark: u64, offered: Offered<T>) -> Answered<T>
     ensures { result ≡ (QueueAnswer.Offered offered, Some (offer_record seat mark offered)) }
 {
@@ -50,6 +52,7 @@ pub(crate) fn of_offer<T>(seat: SeatNo, mark: u64, offered: Offered<T>) -> Answe
 }
 
 /// The answer to a take.
+#[inline(always)]
 pub(crate) fn of_take<T: Marked>(seat: SeatNo, took: Took<T>) -> Answered<T>
     ensures { result ≡ (QueueAnswer.Took took, Some (take_record T.mark_of seat took)) }
 {
@@ -63,6 +66,7 @@ pub(crate) fn of_take<T: Marked>(seat: SeatNo, took: Took<T>) -> Answered<T>
 }
 
 /// The answer to a poll.
+#[inline(always)]
 pub(crate) fn of_poll<T: Marked>(seat: SeatNo, polled: Polled<T>) -> Answered<T>
     ensures { result ≡ (QueueAnswer.Polled polled, Some (poll_record T.mark_of seat polled)) }
 {
@@ -75,6 +79,7 @@ pub(crate) fn of_poll<T: Marked>(seat: SeatNo, polled: Polled<T>) -> Answered<T>
 }
 
 /// The answer to this ticket's follow-up; no record where it still stands in the line.
+#[inline(always)]
 pub(crate) fn of_follow_up<T: Marked>(
     seat: SeatNo,
     ticket: Ticket,

@@ -92,6 +92,7 @@ impl<T: Marked, L: Line<T>> Object for Dual<T, L> {
         base.gone
     }
 
+    #[inline(always)]
     fn admit(&self, seat: SeatNo, call: &QueueCall<T>) -> Result<(), Refusal> {
         admit_call(&self.meetings, seat, call)
     }
@@ -112,6 +113,7 @@ impl<T: Marked, L: Line<T>> Object for Dual<T, L> {
         Dual::reserve(self, room)
     }
 
+    #[inline(always)]
     fn step(&mut self, seat: SeatNo, call: QueueCall<T>) -> (QueueAnswer<T>, Option<Record<Deed>>) {
         self.stays_sound();
         self.make(seat, call)
@@ -246,6 +248,7 @@ impl<T: Marked, L: Line<T>> QueueLeaves for Dual<T, L> {
 
 impl<T: Marked, L: Line<T>> Dual<T, L> {
     /// Makes an admitted call, for which there is room.
+    #[inline(always)]
     fn make(&mut self, seat: SeatNo, call: QueueCall<T>) -> Answered<T>
         requires admitted { queue_refusal self.old seat call ≡ None }
         requires room { queue_room call ≤ self.old.room }

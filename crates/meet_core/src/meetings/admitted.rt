@@ -15,6 +15,7 @@ impl<T: Marked, L: Line<T>> Meetings<T, L> {
     /// `SynchronousQueue.put` or `LinkedTransferQueue.transfer` up to its wait, which can't be refused: the item goes
     /// to the taker that is met, or its giver goes to the line, or is refused at entry where it is flagged. It asks
     /// that `admit` refuses nothing, and that there is room.
+    #[inline(always)]
     pub fn give_admitted(&mut self, seat: SeatNo, item: T) -> Gave<T>
         requires admitted { admit_refusal self.old seat ≡ None }
         requires room { 0 < self.old.room }
@@ -59,6 +60,7 @@ impl<T: Marked, L: Line<T>> Meetings<T, L> {
     /// `BlockingQueue.take` up to its wait, which can't be refused: the item comes from the giver that is met, or the
     /// taker goes to the line, or is refused at entry where it is flagged. It asks that `admit` refuses nothing, and
     /// that there is room.
+    #[inline(always)]
     pub fn take_admitted(&mut self, seat: SeatNo) -> Took<T>
         requires admitted { admit_refusal self.old seat ≡ None }
         requires room { 0 < self.old.room }

@@ -16,6 +16,7 @@ impl<T: Marked, L: Line<T>> Meetings<T, L> {
 
     /// The follow-up of the seat's open ticket. Refuses NotOpen where the ticket isn't the open one of that seat,
     /// also for a seat that isn't there.
+    #[inline(always)]
     pub fn follow_up(&mut self, seat: SeatNo, ticket: Ticket) -> Result<Followed<T>, Refusal>
         ensures step { IfOk result (λ answer. FollowStep self.old seat ticket answer self.new) }
         ensures open { IsOk result ↔ (open_ticket ((seats_of self.old).holds seat) ≡ Some ticket) }

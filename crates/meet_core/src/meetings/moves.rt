@@ -58,6 +58,7 @@ impl<T: Marked, L: Line<T>> Meetings<T, L> {
     }
 
     /// Hands the item to the taker that is met, and answers its ticket; without one the item comes back.
+    #[inline(always)]
     pub(super) fn hand(&mut self, ticket: Ticket, item: T) -> Result<Ticket, T>
         ensures met { IfOk result (λ with. HandsOver T.mark_of L.end self.old item ticket with self.new) }
         ensures places { IfOk result (λ _. places_of self.new ≡ places_of self.old) }
@@ -73,6 +74,7 @@ impl<T: Marked, L: Line<T>> Meetings<T, L> {
     }
 
     /// Fetches the item of the giver that is met, with its ticket.
+    #[inline(always)]
     pub(super) fn fetch(&mut self, ticket: Ticket) -> Option<(Ticket, T)>
         ensures met { IfSome result (λ got. Fetches T.mark_of L.end self.old ticket got.0 got.1 self.new) }
         ensures places { places_of self.new ≡ places_of self.old }
@@ -93,6 +95,7 @@ impl<T: Marked, L: Line<T>> Meetings<T, L> {
     }
 
     /// The seat's new ticket goes to the line's end.
+    #[inline(always)]
     pub(super) fn wait(&mut self, seat: SeatNo, ticket: Ticket, item: Option<T>)
         requires seat { seat < count_of self.old }
         requires free { (seats_of self.old).holds seat ≡ Free }

@@ -10,6 +10,7 @@ use meet_line::let_go_none;
 use meet_tickets::{Entry, Hold, Marked, Ticket};
 
 /// Leaves this giver's item with the seat of a taker that waited, and answers the taker's ticket.
+#[inline(always)]
 pub(super) fn serve<T>(seats: &mut SeatTable<T>, taker: Entry<T>, giver: Ticket, item: T) -> Ticket
     requires side { taker.item ≡ None }
     requires seat { taker.seat < length seats.old.holds }
@@ -32,6 +33,7 @@ pub(super) fn serve<T>(seats: &mut SeatTable<T>, taker: Entry<T>, giver: Ticket,
 }
 
 /// Takes the item of a giver that waited, whose seat learns the mark that went, and answers its ticket and the item.
+#[inline(always)]
 pub(super) fn collect<T: Marked>(
     seats: &mut SeatTable<T>,
     giver: Entry<T>,

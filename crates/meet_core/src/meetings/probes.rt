@@ -25,6 +25,7 @@ impl<T: Marked, L: Line<T>> Meetings<T, L> {
     ghost use Rattle.meet_core.specs.Queue.{seats_of, count_of};
 
     /// The seat's open ticket, if it has one.
+    #[inline(always)]
     pub fn open_ticket(&self, seat: SeatNo) -> Option<Ticket>
         ensures { result ≡ open_ticket ((seats_of self.now).holds seat) }
     {
@@ -43,6 +44,7 @@ impl<T: Marked, L: Line<T>> Meetings<T, L> {
 
     /// Whether the seat's open ticket is this one; and while its item lies here, since it waits or was cut, whether the
     /// item has this mark, or there is none where this is none. Where the ticket waits it is looked for in the line.
+    #[inline(always)]
     pub fn awaits(&self, seat: SeatNo, ticket: Ticket, mark: Option<u64>) -> bool
         ensures { IsTrue result ↔ AwaitsAs T.mark_of (seats_of self.now) seat ticket mark }
     {

@@ -136,6 +136,7 @@ impl<T> SeatTable<T> {
     }
 
     /// Puts what this seat holds in the place of what it held, which is handed out.
+    #[inline(always)]
     pub fn replace(&mut self, seat: SeatNo, hold: Hold<T>) -> Hold<T>
         requires { seat < length self.old.holds }
         ensures was { result ≡ hold_at self.old.holds seat }
@@ -153,6 +154,7 @@ impl<T> SeatTable<T> {
     }
 
     /// Puts what this seat holds in the place of what it held, in which there is no item.
+    #[inline(always)]
     pub fn put(&mut self, seat: SeatNo, hold: Hold<T>)
         requires seat { seat < length self.old.holds }
         requires no_item { HasNoItem (hold_at self.old.holds seat) }

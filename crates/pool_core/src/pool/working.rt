@@ -19,6 +19,7 @@ impl<J> PoolCore<J> {
     ghost use Rattle.pool_core.specs.declared.deeds.PoolDeed.TheVariants.{Finished, Leaves};
 
     /// The worker whose seat this is; NoSuchSeat for another seat.
+    #[inline(always)]
     fn worker_at(&self, seat: SeatNo) -> Result<u64, Refusal>
         ensures worker { IfOk result (λ worker. seat ≡ self.now.settings.sizes.callers + worker) }
         ensures there { IfOk result (λ worker. worker < length self.now.pool.workers) }
@@ -38,6 +39,7 @@ impl<J> PoolCore<J> {
     }
 
     /// Whether the worker's `ready` or `start_failed` is admitted, or why it is refused.
+    #[inline(always)]
     pub fn admit_starting(&self, seat: SeatNo) -> Result<(), Refusal>
         ensures admitted { IfOk result (λ _. worker_refusal is_starting self.now seat ≡ None) }
         ensures why { IfErr result (λ why. worker_refusal is_starting self.now seat ≡ Some why) }
@@ -66,6 +68,7 @@ impl<J> PoolCore<J> {
     }
 
     /// Whether the worker's `finish` is admitted, or why it is refused.
+    #[inline(always)]
     pub fn admit_finish(&self, seat: SeatNo) -> Result<(), Refusal>
         ensures admitted { IfOk result (λ _. worker_refusal is_running self.now seat ≡ None) }
         ensures why { IfErr result (λ why. worker_refusal is_running self.now seat ≡ Some why) }
@@ -94,6 +97,7 @@ impl<J> PoolCore<J> {
     }
 
     /// The worker's job answered this: the job is done, and the worker starts again, with none.
+    #[inline(always)]
     pub fn finish(&mut self, seat: SeatNo, answer: u64) -> Result<Ticket, Refusal>
         ensures step { IfOk result (λ ticket. Step self.old seat ticket (Finished answer) self.new) }
         ensures room { self.old.room ≤ self.new.room }
@@ -149,6 +153,7 @@ impl<J> PoolCore<J> {
     }
 
     /// The follow-up of the worker's take.
+    #[inline(always)]
     pub fn follow(&mut self, seat: SeatNo) -> Result<(Ticket, Followed<J>), Refusal>
         ensures step { IfOk result (λ told. FollowStep self.old seat told.0 told.1 self.new) }
         ensures room { self.old.room ≤ self.new.room }
@@ -205,6 +210,7 @@ impl<J> PoolCore<J> {
 
     /// A worker that starts runs its first job, or the kept one that came first; else it exits where the pool is shut,
     /// and else it waits.
+    #[inline(always)]
     pub fn ready(&mut self, seat: SeatNo) -> Result<(Ticket, Ready<J>), Refusal>
         ensures step { IfOk result (λ told. Step self.old seat told.0 (ready_deed told.1) self.new) }
         ensures room { self.old.room ≤ self.new.room }
@@ -226,6 +232,7 @@ impl<J> PoolCore<J> {
     }
 
     /// It runs the job that it starts with.
+    #[inline(always)]
     fn run_first(&mut self, seat: SeatNo, worker: u64) -> (Ticket, Ready<J>)
         requires worker { seat ≡ self.old.settings.sizes.callers + worker }
         requires there { worker < length self.old.pool.workers }
@@ -244,6 +251,7 @@ impl<J> PoolCore<J> {
     }
 
     /// It runs the kept job that came first.
+    #[inline(always)]
     fn run_kept(&mut self, seat: SeatNo, worker: u64) -> (Ticket, Ready<J>)
         requires worker { seat ≡ self.old.settings.sizes.callers + worker }
         requires there { worker < length self.old.pool.workers }
@@ -272,6 +280,7 @@ impl<J> PoolCore<J> {
     }
 
     /// It finds no job.
+    #[inline(always)]
     fn find_none(&mut self, seat: SeatNo, worker: u64) -> (Ticket, Ready<J>)
         requires worker { seat ≡ self.old.settings.sizes.callers + worker }
         requires there { worker < length self.old.pool.workers }
@@ -307,6 +316,7 @@ fn no_ticket() -> Ticket
 }
 
 /// Takes the job that a worker starts with out of its hands.
+#[inline(always)]
 fn take_first<J>(workers: &mut Crew<J>, worker: u64) -> Task<J>
     requires there { worker < length workers.old }
     requires starting { is_starting (slice_index_or workers.old worker Absent) ≡ true }
@@ -322,6 +332,7 @@ fn take_first<J>(workers: &mut Crew<J>, worker: u64) -> Task<J>
 }
 
 /// Takes the job that a worker was handed out of its hands.
+#[inline(always)]
 fn take_handed<J>(workers: &mut Crew<J>, worker: u64) -> Task<J>
     requires there { worker < length workers.old }
     requires handed { IsHanded (slice_index_or workers.old worker Absent) }

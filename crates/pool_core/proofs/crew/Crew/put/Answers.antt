@@ -45,8 +45,8 @@ invariant_of-self g c =
       running = omega (arith, well.running, runs_was, runs_new, runs_old, sum_by-set (λ x. one (is_running x)) stages w now was at);
       owes = omega (arith, well.owes, owes_was, owes_new, owes_old, sum_by-set stage_owes stages w now was at);
       few = well.few;
-      free = marks-set (λ x. not (is_there x)) (Running 0) stages c.self.inside.free.words.items well.free w now c.put.new.self.words.items at (c.put.ensures.own ∙ ap (λ b. one (not b)) (c.is_there-2.ensures ∙ ap is_there (sym new))) c.put.ensures.others;
-      free_fits = omega (arith, well.free_fits, c.put.ensures.room);
-      cut = marks-set is_cut Absent stages c.self.inside.cut.words.items well.cut w now c.put-2.new.self.words.items at (c.put-2.ensures.own ∙ ap one (c.is_cut.ensures ∙ ap is_cut (sym new))) c.put-2.ensures.others;
-      cut_fits = omega (arith, well.cut_fits, c.put-2.ensures.room);
+      free = marks-set (λ x. not (is_there x)) (Running 0) stages c.self.inside.free.words.items well.free w now c.change.new.self.words.items at (c.change.ensures.own ∙ ap (λ b. one (not b)) (c.is_there-is_there.ensures ∙ ap is_there (sym new))) c.change.ensures.others;
+      free_fits = omega (arith, well.free_fits, c.change.ensures.room);
+      cut = marks-set is_cut Absent stages c.self.inside.cut.words.items well.cut w now c.change-2.new.self.words.items at (c.change-2.ensures.own ∙ ap one (c.is_cut-is_cut.ensures ∙ ap is_cut (sym new))) c.change-2.ensures.others;
+      cut_fits = omega (arith, well.cut_fits, c.change-2.ensures.room);
     }
