@@ -7,6 +7,7 @@ pub mod Occurs
 pub mod Places
 pub mod Rechained
 pub mod Relinked
+pub mod Removals
 pub mod Removed
 pub mod Rolls
 pub mod Runs

@@ -1,3 +1,4 @@
+pub mod Lined
 pub mod Nodes
 pub mod Rolled
 pub mod Runs

@@ -16,6 +16,7 @@ mod marked;
 mod meeting;
 mod met_at;
 mod nodes;
+mod ring_line;
 mod roll;
 
 pub use end_line::{EndLine, FairLine, StackLine};
@@ -24,3 +25,4 @@ pub use line::Line;
 pub use marked::{mark_of, marked_line};
 pub use meeting::{is_alone, meet};
 pub use met_at::{First, Last, MetAt};
+pub use ring_line::{FairRing, RingLine, StackRing};

@@ -4,10 +4,9 @@
 ghost use Rattle.std.specs.Prelude.{◌≡◌, ◌≤◌};
 ghost use Rattle.meet_tickets.specs.Limits.{most_seats};
 
-use crate::list_line::{ListFair, ListStack};
 use crate::parcels::{Parcel, first_serial, join, meets_in_order, seat, ticket};
 use meet_core::SeatTable;
-use meet_line::{FairLine, Line, StackLine};
+use meet_line::{FairLine, FairRing, Line, StackLine, StackRing};
 use meet_tickets::Refusal;
 use std::alloc::Global;
 use std::process::Abort;
@@ -58,12 +57,12 @@ fn a_stack_grows(rt: HostRuntime) {
 
 #[test]
 fn a_fair_list_grows(rt: HostRuntime) {
-    grows::<ListFair<Parcel>>(&rt, rt.alloc(), &[10, 20, 30]);
+    grows::<FairRing<Parcel>>(&rt, rt.alloc(), &[10, 20, 30]);
 }
 
 #[test]
 fn a_list_of_a_stack_grows(rt: HostRuntime) {
-    grows::<ListStack<Parcel>>(&rt, rt.alloc(), &[30, 20, 10]);
+    grows::<StackRing<Parcel>>(&rt, rt.alloc(), &[30, 20, 10]);
 }
 
 /// A table of so many seats, at the second try where there was no memory at first.

@@ -1,11 +1,6 @@
 //! Lines, tables of seats and their meetings, called from outside: items that a test knows again, room at size, memory
-//! that is refused, and what is left. Here is the line in a plain list, too, with which the tests of lines and of
-//! queues compare the linked ones.
+//! that is refused, and what is left.
 #![tactic(auto)]
-
-mod list_line;
-
-pub use list_line::{ListFair, ListLine, ListStack};
 
 #[cfg(test)]
 mod growth;

@@ -1,8 +1,7 @@
 //! What every line does, in either order.
 
-use crate::list_line::{ListFair, ListStack};
 use crate::parcels::{Parcel, first_serial, join, meets_in_order, serial, ticket};
-use meet_line::{FairLine, Line, StackLine};
+use meet_line::{FairLine, FairRing, Line, StackLine, StackRing};
 use meet_tickets::Entry;
 use std::alloc::Global;
 use std::process::Abort;
@@ -53,10 +52,10 @@ fn a_stack_meets_who_came_last(rt: HostRuntime) {
 
 #[test]
 fn a_list_meets_who_came_first(rt: HostRuntime) {
-    serves::<ListFair<Parcel>>(&rt, rt.alloc(), &[10, 20, 30], &[10, 30]);
+    serves::<FairRing<Parcel>>(&rt, rt.alloc(), &[10, 20, 30], &[10, 30]);
 }
 
 #[test]
 fn a_list_meets_who_came_last(rt: HostRuntime) {
-    serves::<ListStack<Parcel>>(&rt, rt.alloc(), &[30, 20, 10], &[30, 10]);
+    serves::<StackRing<Parcel>>(&rt, rt.alloc(), &[30, 20, 10], &[30, 10]);
 }

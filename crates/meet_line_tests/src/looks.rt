@@ -2,9 +2,8 @@
 
 ghost use Rattle.std.specs.Prelude.{◌<◌, ◌^◌};
 
-use crate::list_line::{ListFair, ListStack};
 use crate::parcels::{Parcel, join, meets_in_order, serial, ticket};
-use meet_line::{FairLine, Line, StackLine};
+use meet_line::{FairLine, FairRing, Line, StackLine, StackRing};
 use std::alloc::Global;
 use std::process::Abort;
 
@@ -116,11 +115,11 @@ const LAST: [Step; 8] = [
 #[test]
 fn fair_lines_do_alike(rt: HostRuntime) {
     plays::<FairLine<Parcel>>(&rt, rt.alloc(), &FIRST, &[250, 330, 340]);
-    plays::<ListFair<Parcel>>(&rt, rt.alloc(), &FIRST, &[250, 330, 340]);
+    plays::<FairRing<Parcel>>(&rt, rt.alloc(), &FIRST, &[250, 330, 340]);
 }
 
 #[test]
 fn stacks_do_alike(rt: HostRuntime) {
     plays::<StackLine<Parcel>>(&rt, rt.alloc(), &LAST, &[340, 330, 250]);
-    plays::<ListStack<Parcel>>(&rt, rt.alloc(), &LAST, &[340, 330, 250]);
+    plays::<StackRing<Parcel>>(&rt, rt.alloc(), &LAST, &[340, 330, 250]);
 }

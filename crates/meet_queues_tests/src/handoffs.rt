@@ -4,8 +4,7 @@ use crate::parcels::{Ask, Parcel, Row, Told};
 use crate::places::{Place, plays};
 use meet_book::Book;
 use meet_core::Dual;
-use meet_line::{FairLine, Line, StackLine};
-use meet_line_tests::{ListFair, ListStack};
+use meet_line::{FairLine, FairRing, Line, StackLine, StackRing};
 use meet_queues::{queue_book, transfer_book};
 use meet_tickets::Refusal;
 use meet_transfer::Transfer;
@@ -166,8 +165,8 @@ fn an_unfair_queue(rt: HostRuntime) {
 
 #[test]
 fn queues_over_a_list_that_is_walked(rt: HostRuntime) {
-    meets_in_a_book::<ListFair<Parcel>>(&rt, rt.alloc(), &FIRST);
-    meets_in_a_book::<ListStack<Parcel>>(&rt, rt.alloc(), &LAST);
+    meets_in_a_book::<FairRing<Parcel>>(&rt, rt.alloc(), &FIRST);
+    meets_in_a_book::<StackRing<Parcel>>(&rt, rt.alloc(), &LAST);
 }
 
 /// It hands on what others do, and what is kept.

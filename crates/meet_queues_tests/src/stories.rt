@@ -4,8 +4,7 @@ use crate::parcels::{Ask, Parcel, Row, Told};
 use crate::places::plays;
 use meet_book::Book;
 use meet_core::Dual;
-use meet_line::{FairLine, Line, StackLine};
-use meet_line_tests::{ListFair, ListStack};
+use meet_line::{FairLine, FairRing, Line, StackLine, StackRing};
 use meet_queues::queue_book;
 use std::alloc::Global;
 use std::process::Abort;
@@ -133,6 +132,6 @@ fn over_linked_lines(rt: HostRuntime) {
 
 #[test]
 fn over_lists_that_are_walked(rt: HostRuntime) {
-    happen::<ListFair<Parcel>>(&rt, rt.alloc(), &FAIR);
-    happen::<ListStack<Parcel>>(&rt, rt.alloc(), &[&LAST]);
+    happen::<FairRing<Parcel>>(&rt, rt.alloc(), &FAIR);
+    happen::<StackRing<Parcel>>(&rt, rt.alloc(), &[&LAST]);
 }

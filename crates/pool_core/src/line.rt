@@ -14,7 +14,7 @@ ghost use Rattle.pool_core.specs.Pools.{kept_tasks};
 ghost use Rattle.pool_core.specs.Lines.{line_end, entries_of, room_of, kept_one};
 
 use crate::stages::Task;
-use meet_line::{FairLine, Line, StackLine, marked_line};
+use meet_line::{FairRing, Line, StackLine, marked_line};
 use meet_tickets::{End, Entry, Marked, Refusal, Side, Ticket};
 use std::alloc::Global;
 use std::marker::Model;
@@ -29,7 +29,7 @@ pub struct JobLine<J> {
 /// The end at which an entry is met.
 #[derive(Drop)]
 pub enum ByEnd<J> {
-    Front(FairLine<J>),
+    Front(FairRing<J>),
     Back(StackLine<J>),
 }
 
@@ -57,7 +57,7 @@ impl<J> JobLine<J> {
         ensures room { result.room ≡ 0 }
     {
         let line = match end {
-            End::Front => ByEnd::Front(FairLine::empty(alloc)),
+            End::Front => ByEnd::Front(FairRing::empty(alloc)),
             End::Back => ByEnd::Back(StackLine::empty(alloc)),
         };
         JobLine { line, kept: 0 }
@@ -237,7 +237,7 @@ impl<J> JobLine<J> {
 }
 
 /// The kept job that came first.
-fn kept_first<J>(line: &FairLine<J>) -> Option<&Entry<J>>
+fn kept_first<J>(line: &FairRing<J>) -> Option<&Entry<J>>
     ensures { option_map (λ e. e.now) result ≡ partner AtFront line.now.entries Taker }
 {
     let first = line.first()?;
@@ -275,7 +275,7 @@ fn meet<J, L: Line<J>>(line: &mut L, side: Side) -> Option<Entry<J>>
 }
 
 /// The jobs leave a line of givers, from its front on, and go behind the others of the list.
-fn empty_line<J>(line: &mut FairLine<J>, list: &mut Vec<Task<J>>)
+fn empty_line<J>(line: &mut FairRing<J>, list: &mut Vec<Task<J>>)
     requires givers { All (λ e. is_some e.item ≡ true) line.old.entries }
     requires fits { vec_len list.old + length line.old.entries ≤ vec_capacity list.old }
     ensures entries { line.new.entries ≡ [] }

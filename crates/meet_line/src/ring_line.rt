@@ -1,31 +1,34 @@
-//! A line in a plain list, over the end at which it is met: what the linked lines are compared with.
+//! Lines in a ring: one line over the end at which it is met. Where entries leave at that end, as the kept jobs of a
+//! pool do, it is shorter than a line of nodes: an entry is written once, and nothing else of the line is. An entry that
+//! leaves from elsewhere is looked for from the first one on, and those on one side of it move.
 
 ghost use Rattle.std.specs.Prelude.{◌≡◌, ◌≢◌, ◌+◌, ◌<◌, [], ◌∷◌, ◌++◌, All};
 
-use meet_line::{First, Last, Line, MetAt};
+use crate::line::Line;
+use crate::met_at::{First, Last, MetAt};
 use meet_tickets::{End, Entry, Refusal, Ticket};
 use std::alloc::Global;
 use std::collections::VecDeque;
 use std::marker::{Model, PhantomData};
 
-/// A line that is met at this end, in a list. Taking from an end moves nothing; a removal walks.
+/// A line that is met at this end, in a ring. Taking from an end moves nothing; a removal from elsewhere walks.
 #[derive(Drop)]
-pub struct ListLine<T, A: MetAt> {
+pub struct RingLine<T, A: MetAt> {
     entries: VecDeque<Entry<T>>,
     room: usize,
     at: PhantomData<A>,
 }
 
-/// The plain form of a fair line.
-pub type ListFair<T> = ListLine<T, First>;
+/// A ring whose first entry is met.
+pub type FairRing<T> = RingLine<T, First>;
 
-/// The plain form of a stack.
-pub type ListStack<T> = ListLine<T, Last>;
+/// A ring whose last entry is met.
+pub type StackRing<T> = RingLine<T, Last>;
 
-impl<T, A: MetAt> Model for ListLine<T, A> {
+impl<T, A: MetAt> Model for RingLine<T, A> {
     ghost use Rattle.std.specs.Prelude.{◌≡◌, ◌≢◌, ◌+◌, ◌≤◌, AllPairs};
     ghost use Rattle.std.specs.VecDeque.{deque_len, deque_capacity};
-    ghost use Rattle.meet_line_tests.specs.Lined.{Lined};
+    ghost use Rattle.meet_line.specs.Lined.{Lined};
 
     ghost Value = { Lined T };
 
@@ -35,7 +38,7 @@ impl<T, A: MetAt> Model for ListLine<T, A> {
         × AllPairs (λ e f. e.ticket ≢ f.ticket) line.entries.items };
 }
 
-impl<T, A: MetAt> Line<T> for ListLine<T, A> {
+impl<T, A: MetAt> Line<T> for RingLine<T, A> {
     ghost entries = { λ line. line.entries };
 
     ghost spare = { λ line. line.room };
@@ -43,24 +46,26 @@ impl<T, A: MetAt> Line<T> for ListLine<T, A> {
     ghost end = { A.end };
 
     fn empty(alloc: Global) -> Self {
-        ListLine {
+        RingLine {
             entries: VecDeque::new(alloc),
             room: 0,
             at: PhantomData,
         }
     }
 
+    #[inline(always)]
     fn reserve(&mut self, count: u64) -> Result<(), Refusal> {
         let count = count as usize;
         if count > self.room {
             if self.entries.reserve(count).is_err() {
                 return Err(Refusal::Memory);
             }
-            self.room = count;
+            self.room = self.entries.capacity() - self.entries.len();
         }
         Ok(())
     }
 
+    #[inline(always)]
     fn push_back(&mut self, entry: Entry<T>)
         requires room { 0 < self.old.room }
         requires fresh { All (λ e. e.ticket ≢ entry.ticket) self.old.entries }
@@ -71,6 +76,7 @@ impl<T, A: MetAt> Line<T> for ListLine<T, A> {
         self.room -= 1;
     }
 
+    #[inline(always)]
     fn meet(&mut self) -> Option<Entry<T>> {
         let met = match A::end() {
             End::Front => self.entries.pop_front()?,
@@ -90,6 +96,7 @@ impl<T, A: MetAt> Line<T> for ListLine<T, A> {
         Some(removed)
     }
 
+    #[inline(always)]
     fn first(&self) -> Option<&Entry<T>> {
         self.entries.front()
     }
@@ -114,7 +121,7 @@ impl<T, A: MetAt> Line<T> for ListLine<T, A> {
     }
 
     fn destroy_empty(self) {
-        let ListLine {
+        let RingLine {
             entries,
             room: _,
             at: _,

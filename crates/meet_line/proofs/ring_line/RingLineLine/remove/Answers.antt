@@ -1,13 +1,13 @@
--- Proof of `ListLine::remove`, src/list_line.rt.
+-- Proof of `RingLine::remove`, src/ring_line.rt.
 use Rattle.std.proofs.Common.{◌≡◌, ◌≢◌, ◌∙◌, ◌<◌, ◌==◌, length, sym, rules, arith, tests}
 use Rattle.std.specs.List.{position}
 use Rattle.std.proofs.lemmas.Iterator.Search.{position_from_yields_List}
 use Rattle.std.proofs.lemmas.Iterator.Consumers.{YieldsList-from_deque}
 use Rattle.std.proofs.lemmas.List.Quantifiers.{all_pairs_remove}
-use Rattle.meet_line_tests.proofs.Removals.{removed_there, removed_nowhere}
-use Rattle.meet_line_tests.proofs.list_line.ListLineLine.remove.Given.{Over}
-use Rattle.meet_line_tests.proofs.list_line.ListLineLine.remove.Goals.{After-position}
-use Rattle.meet_line_tests.proofs.list_line.ListLineLine.remove.Goals as goal
+use Rattle.meet_line.proofs.Removals.{removed_there, removed_nowhere}
+use Rattle.meet_line.proofs.ring_line.RingLineLine.remove.Given.{Over}
+use Rattle.meet_line.proofs.ring_line.RingLineLine.remove.Goals.{After-position}
+use Rattle.meet_line.proofs.ring_line.RingLineLine.remove.Goals as goal
 
 -- the walk stops at the first entry of the ticket
 stops : (g : Over) (c : After-position g) → c.position.result ≡ position (λ e. e.ticket == c.args.ticket) c.self.inside.entries.items

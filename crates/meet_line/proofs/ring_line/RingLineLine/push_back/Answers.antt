@@ -1,7 +1,7 @@
--- Proof of `ListLine::push_back`, src/list_line.rt.
+-- Proof of `RingLine::push_back`, src/ring_line.rt.
 use Rattle.std.proofs.Common.{◌≢◌, ◌<◌, All, arith}
 use Rattle.std.proofs.lemmas.List.Quantifiers.{all_pairs_push}
-use Rattle.meet_line_tests.proofs.list_line.ListLineLine.push_back.Goals as goal
+use Rattle.meet_line.proofs.ring_line.RingLineLine.push_back.Goals as goal
 
 pub invariant_of-self : goal.invariant_of-self
 invariant_of-self g c =
