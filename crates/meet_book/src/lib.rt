@@ -5,6 +5,10 @@
 //! written as it is done); whoever called gets a receipt of it, which the book alone makes. Room for the record, and
 //! for those that open tickets may still owe, is made before the step: so no ending is ever refused. A book is cut by a
 //! checkpoint, which puts a base in the place of its records, as a snapshot does in a log.
+//!
+//! `#[inline(always)]` stands where a call passes on its way down to the place. So a call is one function from where a
+//! program makes it, and which kind of call it is, is asked once and not in each layer anew. What is rare, as the growth
+//! of the records, is `#[cold]` and out of line.
 #![tactic(auto)]
 
 mod book;

@@ -8,6 +8,9 @@
 //!   counted twice, and none is missing where all shares are there.
 //! - The end: `close` takes all seats back, and compares the records with their receipts, seat by seat. So what threads
 //!   did, however they interleaved, is one legal history, with each seat's calls in the seat's order and no others.
+//!
+//! `#[inline(always)]` stands where a call passes on its way down to the book, so that a call is one function from where
+//! a program makes it; and where the lock is tried first. A thread that finds it taken goes on out of line.
 #![tactic(auto)]
 
 mod backs;

@@ -52,6 +52,8 @@ pub enum Asked<T, N: Ledgers> {
 
 /// A call that was refused: nothing was written, and the seat and the item come back. Its text is the name of the
 /// reason. It is no error type, and no `From` makes it a `Refusal`: a `?` hands it on whole or doesn't compile.
+// The seat stands first, as in `Ended` and `Asked`, so that it lies at the same place in both variants of a result. Were
+// it a word further here, each layer that hands a result on would take the seat's words apart, into one byte and seven.
 #[derive(Drop)]
 pub struct SeatRefused<T, N: Ledgers> {
     /// The seat as it was, with room for more receipts perhaps.

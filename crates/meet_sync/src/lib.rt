@@ -9,6 +9,10 @@
 //!   can't happen, since each is a step under the same lock: who comes too late is told so, and follows up.
 //! - A chapter, a drain and the end are those of the place; the end's promise is a contract (`close`), and a law of it
 //!   (`closed_queues_keep_their_promise`).
+//!
+//! `#[inline(always)]` stands where a call passes on its way from `ask` to the place below, so that a call is one function
+//! from where a program makes it. It doesn't stand on `turn` and `await_end`: the compiler leaves a function out of line
+//! that has grown too large, and then all within it would be calls.
 #![tactic(auto)]
 
 mod asked;

@@ -1,5 +1,8 @@
 //! A pool of workers, each a thread of its own, which run jobs that callers hand in. It knows how a worker's thread
 //! lives, and nothing of where a job goes: that is `pool_core`, under a lock, with the jobs themselves beside it.
+//!
+//! `#[inline(always)]` stands where a job and a worker's step pass on their way to the core, so that each is one function
+//! from where a thread makes it, and which kind of call it is, is asked once.
 #![tactic(auto)]
 
 mod chapters;

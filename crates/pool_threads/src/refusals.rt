@@ -60,6 +60,8 @@ impl<C: Drop, N: Ledgers> PoolRefused<C, N> {
 }
 
 /// A call of a seat that was refused: the seat comes back. Its text is the name of the reason.
+// The seat stands first, as in what a call that isn't refused answers, so that it lies at the same place in both. In
+// `PoolRefused` it doesn't: there the job would come to lie at two places.
 #[derive(Drop)]
 pub struct SeatRefused<N: Ledgers> {
     /// The seat, as it was.
