@@ -126,7 +126,7 @@ impl<T> Linked<T> {
     fn grow(&mut self, count: usize) -> Result<(), Refusal>
         requires { self.old.room < count }
         ensures entries { self.new.entries ≡ self.old.entries }
-        ensures room { OnOk result (self.new.room ≡ count) }
+        ensures room { OnOk result (count ≤ self.new.room) }
         ensures unchanged { OnErr result (self.new.room ≡ self.old.room) }
         ensures memory { IfErr result (λ why. why ≡ Memory) }
         ensures looked { self.new.looked ≡ self.old.looked }
@@ -134,7 +134,8 @@ impl<T> Linked<T> {
         if self.roll.reserve(&mut self.slots, count).is_err() {
             return Err(Refusal::Memory);
         }
-        self.room = count;
+        let room = self.roll.spare();
+        self.room = room;
         Ok(())
     }
 

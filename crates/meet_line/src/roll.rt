@@ -154,6 +154,18 @@ impl Roll {
         self.nodes.capacity()
     }
 
+    /// How many tickets more have a key and a bucket.
+    pub(crate) fn spare(&self) -> usize
+        requires width { length self.now.places ≤ self.now.width }
+        requires buckets { length self.now.places ≤ self.now.buckets }
+        ensures keys { length self.now.places + result ≤ self.now.width }
+        ensures table { length self.now.places + result ≤ self.now.buckets }
+        ensures enough { (count : ℕ) → length self.now.places + count ≤ self.now.width
+            → length self.now.places + count ≤ self.now.buckets → count ≤ result }
+    {
+        self.width().min(self.buckets()) - self.len()
+    }
+
     /// The key of the first ticket, if there is one.
     pub(crate) fn first(&self) -> Option<usize>
         ensures { result ≡ first_key self.now.places }

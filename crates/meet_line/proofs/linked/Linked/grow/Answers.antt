@@ -1,5 +1,5 @@
 -- Proof of `Linked::grow`, src/linked.rt. The same, where there isn't enough room yet.
-use Rattle.std.proofs.Common.{◌+◌, ◌≤◌, ◌∙◌, ap, arith, rules, length}
+use Rattle.std.proofs.Common.{◌≡◌, ◌+◌, ◌≤◌, ◌∙◌, ap, arith, rules, length}
 use Rattle.meet_line.proofs.Stored.{widened}
 use Rattle.meet_line.proofs.linked.Linked.grow.Goals as goal
 
@@ -13,9 +13,17 @@ returns-then-is_err-clause-entries g c =
 
 pub invariant_of-self-2 : goal.invariant_of-self-2
 invariant_of-self-2 g c =
+    let same : length c.reserve.new.self.places ≡ length c.self.inside.roll.places = ap (λ ps. length ps) c.reserve.ensures.places in
+    let keys : length c.self.inside.roll.places + c.spare-room.result ≤ c.reserve.new.self.width = omega (arith, same, c.spare-room.ensures.keys) in
+    let table : length c.self.inside.roll.places + c.spare-room.result ≤ c.reserve.new.self.buckets = omega (arith, same, c.spare-room.ensures.table) in
+    (widened c.self.inside.roll c.reserve.new.self c.self.inside.slots.items c.reserve.new.slots.items c.self.inside.room c.spare-room.result c.reserve.ensures.places (c.reserve.ensures.fits c.self.invariant.wide) keys table c.reserve.ensures.slots c.self.invariant).0
+
+pub returns-clause-room : goal.returns-clause-room
+returns-clause-room g c =
+    let same : length c.reserve.new.self.places ≡ length c.self.inside.roll.places = ap (λ ps. length ps) c.reserve.ensures.places in
     let keys : length c.self.inside.roll.places + c.args.count ≤ c.reserve.new.self.width = search rules in
     let table : length c.self.inside.roll.places + c.args.count ≤ c.reserve.new.self.buckets = search rules in
-    (widened c.self.inside.roll c.reserve.new.self c.self.inside.slots.items c.reserve.new.slots.items c.self.inside.room c.args.count c.reserve.ensures.places (c.reserve.ensures.fits c.self.invariant.wide) keys table c.reserve.ensures.slots c.self.invariant).0
+    c.spare-room.ensures.enough c.args.count (omega (arith, same, keys)) (omega (arith, same, table))
 
 pub returns-clause-entries : goal.returns-clause-entries
 returns-clause-entries g c =
