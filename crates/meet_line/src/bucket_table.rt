@@ -1,6 +1,6 @@
 //! The table of a roll: for each bucket the key of its newest ticket.
 
-ghost use Rattle.std.specs.Prelude.{◌≡◌, ℕ, ◌%◌, ◌^◌, ◌<◌, ◌≤◌, None, IfSome, OnOk, OnErr, vec_len, replicate};
+ghost use Rattle.std.specs.Prelude.{◌≡◌, ℕ, ◌*◌, ◌%◌, ◌^◌, ◌<◌, ◌≤◌, None, IfSome, OnOk, OnErr, vec_len, replicate};
 ghost use Rattle.meet_line.specs.Rolled.{IsTableSize};
 
 use std::alloc::AllocError;
@@ -15,12 +15,14 @@ pub(crate) fn bucket_of(ticket: u64, count: usize) -> usize
     ticket as usize & (count - 1)
 }
 
-/// A power of two, neither below `needed` nor below `count`, which is one or 0; none where that is too great.
+/// A power of two, neither below `needed` nor below `count`, which is one or 0, and no greater one than must be; none
+/// where that is too great.
 pub(crate) fn doubled(count: usize, needed: usize) -> Option<usize>
     requires { IsTableSize count }
     ensures enough { IfSome result (λ size. needed ≤ size) }
     ensures grown { IfSome result (λ size. count ≤ size) }
     ensures power { IfSome result (λ size. (k : ℕ) × (size ≡ 2 ^ k)) }
+    ensures least { IfSome result (λ size. count < needed → size < 2 * needed) }
 {
     let mut size = count.max(1);
     while size < needed {

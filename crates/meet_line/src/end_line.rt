@@ -1,8 +1,11 @@
 //! The lines of fair and of unfair places: one line over the end at which it is met. Who came first is met first, or
 //! who came last.
 
-ghost use Rattle.std.specs.Prelude.{◌≡◌, ◌≢◌, ◌+◌, ◌<◌, ◌≤◌, ◌==◌, [], ◌∷◌, ◌++◌, All, find, length, option_to_list};
-ghost use Rattle.meet_tickets.specs.BySeat.{without_first};
+ghost use Rattle.std.specs.Prelude.{◌≡◌, ◌≢◌, ◌+◌, ◌*◌, ◌<◌, ◌≤◌, ◌==◌, ◌⊎◌, [], ◌∷◌, ◌++◌, All, find, length};
+ghost use Rattle.std.specs.Prelude.{IsOk, IfErr, OnOk, OnErr, option_to_list};
+ghost use Rattle.meet_tickets.specs.BySeat.{unmet, without_first};
+ghost use Rattle.meet_tickets.specs.Meeting.{met};
+ghost use Rattle.meet_tickets.specs.declared.refusals.Refusal.TheVariants.{Memory};
 ghost use Rattle.meet_line.specs.Rolled.{IsTableSize};
 ghost use Rattle.meet_line.specs.Stored.{fellows, IsLookedAt};
 
@@ -65,6 +68,7 @@ impl<T, A: MetAt> Line<T> for EndLine<T, A> {
         ensures entries { result.entries ≡ [] }
         ensures room { result.room ≡ 0 }
         ensures looked { result.looked ≡ 0 }
+        ensures buckets { result.buckets ≡ 0 }
     {
         EndLine {
             line: Linked::empty(alloc),
@@ -72,7 +76,20 @@ impl<T, A: MetAt> Line<T> for EndLine<T, A> {
         }
     }
 
-    fn reserve(&mut self, count: u64) -> Result<(), Refusal> {
+    fn reserve(&mut self, count: u64) -> Result<(), Refusal>
+        ensures entries { self.new.entries ≡ self.old.entries }
+        ensures room { OnOk result (count ≤ self.new.room) }
+        ensures more { self.old.room ≤ self.new.room }
+        ensures unchanged { OnErr result (self.new.room ≡ self.old.room) }
+        ensures memory { IfErr result (λ why. why ≡ Memory) }
+        ensures enough { count ≤ self.old.room → IsOk result }
+        ensures same { count ≤ self.old.room → self.new ≡ self.old }
+        ensures looked { self.new.looked ≡ self.old.looked }
+        ensures buckets { self.old.buckets ≤ self.new.buckets }
+        ensures few { (self.new.buckets ≡ self.old.buckets)
+            ⊎ (self.new.buckets < 2 * (length self.old.entries + count)) }
+        ensures failed { OnErr result (self.new.buckets ≡ self.old.buckets) }
+    {
         self.line.reserve(count as usize)
     }
 
@@ -82,12 +99,20 @@ impl<T, A: MetAt> Line<T> for EndLine<T, A> {
         requires fresh { All (λ e. e.ticket ≢ entry.ticket) self.old.entries }
         ensures entries { self.new.entries ≡ self.old.entries ++ entry ∷ [] }
         ensures room { self.new.room + 1 ≡ self.old.room }
+        ensures looked { self.new.looked ≡ self.old.looked }
+        ensures buckets { self.new.buckets ≡ self.old.buckets }
     {
         self.line.push_back(entry);
     }
 
     #[inline(always)]
-    fn meet(&mut self) -> Option<Entry<T>> {
+    fn meet(&mut self) -> Option<Entry<T>>
+        ensures entry { result ≡ met A.end self.old.entries }
+        ensures entries { self.new.entries ≡ unmet A.end self.old.entries }
+        ensures room { self.new.room ≡ self.old.room + length (option_to_list result) }
+        ensures looked { self.new.looked ≡ self.old.looked }
+        ensures buckets { self.new.buckets ≡ self.old.buckets }
+    {
         match A::end() {
             End::Front => self.line.meet_first(),
             End::Back => self.line.meet_last(),
@@ -100,6 +125,7 @@ impl<T, A: MetAt> Line<T> for EndLine<T, A> {
         ensures room { self.new.room ≡ self.old.room + length (option_to_list result) }
         ensures looked { IsLookedAt self.old.buckets ticket self.old.entries result self.new.looked }
         ensures few { self.new.looked ≤ fellows self.old.buckets ticket self.old.entries }
+        ensures buckets { self.new.buckets ≡ self.old.buckets }
     {
         self.line.remove(ticket)
     }

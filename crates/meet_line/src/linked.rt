@@ -1,7 +1,8 @@
 //! A line whose entries are linked to their neighbours, and found in buckets by their tickets.
 
-ghost use Rattle.std.specs.Prelude.{◌≡◌, ◌≢◌, ◌+◌, ◌<◌, ◌≤◌, ◌==◌, [], ◌∷◌, ◌++◌, length, map, find, All, AllPairs};
-ghost use Rattle.std.specs.Prelude.{IsOk, IfOk, IfErr, OnOk, OnErr, None, option_map, option_to_list, slice_set};
+ghost use Rattle.std.specs.Prelude.{◌≡◌, ◌≢◌, ◌+◌, ◌*◌, ◌<◌, ◌≤◌, ◌==◌, ◌⊎◌, [], ◌∷◌, ◌++◌, length, map, find};
+ghost use Rattle.std.specs.Prelude.{All, AllPairs, IsOk, IfOk, IfErr, OnOk, OnErr, None};
+ghost use Rattle.std.specs.Prelude.{option_map, option_to_list, slice_set};
 ghost use Rattle.std.specs.Slice.{IsItemAt};
 ghost use Rattle.meet_tickets.specs.Meeting.{met};
 ghost use Rattle.meet_tickets.specs.BySeat.{unmet, without_first};
@@ -64,6 +65,7 @@ impl<T> Linked<T> {
         ensures entries { result.entries ≡ [] }
         ensures room { result.room ≡ 0 }
         ensures looked { result.looked ≡ 0 }
+        ensures buckets { result.buckets ≡ 0 }
     {
         Linked {
             roll: Roll::new(alloc),
@@ -114,6 +116,11 @@ impl<T> Linked<T> {
         ensures memory { IfErr result (λ why. why ≡ Memory) }
         ensures enough { count ≤ self.old.room → IsOk result }
         ensures looked { self.new.looked ≡ self.old.looked }
+        ensures same { count ≤ self.old.room → self.new ≡ self.old }
+        ensures buckets { self.old.buckets ≤ self.new.buckets }
+        ensures few { (self.new.buckets ≡ self.old.buckets)
+            ⊎ (self.new.buckets < 2 * (length self.old.entries + count)) }
+        ensures failed { OnErr result (self.new.buckets ≡ self.old.buckets) }
     {
         if count <= self.room {
             return Ok(());
@@ -130,6 +137,10 @@ impl<T> Linked<T> {
         ensures unchanged { OnErr result (self.new.room ≡ self.old.room) }
         ensures memory { IfErr result (λ why. why ≡ Memory) }
         ensures looked { self.new.looked ≡ self.old.looked }
+        ensures buckets { self.old.buckets ≤ self.new.buckets }
+        ensures few { (self.new.buckets ≡ self.old.buckets)
+            ⊎ (self.new.buckets < 2 * (length self.old.entries + count)) }
+        ensures failed { OnErr result (self.new.buckets ≡ self.old.buckets) }
     {
         if self.roll.reserve(&mut self.slots, count).is_err() {
             return Err(Refusal::Memory);
@@ -147,6 +158,7 @@ impl<T> Linked<T> {
         ensures entries { self.new.entries ≡ self.old.entries ++ entry ∷ [] }
         ensures room { self.new.room + 1 ≡ self.old.room }
         ensures looked { self.new.looked ≡ self.old.looked }
+        ensures buckets { self.new.buckets ≡ self.old.buckets }
     {
         let key = self.roll.push_back(entry.ticket.number());
         let_go_none(self.slots[key].replace(entry));
@@ -160,6 +172,7 @@ impl<T> Linked<T> {
         ensures entries { self.new.entries ≡ unmet Front self.old.entries }
         ensures room { self.new.room ≡ self.old.room + length (option_to_list result) }
         ensures looked { self.new.looked ≡ self.old.looked }
+        ensures buckets { self.new.buckets ≡ self.old.buckets }
     {
         let key = self.roll.first()?;
         let met = take_out(&mut self.roll, &mut self.slots, key);
@@ -174,6 +187,7 @@ impl<T> Linked<T> {
         ensures entries { self.new.entries ≡ unmet Back self.old.entries }
         ensures room { self.new.room ≡ self.old.room + length (option_to_list result) }
         ensures looked { self.new.looked ≡ self.old.looked }
+        ensures buckets { self.new.buckets ≡ self.old.buckets }
     {
         let key = self.roll.last()?;
         let met = take_out(&mut self.roll, &mut self.slots, key);

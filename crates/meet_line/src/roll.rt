@@ -1,7 +1,7 @@
 //! The tickets of a line in order of arrival, each under a key, and a table by which one is found.
 
-ghost use Rattle.std.specs.Prelude.{◌≡◌, ◌≢◌, ℕ, ◌+◌, ◌<◌, ◌≤◌, [], ◌∷◌, ◌++◌, List, length, All, Some, None, OnOk};
-ghost use Rattle.std.specs.Prelude.{replicate, slice_index_or, slice_set};
+ghost use Rattle.std.specs.Prelude.{◌≡◌, ◌≢◌, ℕ, ◌+◌, ◌*◌, ◌<◌, ◌≤◌, ◌⊎◌, [], ◌∷◌, ◌++◌, List, length, All};
+ghost use Rattle.std.specs.Prelude.{Some, None, OnOk, OnErr, replicate, slice_index_or, slice_set};
 ghost use Rattle.slab.specs.Slab.{ContainsKey, slab_len};
 ghost use Rattle.meet_line.specs.Nodes.{field_at, with_newest};
 ghost use Rattle.meet_line.specs.Rolled.{Placed, StandsAt, IsFound, IsLastKey, IsLeft, first_key, keys_of};
@@ -232,6 +232,9 @@ impl Roll {
         ensures more { self.old.buckets ≤ self.new.buckets }
         ensures keys { OnOk result (length self.old.places + count ≤ self.new.width) }
         ensures table { OnOk result (length self.old.places + count ≤ self.new.buckets) }
+        ensures few { (self.new.buckets ≡ self.old.buckets)
+            ⊎ (self.new.buckets < 2 * (length self.old.places + count)) }
+        ensures failed { OnErr result (self.new.buckets ≡ self.old.buckets) }
         ensures slots { (k : ℕ) → slice_index_or slots.new.items k None ≡ slice_index_or slots.old.items k None }
         ensures fits { self.old.width ≤ length slots.old.items → self.new.width ≤ length slots.new.items }
     {
@@ -250,6 +253,8 @@ impl Roll {
         ensures width { self.new.width ≡ self.old.width }
         ensures more { self.old.buckets ≤ self.new.buckets }
         ensures enough { OnOk result (needed ≤ self.new.buckets) }
+        ensures few { (self.new.buckets ≡ self.old.buckets) ⊎ (self.new.buckets < 2 * needed) }
+        ensures failed { OnErr result (self.new.buckets ≡ self.old.buckets) }
     {
         let size = doubled(self.table.len(), needed).ok_or(AllocError)?;
         empty_out(&mut self.table, size)?;
