@@ -1,5 +1,5 @@
 -- An exchange, turn by turn.
-use Rattle.std.proofs.Common.{◌≡◌, ◌≢◌, ℕ, ◌+◌, ◌-◌, ◌/◌, ◌%◌, ◌<◌, ◌≤◌, ◌⊎◌, inl, inr, List, [], ◌∷◌, ◌++◌, length, length-append, sym, refl, ap, ◌∙◌, subst, arith, add-zero, le_refl, lt_of_not-le, Option, Some, None}
+use Rattle.std.proofs.Common.{◌≡◌, ◌≢◌, ℕ, ◌+◌, ◌-◌, ◌/◌, ◌%◌, ◌<◌, ◌≤◌, ◌⊎◌, inl, inr, List, [], ◌∷◌, ◌++◌, sym, refl, ap, ◌∙◌, subst, arith, add-zero, le_refl, lt_of_not-le, Option, Some, None}
 use Rattle.std.proofs.lemmas.List.{append_assoc, append-nil}
 use Rattle.meet_exchange.specs.declared.records.Part.{Part}
 use Rattle.meet_exchange.specs.declared.records.SlotDeed.TheVariants.{Posted, Withdrawn, Swapped, Collected}
@@ -9,8 +9,9 @@ use Rattle.meet_exchange.specs.Words.{code_in, number_in}
 use Rattle.meet_exchange.specs.Rounds.{part}
 use Rattle.meet_exchange.specs.Seats.{SeatView, PendingView, Went}
 use Rattle.meet_exchange.specs.Calls.{HasRound, StandsAt}
-use Rattle.meet_exchange.specs.Ways.{AllOf, SawContended, SawFree, SawTaken, IsReached, IsWithin, patience, MayStand, IsOver, HasCome, HasSwapped, HasCollected, HasTimedOut}
+use Rattle.meet_exchange.specs.Ways.{FindsNone, SawContended, SawFree, SawTaken, IsReached, IsWithin, patience, MayStand, IsOver, HasCome, HasSwapped, HasCollected, HasTimedOut}
 use Rattle.meet_exchange.specs.Waits.{more_after, HasPosted, HasStayed, EndsAs, seat_after}
+use Rattle.meet_exchange.specs.Ways.FoundNone.{none, more}
 use Rattle.meet_exchange.specs.Ways.Comes.{begins, goes_on, comes_back}
 
 -- a seat goes on from where it went
@@ -68,17 +69,12 @@ pub may_more : (limit : Option ℕ) (k t looks : ℕ) → ¬ IsReached limit (t 
 may_more limit k t looks f few = let e : (t + looks) + 1 ≡ t + (looks + 1) = omega arith in (subst (IsWithin limit) e (within_more limit (t + looks) f), λ above. let l : looks < patience = few above in omega arith)
 
 -- a look more at a slot
-pub all_more : (k w : ℕ) (xs : List (ℕ × ℕ)) → AllOf k xs → AllOf k (xs ++ (k, w) ∷ [])
-all_more k w [] h = (refl, tt)
-all_more k w (x ∷ xs) h = (h.0, all_more k w xs h.1)
+pub free_more : (k r looks : ℕ) (words look : List (ℕ × ℕ)) → SawFree k r looks words → FindsNone k look → SawFree k r (looks + 1) (words ++ look)
+free_more k r looks words look h found = (h.0, h.1 ++ look, ap (λ z. z ++ look) h.2, h.3, h.4, more look h.5 found)
 
-pub free_more : (k r looks w : ℕ) (words : List (ℕ × ℕ)) → SawFree k r looks words → SawFree k r (looks + 1) (words ++ (k, w) ∷ [])
-free_more k r looks w words h = let more : List (ℕ × ℕ) = (k, w) ∷ [] in let e : length (h.1 ++ more) ≡ looks + 1 = omega (arith, length-append h.1 more, h.6) in
-    (h.0, h.1 ++ more, ap (λ z. z ++ more) h.2, h.3, h.4, all_more k w h.1 h.5, e)
-
-pub taken_more : (k r looks w : ℕ) (words : List (ℕ × ℕ)) → SawTaken k r looks words → SawTaken k r looks (words ++ (k, w) ∷ [])
-taken_more k r looks w words h = let more : List (ℕ × ℕ) = (k, w) ∷ [] in
-    (h.0, h.1, h.2 ++ more, ap (λ z. z ++ more) h.3 ∙ append_assoc h.0 ((k, h.1) ∷ h.2) more, h.4, h.5, all_more k w h.2 h.6)
+pub taken_more : (k r looks : ℕ) (words look : List (ℕ × ℕ)) → SawTaken k r looks words → FindsNone k look → SawTaken k r looks (words ++ look)
+taken_more k r looks words look h found =
+    (h.0, h.1, h.2 ++ look, ap (λ z. z ++ look) h.3 ∙ append_assoc h.0 ((k, h.1) ∷ h.2) look, h.4, h.5, h.6 + 1, more look h.7 found)
 
 module _ (v : SeatView) (a n first : ℕ) (limit : Option ℕ) where
   -- nothing was done yet
@@ -125,19 +121,19 @@ module _ (v : SeatView) (a n first : ℕ) (limit : Option ℕ) where
   pub come_posted : (s : SeatView) (p : PendingView) (k t m w : ℕ) → HasCome v a n first limit s k t [] [] → IsWithin limit t → HasRound w → StandsAt k (number_in w) m p → m ≡ a
       → Went s p.seat (part k (number_in w) (Posted m) ∷ []) ((k, w) ∷ []) → HasPosted v a n first limit p t 0
   come_posted s p k t m w h within free st e went = let P : ℕ → ℕ → ℕ → Type 0 = λ k r m. (words : List (ℕ × ℕ)) × SawFree k r 0 words × HasCome v a n first limit p.seat k t (part k r (Posted m) ∷ []) words in
-      let here : P k (number_in w) m = ((k, w) ∷ [], (w, [], refl, free, refl, tt, refl), come_then s p.seat k t [] (part k (number_in w) (Posted m) ∷ []) [] ((k, w) ∷ []) h went) in
+      let here : P k (number_in w) m = ((k, w) ∷ [], (w, [], refl, free, refl, none), come_then s p.seat k t [] (part k (number_in w) (Posted m) ∷ []) [] ((k, w) ∷ []) h went) in
       let there : P p.slot p.round a = subst (λ k. P k p.round a) (sym st.0) (subst (λ r. P k r a) (sym st.1) (subst (λ m. P k (number_in w) m) e here)) in
       (st.2 ∙ e, (subst (IsWithin limit) (sym (add-zero t)) within, λ above. omega arith), there.0, there.1, there.2)
 
   -- that stands for a look more
-  pub posted_still : (p q : PendingView) (t looks w : ℕ) → HasPosted v a n first limit p t looks → MayStand limit p.slot t (looks + 1) → StandsAt p.slot p.round p.mark q → Went p.seat q.seat [] ((p.slot, w) ∷ [])
+  pub posted_still : (p q : PendingView) (t looks : ℕ) (look : List (ℕ × ℕ)) → HasPosted v a n first limit p t looks → MayStand limit p.slot t (looks + 1) → StandsAt p.slot p.round p.mark q → FindsNone p.slot look → Went p.seat q.seat [] look
       → HasPosted v a n first limit q t (looks + 1)
-  posted_still p q t looks w h may st went = let P : ℕ → ℕ → Type 0 = λ k r. MayStand limit k t (looks + 1) × (words : List (ℕ × ℕ)) × SawFree k r (looks + 1) words × HasCome v a n first limit q.seat k t (part k r (Posted a) ∷ []) words in
+  posted_still p q t looks look h may st found went = let P : ℕ → ℕ → Type 0 = λ k r. MayStand limit k t (looks + 1) × (words : List (ℕ × ℕ)) × SawFree k r (looks + 1) words × HasCome v a n first limit q.seat k t (part k r (Posted a) ∷ []) words in
       let here : P p.slot p.round = (
         may,
-        h.2 ++ (p.slot, w) ∷ [],
-        free_more p.slot p.round looks w h.2 h.3,
-        come_then p.seat q.seat p.slot t (part p.slot p.round (Posted a) ∷ []) [] h.2 ((p.slot, w) ∷ []) h.4 went,
+        h.2 ++ look,
+        free_more p.slot p.round looks h.2 look h.3 found,
+        come_then p.seat q.seat p.slot t (part p.slot p.round (Posted a) ∷ []) [] h.2 look h.4 went,
       ) in
       let there : P q.slot q.round = subst (λ k. P k q.round) (sym st.0) (subst (λ r. P p.slot r) (sym st.1) here) in
       (st.2 ∙ h.0, there.0, there.1, there.2, there.3)
@@ -150,32 +146,32 @@ module _ (v : SeatView) (a n first : ℕ) (limit : Option ℕ) where
         h.1,
         over,
         h.2 ++ (p.slot, w) ∷ [],
-        (h.2, w, [], refl, h.3, gone, tt),
+        (h.2, w, [], refl, h.3, gone, 0, none),
         come_then p.seat q.seat p.slot t (part p.slot p.round (Posted a) ∷ []) [] h.2 ((p.slot, w) ∷ []) h.4 went,
       ) in
       let there : P q.slot q.round = subst (λ k. P k q.round) (sym st.0) (subst (λ r. P p.slot r) (sym st.1) here) in
       (st.2 ∙ h.0, t, looks, there.0, there.1, there.2, there.3, there.4)
 
-  pub stayed_still : (p q : PendingView) (w : ℕ) → HasStayed v a n first limit p → StandsAt p.slot p.round p.mark q → Went p.seat q.seat [] ((p.slot, w) ∷ []) → HasStayed v a n first limit q
-  stayed_still p q w h st went = let t = h.1 in let looks = h.2 in
+  pub stayed_still : (p q : PendingView) (look : List (ℕ × ℕ)) → HasStayed v a n first limit p → StandsAt p.slot p.round p.mark q → FindsNone p.slot look → Went p.seat q.seat [] look → HasStayed v a n first limit q
+  stayed_still p q look h st found went = let t = h.1 in let looks = h.2 in
       let P : ℕ → ℕ → Type 0 = λ k r. MayStand limit k t looks × IsOver limit k t looks × (words : List (ℕ × ℕ)) × SawTaken k r looks words × HasCome v a n first limit q.seat k t (part k r (Posted a) ∷ []) words in
       let here : P p.slot p.round = (
         h.3,
         h.4,
-        h.5 ++ (p.slot, w) ∷ [],
-        taken_more p.slot p.round looks w h.5 h.6,
-        come_then p.seat q.seat p.slot t (part p.slot p.round (Posted a) ∷ []) [] h.5 ((p.slot, w) ∷ []) h.7 went,
+        h.5 ++ look,
+        taken_more p.slot p.round looks h.5 look h.6 found,
+        come_then p.seat q.seat p.slot t (part p.slot p.round (Posted a) ∷ []) [] h.5 look h.7 went,
       ) in
       let there : P q.slot q.round = subst (λ k. P k q.round) (sym st.0) (subst (λ r. P p.slot r) (sym st.1) here) in
       (st.2 ∙ h.0, t, looks, there.0, there.1, there.2, there.3, there.4)
 
   -- that was collected
-  pub posted_got : (p : PendingView) (u : SeatView) (t looks b : ℕ) → HasPosted v a n first limit p t looks → ¬ IsOver limit p.slot t looks → Went p.seat u (part p.slot p.round (Collected b) ∷ []) []
+  pub posted_got : (p : PendingView) (u : SeatView) (t looks b w : ℕ) → HasPosted v a n first limit p t looks → ¬ IsOver limit p.slot t looks → code_in w ≡ 4 → Went p.seat u (part p.slot p.round (Collected b) ∷ []) ((p.slot, w) ∷ [])
       → HasCollected v a n first limit u b
-  posted_got p u t looks b h f went = (p.slot, t, p.round, looks, h.2, h.1, inl (h.3, f), come_parts p.seat u p.slot t (part p.slot p.round (Posted a) ∷ []) (part p.slot p.round (Collected b) ∷ []) h.2 h.4 went)
+  posted_got p u t looks b w h f is went = (p.slot, t, p.round, looks, h.2, h.1, inl (h.3, f), w, is, come_then p.seat u p.slot t (part p.slot p.round (Posted a) ∷ []) (part p.slot p.round (Collected b) ∷ []) h.2 ((p.slot, w) ∷ []) h.4 went)
 
-  pub stayed_got : (p : PendingView) (u : SeatView) (b : ℕ) → HasStayed v a n first limit p → Went p.seat u (part p.slot p.round (Collected b) ∷ []) [] → HasCollected v a n first limit u b
-  stayed_got p u b h went = (p.slot, h.1, p.round, h.2, h.5, h.3, inr (h.6, h.4), come_parts p.seat u p.slot h.1 (part p.slot p.round (Posted a) ∷ []) (part p.slot p.round (Collected b) ∷ []) h.5 h.7 went)
+  pub stayed_got : (p : PendingView) (u : SeatView) (b w : ℕ) → HasStayed v a n first limit p → code_in w ≡ 4 → Went p.seat u (part p.slot p.round (Collected b) ∷ []) ((p.slot, w) ∷ []) → HasCollected v a n first limit u b
+  stayed_got p u b w h is went = (p.slot, h.1, p.round, h.2, h.5, h.3, inr (h.6, h.4), w, is, come_then p.seat u p.slot h.1 (part p.slot p.round (Posted a) ∷ []) (part p.slot p.round (Collected b) ∷ []) h.5 ((p.slot, w) ∷ []) h.7 went)
 
   -- that was taken back
   pub posted_back : (p : PendingView) (u : SeatView) (t looks : ℕ) (h : HasPosted v a n first limit p t looks) → Went p.seat u (part p.slot p.round Withdrawn ∷ []) []
@@ -204,7 +200,7 @@ module _ (v : SeatView) (a n first : ℕ) (limit : Option ℕ) where
 
   pub swapped_place : (s : SeatView) (b : ℕ) → HasSwapped v a n first limit s b ⊎ HasCollected v a n first limit s b → s.arena ≡ v.arena
   swapped_place s b (inl h) = h.5.4.arena
-  swapped_place s b (inr h) = h.7.4.arena
+  swapped_place s b (inr h) = h.9.4.arena
 
   pub timed_out_place : (s : SeatView) → HasTimedOut v a n first limit s → s.arena ≡ v.arena
   timed_out_place s (k, t, words, inl h) = h.2.4.arena

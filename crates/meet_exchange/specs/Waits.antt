@@ -10,10 +10,11 @@ use Rattle.meet_exchange.specs.declared.waiting.Exchanged.{Exchanged}
 use Rattle.meet_exchange.specs.declared.waiting.Exchanged.TheVariants.{Swapped, TimedOut, Worn, Memory}
 use Rattle.meet_exchange.specs.declared.waiting.Next.{Next}
 use Rattle.meet_exchange.specs.declared.waiting.Next.TheVariants.{Goes, Ends}
+use Rattle.meet_exchange.specs.Words.{code_in}
 use Rattle.meet_exchange.specs.Rounds.{part}
 use Rattle.meet_exchange.specs.Calls.{StandsAt}
 use Rattle.meet_exchange.specs.Seats.{SeatView, PendingView, Went}
-use Rattle.meet_exchange.specs.Ways.{IsWithin, MayStand, IsOver, SawFree, SawTaken, HasCome}
+use Rattle.meet_exchange.specs.Ways.{IsWithin, MayStand, IsOver, FindsNone, SawFree, SawTaken, HasCome}
 use Rattle.meet_exchange.specs.Ways.{HasSwapped, HasCollected, HasTimedOut, HasWorn, HasNoRoom}
 
 -- how an exchange of the seat v ends: with another seat's item, or with its own, of the mark a
@@ -31,12 +32,12 @@ seat_after (TimedOut s x) = s
 seat_after (Worn s x) = s
 seat_after (Memory s x) = s
 
--- of a look for the answer to an offer of the seat v, in the slot k and the round r and with the mark a: the answer, or
--- a word of the slot more
+-- of a look for the answer to an offer of the seat v, in the slot k and the round r and with the mark a: an answer was
+-- seen, and is collected; or none was found
 module _ {T : Type 0} (mark : T → ℕ) (v : SeatView) (k r a : ℕ) where
   abbrev pub Gathers : Gathered T → Type 0
-  Gathers (Got s x) = Went v s (part k r (Collected (mark x)) ∷ []) []
-  Gathers (NotYet p) = StandsAt k r a p × (w : ℕ) × Went v p.seat [] ((k, w) ∷ [])
+  Gathers (Got s x) = (w : ℕ) × (code_in w ≡ 4) × Went v s (part k r (Collected (mark x)) ∷ []) ((k, w) ∷ [])
+  Gathers (NotYet p) = StandsAt k r a p × (look : List (ℕ × ℕ)) × FindsNone k look × Went v p.seat [] look
 
 -- ## From turn to turn
 

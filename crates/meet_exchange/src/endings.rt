@@ -1,6 +1,6 @@
 //! What ends an offer that stands: the other seat's item is collected, or its own is taken back.
 
-ghost use Rattle.std.specs.Prelude.{ℕ, ◌≡◌, ◌<◌, [], ◌∷◌};
+ghost use Rattle.std.specs.Prelude.{◌≡◌, ◌<◌, [], ◌∷◌};
 ghost use Rattle.meet_exchange.specs.Calls.{Collects, StandsAt, Withdraws};
 ghost use Rattle.meet_exchange.specs.Seats.{Went};
 
@@ -58,12 +58,12 @@ impl<T: Marked> Arena<T> {
         }
     }
 
-    /// Looks at the slot of an offer once more, and changes nothing there.
-    pub(crate) fn look_on(&self, pending: Pending<T>) -> Pending<T>
+    /// Looks at the slot of an offer once more, and changes nothing there. The word comes with it.
+    pub(crate) fn look_on(&self, pending: Pending<T>) -> (Pending<T>, u64)
         requires place { pending.seat.arena ≡ self.now.id }
         requires slot { pending.slot < self.now.slots }
-        ensures stands { StandsAt pending.slot pending.round pending.mark result }
-        ensures seen { (w : ℕ) × Went pending.seat result.seat [] ((pending.slot, w) ∷ []) }
+        ensures stands { StandsAt pending.slot pending.round pending.mark result.0 }
+        ensures seen { Went pending.seat result.0.seat [] ((pending.slot, result.1) ∷ []) }
     {
         let Offer {
             inner: mut seat,
@@ -71,13 +71,14 @@ impl<T: Marked> Arena<T> {
             round,
             mark,
         } = pending.open();
-        look(&self.table.shared, &mut seat.token, slot);
-        Pending::new(Offer {
+        let seen = look(&self.table.shared, &mut seat.token, slot);
+        let pending = Pending::new(Offer {
             inner: seat,
             slot,
             round,
             mark,
-        })
+        });
+        (pending, seen)
     }
 
     /// Takes this seat's item back, unless another seat has taken it. One step, and no memory.

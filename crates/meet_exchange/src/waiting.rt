@@ -97,9 +97,10 @@ fn is_reached(more: Option<u64>) -> bool
 impl<T: Marked> Arena<T> {
     /// Exchanges an item for another seat's, as `exchange` of Exchanger: offers it in this slot, and after Contended
     /// in the next, the first after the last. Once it is posted there it waits for an answer; in a slot above 0 it
-    /// takes it back after 1,000 turns, and tries the slot of half the number. Its limit is in turns, a turn being one
-    /// look for the answer, or one Contended. At a limit of 0 it tries one slot, and doesn't wait. Where the limit is
-    /// reached it takes the item back; where another seat has taken that, it stays until it has the other's.
+    /// takes it back after 1,000 turns, and tries the slot of half the number. An answer that it sees it collects. Its
+    /// limit is in turns, a turn being one look that found no answer, or one Contended. At a limit of 0 it tries one
+    /// slot, and doesn't wait. Where the limit is reached it takes the item back; where another seat has taken that, it
+    /// stays until it has the other's.
     ///
     /// It spins, and never parks: a turn is a pause of the processor, or lets other threads run (`Thread.onSpinWait`,
     /// `Thread.yield`), and its time isn't bounded. Before it tries a slot in which others are at work it looks there
@@ -172,13 +173,6 @@ impl<T: Marked> Arena<T> {
         }
     }
 
-    /// Whether an offer in this slot was answered, at a glance.
-    fn is_answered(&self, slot: usize) -> bool
-        requires { slot < self.now.slots }
-    {
-        code(self.word(slot)) == ANSWERED
-    }
-
     /// Offers the item in the slot.
     fn try_slot(&self, seat: Seat<T>, item: T, slot: usize, more: Option<u64>) -> Next<T>
         requires place { seat.arena ≡ self.now.id }
@@ -212,17 +206,17 @@ impl<T: Marked> Arena<T> {
         if slot < self.slots - 1 { slot + 1 } else { 0 }
     }
 
-    /// Collects the answer to an offer, if there is one, and else passes this turn. A look that finds none takes the
-    /// slot's line from no other thread, as a step that tries to collect would.
+    /// Looks for the answer to an offer, and collects it where it sees one; else it passes this turn. A look that finds
+    /// none takes the slot's line from no other thread, as a step that tries to collect would.
     fn gather(&self, pending: Pending<T>, turn: u64) -> Gathered<T>
         requires place { pending.seat.arena ≡ self.now.id }
         requires slot { pending.slot < self.now.slots }
         ensures { Gathers T.mark_of pending.seat pending.slot pending.round pending.mark result }
     {
-        if self.is_answered(pending.slot()) {
+        let (pending, seen) = self.look_on(pending);
+        if code(seen) == ANSWERED {
             return self.collect(pending);
         }
-        let pending = self.look_on(pending);
         pass_turn(pending.slot(), turn);
         Gathered::NotYet(pending)
     }

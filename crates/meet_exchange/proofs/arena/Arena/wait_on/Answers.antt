@@ -19,7 +19,8 @@ returns-in-Got-clause-goes g c = λ v a first limit t. let p = c.args.pending in
     let few : 0 < p.slot → t.1 < patience = λ above. let same : c.args.turns ≡ t.1 = t.3 above in omega (arith, c.else-slot-gt0.either) in
     let some : more_after limit (t.0 + t.1) ≢ Some 0 = λ e. let no : false ≡ true = c.if-is_reached.ensures.1 (t.2 ∙ e) in cc in
     let still = not_over limit p.slot t.0 t.1 (not_reached limit (t.0 + t.1) some) few in
-    inr (posted_got v a n first limit p c.in-Got.seat t.0 t.1 (g.T.Marked.mark_of c.in-Got.other) t.4 still c.in-Got.ensures)
+    let got = c.in-Got.ensures in
+    inr (posted_got v a n first limit p c.in-Got.seat t.0 t.1 (g.T.Marked.mark_of c.in-Got.other) got.0 t.4 still got.1 got.2)
 
 pub returns-in-NotYet-clause-goes : goal.returns-in-NotYet-clause-goes
 returns-in-NotYet-clause-goes g c = λ v a first limit t. let p = c.args.pending in let n = c.args.self.now.slots in let yet = c.in-NotYet.ensures in
@@ -30,5 +31,5 @@ returns-in-NotYet-clause-goes g c = λ v a first limit t. let p = c.args.pending
       t.1 + 1,
       c.less.ensures ∙ (ap (λ l. more_after l 1) t.2 ∙ (more_step limit (t.0 + t.1) ∙ ap (more_after limit) e)),
       (λ above. let here : 0 < p.slot = subst (λ k. 0 < k) yet.0.0 above in let same : c.args.turns ≡ t.1 = t.3 here in let low : t.1 < patience = few here in omega (arith, c.saturating_add.ensures)),
-      posted_still v a n first limit p c.in-NotYet.pending t.0 t.1 yet.1 t.4 may yet.0 yet.2,
+      posted_still v a n first limit p c.in-NotYet.pending t.0 t.1 yet.1 t.4 may yet.0 yet.2 yet.3,
     )
