@@ -179,6 +179,23 @@ fn a_book_is_cut_where_a_seat_waits(rt: HostRuntime) {
     assert!(rt; records.is_empty());
 }
 
+/// Where there is no memory for a base nothing is handed out, and the list that was lent comes back with its room.
+#[test]
+fn a_lent_list_comes_back_with_its_room(rt: HostRuntime) {
+    let mut book = book_of(&rt, rt.alloc(), 9, 0, 4);
+    plays(&rt, &mut book, &[(0, Call::Take, Ok(1))]);
+    let lent = Vec::with_capacity(rt.alloc(), 100).expect(&rt, "no memory");
+    match book.rotate(lent) {
+        Ok(_) => panic!(&rt; "records are handed out"),
+        Err(refused) => {
+            assert_eq!(rt; refused.why, Refusal::Memory);
+            assert!(rt; refused.back.is_empty());
+            assert!(rt; refused.back.capacity() >= 100);
+        }
+    }
+    has(&rt, &book, &[(0, 1, Deed::Waits)]);
+}
+
 #[test]
 fn the_first_reason_counts(rt: HostRuntime) {
     // The seat, then the tickets, then the history.

@@ -54,7 +54,8 @@ pub struct Past {
     pub wait: Option<Wait>,
 }
 
-/// The cell. It never has room for more than so many puts, as if memory ended there.
+/// The cell. It never has room for more than so many puts, as if memory ended there; and if that is none, it has no
+/// memory for a base either.
 #[derive(Drop)]
 pub struct Cell {
     pub tokens: u64,
@@ -339,6 +340,9 @@ impl Bases for Cell {
     ghost is_base = { λ cell gone base. (base.gone ≡ gone) × (base.wait ≡ cell.wait) };
 
     fn base(&self, _alloc: Global, gone: u64) -> Result<Past, Refusal> {
+        if self.most == 0 {
+            return Err(Refusal::Memory);
+        }
         Ok(Past {
             gone,
             wait: self.wait,

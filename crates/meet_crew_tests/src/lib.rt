@@ -1,4 +1,5 @@
 //! Tests of crews, on public calls alone.
 #![tactic(auto)]
 
+mod limits;
 mod numbers;

@@ -1,5 +1,6 @@
 //! Tests of desks, on public calls alone.
 #![tactic(auto)]
 
+mod at_size;
 mod hundred;
 mod one_thread;

@@ -13,11 +13,11 @@ use Rattle.meet_exchange.specs.declared.records.RoundEnd.TheVariants.{Posted as 
 use Rattle.meet_exchange.specs.declared.views.InHand.{InHand}
 use Rattle.meet_exchange.specs.declared.views.InHand.TheVariants.{Nothing, At}
 use Rattle.meet_exchange.specs.declared.views.Duty.{Duty}
-use Rattle.meet_exchange.specs.declared.views.Duty.TheVariants.{Claimed, Offering, Took, Gathered, TookBack}
+use Rattle.meet_exchange.specs.declared.views.Duty.TheVariants.{Claimed, Offering, Ready, Took, Gathered, TookBack}
 use Rattle.meet_exchange.specs.Stages.{Stage, Cell, cell_of, rounds, running, AllEnded, AllPlayed, in_hand, with_round, duties_in}
 use Rattle.meet_exchange.specs.Rounds.{round_of, IsPlayed, HasEnded}
 use Rattle.meet_exchange.specs.Rule.{SlotFits, SeatFits, IsNew, TokenFits, Kept}
-use Rattle.meet_exchange.specs.Stages.Stage.{free, claimed, posted, taken, answered, collected, withdrawn}
+use Rattle.meet_exchange.specs.Stages.Stage.{free, claimed, posted, taken, answered, seen, collected, withdrawn}
 use Rattle.meet_exchange.specs.Rounds.{IsHistory, left_at_end, left_in}
 use Rattle.meet_exchange.specs.Closing.{LastFits, IsSettled, AllSettled, IsNewList, AreParts, lists_of, Closing}
 use Rattle.meet_exchange.proofs.Stages.{same, apart, length_snoc}
@@ -64,6 +64,7 @@ settled_duty k r d (At k' r' (Offering a)) s e = (a, by_case (eqb k' k) e) where
   by_case : (b : Bool) → ◌≡◌ {A = List (Duty × ℕ)} (cond {A = List (Duty × ℕ)} b ((Offering a, r') ∷ []) []) ((d, r) ∷ []) → d ≡ Offering a
   by_case true e = let p : ◌≡◌ {A = Duty × ℕ} (Offering a, r') (d, r) = cc in sym (ap (λ z. z.0) p)
   by_case false e = absurd cc
+settled_duty k r d (At k' r' (Ready a)) s e = absurd s
 settled_duty k r d (At k' r' (Took b)) s e = absurd s
 settled_duty k r d (At k' r' Gathered) s e = absurd s
 settled_duty k r d (At k' r' TookBack) s e = absurd s
@@ -122,6 +123,7 @@ module _ {T : Type 0} (mark : T → ℕ) (plan : Plan) where
       let longer = length_snoc past rd in
       subst (LastFits mark plan.start (past ++ rd ∷ []) (get_or s.words k 0)) (is_value (Some x) (fits.there ∙ ap some fits.item.1))
       (false, left_last past rd ∙ ap (λ z. Some (z, false)) (sym fits.item.2), (λ e. absurd cc), (λ _. omega arith), omega arith)
+  last_at s r id vs at many settled k l value is_value (seen o a j b) is fits = let d = busy s r id vs at many settled k o (Ready a) (seen o a j b) is fits.owner_fits (rw (same o) refl) in let e = d.1 in absurd cc
   last_at s r id vs at many settled k l value is_value (collected o a j b) is fits = let d = busy s r id vs at many settled k o Gathered (collected o a j b) is fits.owner_fits (rw (same o) refl) in let e = d.1 in absurd cc
   last_at s r id vs at many settled k l value is_value (withdrawn o a) is fits = let d = busy s r id vs at many settled k o TookBack (withdrawn o a) is fits.owner_fits (rw (same o) refl) in let e = d.1 in absurd cc
 
@@ -131,6 +133,7 @@ module _ {T : Type 0} (mark : T → ℕ) (plan : Plan) where
   runs (posted o a) p = inr (round_of o a Stands, refl, p.0)
   runs (taken o a j b) p = inr (round_of o a (Exchanged j b false), refl, p.0)
   runs (answered o a j b) p = inr (round_of o a (Exchanged j b false), refl, p.0)
+  runs (seen o a j b) p = inr (round_of o a (Exchanged j b false), refl, p.0)
   runs (collected o a j b) p = inr (round_of o a (Exchanged j b true), refl, p.0)
   runs (withdrawn o a) p = inr (round_of o a EndWithdrawn, refl, p.0)
 

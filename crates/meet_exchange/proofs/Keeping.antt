@@ -15,16 +15,16 @@ use Rattle.meet_exchange.specs.declared.records.Round.{Round}
 use Rattle.meet_exchange.specs.declared.records.SlotDeed.TheVariants.{Posted, Withdrawn, Swapped, Collected}
 use Rattle.meet_exchange.specs.declared.records.RoundEnd.TheVariants.{Withdrawn as EndWithdrawn, Swapped as Exchanged}
 use Rattle.meet_exchange.specs.declared.views.Duty.{Duty}
-use Rattle.meet_exchange.specs.declared.views.Duty.TheVariants.{Claimed, Offering, Took, Gathered, TookBack}
+use Rattle.meet_exchange.specs.declared.views.Duty.TheVariants.{Claimed, Offering, Ready, Took, Gathered, TookBack}
 use Rattle.meet_exchange.specs.declared.views.InHand.TheVariants.{Nothing, At}
 use Rattle.meet_exchange.specs.Stages.{Stage, Cell, cell_of, code, owner, rounds, in_hand, with_round, duties_in, running, AllPlayed}
 use Rattle.meet_exchange.specs.Words.{word_of}
 use Rattle.meet_exchange.specs.Rounds.{parts_of, in_slot, round_of, part, HasEnded, IsPlayed}
 use Rattle.meet_exchange.specs.Rule.{AtHome, SlotFits, Kept, top}
-use Rattle.meet_exchange.specs.Told.{saw, holds_now, Sees, HasClaimed, Claims, Tries, Posts, HasWithdrawn, Withdraws, HasTaken, Takes, HasCollected, Collects, Frees, did, round_in, given_in}
-use Rattle.meet_exchange.specs.Stages.Stage.{free, claimed, posted, taken, answered, collected, withdrawn}
+use Rattle.meet_exchange.specs.Told.{saw, holds_now, Sees, HasClaimed, Claims, Tries, Posts, HasWithdrawn, Withdraws, HasTaken, Takes, HasCollected, Finds, Gains, Collects, Frees, did, round_in, given_in}
+use Rattle.meet_exchange.specs.Stages.Stage.{free, claimed, posted, taken, answered, seen, collected, withdrawn}
 use Rattle.meet_exchange.proofs.Turns.{Turns, turned}
-use Rattle.meet_exchange.proofs.Stages.{Does, Offers, apart, stands, went, came, flip, same, code_small, free_by_code, posted_by_code, does, is_claimed, is_offered, is_taken, is_collected, is_withdrawn, ended_snoc, length_snoc, claim_turns, post_turns, withdraw_turns, take_turns, collect_turns, answer_turns, clear_turns}
+use Rattle.meet_exchange.proofs.Stages.{Does, Offers, apart, stands, went, came, flip, same, code_small, free_by_code, posted_by_code, does, is_claimed, is_offered, is_taken, is_ready, is_collected, is_withdrawn, ended_snoc, length_snoc, claim_turns, post_turns, withdraw_turns, take_turns, collect_turns, find_turns, gain_turns, answer_turns, clear_turns}
 
 module _ {A : Type 0} where
   pub set_there : (l : List A) (i : ℕ) (a b : A) → get_elem? l i ≡ some b → get_elem? (set l i a) i ≡ some a
@@ -272,6 +272,58 @@ module _ {T : Type 0} (mark : T → ℕ) (plan : Plan) where
       → Allows Rule slots id me k (λ z. (z + 1) % 2 ^ 64) (Frees (step slots k 1 0 none) me)
   answers slots id k n b y me inside one hand marked = opened slots id k (λ z. (z + 1) % 2 ^ 64) (Frees (step slots k 1 0 none)) me (top me.0) ((k, Some y) ∷ []) one
       (answers_at slots id k n b y (top me.0) inside hand marked)
+
+  -- a look by a seat whose offer stands there
+  finds_at : (slots id k n a : ℕ) (v : Trail) → k < plan.slots → v.hand ≡ At k n (Offering a)
+      → Allows Rule slots id (v ∷ [], []) k (λ z. z) (Finds (step slots k 0 0 none) (v ∷ [], []))
+  finds_at slots id k n a v inside hand s r _ at _ = let says = hand_says s r id k n v (Offering a) at hand in let i = v.number in let past : List Round = (r.cells k).past in
+      let st : Stage = (r.cells k).stage in let codes = offered_code st i a (is_offered st i a says.0) in let fits0 = r.each_slot k inside in let little = code_small st in
+      let word = fits0.word_is in let low0 = fits0.owner_fits in let few : plan.seats ≤ most_seats = r.few in let bound : plan.start + length past ≤ last_round = fits0.round_fits in
+      let round : n ≡ plan.start + length past = says.1 in let found : ℕ = get_or s.words k 0 in let most : found / round_unit ≤ last_round = omega arith in dite (ℕ_discrete (found % 8) 4)
+      (λ e. let four : code st ≡ 4 = omega arith in let p = codes.1 four in let j = p.0 in let b = p.1 in let is = p.2 in let here = known s r id k v (answered i a j b) inside at is in let fits = here.1 in
+      let w = saw (holds_now v (At k n (Ready a))) k found in (
+        w ∷ [],
+        keeps,
+        tt,
+        moved s r id k found v w (answered i a j b) (cell_of past (seen i a j b)) s.homes inside at is
+            (record { value = fits.value; there = fits.there; item = fits.item; word_is = fits.word_is; owner_fits = here.3; round_fits = fits.round_fits; ended = fits.ended; played = fits.played })
+            (λ _ _. refl)
+            (find_turns plan.start k past v n a j b found round hand here.2),
+        (most, (λ ne. absurd (ne e)), (λ _. ap (λ h. (saw (holds_now v (At k (round_in h) (Ready (given_in h)))) k found ∷ [], [])) (sym hand))),
+      ))
+      (λ ne. (saw v k found ∷ [], keeps, tt, looked s r id k v found inside at, (most, (λ _. refl), (λ e. absurd (ne e)))))
+
+  pub finds : (slots id k n a : ℕ) (me : M) → k < plan.slots → me ≡ (top me.0 ∷ [], []) → (top me.0).hand ≡ At k n (Offering a)
+      → Allows Rule slots id me k (λ z. z) (Finds (step slots k 0 0 none) me)
+  finds slots id k n a me inside one hand = opened slots id k (λ z. z) (Finds (step slots k 0 0 none)) me (top me.0) [] one
+      (finds_at slots id k n a (top me.0) inside hand)
+
+  -- a collecting of an answer that was seen
+  gains_at : (slots id k n old new a : ℕ) (v : Trail) → k < plan.slots → v.hand ≡ At k n (Ready a) → old ≡ word_of 4 v.number n → new ≡ word_of 1 v.number n
+      → Allows Rule slots id (v ∷ [], []) k (λ z. either (eqb z old) new z) (Gains mark (step slots k old new none) (v ∷ [], []))
+  gains_at slots id k n old new a v inside hand from up s r wide at small = let says0 = hand_says s r id k n v (Ready a) at hand in let i = v.number in let past0 : List Round = (r.cells k).past in
+      let p0 = is_ready (r.cells k).stage i a says0.0 in let here0 = known s r id k v (seen i a p0.0 p0.1) inside at p0.2 in let word0 = here0.1.word_is in let round0 : n ≡ plan.start + length past0 = says0.1 in
+      let same_word : get_or s.words k 0 ≡ old = omega arith in
+      let try = tries slots id k old new none v [] (HasCollected mark (step slots k old new none) (v ∷ [], [])) inside (λ s r at e.
+      let says = hand_says s r id k n v (Ready a) at hand in let past : List Round = (r.cells k).past in let p = is_ready (r.cells k).stage i a says.0 in let j = p.0 in let b = p.1 in let is = p.2 in
+      let here = known s r id k v (seen i a j b) inside at is in let fits = here.1 in let low : i < plan.seats = here.3 in let round : n ≡ plan.start + length past = says.1 in
+      let x = fits.item.0 in let same_mark = fits.item.2 in let home : get_elem? s.homes k ≡ some (some (Some x)) = fits.there ∙ ap some fits.item.1 in
+      let w = did v (part k n (Collected b)) (At k n Gathered) in (
+        w ∷ [],
+        takes k (Some x),
+        home,
+        moved s r id k new v w (seen i a j b) (cell_of past (collected i a j b)) (set s.homes k none) inside at is
+            (record { value = none; there = set_there s.homes k none (some (Some x)) home; item = refl; word_is = omega arith; owner_fits = low; round_fits = fits.round_fits; ended = fits.ended; played = fits.played })
+            (λ j' ne. set_else s.homes k j' none ne)
+            (gain_turns plan.start k past v n a j b round fits.played.0.2 hand here.2),
+        (x, λ t. (did v (part k (round_in (sym hand t)) (Collected (sym same_mark t))) (At k (round_in (sym hand t)) Gathered) ∷ [], (k, Some x) ∷ [])),
+      )) s r wide at small in
+      (try.0, try.1, try.2, try.3, (same_word, try.4.0 same_word))
+
+  pub gains : (slots id k n old new a : ℕ) (me : M) → k < plan.slots → me ≡ (top me.0 ∷ [], []) → (top me.0).hand ≡ At k n (Ready a) → old ≡ word_of 4 (top me.0).number n → new ≡ word_of 1 (top me.0).number n
+      → Allows Rule slots id me k (λ z. either (eqb z old) new z) (Gains mark (step slots k old new none) me)
+  gains slots id k n old new a me inside one hand from up = opened slots id k (λ z. either (eqb z old) new z) (Gains mark (step slots k old new none)) me (top me.0) [] one
+      (gains_at slots id k n old new a (top me.0) inside hand from up)
 
   collects_at : (slots id k n old new a : ℕ) (v : Trail) → k < plan.slots → v.hand ≡ At k n (Offering a) → old ≡ word_of 4 v.number n → new ≡ word_of 1 v.number n
       → Allows Rule slots id (v ∷ [], []) k (λ z. either (eqb z old) new z) (Collects mark (step slots k old new none) (v ∷ [], []))

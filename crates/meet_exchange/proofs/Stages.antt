@@ -9,12 +9,12 @@ use Rattle.meet_exchange.specs.declared.records.Round.{Round}
 use Rattle.meet_exchange.specs.declared.records.SlotDeed.{SlotDeed}
 use Rattle.meet_exchange.specs.declared.records.SlotDeed.TheVariants.{Posted, Withdrawn, Swapped, Collected}
 use Rattle.meet_exchange.specs.declared.views.Duty.{Duty}
-use Rattle.meet_exchange.specs.declared.views.Duty.TheVariants.{Claimed, Offering, Took, Gathered, TookBack}
+use Rattle.meet_exchange.specs.declared.views.Duty.TheVariants.{Claimed, Offering, Ready, Took, Gathered, TookBack}
 use Rattle.meet_exchange.specs.declared.views.InHand.TheVariants.{Nothing, At}
 use Rattle.meet_exchange.specs.Stages.{Stage, cell_of, code, running, in_hand, with_round, duties_in, AllEnded}
 use Rattle.meet_exchange.specs.Rounds.{part, parts_in, parts_of, in_slot, IsPlayed, HasEnded}
-use Rattle.meet_exchange.specs.Told.{holds_now, did}
-use Rattle.meet_exchange.specs.Stages.Stage.{free, claimed, posted, taken, answered, collected, withdrawn}
+use Rattle.meet_exchange.specs.Told.{saw, holds_now, did}
+use Rattle.meet_exchange.specs.Stages.Stage.{free, claimed, posted, taken, answered, seen, collected, withdrawn}
 use Rattle.meet_exchange.proofs.Turns.{Turns}
 
 pub same : (n : ℕ) → eqb n n ≡ true
@@ -64,6 +64,7 @@ code_small (claimed o) = omega arith
 code_small (posted o a) = omega arith
 code_small (taken o a j b) = omega arith
 code_small (answered o a j b) = omega arith
+code_small (seen o a j b) = omega arith
 code_small (collected o a j b) = omega arith
 code_small (withdrawn o a) = omega arith
 
@@ -73,6 +74,7 @@ free_by_code (claimed o) e = absurd (omega arith)
 free_by_code (posted o a) e = absurd (omega arith)
 free_by_code (taken o a j b) e = absurd (omega arith)
 free_by_code (answered o a j b) e = absurd (omega arith)
+free_by_code (seen o a j b) e = absurd (omega arith)
 free_by_code (collected o a j b) e = absurd (omega arith)
 free_by_code (withdrawn o a) e = absurd (omega arith)
 
@@ -82,6 +84,7 @@ posted_by_code (claimed o) e = absurd (omega arith)
 posted_by_code (posted o a) e = (o, a, refl)
 posted_by_code (taken o a j b) e = absurd (omega arith)
 posted_by_code (answered o a j b) e = absurd (omega arith)
+posted_by_code (seen o a j b) e = absurd (omega arith)
 posted_by_code (collected o a j b) e = absurd (omega arith)
 posted_by_code (withdrawn o a) e = absurd (omega arith)
 
@@ -93,6 +96,7 @@ Does d i (claimed o) = (o ≡ i) × (d ≡ Claimed)
 Does d i (posted o a) = (o ≡ i) × (d ≡ Offering a)
 Does d i (taken o a j b) = ((o ≡ i) × (d ≡ Offering a)) ⊎ ((j ≡ i) × (d ≡ Took b))
 Does d i (answered o a j b) = (o ≡ i) × (d ≡ Offering a)
+Does d i (seen o a j b) = (o ≡ i) × (d ≡ Ready a)
 Does d i (collected o a j b) = (o ≡ i) × (d ≡ Gathered)
 Does d i (withdrawn o a) = (o ≡ i) × (d ≡ TookBack)
 
@@ -112,6 +116,7 @@ does (posted o a) i r r' d e = let h = one_duty (eqb o i) d (Offering a) r r' e 
 does (taken o a j b) i r r' d e = let h = two_duties (eqb o i) (eqb j i) d (Offering a) (Took b) r r' e in
     (elim h.0 as (λ _. Does d i (taken o a j b)) [ inl t ↦ inl (eqb-true o i t.0, t.1) | inr t ↦ inr (eqb-true j i t.0, t.1) ], h.1)
 does (answered o a j b) i r r' d e = let h = one_duty (eqb o i) d (Offering a) r r' e in ((eqb-true o i h.0, h.1), h.2)
+does (seen o a j b) i r r' d e = let h = one_duty (eqb o i) d (Ready a) r r' e in ((eqb-true o i h.0, h.1), h.2)
 does (collected o a j b) i r r' d e = let h = one_duty (eqb o i) d Gathered r r' e in ((eqb-true o i h.0, h.1), h.2)
 does (withdrawn o a) i r r' d e = let h = one_duty (eqb o i) d TookBack r r' e in ((eqb-true o i h.0, h.1), h.2)
 
@@ -122,6 +127,7 @@ is_claimed (posted o a) i h = let e = h.1 in absurd cc
 is_claimed (taken o a j b) i (inl h) = let e = h.1 in absurd cc
 is_claimed (taken o a j b) i (inr h) = let e = h.1 in absurd cc
 is_claimed (answered o a j b) i h = let e = h.1 in absurd cc
+is_claimed (seen o a j b) i h = let e = h.1 in absurd cc
 is_claimed (collected o a j b) i h = let e = h.1 in absurd cc
 is_claimed (withdrawn o a) i h = let e = h.1 in absurd cc
 
@@ -141,8 +147,23 @@ is_offered (posted o a') i a h = stands (λ n. posted (h.0 n) (offered_mark a' a
 is_offered (taken o a' j b) i a (inl h) = went j b (λ n. taken (h.0 n) (offered_mark a' a (sym h.1) n) j b)
 is_offered (taken o a' j b) i a (inr h) = let e = h.1 in absurd cc
 is_offered (answered o a' j b) i a h = came j b (λ n. answered (h.0 n) (offered_mark a' a (sym h.1) n) j b)
+is_offered (seen o a' j b) i a h = let e = h.1 in absurd cc
 is_offered (collected o a' j b) i a h = let e = h.1 in absurd cc
 is_offered (withdrawn o a') i a h = let e = h.1 in absurd cc
+
+ready_mark : (a a' : ℕ) → Ready a ≡ Ready a' → a ≡ a'
+ready_mark a a' e = cc
+
+pub is_ready : (st : Stage) (i a : ℕ) → Does (Ready a) i st → (j : ℕ) × (b : ℕ) × (st ≡ seen i a j b)
+is_ready free i a h = absurd h
+is_ready (claimed o) i a h = let e = h.1 in absurd cc
+is_ready (posted o a') i a h = let e = h.1 in absurd cc
+is_ready (taken o a' j b) i a (inl h) = let e = h.1 in absurd cc
+is_ready (taken o a' j b) i a (inr h) = let e = h.1 in absurd cc
+is_ready (answered o a' j b) i a h = let e = h.1 in absurd cc
+is_ready (seen o a' j b) i a h = (j, b, λ n. seen (h.0 n) (ready_mark a' a (sym h.1) n) j b)
+is_ready (collected o a' j b) i a h = let e = h.1 in absurd cc
+is_ready (withdrawn o a') i a h = let e = h.1 in absurd cc
 
 took_mark : (a a' : ℕ) → Took a ≡ Took a' → a ≡ a'
 took_mark a a' e = cc
@@ -154,6 +175,7 @@ is_taken (posted o a) i b h = let e = h.1 in absurd cc
 is_taken (taken o a j b') i b (inl h) = let e = h.1 in absurd cc
 is_taken (taken o a j b') i b (inr h) = (o, a, λ n. taken o a (h.0 n) (took_mark b' b (sym h.1) n))
 is_taken (answered o a j b') i b h = let e = h.1 in absurd cc
+is_taken (seen o a j b') i b h = let e = h.1 in absurd cc
 is_taken (collected o a j b') i b h = let e = h.1 in absurd cc
 is_taken (withdrawn o a) i b h = let e = h.1 in absurd cc
 
@@ -164,6 +186,7 @@ is_collected (posted o a) i h = let e = h.1 in absurd cc
 is_collected (taken o a j b) i (inl h) = let e = h.1 in absurd cc
 is_collected (taken o a j b) i (inr h) = let e = h.1 in absurd cc
 is_collected (answered o a j b) i h = let e = h.1 in absurd cc
+is_collected (seen o a j b) i h = let e = h.1 in absurd cc
 is_collected (collected o a j b) i h = (a, j, b, ap (λ z. collected z a j b) h.0)
 is_collected (withdrawn o a) i h = let e = h.1 in absurd cc
 
@@ -174,6 +197,7 @@ is_withdrawn (posted o a) i h = let e = h.1 in absurd cc
 is_withdrawn (taken o a j b) i (inl h) = let e = h.1 in absurd cc
 is_withdrawn (taken o a j b) i (inr h) = let e = h.1 in absurd cc
 is_withdrawn (answered o a j b) i h = let e = h.1 in absurd cc
+is_withdrawn (seen o a j b) i h = let e = h.1 in absurd cc
 is_withdrawn (collected o a j b) i h = let e = h.1 in absurd cc
 is_withdrawn (withdrawn o a) i h = (a, ap (λ z. withdrawn z a) h.0)
 
@@ -239,6 +263,24 @@ module _ (start k : ℕ) (past : List Round) (v : Trail) where
       → Turns start k v (did v (part k r (Collected b)) (At k r Gathered)) (cell_of past (answered v.number a j b)) (cell_of past (collected v.number a j b))
   collect_turns r a j b is other hand list = grows r (answered v.number a j b) (collected v.number a j b) (Collected b) Gathered is list (elsewhere r (Offering a) hand)
       (rw (same v.number, apart j v.number (flip other)) refl) (rw (same v.number) refl) (λ x ne. rw (apart v.number x (flip ne)) refl) (λ x ne. rw (apart v.number x (flip ne)) refl)
+
+  pub gain_turns : (r a j b : ℕ) → r ≡ at → v.number ≢ j → v.hand ≡ At k r (Ready a) → in_slot k v.list ≡ parts_of v.number k start (past ++ running (seen v.number a j b))
+      → Turns start k v (did v (part k r (Collected b)) (At k r Gathered)) (cell_of past (seen v.number a j b)) (cell_of past (collected v.number a j b))
+  gain_turns r a j b is other hand list = grows r (seen v.number a j b) (collected v.number a j b) (Collected b) Gathered is list (elsewhere r (Ready a) hand)
+      (rw (same v.number, apart j v.number (flip other)) refl) (rw (same v.number) refl) (λ x ne. rw (apart v.number x (flip ne)) refl) (λ x ne. rw (apart v.number x (flip ne)) refl)
+
+  -- a look that sees the answer
+  pub find_turns : (r a j b w : ℕ) → r ≡ at → v.hand ≡ At k r (Offering a) → in_slot k v.list ≡ parts_of v.number k start (past ++ running (answered v.number a j b))
+      → Turns start k v (saw (holds_now v (At k r (Ready a))) k w) (cell_of past (answered v.number a j b)) (cell_of past (seen v.number a j b))
+  find_turns r a j b w is hand list = record {
+    number = refl;
+    list = list;
+    hand = rw (same k, same v.number, is) refl;
+    list_else = λ _ _. refl;
+    hand_else = λ j ne. rw (apart k j (flip ne)) (sym (elsewhere r (Offering a) hand j ne));
+    list_others = λ _ _. refl;
+    hand_others = λ x ne. rw (apart v.number x (flip ne)) refl;
+  }
 
   pub answer_turns : (r o a b : ℕ) → o ≢ v.number → v.hand ≡ At k r (Took b) → in_slot k v.list ≡ parts_of v.number k start (past ++ running (taken o a v.number b))
       → Turns start k v (holds_now v Nothing) (cell_of past (taken o a v.number b)) (cell_of past (answered o a v.number b))

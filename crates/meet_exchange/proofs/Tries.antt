@@ -1,5 +1,5 @@
 -- An exchange, turn by turn.
-use Rattle.std.proofs.Common.{◌≡◌, ◌≢◌, ℕ, ◌+◌, ◌-◌, ◌/◌, ◌%◌, ◌<◌, ◌≤◌, ◌⊎◌, inl, inr, List, [], ◌∷◌, ◌++◌, sym, refl, ap, ◌∙◌, subst, arith, add-zero, le_refl, lt_of_not-le, Option, Some, None}
+use Rattle.std.proofs.Common.{◌≡◌, ◌≢◌, ℕ, ◌+◌, ◌-◌, ◌/◌, ◌%◌, ◌<◌, ◌≤◌, ◌⊎◌, inl, inr, List, [], ◌∷◌, ◌++◌, length, length-append, sym, refl, ap, ◌∙◌, subst, arith, add-zero, le_refl, lt_of_not-le, Option, Some, None}
 use Rattle.std.proofs.lemmas.List.{append_assoc, append-nil}
 use Rattle.meet_exchange.specs.declared.records.Part.{Part}
 use Rattle.meet_exchange.specs.declared.records.SlotDeed.TheVariants.{Posted, Withdrawn, Swapped, Collected}
@@ -9,9 +9,8 @@ use Rattle.meet_exchange.specs.Words.{code_in, number_in}
 use Rattle.meet_exchange.specs.Rounds.{part}
 use Rattle.meet_exchange.specs.Seats.{SeatView, PendingView, Went}
 use Rattle.meet_exchange.specs.Calls.{HasRound, StandsAt}
-use Rattle.meet_exchange.specs.Ways.{FindsNone, SawContended, SawFree, SawTaken, IsReached, IsWithin, patience, MayStand, IsOver, HasCome, HasSwapped, HasCollected, HasTimedOut}
+use Rattle.meet_exchange.specs.Ways.{ShowNone, SawContended, SawFree, SawTaken, IsReached, IsWithin, patience, MayStand, IsOver, HasCome, HasSwapped, HasCollected, HasTimedOut}
 use Rattle.meet_exchange.specs.Waits.{more_after, HasPosted, HasStayed, EndsAs, seat_after}
-use Rattle.meet_exchange.specs.Ways.FoundNone.{none, more}
 use Rattle.meet_exchange.specs.Ways.Comes.{begins, goes_on, comes_back}
 
 -- a seat goes on from where it went
@@ -69,12 +68,17 @@ pub may_more : (limit : Option ℕ) (k t looks : ℕ) → ¬ IsReached limit (t 
 may_more limit k t looks f few = let e : (t + looks) + 1 ≡ t + (looks + 1) = omega arith in (subst (IsWithin limit) e (within_more limit (t + looks) f), λ above. let l : looks < patience = few above in omega arith)
 
 -- a look more at a slot
-pub free_more : (k r looks : ℕ) (words look : List (ℕ × ℕ)) → SawFree k r looks words → FindsNone k look → SawFree k r (looks + 1) (words ++ look)
-free_more k r looks words look h found = (h.0, h.1 ++ look, ap (λ z. z ++ look) h.2, h.3, h.4, more look h.5 found)
+pub none_more : (k w : ℕ) (xs : List (ℕ × ℕ)) → ShowNone k xs → code_in w ≢ 4 → ShowNone k (xs ++ (k, w) ∷ [])
+none_more k w [] h none = (refl, none, tt)
+none_more k w (x ∷ xs) h none = (h.0, h.1, none_more k w xs h.2 none)
 
-pub taken_more : (k r looks : ℕ) (words look : List (ℕ × ℕ)) → SawTaken k r looks words → FindsNone k look → SawTaken k r looks (words ++ look)
-taken_more k r looks words look h found =
-    (h.0, h.1, h.2 ++ look, ap (λ z. z ++ look) h.3 ∙ append_assoc h.0 ((k, h.1) ∷ h.2) look, h.4, h.5, h.6 + 1, more look h.7 found)
+pub free_more : (k r looks w : ℕ) (words : List (ℕ × ℕ)) → SawFree k r looks words → code_in w ≢ 4 → SawFree k r (looks + 1) (words ++ (k, w) ∷ [])
+free_more k r looks w words h none = let more : List (ℕ × ℕ) = (k, w) ∷ [] in let e : length (h.1 ++ more) ≡ looks + 1 = omega (arith, length-append h.1 more, h.6) in
+    (h.0, h.1 ++ more, ap (λ z. z ++ more) h.2, h.3, h.4, none_more k w h.1 h.5 none, e)
+
+pub taken_more : (k r looks w : ℕ) (words : List (ℕ × ℕ)) → SawTaken k r looks words → code_in w ≢ 4 → SawTaken k r looks (words ++ (k, w) ∷ [])
+taken_more k r looks w words h none = let more : List (ℕ × ℕ) = (k, w) ∷ [] in
+    (h.0, h.1, h.2 ++ more, ap (λ z. z ++ more) h.3 ∙ append_assoc h.0 ((k, h.1) ∷ h.2) more, h.4, h.5, none_more k w h.2 h.6 none)
 
 module _ (v : SeatView) (a n first : ℕ) (limit : Option ℕ) where
   -- nothing was done yet
@@ -121,19 +125,19 @@ module _ (v : SeatView) (a n first : ℕ) (limit : Option ℕ) where
   pub come_posted : (s : SeatView) (p : PendingView) (k t m w : ℕ) → HasCome v a n first limit s k t [] [] → IsWithin limit t → HasRound w → StandsAt k (number_in w) m p → m ≡ a
       → Went s p.seat (part k (number_in w) (Posted m) ∷ []) ((k, w) ∷ []) → HasPosted v a n first limit p t 0
   come_posted s p k t m w h within free st e went = let P : ℕ → ℕ → ℕ → Type 0 = λ k r m. (words : List (ℕ × ℕ)) × SawFree k r 0 words × HasCome v a n first limit p.seat k t (part k r (Posted m) ∷ []) words in
-      let here : P k (number_in w) m = ((k, w) ∷ [], (w, [], refl, free, refl, none), come_then s p.seat k t [] (part k (number_in w) (Posted m) ∷ []) [] ((k, w) ∷ []) h went) in
+      let here : P k (number_in w) m = ((k, w) ∷ [], (w, [], refl, free, refl, tt, refl), come_then s p.seat k t [] (part k (number_in w) (Posted m) ∷ []) [] ((k, w) ∷ []) h went) in
       let there : P p.slot p.round a = subst (λ k. P k p.round a) (sym st.0) (subst (λ r. P k r a) (sym st.1) (subst (λ m. P k (number_in w) m) e here)) in
       (st.2 ∙ e, (subst (IsWithin limit) (sym (add-zero t)) within, λ above. omega arith), there.0, there.1, there.2)
 
   -- that stands for a look more
-  pub posted_still : (p q : PendingView) (t looks : ℕ) (look : List (ℕ × ℕ)) → HasPosted v a n first limit p t looks → MayStand limit p.slot t (looks + 1) → StandsAt p.slot p.round p.mark q → FindsNone p.slot look → Went p.seat q.seat [] look
+  pub posted_still : (p q : PendingView) (t looks w : ℕ) → HasPosted v a n first limit p t looks → MayStand limit p.slot t (looks + 1) → StandsAt p.slot p.round p.mark q → code_in w ≢ 4 → Went p.seat q.seat [] ((p.slot, w) ∷ [])
       → HasPosted v a n first limit q t (looks + 1)
-  posted_still p q t looks look h may st found went = let P : ℕ → ℕ → Type 0 = λ k r. MayStand limit k t (looks + 1) × (words : List (ℕ × ℕ)) × SawFree k r (looks + 1) words × HasCome v a n first limit q.seat k t (part k r (Posted a) ∷ []) words in
+  posted_still p q t looks w h may st none went = let P : ℕ → ℕ → Type 0 = λ k r. MayStand limit k t (looks + 1) × (words : List (ℕ × ℕ)) × SawFree k r (looks + 1) words × HasCome v a n first limit q.seat k t (part k r (Posted a) ∷ []) words in
       let here : P p.slot p.round = (
         may,
-        h.2 ++ look,
-        free_more p.slot p.round looks h.2 look h.3 found,
-        come_then p.seat q.seat p.slot t (part p.slot p.round (Posted a) ∷ []) [] h.2 look h.4 went,
+        h.2 ++ (p.slot, w) ∷ [],
+        free_more p.slot p.round looks w h.2 h.3 none,
+        come_then p.seat q.seat p.slot t (part p.slot p.round (Posted a) ∷ []) [] h.2 ((p.slot, w) ∷ []) h.4 went,
       ) in
       let there : P q.slot q.round = subst (λ k. P k q.round) (sym st.0) (subst (λ r. P p.slot r) (sym st.1) here) in
       (st.2 ∙ h.0, there.0, there.1, there.2, there.3)
@@ -146,21 +150,21 @@ module _ (v : SeatView) (a n first : ℕ) (limit : Option ℕ) where
         h.1,
         over,
         h.2 ++ (p.slot, w) ∷ [],
-        (h.2, w, [], refl, h.3, gone, 0, none),
+        (h.2, w, [], refl, h.3, gone, tt),
         come_then p.seat q.seat p.slot t (part p.slot p.round (Posted a) ∷ []) [] h.2 ((p.slot, w) ∷ []) h.4 went,
       ) in
       let there : P q.slot q.round = subst (λ k. P k q.round) (sym st.0) (subst (λ r. P p.slot r) (sym st.1) here) in
       (st.2 ∙ h.0, t, looks, there.0, there.1, there.2, there.3, there.4)
 
-  pub stayed_still : (p q : PendingView) (look : List (ℕ × ℕ)) → HasStayed v a n first limit p → StandsAt p.slot p.round p.mark q → FindsNone p.slot look → Went p.seat q.seat [] look → HasStayed v a n first limit q
-  stayed_still p q look h st found went = let t = h.1 in let looks = h.2 in
+  pub stayed_still : (p q : PendingView) (w : ℕ) → HasStayed v a n first limit p → StandsAt p.slot p.round p.mark q → code_in w ≢ 4 → Went p.seat q.seat [] ((p.slot, w) ∷ []) → HasStayed v a n first limit q
+  stayed_still p q w h st none went = let t = h.1 in let looks = h.2 in
       let P : ℕ → ℕ → Type 0 = λ k r. MayStand limit k t looks × IsOver limit k t looks × (words : List (ℕ × ℕ)) × SawTaken k r looks words × HasCome v a n first limit q.seat k t (part k r (Posted a) ∷ []) words in
       let here : P p.slot p.round = (
         h.3,
         h.4,
-        h.5 ++ look,
-        taken_more p.slot p.round looks h.5 look h.6 found,
-        come_then p.seat q.seat p.slot t (part p.slot p.round (Posted a) ∷ []) [] h.5 look h.7 went,
+        h.5 ++ (p.slot, w) ∷ [],
+        taken_more p.slot p.round looks w h.5 h.6 none,
+        come_then p.seat q.seat p.slot t (part p.slot p.round (Posted a) ∷ []) [] h.5 ((p.slot, w) ∷ []) h.7 went,
       ) in
       let there : P q.slot q.round = subst (λ k. P k q.round) (sym st.0) (subst (λ r. P p.slot r) (sym st.1) here) in
       (st.2 ∙ h.0, t, looks, there.0, there.1, there.2, there.3, there.4)

@@ -8,7 +8,7 @@ use Rattle.meet_exchange.specs.declared.records.Part.{Part}
 use Rattle.meet_exchange.specs.declared.views.Plan.{Plan}
 use Rattle.meet_exchange.specs.declared.views.InHand.{InHand}
 use Rattle.meet_exchange.specs.declared.views.InHand.TheVariants.{Nothing, At}
-use Rattle.meet_exchange.specs.declared.views.Duty.TheVariants.{Claimed, Offering, Took, Gathered, TookBack}
+use Rattle.meet_exchange.specs.declared.views.Duty.TheVariants.{Claimed, Offering, Ready, Took, Gathered, TookBack}
 use Rattle.meet_exchange.specs.declared.views.Trail.{Trail}
 use Rattle.meet_exchange.specs.Words.{round_unit}
 use Rattle.meet_exchange.specs.Rounds.{IsHistory, left_in, parts_of, in_slot}
@@ -24,6 +24,7 @@ abbrev pub IsSettled : InHand → Type 0
 IsSettled Nothing = Unit {0}
 IsSettled (At k r Claimed) = ⊥
 IsSettled (At k r (Offering a)) = Unit {0}
+IsSettled (At k r (Ready a)) = ⊥
 IsSettled (At k r (Took b)) = ⊥
 IsSettled (At k r Gathered) = ⊥
 IsSettled (At k r TookBack) = ⊥

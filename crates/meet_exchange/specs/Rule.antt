@@ -13,7 +13,7 @@ use Rattle.meet_exchange.specs.Words.{word_of}
 use Rattle.meet_exchange.specs.Rounds.{parts_of, in_slot}
 use Rattle.meet_exchange.specs.Stages.{Stage, Cell, cell_of, running, rounds, AllPlayed, AllEnded, code, owner}
 use Rattle.meet_exchange.specs.Stages.{duties_in, with_round, in_hand}
-use Rattle.meet_exchange.specs.Stages.Stage.{free, claimed, posted, taken, answered, collected, withdrawn}
+use Rattle.meet_exchange.specs.Stages.Stage.{free, claimed, posted, taken, answered, seen, collected, withdrawn}
 
 module _ {T : Type 0} (mark : T → ℕ) where
   -- an item of this mark
@@ -27,6 +27,7 @@ module _ {T : Type 0} (mark : T → ℕ) where
   AtHome (posted o a) h = IsItem a h
   AtHome (taken o a j b) h = h ≡ none
   AtHome (answered o a j b) h = IsItem b h
+  AtHome (seen o a j b) h = IsItem b h
   AtHome (collected o a j b) h = h ≡ none
   AtHome (withdrawn o a) h = h ≡ none
 

@@ -4,18 +4,20 @@ use Rattle.meet_exchange.specs.declared.records.RoundEnd.TheVariants.{Posted as 
 use Rattle.meet_exchange.specs.declared.records.RoundEnd.TheVariants.{Swapped as Exchanged}
 use Rattle.meet_exchange.specs.declared.records.Round.{Round}
 use Rattle.meet_exchange.specs.declared.views.Duty.{Duty}
-use Rattle.meet_exchange.specs.declared.views.Duty.TheVariants.{Claimed, Offering, Took, Gathered, TookBack}
+use Rattle.meet_exchange.specs.declared.views.Duty.TheVariants.{Claimed, Offering, Ready, Took, Gathered, TookBack}
 use Rattle.meet_exchange.specs.declared.views.InHand.{InHand}
 use Rattle.meet_exchange.specs.declared.views.InHand.TheVariants.{Nothing, At}
 use Rattle.meet_exchange.specs.Rounds.{round_of, IsPlayed, HasEnded}
 
--- claimed by o, who posts a; taken by j, who gives b; and the two ends before the slot is cleared
+-- claimed by o, who posts a; taken by j, who gives b; answered, and then seen to be by o; and the two ends before the
+-- slot is cleared
 pub data Stage : Type 0 where
   free : Stage
   claimed : ℕ → Stage
   posted : ℕ → ℕ → Stage
   taken : ℕ → ℕ → ℕ → ℕ → Stage
   answered : ℕ → ℕ → ℕ → ℕ → Stage
+  seen : ℕ → ℕ → ℕ → ℕ → Stage
   collected : ℕ → ℕ → ℕ → ℕ → Stage
   withdrawn : ℕ → ℕ → Stage
 
@@ -34,6 +36,7 @@ running (claimed o) = []
 running (posted o a) = round_of o a Stands ∷ []
 running (taken o a j b) = round_of o a (Exchanged j b false) ∷ []
 running (answered o a j b) = round_of o a (Exchanged j b false) ∷ []
+running (seen o a j b) = round_of o a (Exchanged j b false) ∷ []
 running (collected o a j b) = round_of o a (Exchanged j b true) ∷ []
 running (withdrawn o a) = round_of o a EndWithdrawn ∷ []
 
@@ -58,6 +61,7 @@ code (claimed o) = 1
 code (posted o a) = 2
 code (taken o a j b) = 3
 code (answered o a j b) = 4
+code (seen o a j b) = 4
 code (collected o a j b) = 1
 code (withdrawn o a) = 1
 
@@ -67,6 +71,7 @@ owner (claimed o) = o
 owner (posted o a) = o
 owner (taken o a j b) = o
 owner (answered o a j b) = o
+owner (seen o a j b) = o
 owner (collected o a j b) = o
 owner (withdrawn o a) = o
 
@@ -77,6 +82,7 @@ duties_in x (claimed o) = cond (o == x) (Claimed ∷ []) []
 duties_in x (posted o a) = cond (o == x) (Offering a ∷ []) []
 duties_in x (taken o a j b) = cond (o == x) (Offering a ∷ []) [] ++ cond (j == x) (Took b ∷ []) []
 duties_in x (answered o a j b) = cond (o == x) (Offering a ∷ []) []
+duties_in x (seen o a j b) = cond (o == x) (Ready a ∷ []) []
 duties_in x (collected o a j b) = cond (o == x) (Gathered ∷ []) []
 duties_in x (withdrawn o a) = cond (o == x) (TookBack ∷ []) []
 

@@ -5,7 +5,7 @@ use Rattle.atomic_table.specs.Table.{Me, Step}
 use Rattle.meet_tickets.specs.Limits.{last_round}
 use Rattle.meet_exchange.specs.declared.records.SlotDeed.TheVariants.{Posted, Withdrawn, Swapped, Collected}
 use Rattle.meet_exchange.specs.declared.records.Part.{Part}
-use Rattle.meet_exchange.specs.declared.views.Duty.TheVariants.{Claimed, Offering, Took, Gathered, TookBack}
+use Rattle.meet_exchange.specs.declared.views.Duty.TheVariants.{Claimed, Offering, Ready, Took, Gathered, TookBack}
 use Rattle.meet_exchange.specs.declared.views.InHand.{InHand}
 use Rattle.meet_exchange.specs.declared.views.InHand.TheVariants.{Nothing, At}
 use Rattle.meet_exchange.specs.declared.views.Trail.{Trail}
@@ -42,6 +42,7 @@ abbrev pub given_in : InHand → ℕ
 given_in Nothing = 0
 given_in (At k r Claimed) = 0
 given_in (At k r (Offering a)) = a
+given_in (At k r (Ready a)) = a
 given_in (At k r (Took b)) = b
 given_in (At k r Gathered) = 0
 given_in (At k r TookBack) = 0
@@ -65,6 +66,12 @@ module _ {T : Type 0} where
   -- of a load
   abbrev pub Sees : Told T
   Sees st m found n = (found / round_unit ≤ last_round) × Looks st m found n
+
+  -- of a load by a seat whose offer stands there: an answer that it sees is in its hand from then on
+  abbrev pub Finds : Told T
+  Finds st m found n = let v = top m.0 in (found / round_unit ≤ last_round) × (found % 8 ≢ 4 → Looks st m found n)
+      × (found % 8 ≡ 4
+      → n ≡ (saw (holds_now v (At st.word (round_in v.hand) (Ready (given_in v.hand)))) st.word found ∷ [], m.1))
 
   -- a step that may fail: it succeeds exactly where it finds the word that it expects, and else it is a look
   abbrev pub Tries : (Token T → Type 0) → Told T
@@ -107,6 +114,10 @@ module _ {T : Type 0} (mark : T → ℕ) where
   HasCollected st m n = let v = top m.0 in let r = round_in v.hand in
       (x : T)
       × (n ≡ (did v (part st.word r (Collected (mark x))) (At st.word r Gathered) ∷ [], (st.word, Some x) ∷ m.1))
+
+  -- of an answer that was seen: it doesn't fail
+  abbrev pub Gains : Told T
+  Gains st m found n = (found ≡ st.first) × HasCollected st m n
 
   -- where it fails the word that it found isn't answered; and where a withdrawal does, it isn't posted
   abbrev pub Collects : Told T

@@ -1,5 +1,5 @@
 -- An exchange that waits: how it stands from turn to turn, and how it ends (our choice).
-use Rattle.std.specs.Prelude.{◌≡◌, ℕ, ◌+◌, ◌-◌, ◌<◌, ◌⊎◌, List, [], ◌∷◌, Option, Some, None}
+use Rattle.std.specs.Prelude.{◌≡◌, ◌≢◌, ℕ, ◌+◌, ◌-◌, ◌<◌, ◌⊎◌, List, [], ◌∷◌, Option, Some, None}
 use Rattle.atomic_table.specs.Seated.{TableId}
 use Rattle.meet_exchange.specs.declared.records.SlotDeed.TheVariants.{Posted, Collected}
 use Rattle.meet_exchange.specs.declared.endings.Gathered.{Gathered}
@@ -14,7 +14,7 @@ use Rattle.meet_exchange.specs.Words.{code_in}
 use Rattle.meet_exchange.specs.Rounds.{part}
 use Rattle.meet_exchange.specs.Calls.{StandsAt}
 use Rattle.meet_exchange.specs.Seats.{SeatView, PendingView, Went}
-use Rattle.meet_exchange.specs.Ways.{IsWithin, MayStand, IsOver, FindsNone, SawFree, SawTaken, HasCome}
+use Rattle.meet_exchange.specs.Ways.{IsWithin, MayStand, IsOver, SawFree, SawTaken, HasCome}
 use Rattle.meet_exchange.specs.Ways.{HasSwapped, HasCollected, HasTimedOut, HasWorn, HasNoRoom}
 
 -- how an exchange of the seat v ends: with another seat's item, or with its own, of the mark a
@@ -33,11 +33,11 @@ seat_after (Worn s x) = s
 seat_after (Memory s x) = s
 
 -- of a look for the answer to an offer of the seat v, in the slot k and the round r and with the mark a: an answer was
--- seen, and is collected; or none was found
+-- seen, and is collected; or none was seen
 module _ {T : Type 0} (mark : T → ℕ) (v : SeatView) (k r a : ℕ) where
   abbrev pub Gathers : Gathered T → Type 0
   Gathers (Got s x) = (w : ℕ) × (code_in w ≡ 4) × Went v s (part k r (Collected (mark x)) ∷ []) ((k, w) ∷ [])
-  Gathers (NotYet p) = StandsAt k r a p × (look : List (ℕ × ℕ)) × FindsNone k look × Went v p.seat [] look
+  Gathers (NotYet p) = StandsAt k r a p × (w : ℕ) × (code_in w ≢ 4) × Went v p.seat [] ((k, w) ∷ [])
 
 -- ## From turn to turn
 

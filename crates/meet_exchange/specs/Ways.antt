@@ -1,5 +1,5 @@
 -- The way of an exchange that waits, from slot to slot: what it saw and did there, and in how many turns (our choice).
-use Rattle.std.specs.Prelude.{◌≡◌, ◌≢◌, ℕ, ◌+◌, ◌/◌, ◌%◌, ◌<◌, ◌≤◌, ◌⊎◌, List, [], ◌∷◌, ◌++◌}
+use Rattle.std.specs.Prelude.{◌≡◌, ◌≢◌, ℕ, ◌+◌, ◌/◌, ◌%◌, ◌<◌, ◌≤◌, ◌⊎◌, List, [], ◌∷◌, ◌++◌, length}
 use Rattle.std.specs.Prelude.{Option, Some, None}
 use Rattle.meet_exchange.specs.declared.records.Part.{Part}
 use Rattle.meet_exchange.specs.declared.records.SlotDeed.TheVariants.{Posted, Withdrawn, Swapped, Collected}
@@ -11,33 +11,25 @@ use Rattle.meet_exchange.specs.Calls.{HasRound}
 
 -- ## What was seen in a slot
 
+-- these words are of the slot k, and show no answer
+abbrev pub ShowNone : (k : ℕ) → List (ℕ × ℕ) → Type 0
+ShowNone k [] = Unit {0}
+ShowNone k (x ∷ xs) = (x.0 ≡ k) × (code_in x.1 ≢ 4) × ShowNone k xs
+
 -- contended: a look at a word neither free nor posted, or at one in whose place the step after it found another
 abbrev pub SawContended : (k : ℕ) → List (ℕ × ℕ) → Type 0
 SawContended k words = (w : ℕ) × (((words ≡ (k, w) ∷ []) × (code_in w ≢ 0) × (code_in w ≢ 2))
     ⊎ ((u : ℕ) × (words ≡ (k, w) ∷ (k, u) ∷ []) × (u ≢ w) × (HasRound w ⊎ (code_in w ≡ 2))))
 
--- a look at an offer that finds no answer: a word that isn't answered, or one that is, and another in its place by the
--- step that is to collect it, which comes next
-abbrev pub FindsNone : (k : ℕ) → List (ℕ × ℕ) → Type 0
-FindsNone k look = (w : ℕ) × (((look ≡ (k, w) ∷ []) × (code_in w ≢ 4))
-    ⊎ ((u : ℕ) × (look ≡ (k, w) ∷ (k, u) ∷ []) × (code_in w ≡ 4) × (code_in u ≢ 4)))
-
--- so many of these
-pub data FoundNone (k : ℕ) : (looks : ℕ) → List (ℕ × ℕ) → Type 0 where
-  none : FoundNone k 0 []
-  more : {looks : ℕ} {words : List (ℕ × ℕ)} (look : List (ℕ × ℕ)) → FoundNone k looks words → FindsNone k look
-      → FoundNone k (looks + 1) (words ++ look)
-
--- free in the round r, which isn't the last; and then, as an item was posted there, so many looks that found no answer
+-- free in the round r, which isn't the last; and then, as an item was posted there, so many looks that saw no answer
 abbrev pub SawFree : (k r looks : ℕ) → List (ℕ × ℕ) → Type 0
 SawFree k r looks words = (w : ℕ) × (later : List (ℕ × ℕ)) × (words ≡ (k, w) ∷ later) × HasRound w
-    × (number_in w ≡ r) × FoundNone k looks later
+    × (number_in w ≡ r) × ShowNone k later × (length later ≡ looks)
 
 -- the same, and then a word that shows the item posted no more, and any number of such looks after it
 abbrev pub SawTaken : (k r looks : ℕ) → List (ℕ × ℕ) → Type 0
 SawTaken k r looks words = (before : List (ℕ × ℕ)) × (u : ℕ) × (later : List (ℕ × ℕ))
-    × (words ≡ before ++ (k, u) ∷ later) × SawFree k r looks before × (code_in u ≢ 2)
-    × (n : ℕ) × FoundNone k n later
+    × (words ≡ before ++ (k, u) ∷ later) × SawFree k r looks before × (code_in u ≢ 2) × ShowNone k later
 
 -- posted in the round r
 abbrev pub SawPosted : (k r : ℕ) → List (ℕ × ℕ) → Type 0

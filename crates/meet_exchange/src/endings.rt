@@ -1,13 +1,14 @@
 //! What ends an offer that stands: the other seat's item is collected, or its own is taken back.
 
-ghost use Rattle.std.specs.Prelude.{◌≡◌, ◌<◌, [], ◌∷◌};
-ghost use Rattle.meet_exchange.specs.Calls.{Collects, StandsAt, Withdraws};
-ghost use Rattle.meet_exchange.specs.Seats.{Went};
+ghost use Rattle.std.specs.Prelude.{◌≡◌, ◌<◌};
+ghost use Rattle.meet_exchange.specs.Calls.{Collects, Withdraws};
+ghost use Rattle.meet_exchange.specs.Waits.{Gathers};
 
 use crate::arena::Arena;
 use crate::records::{Part, SlotDeed};
 use crate::seats::{Offer, Pending, Seat};
-use crate::steps::{collect, look, withdraw};
+use crate::steps::{collect, find, gain, withdraw};
+use crate::words::{ANSWERED, code};
 use meet_tickets::Marked;
 
 /// What a collecting came to.
@@ -58,12 +59,11 @@ impl<T: Marked> Arena<T> {
         }
     }
 
-    /// Looks at the slot of an offer once more, and changes nothing there. The word comes with it.
-    pub(crate) fn look_on(&self, pending: Pending<T>) -> (Pending<T>, u64)
+    /// Looks for the answer to an offer, and collects it where it sees one.
+    pub(crate) fn look_for(&self, pending: Pending<T>) -> Gathered<T>
         requires place { pending.seat.arena ≡ self.now.id }
         requires slot { pending.slot < self.now.slots }
-        ensures stands { StandsAt pending.slot pending.round pending.mark result.0 }
-        ensures seen { Went pending.seat result.0.seat [] ((pending.slot, result.1) ∷ []) }
+        ensures { Gathers T.mark_of pending.seat pending.slot pending.round pending.mark result }
     {
         let Offer {
             inner: mut seat,
@@ -71,14 +71,21 @@ impl<T: Marked> Arena<T> {
             round,
             mark,
         } = pending.open();
-        let seen = look(&self.table.shared, &mut seat.token, slot);
-        let pending = Pending::new(Offer {
-            inner: seat,
-            slot,
-            round,
-            mark,
-        });
-        (pending, seen)
+        let board = &self.table.shared;
+        let seen = find(board, &mut seat.token, slot, round, mark);
+        if code(seen) != ANSWERED {
+            return Gathered::NotYet(Pending::new(Offer {
+                inner: seat,
+                slot,
+                round,
+                mark,
+            }));
+        }
+        let item = gain(board, &mut seat.token, slot, seat.number, round, mark);
+        let got = item.mark();
+        let deed = SlotDeed::Collected { got };
+        seat.list.push_reserved(Part { slot, round, deed });
+        Gathered::Got(Seat::new(seat), item)
     }
 
     /// Takes this seat's item back, unless another seat has taken it. One step, and no memory.

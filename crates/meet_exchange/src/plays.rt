@@ -2,7 +2,7 @@
 
 ghost use Rattle.std.specs.Prelude.{◌≡◌, [], ◌∷◌, ◌++◌};
 ghost use Rattle.meet_exchange.specs.Rule.{Kept, fresh_from, top, others};
-ghost use Rattle.meet_exchange.specs.Told.{Sees, Claims, Frees, Posts, Withdraws, Takes, Collects};
+ghost use Rattle.meet_exchange.specs.Told.{Sees, Finds, Claims, Frees, Posts, Withdraws, Takes, Gains, Collects};
 
 use crate::views::{Plan, View};
 use atomic_table::{Join, Play, Split, TableRule};
@@ -21,6 +21,12 @@ pub struct Look;
 
 impl<T: Marked> Play<Option<T>, View> for Look {
     ghost then = { Sees };
+}
+
+pub struct Find;
+
+impl<T: Marked> Play<Option<T>, View> for Find {
+    ghost then = { Finds };
 }
 
 pub struct Claim;
@@ -57,6 +63,12 @@ pub struct Answer;
 
 impl<T: Marked> Play<Option<T>, View> for Answer {
     ghost then = { Frees };
+}
+
+pub struct Gain;
+
+impl<T: Marked> Play<Option<T>, View> for Gain {
+    ghost then = { Gains T.mark_of };
 }
 
 pub struct Collect;

@@ -1,16 +1,18 @@
-//! The eight kinds of step, and the moves of an item in a slot that a token has in hand.
+//! The ten kinds of step, and the moves of an item in a slot that a token has in hand.
 
 ghost use Rattle.std.specs.Prelude.{◌≡◌, ◌≢◌, ◌<◌, ◌≤◌, [], ◌∷◌, None, IfOk, IfErr};
 ghost use Rattle.meet_tickets.specs.Limits.{last_round};
 ghost use Rattle.meet_exchange.specs.declared.records.SlotDeed.TheVariants.{Posted, Withdrawn, Swapped, Collected};
-ghost use Rattle.meet_exchange.specs.declared.views.Duty.TheVariants.{Claimed, Offering};
+ghost use Rattle.meet_exchange.specs.declared.views.Duty.TheVariants.{Claimed, Offering, Ready};
 ghost use Rattle.meet_exchange.specs.declared.views.InHand.TheVariants.{Nothing, At};
 ghost use Rattle.meet_exchange.specs.Words.{code_in, number_in};
 ghost use Rattle.meet_exchange.specs.Rounds.{part};
 ghost use Rattle.meet_exchange.specs.Rule.{top, Fits};
 ghost use Rattle.meet_exchange.specs.Told.{saw, holds_now, did};
 
-use crate::plays::{Answer, Claim, Clear, Collect, Exchanges, Look, Post, Take, Withdraw};
+use crate::plays::{
+    Answer, Claim, Clear, Collect, Exchanges, Find, Gain, Look, Post, Take, Withdraw,
+};
 use crate::views::{Plan, View};
 use crate::words::{ANSWERED, HELD, POSTED, free_word, word};
 use atomic_table::{Seat, Shared};
@@ -31,6 +33,26 @@ pub(crate) fn look<T: Marked>(board: &Board<T>, token: &mut Token<T>, slot: usiz
     ensures told { token.new.me ≡ (saw (top token.old.me.0) slot result ∷ [], token.old.me.1) }
 {
     board.load::<Look>(token, slot)
+}
+
+/// The slot's word, for a seat whose offer stands there. An answer that it sees is its own to collect.
+pub(crate) fn find<T: Marked>(
+    board: &Board<T>,
+    token: &mut Token<T>,
+    slot: usize,
+    round: u64,
+    mark: u64,
+) -> u64
+    requires place { Fits board.now.table_id board.now.key token.old.table_id slot }
+    requires posted { (token.old.me ≡ (top token.old.me.0 ∷ [], []))
+        × ((top token.old.me.0).hand ≡ At slot round (Offering mark)) }
+    ensures place { (token.new.table_id ≡ token.old.table_id) × (token.new.id ≡ token.old.id) }
+    ensures none { code_in result ≢ 4 → token.new.me ≡ (saw (top token.old.me.0) slot result ∷ [], []) }
+    ensures seen { code_in result ≡ 4 → token.new.me
+        ≡ (saw (holds_now (top token.old.me.0) (At slot round (Ready mark))) slot result ∷ [], []) }
+{
+    let _ = (round, mark);
+    board.load::<Find>(token, slot)
 }
 
 /// Claims a slot that was seen free, and returns the word that it found.
@@ -137,6 +159,33 @@ pub(crate) fn swap<T: Marked>(
     let got = board.exchange(token, slot, given).unwrap();
     board.fetch_add::<Answer>(token, slot, 1);
     Ok(got)
+}
+
+/// Takes the item that was seen to answer a posted one, and clears the slot.
+pub(crate) fn gain<T: Marked>(
+    board: &Board<T>,
+    token: &mut Token<T>,
+    slot: usize,
+    number: SeatNo,
+    round: u64,
+    mark: u64,
+) -> T
+    requires place { Fits board.now.table_id board.now.key token.old.table_id slot }
+    requires ready { (token.old.me ≡ (top token.old.me.0 ∷ [], []))
+        × ((top token.old.me.0).hand ≡ At slot round (Ready mark)) × ((top token.old.me.0).number ≡ number) }
+    requires round { round < last_round }
+    ensures place { (token.new.table_id ≡ token.old.table_id) × (token.new.id ≡ token.old.id) }
+    ensures got { token.new.me
+        ≡ (did (top token.old.me.0) (part slot round (Collected (T.mark_of result))) Nothing ∷ [], []) }
+{
+    let _ = mark;
+    let answered = word(ANSWERED, number, round);
+    let held = word(HELD, number, round);
+    let found = board.compare_exchange::<Gain>(token, slot, answered, held);
+    let _ = found;
+    let item = board.exchange(token, slot, None).unwrap();
+    board.store::<Clear>(token, slot, free_word(round + 1));
+    item
 }
 
 /// Takes the item that answers a posted one and clears the slot, or returns the word that it found.

@@ -3,10 +3,12 @@
 use crate::records::Part;
 use std::collections::LinkedList;
 
-/// What a seat has in hand at a slot. The number is a mark: of the item that was posted, or given.
+/// What a seat has in hand at a slot. The number is a mark: of the item that was posted, or given. `Ready` is an offer
+/// whose seat saw its answer.
 pub enum Duty {
     Claimed,
     Offering(u64),
+    Ready(u64),
     Took(u64),
     Gathered,
     TookBack,

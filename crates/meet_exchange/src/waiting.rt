@@ -10,7 +10,7 @@ use crate::arena::Arena;
 use crate::endings::{Gathered, TakenBack};
 use crate::offers::Offered;
 use crate::seats::{Pending, Seat};
-use crate::words::{ANSWERED, FREE, POSTED, code};
+use crate::words::{FREE, POSTED, code};
 use meet_tickets::Marked;
 use std::sync::Wait;
 use std::{hint, thread};
@@ -213,12 +213,11 @@ impl<T: Marked> Arena<T> {
         requires slot { pending.slot < self.now.slots }
         ensures { Gathers T.mark_of pending.seat pending.slot pending.round pending.mark result }
     {
-        let (pending, seen) = self.look_on(pending);
-        if code(seen) == ANSWERED {
-            return self.collect(pending);
+        let gathered = self.look_for(pending);
+        if let Gathered::NotYet(pending) = &gathered {
+            pass_turn(pending.slot(), turn);
         }
-        pass_turn(pending.slot(), turn);
-        Gathered::NotYet(pending)
+        gathered
     }
 
     /// Looks for an answer, unless the offer has stood for long enough.

@@ -112,6 +112,25 @@ fn an_exchange_goes_on_over_four_slots(rt: HostRuntime) {
     tried(&rt, seat.parts(), &[0]);
 }
 
+/// A slot in which others stay at work is left, also without a limit: the exchange goes on to the next, and meets the
+/// one who waits there.
+#[test]
+fn an_exchange_without_a_limit_leaves_a_busy_slot(rt: HostRuntime) {
+    let Ok((arena, mut seats)) = Arena::<u64>::new(rt.alloc(), 2, 4) else {
+        panic!(&rt; "no arena")
+    };
+    let seat = last_seat(&rt, &arena, &mut seats);
+    let other = last_seat(&rt, &arena, &mut seats);
+    let poster = last_seat(&rt, &arena, &mut seats);
+    let (_busy, _other) = keeps_busy(&rt, &arena, poster, other, 1);
+    let giver = last_seat(&rt, &arena, &mut seats);
+    let _waits = posts(&rt, &arena, giver, 0, 8, 2);
+    match arena.exchange(&rt, seat, 1, 5, None) {
+        Exchanged::Swapped(_, got) => assert_eq!(&rt; got, 8),
+        _ => panic!(&rt; "not swapped"),
+    }
+}
+
 #[test]
 fn an_exchange_in_a_worn_slot(rt: HostRuntime) {
     let Ok((arena, mut seats)) = Arena::<u64>::starting(rt.alloc(), 1, 1, (1 << 44) - 1) else {

@@ -6,7 +6,7 @@ use Rattle.std.proofs.lemmas.List.{append-nil}
 use Rattle.meet_tickets.specs.declared.places.Kind.{Kind}
 use Rattle.meet_overlap.specs.declared.calls.Call.{Call}
 use Rattle.meet_run.proofs.Texts.LineLemmas.{consumes-more}
-use Rattle.meet_run.specs.Scripts.Spelling.{place_text}
+use Rattle.meet_run.specs.Scripts.Spelling.{place_text, option_text}
 use Rattle.meet_judge.specs.CallText.{call_text, calls_text, lines_text}
 use Rattle.meet_judge.proofs.Lines.{lines_more}
 
@@ -20,8 +20,8 @@ all_taken (Some a) (Some b) (Some c) text taken none end = taken ∙ ap (λ (t :
 -- a call more is a line more
 pub calls_more : (k : Kind) (calls : List Call) (call : Call) → calls_text k calls ++ call_text k.order call ≡ calls_text k (calls ++ call ∷ [])
 calls_more k calls call =
-    append_assoc (codes "calls 1 " ++ place_text k.order ++ codes "\n") (lines_text k.order calls) (call_text k.order call)
-    ∙ ap (λ t. codes "calls 1 " ++ place_text k.order ++ codes "\n" ++ t) (sym (lines_more k.order calls call))
+    append_assoc (codes "calls 1 " ++ place_text k.order ++ option_text (codes " bound ") k.bound ++ codes "\n") (lines_text k.order calls) (call_text k.order call)
+    ∙ ap (λ t. codes "calls 1 " ++ place_text k.order ++ option_text (codes " bound ") k.bound ++ codes "\n" ++ t) (sym (lines_more k.order calls call))
 
 pub one_more_taken : (k : Kind) (calls : List Call) (call : Call) (old mid new : Option (List ℕ)) → Consumes old mid (calls_text k calls) → Consumes mid new (call_text k.order call) → Consumes old new (calls_text k (calls ++ call ∷ []))
 one_more_taken k calls call old mid new taken more =

@@ -1,6 +1,8 @@
--- The text of calls that overlap: a line that names the place, and then a line a call.
+-- The text of calls that overlap: a line that names the place, and then a line a call. No two places and lists of calls
+-- have the same text. What no text of calls that is read tells has words of its own: an item kept where a place keeps
+-- none, an interrupt that went through as a request does, a request that was made as an interrupt is, and a bound.
 use Rattle.std.specs.Prelude.{ℕ, ◌+◌, ◌-◌, ◌^◌, min, Option, Some, None, List, [], ◌∷◌, ◌++◌, codes, decimal}
-use Rattle.std.specs.Prelude.{if◌then◌else◌}
+use Rattle.std.specs.Prelude.{Bool, true, false, if◌then◌else◌}
 use Rattle.meet_tickets.specs.declared.places.Order.{Order}
 use Rattle.meet_tickets.specs.declared.places.Kind.{Kind}
 use Rattle.meet_tickets.specs.Meeting.{keeps}
@@ -15,12 +17,12 @@ use Rattle.meet_overlap.specs.declared.reasons.Reason.{Reason}
 use Rattle.meet_overlap.specs.declared.reasons.Reason.TheVariants.{Ungiven, Untaken, Overtaken, Doubled, Overlooked}
 use Rattle.meet_overlap.specs.declared.reasons.Reason.TheVariants.{Missed, Stuck as SearchStuck}
 use Rattle.meet_overlap.specs.declared.search.Stuck.{Stuck}
-use Rattle.meet_run.specs.Scripts.Spelling.{place_text}
+use Rattle.meet_run.specs.Scripts.Spelling.{place_text, option_text}
 
 -- what is called, with its item or the seat that it interrupts; a transfer queue keeps what is put, and what waits for
 -- a taker is transferred there
 abbrev pub verb_text : Order → Verb → List ℕ
-verb_text o (Keep m) = codes "put " ++ decimal m
+verb_text o (Keep m) = (if keeps o then codes "put " else codes "keep ") ++ decimal m
 verb_text o (Give Now m) = (if keeps o then codes "try " else codes "offer ") ++ decimal m
 verb_text o (Give Forever m) = (if keeps o then codes "transfer " else codes "put ") ++ decimal m
 verb_text o (Give Timed m) = (if keeps o then codes "try-for " else codes "offer-for ") ++ decimal m
@@ -29,14 +31,19 @@ verb_text o (Take Forever) = codes "take"
 verb_text o (Take Timed) = codes "poll-for"
 verb_text o (Interrupt seat) = codes "interrupt " ++ decimal seat
 
--- what was answered
-abbrev pub answer_text : Answer → List ℕ
-answer_text Went = codes " done"
-answer_text (Got m) = codes " got " ++ decimal m
-answer_text Nothing = codes " none"
-answer_text Expired = codes " expired"
-answer_text Interrupted = codes " interrupted"
-answer_text Made = codes " done"
+-- whether an interrupt is called
+abbrev pub is_interrupt : Verb → Bool
+is_interrupt (Interrupt seat) = true
+is_interrupt verb = false
+
+-- what was answered to what was called: an interrupt is done where it was made, any other call where it went through
+abbrev pub answer_text : Verb → Answer → List ℕ
+answer_text verb Went = if is_interrupt verb then codes " went" else codes " done"
+answer_text verb (Got m) = codes " got " ++ decimal m
+answer_text verb Nothing = codes " none"
+answer_text verb Expired = codes " expired"
+answer_text verb Interrupted = codes " interrupted"
+answer_text verb Made = if is_interrupt verb then codes " done" else codes " made"
 
 -- the time by which a call was seen to wait, if it was
 abbrev pub seen_text : Option ℕ → List ℕ
@@ -49,14 +56,14 @@ end_text None = codes "- "
 end_text (Some returned) = decimal returned.at ++ codes " "
 
 -- what a call answered, if it ended
-abbrev pub told_text : Option Returned → List ℕ
-told_text None = []
-told_text (Some returned) = answer_text returned.answer
+abbrev pub told_text : Verb → Option Returned → List ℕ
+told_text verb None = []
+told_text verb (Some returned) = answer_text verb returned.answer
 
 -- a call's line: its seat, its begin, the time by which it was seen to wait, its end, what was called, and the answer
 abbrev pub call_text : Order → Call → List ℕ
 call_text o call = decimal call.seat ++ codes " " ++ decimal call.begin ++ codes " " ++ seen_text call.waits
-    ++ end_text call.returned ++ verb_text o call.verb ++ told_text call.returned ++ codes "\n"
+    ++ end_text call.returned ++ verb_text o call.verb ++ told_text call.verb call.returned ++ codes "\n"
 
 -- the lines of calls
 abbrev pub lines_text : Order → List Call → List ℕ
@@ -65,7 +72,9 @@ lines_text o (call ∷ calls) = call_text o call ++ lines_text o calls
 
 -- calls at a place, whole
 abbrev pub calls_text : Kind → List Call → List ℕ
-calls_text k calls = codes "calls 1 " ++ place_text k.order ++ codes "\n" ++ lines_text k.order calls
+calls_text k calls =
+    codes "calls 1 " ++ place_text k.order ++ option_text (codes " bound ") k.bound ++ codes "\n"
+    ++ lines_text k.order calls
 
 -- the line of a call: the second one is that of the first call
 abbrev pub line_number : (call : ℕ) → List ℕ

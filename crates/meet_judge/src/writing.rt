@@ -1,10 +1,10 @@
 //! The text of calls. Where memory runs out, nothing is said of what was appended.
 
-ghost use Rattle.std.specs.Prelude.{◌≡◌, ◌++◌, OnOk};
-ghost use Rattle.meet_overlap.specs.declared.calls.Verb.TheVariants.{Give, Take};
+ghost use Rattle.std.specs.Prelude.{◌≡◌, ◌++◌, OnOk, codes};
+ghost use Rattle.meet_run.specs.Scripts.Spelling.{option_text};
+ghost use Rattle.meet_overlap.specs.declared.calls.Verb.TheVariants.{Keep, Give, Take};
 ghost use Rattle.meet_judge.specs.CallText.{verb_text, answer_text, seen_text, end_text, told_text, call_text};
-ghost use Rattle.meet_judge.specs.CallText.{missed_text, waited_text};
-ghost use Rattle.meet_judge.specs.CallText.{calls_text};
+ghost use Rattle.meet_judge.specs.CallText.{calls_text, is_interrupt, missed_text, waited_text};
 ghost use Rattle.meet_judge.specs.CallText.{line_number, other_text, case_text, put_text, stuck_line, stuck_text};
 ghost use Rattle.meet_judge.specs.CallText.{reason_text, refused_text};
 
@@ -40,6 +40,15 @@ fn push_give(
     push_numbered(out, word, mark)
 }
 
+/// Appends what is kept.
+#[tactic(auto, unfolding(crate::specs::CallText::verb_text))]
+fn push_keep(out: &mut Vec<u8>, order: Order, mark: u64) -> Result<(), AllocError>
+    ensures { OnOk result (out.new.items ≡ out.old.items ++ verb_text order (Keep mark)) }
+{
+    let word: &[u8] = if order.keeps() { b"put " } else { b"keep " };
+    push_numbered(out, word, mark)
+}
+
 /// Appends what a taker calls.
 #[tactic(auto, unfolding(crate::specs::CallText::verb_text))]
 fn push_take(out: &mut Vec<u8>, order: Order, patience: Patience) -> Result<(), AllocError>
@@ -58,25 +67,47 @@ fn push_verb(out: &mut Vec<u8>, order: Order, verb: Verb) -> Result<(), AllocErr
     ensures { OnOk result (out.new.items ≡ out.old.items ++ verb_text order verb) }
 {
     match verb {
-        Verb::Keep(mark) => push_numbered(out, b"put ", mark),
+        Verb::Keep(mark) => push_keep(out, order, mark),
         Verb::Give(patience, mark) => push_give(out, order, patience, mark),
         Verb::Take(patience) => push_take(out, order, patience),
         Verb::Interrupt(seat) => push_numbered(out, b"interrupt ", seat.number()),
     }
 }
 
-/// Appends what was answered.
+/// Whether an interrupt is called.
+fn is_interrupt(verb: Verb) -> bool
+    ensures { result ≡ is_interrupt verb }
+{
+    match verb {
+        Verb::Interrupt(_) => true,
+        _ => false,
+    }
+}
+
+/// Appends what was answered to what was called.
 #[tactic(auto, unfolding(crate::specs::CallText::answer_text))]
-fn push_answer(out: &mut Vec<u8>, answer: Answer) -> Result<(), AllocError>
-    ensures { OnOk result (out.new.items ≡ out.old.items ++ answer_text answer) }
+fn push_answer(out: &mut Vec<u8>, verb: Verb, answer: Answer) -> Result<(), AllocError>
+    ensures { OnOk result (out.new.items ≡ out.old.items ++ answer_text verb answer) }
 {
     match answer {
-        Answer::Went => out.extend_from_slice(b" done"),
+        Answer::Went => {
+            out.extend_from_slice(if is_interrupt(verb) {
+                b" went"
+            } else {
+                b" done"
+            })
+        }
         Answer::Got(mark) => push_numbered(out, b" got ", mark),
         Answer::Nothing => out.extend_from_slice(b" none"),
         Answer::Expired => out.extend_from_slice(b" expired"),
         Answer::Interrupted => out.extend_from_slice(b" interrupted"),
-        Answer::Made => out.extend_from_slice(b" done"),
+        Answer::Made => {
+            out.extend_from_slice(if is_interrupt(verb) {
+                b" done"
+            } else {
+                b" made"
+            })
+        }
     }
 }
 
@@ -110,12 +141,12 @@ fn push_end(out: &mut Vec<u8>, returned: Option<Returned>) -> Result<(), AllocEr
 
 /// Appends what a call answered, if it ended.
 #[tactic(auto, unfolding(crate::specs::CallText::told_text))]
-fn push_told(out: &mut Vec<u8>, returned: Option<Returned>) -> Result<(), AllocError>
-    ensures { OnOk result (out.new.items ≡ out.old.items ++ told_text returned) }
+fn push_told(out: &mut Vec<u8>, verb: Verb, returned: Option<Returned>) -> Result<(), AllocError>
+    ensures { OnOk result (out.new.items ≡ out.old.items ++ told_text verb returned) }
 {
     match returned {
         None => Ok(()),
-        Some(returned) => push_answer(out, returned.answer),
+        Some(returned) => push_answer(out, verb, returned.answer),
     }
 }
 
@@ -131,9 +162,19 @@ pub(crate) fn push_call(out: &mut Vec<u8>, order: Order, call: &Call) -> Result<
     push_seen(out, call.waits)?;
     push_end(out, call.returned)?;
     push_verb(out, order, call.verb)?;
-    push_told(out, call.returned)?;
+    push_told(out, call.verb, call.returned)?;
     out.extend_from_slice(b"\n")?;
     Ok(())
+}
+
+/// Appends a place's bound, if it has one.
+fn push_bound(out: &mut Vec<u8>, bound: Option<u64>) -> Result<(), AllocError>
+    ensures { OnOk result (out.new.items ≡ out.old.items ++ option_text (codes " bound ") bound) }
+{
+    match bound {
+        None => Ok(()),
+        Some(most) => push_numbered(out, b" bound ", most),
+    }
 }
 
 /// Appends the text of calls at a place, whole. Fails only if an allocation fails.
@@ -142,6 +183,7 @@ pub fn push_calls(out: &mut Vec<u8>, kind: Kind, calls: &[Call]) -> Result<(), A
 {
     out.extend_from_slice(b"calls 1 ")?;
     out.extend_from_slice(order_word(kind.order))?;
+    push_bound(out, kind.bound)?;
     out.extend_from_slice(b"\n")?;
     for call in calls {
         push_call(out, kind.order, call)?;

@@ -8,7 +8,7 @@ use meet_book::{Book, Receipt};
 use meet_core::{Dual, QueuePlace};
 use meet_line::Line;
 use meet_queues::{QueueAnswer, queue_book, ready_book, transfer_book};
-use meet_tickets::{Deed, Refusal};
+use meet_tickets::{Deed, Record, Refusal};
 use meet_transfer::{Transfer, Unbounded};
 use std::alloc::Global;
 use std::process::Abort;
@@ -170,6 +170,42 @@ fn a_book_of_givers_that_wait(rt: HostRuntime) {
     let alloc = rt.alloc();
     let mut book = book_of_queue(&rt, alloc);
     bears(&rt, &mut book, &GIVEN);
+    let rows = [(6, 1, 10), (7, 2, 20), (8, 3, 30), (9, 4, 40), (10, 5, 50)];
+    are_taken(&rt, drained(&rt, alloc, &mut book), &rows);
+}
+
+/// A list with room for one record, at the second try where there was no memory at first.
+fn small_list(rt: &impl Abort, alloc: Global) -> Vec<Record<Deed>> {
+    match Vec::with_capacity(alloc, 1) {
+        Ok(list) => list,
+        Err(_) => Vec::with_capacity(alloc, 1).expect(rt, "memory"),
+    }
+}
+
+/// Hands the records of a book out, and lends it a list: the records. Where there was no memory the list comes back with
+/// its room, and is lent again.
+fn handed_out(rt: &impl Abort, alloc: Global, book: &mut Book<Fair>) -> Vec<Record<Deed>> {
+    let lent = small_list(rt, alloc);
+    let room = lent.capacity();
+    match book.rotate(lent) {
+        Ok(chapter) => chapter.records,
+        Err(refused) => {
+            assert!(rt; refused.why == Refusal::Memory);
+            assert!(rt; refused.back.capacity() >= room);
+            match book.rotate(refused.back) {
+                Ok(chapter) => chapter.records,
+                Err(_) => panic!(rt; "memory"),
+            }
+        }
+    }
+}
+
+#[test]
+fn a_list_that_is_lent_to_a_book(rt: HostRuntime) {
+    let alloc = rt.alloc();
+    let mut book = book_of_queue(&rt, alloc);
+    bears(&rt, &mut book, &GIVEN);
+    assert_eq!(rt; handed_out(&rt, alloc, &mut book).len(), 5);
     let rows = [(6, 1, 10), (7, 2, 20), (8, 3, 30), (9, 4, 40), (10, 5, 50)];
     are_taken(&rt, drained(&rt, alloc, &mut book), &rows);
 }

@@ -14,6 +14,8 @@ mod erases;
 #[cfg(test)]
 mod growth;
 #[cfg(test)]
+mod lines;
+#[cfg(test)]
 mod pieces;
 #[cfg(test)]
 mod reads;

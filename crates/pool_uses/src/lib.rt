@@ -11,6 +11,8 @@ mod chores;
 #[cfg(test)]
 mod ends;
 #[cfg(test)]
+mod gates;
+#[cfg(test)]
 mod meeting;
 #[cfg(test)]
 mod pools;

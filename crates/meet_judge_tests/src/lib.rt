@@ -1,0 +1,7 @@
+//! The judge on readers and writers that misbehave.
+#![tactic(auto)]
+
+#[cfg(test)]
+mod doubles;
+#[cfg(test)]
+mod faults;
