@@ -14,6 +14,9 @@ pub mod NeverGiven
 pub mod NeverTaken
 pub mod Overlooking
 pub mod Overtaking
+pub mod PassedGivers
+pub mod PassedTakers
+pub mod Passing
 pub mod Paths
 pub mod PlaySteps
 pub mod Played
@@ -29,5 +32,6 @@ pub mod Standing
 pub mod Tables
 pub mod Timed
 pub mod Twice
+pub mod Watching
 pub mod Ways
 pub mod Windows

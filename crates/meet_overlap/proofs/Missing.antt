@@ -1,5 +1,5 @@
 -- If a call found nobody although one of the other side waited all the time, no history explains the calls.
-use Rattle.std.proofs.Common.{◌≡◌, ◌≢◌, ℕ, Some, None, List, [], ◌∷◌, Contains, refl, sym, ap, ◌∙◌, subst, ⊎_elim, arith}
+use Rattle.std.proofs.Common.{◌≡◌, ◌≢◌, ℕ, Some, List, [], ◌∷◌, Contains, refl, sym, ap, ◌∙◌, subst, ⊎_elim, arith}
 use Rattle.std.specs.Prelude.{slice_get, IfSome}
 use Rattle.std.proofs.lemmas.Bool.{cases_lt}
 use Rattle.std.proofs.lemmas.Bool.Decides.{eqb_tells}
@@ -18,7 +18,7 @@ use Rattle.meet_overlap.specs.declared.calls.Call.{Call}
 use Rattle.meet_overlap.specs.declared.calls.Stage.{Stage}
 use Rattle.meet_overlap.specs.declared.calls.Stage.TheVariants.{Ahead, Over}
 use Rattle.meet_overlap.specs.declared.calls.Verb.{Verb}
-use Rattle.meet_overlap.specs.declared.calls.Verb.TheVariants.{Keep, Give, Take, Interrupt as InterruptSeat}
+use Rattle.meet_overlap.specs.declared.calls.Verb.TheVariants.{Give, Take}
 use Rattle.meet_overlap.specs.Calls.{Begins, Moves, told_by}
 use Rattle.meet_overlap.specs.Explaining.{Event, Explains}
 use Rattle.meet_overlap.specs.Reasons.{Misses, IsMissed, item_of}

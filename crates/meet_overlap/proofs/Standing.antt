@@ -1,7 +1,7 @@
 -- A call that was seen to wait, and was met: none may have met it that began by a time. Until then it stands in the wait
 -- queue.
-use Rattle.std.proofs.Common.{◌≡◌, ◌≢◌, ℕ, suc, zero, ◌<◌, ◌≤◌, ◌⊎◌, inl, inr, true, Option, Some, None, List, [], ◌∷◌, length, Contains, refl, sym, ap, ◌∙◌, subst, ⊎_elim, arith}
-use Rattle.std.specs.Prelude.{slice_get, IfSome}
+use Rattle.std.proofs.Common.{◌≡◌, ℕ, suc, zero, ◌<◌, ◌≤◌, ◌⊎◌, inl, inr, true, Option, Some, None, List, [], ◌∷◌, Contains, refl, sym, ap, ◌∙◌, subst, ⊎_elim, arith}
+use Rattle.std.specs.Prelude.{IfSome}
 use Rattle.std.proofs.lemmas.Bool.Decides.{eqb_tells}
 use Rattle.std.proofs.lemmas.List.Elements.{Contains-push}
 use Rattle.meet_tickets.specs.declared.lines.Entry.{Entry}
@@ -129,7 +129,7 @@ pairs_waits : (s : State) (i t : ℕ) (o : Option ℕ) (p : Pair) → Contains (
 pairs_waits s i t None p there = there
 pairs_waits s i t (Some m) p there = there
 
-above_waits : (k : Kind) (s : State) (i t : ℕ) (o : Option ℕ) → IsStep k s i t (request_with o) → s.last < t
+pub above_waits : (k : Kind) (s : State) (i t : ℕ) (o : Option ℕ) → IsStep k s i t (request_with o) → s.last < t
 above_waits k s i t None step = step.0.above
 above_waits k s i t (Some m) step = step.0.above
 
@@ -142,6 +142,31 @@ none_above : (s : State) (t : ℕ) (well : IsWell s) (verb : Verb) (answer : Ans
 none_above s t well (Give q m) Went p above there lets = let low = well.givers p there in absurd (omega arith)
 none_above s t well (Take q) (GotItem m) p above there lets = let low = well.takers p there in let at = lets.0 in absurd (omega arith)
 none_above s t well verb answer p above there lets = lets
+
+-- a call that was seen to wait, and whose first deed is a request
+module _ (k : Kind) (calls : List Call) (x : IsEnded calls) (seen : ℕ) (waits : x.call.waits ≡ Some seen) (asks : (d : Deed) → Begins x.call.verb d → is_request d ≡ true) where
+  -- its own event, while it is ahead: its request waits, and is made by the time at which it was seen
+  pub waits_by : (e : Event) (s : State) (time : ℕ) (stages : ℕ → Stage) → stages x.number ≡ Ahead → Happens k calls s time stages e → e.call ≡ x.number → (told_by e.entry.deed ≡ None) × (e.time ≤ seen)
+  waits_by e s time stages ahead h at =
+      let stage : stages e.call ≡ Ahead = ap stages at ∙ ahead in
+      let own : h.of.call ≡ x.call = own_call k calls x e at h.of in
+      let moves : Moves x.call Ahead e.entry = subst (λ y. Moves x.call y e.entry) stage (subst (λ y. Moves y (stages e.call) e.entry) own h.moves) in
+      by_seen h.of.call.waits (ap (λ (y : Call). y.waits) own ∙ waits) (h.of.within.seen (asks e.entry.deed moves.0))
+    where
+      by_seen : (o : Option ℕ) → o ≡ Some seen → IfSome o (λ v. (told_by e.entry.deed ≡ None) × (e.time ≤ v)) → (told_by e.entry.deed ≡ None) × (e.time ≤ seen)
+      by_seen None is q = absurd (cc)
+      by_seen (Some v) is q = let same : v ≡ seen = cc in subst (λ y. (told_by e.entry.deed ≡ None) × (e.time ≤ y)) same q
+
+  -- it isn't ahead after that time
+  pub seen_by : (events : List Event) (s : State) (time : ℕ) (stages : ℕ → Stage) → stages x.number ≡ Ahead → seen < time → IsCourse k calls s time stages events → ⊥
+  seen_by [] s time stages ahead late c = never_left k calls x (stages x.number) (λ over. let q = sym ahead ∙ over in absurd (cc)) (c.formed x.number x.call x.known)
+  seen_by (e ∷ events) s time stages ahead late c =
+      let h = happens k calls s time stages e events c in
+      let risen = h.risen in
+      ⊎_elim
+      (λ q. let r = waits_by e s time stages ahead h q.1 in let le = r.1 in absurd (omega arith))
+      (λ q. seen_by events (after_event s e) e.time (later stages e) (still k calls x stages e q.1 ∙ ahead) (omega arith) (goes_on k calls s time stages e events c))
+      (eqb_tells e.call x.number)
 
 module _ (k : Kind) (calls : List Call) (w : IsEnded calls) (by : ℕ) (unmet : IsUnmet calls w.call.verb w.returned.answer by) where
   -- it waits by this ticket, and no pair lets it end as it did
@@ -265,30 +290,20 @@ module _ (k : Kind) (calls : List Call) (w : IsEnded calls) (by : ℕ) (unmet : 
       next = open_stays e s time stages entry.ticket b.waits h (none_meets e s time stages entry.ticket h le low b.items)
 
   module _ (seen : ℕ) (waits : w.call.waits ≡ Some seen) where
+    asks : (d : Deed) → Begins w.call.verb d → is_request d ≡ true
+    asks d begins = (own_request calls by w.call.verb w.returned.answer d unmet begins).0
+
     -- its own event, while it is ahead: its request, which waits, by the time at which it was seen
-    own_seen : (e : Event) (s : State) (time : ℕ) (stages : ℕ → Stage) → stages w.number ≡ Ahead → Happens k calls s time stages e → e.call ≡ w.number → (e.entry.deed ≡ request_with (item_of w.call.verb)) × (e.time ≤ seen)
+    pub own_seen : (e : Event) (s : State) (time : ℕ) (stages : ℕ → Stage) → stages w.number ≡ Ahead → Happens k calls s time stages e → e.call ≡ w.number → (e.entry.deed ≡ request_with (item_of w.call.verb)) × (e.time ≤ seen)
     own_seen e s time stages ahead h at =
         let stage : stages e.call ≡ Ahead = ap stages at ∙ ahead in
-        let own : h.of.call ≡ w.call = own_call k calls w e at h.of in
-        let moves : Moves w.call Ahead e.entry = subst (λ y. Moves w.call y e.entry) stage (subst (λ y. Moves y (stages e.call) e.entry) own h.moves) in
-        let q = own_request calls by w.call.verb w.returned.answer e.entry.deed unmet moves.0 in
-        let r = by_seen h.of.call.waits (ap (λ (y : Call). y.waits) own ∙ waits) (h.of.within.seen q.0) in
-        (q.1 r.0, r.1)
-      where
-        by_seen : (o : Option ℕ) → o ≡ Some seen → IfSome o (λ v. (told_by e.entry.deed ≡ None) × (e.time ≤ v)) → (told_by e.entry.deed ≡ None) × (e.time ≤ seen)
-        by_seen None is q = absurd (cc)
-        by_seen (Some v) is q = let same : v ≡ seen = cc in subst (λ y. (told_by e.entry.deed ≡ None) × (e.time ≤ y)) same q
+        let moves : Moves w.call Ahead e.entry = subst (λ y. Moves w.call y e.entry) stage (subst (λ y. Moves y (stages e.call) e.entry) (own_call k calls w e at h.of) h.moves) in
+        let r = waits_by k calls w seen waits asks e s time stages ahead h at in
+        ((own_request calls by w.call.verb w.returned.answer e.entry.deed unmet moves.0).1 r.0, r.1)
 
     -- it isn't ahead after that time
     pub unseen : (events : List Event) (s : State) (time : ℕ) (stages : ℕ → Stage) → stages w.number ≡ Ahead → seen < time → IsCourse k calls s time stages events → ⊥
-    unseen [] s time stages ahead late c = never_left k calls w (stages w.number) (λ over. let q = sym ahead ∙ over in absurd (cc)) (c.formed w.number w.call w.known)
-    unseen (e ∷ events) s time stages ahead late c =
-        let h = happens k calls s time stages e events c in
-        let risen = h.risen in
-        ⊎_elim
-        (λ q. let r = own_seen e s time stages ahead h q.1 in let le = r.1 in absurd (omega arith))
-        (λ q. unseen events (after_event s e) e.time (later stages e) (still k calls w stages e q.1 ∙ ahead) (omega arith) (goes_on k calls s time stages e events c))
-        (eqb_tells e.call w.number)
+    unseen events s time stages ahead late c = seen_by k calls w seen waits asks events s time stages ahead late c
 
     -- by its request it stands in the line
     pub now_standing : (e : Event) (s : State) (time : ℕ) (stages : ℕ → Stage) → IsWell s → IsOrdered s → stages w.number ≡ Ahead → Happens k calls s time stages e → e.call ≡ w.number → IsStanding (after_event s e) (later stages e) (entry_with e.entry.seat e.entry.ticket (item_of w.call.verb))

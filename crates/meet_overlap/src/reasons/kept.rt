@@ -4,6 +4,9 @@ use crate::calls::{Answer, Call, Verb};
 use crate::guess::{Partners, end};
 use std::alloc::{AllocError, Global};
 
+/// How many stays are tried for one look.
+const FEW: usize = 8;
+
 /// A call that stood in the wait queue, or whose item did: from when it surely stood there, and when the call began that
 /// met it.
 #[derive(Clone, Copy, PartialEq, Eq, PartialOrd, Ord)]
@@ -169,4 +172,76 @@ pub(crate) fn waiting_throughout(
 ) -> Result<Vec<There>, AllocError> {
     let waiting = all_waiting(alloc, calls, partners, side)?;
     throughout(alloc, calls, waiting, looks, most)
+}
+
+/// The last of these stays that lasted longer than the call of this number, if one of the last few did.
+fn last_until(calls: &[Call], there: &[Stay], number: usize) -> Option<Stay> {
+    if number >= calls.len() {
+        return None;
+    }
+    let by = end(&calls[number]);
+    for back in 0..there.len().min(FEW) {
+        let stay = there[there.len() - 1 - back];
+        if by < stay.met {
+            return Some(stay);
+        }
+    }
+    None
+}
+
+/// For each of these looks, the last stay that began before the time from which it must have been there, and that is
+/// likely to have lasted until the call ended. Returns at most `most` of them. Fails only if an allocation fails.
+fn last_throughout(
+    alloc: Global,
+    calls: &[Call],
+    mut stays: Vec<Stay>,
+    mut looks: Vec<Look>,
+    most: usize,
+) -> Result<Vec<There>, AllocError> {
+    stays.sort_unstable();
+    looks.sort_unstable();
+    let mut found = Vec::new(alloc);
+    let mut there = Vec::new(alloc);
+    let mut next = 0;
+    for look in &looks {
+        for _ in next..stays.len() {
+            if next < stays.len() && stays[next].from < look.from {
+                there.push(stays[next])?;
+                next += 1;
+            } else {
+                break;
+            }
+        }
+        for _ in 0..there.len() {
+            let Some(last) = there.pop() else {
+                break;
+            };
+            if look.from < last.met {
+                there.push(last)?;
+                break;
+            }
+        }
+        if let Some(stay) = last_until(calls, there.as_slice(), look.number) {
+            if found.len() < most {
+                found.push(There {
+                    put: stay.number,
+                    looked: look.number,
+                })?;
+            }
+        }
+    }
+    Ok(found)
+}
+
+/// The same as `waiting_throughout`, but of the calls that are there the last one is found.
+pub(crate) fn last_waiting_throughout(
+    alloc: Global,
+    calls: &[Call],
+    partners: &Partners,
+    side: Side,
+    looks: Vec<Look>,
+    most: usize,
+) -> Result<Vec<There>, AllocError> {
+    let waiting = all_waiting(alloc, calls, partners, side)?;
+    last_throughout(alloc, calls, waiting, looks, most)
 }
