@@ -7,6 +7,7 @@ pub mod Effects
 pub mod Endings
 pub mod Giving
 pub mod InLine
+pub mod InTurn
 pub mod Keeping
 pub mod LineParts
 pub mod Missing
