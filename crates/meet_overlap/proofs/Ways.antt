@@ -225,7 +225,7 @@ way_whole k calls w (e ∷ events) way =
       formed = formed_before calls w.stages e events comes.call comes.known comes.moves rest.formed;
       turns = (
         subst (λ i. NoneBefore e.call i events) (sym comes.seat)
-        (none_before k calls (world_after k w e) events way.1 e.call comes.call comes.known (λ q. never_back (w.stages e.call) e.entry (sym (put_same w.stages e.call (stage_after (w.stages e.call) e.entry)) ∙ q))),
+            (none_before k calls (world_after k w e) events way.1 e.call comes.call comes.known (λ q. never_back (w.stages e.call) e.entry (sym (put_same w.stages e.call (stage_after (w.stages e.call) e.entry)) ∙ q))),
         rest.turns,
       );
     }
@@ -275,5 +275,5 @@ whole_way k calls w (e ∷ events) whole begun =
         formed = formed_later calls w.stages e events whole.formed;
         turns = whole.turns.1;
       })
-      (begun_later calls w.stages e events of.call of.known of.seat begun whole.turns.0),
+          (begun_later calls w.stages e events of.call of.known of.seat begun whole.turns.0),
     )

@@ -89,14 +89,7 @@ fn written(
         if number >= calls.len() {
             return Ok(None);
         }
-        if !note(
-            kind,
-            calls,
-            &mut reached,
-            &mut latest,
-            number,
-            &mut history,
-        )? {
+        if !note(kind, calls, &mut reached, &mut latest, number, &mut history)? {
             return Ok(None);
         }
     }

@@ -15,16 +15,16 @@ returns c =
     let window = c.args.window.now in
     let known : slice_get calls n ≡ Some c.index-calls-number.result = slice_get_read calls (length calls) n c.index-calls-number.result refl c.requires c.index-calls-number.is in (
       λ _ m call later lt own there same.
-      let mine : call ≡ c.index-calls-number.result = cc in
-      let below : m < length calls = got_below calls m later there in
-      let seat = same ∙ ap (λ (x : Call). x.seat) (mine ∙ c.index-calls-number.is) in
-      ⊎_elim
-      (λ within. c.loop-later.invariant m later lt within there seat)
-      (λ past.
-      let test = c.loop-later-test.false in
-      let end : c.end_of-end.result ≤ m = omega arith in
-      let behind = c.end_of-end.ensures.behind (omega arith) in
-      beyond window.first window.stages.items m (omega arith))
-      (cases_lt m c.loop-later.later),
+          let mine : call ≡ c.index-calls-number.result = cc in
+          let below : m < length calls = got_below calls m later there in
+          let seat = same ∙ ap (λ (x : Call). x.seat) (mine ∙ c.index-calls-number.is) in
+          ⊎_elim
+          (λ within. c.loop-later.invariant m later lt within there seat)
+          (λ past.
+          let test = c.loop-later-test.false in
+          let end : c.end_of-end.result ≤ m = omega arith in
+          let behind = c.end_of-end.ensures.behind (omega arith) in
+          beyond window.first window.stages.items m (omega arith))
+          (cases_lt m c.loop-later.later),
       λ _. refl,
     )
