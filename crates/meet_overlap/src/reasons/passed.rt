@@ -104,6 +104,14 @@ fn is_of(verb: Verb, side: Side) -> bool {
     }
 }
 
+/// The side that this one meets.
+fn opposite(side: Side) -> Side {
+    match side {
+        Side::Producers => Side::Consumers,
+        Side::Consumers => Side::Producers,
+    }
+}
+
 /// The calls that met one of this side.
 fn looks(
     alloc: Global,
@@ -117,7 +125,10 @@ fn looks(
         let call = &calls[number];
         let partner = partners.of(number);
         if let Some(met) = partner {
-            if met < calls.len() && is_of(calls[met].verb, side) && !is_of(call.verb, side) {
+            if met < calls.len()
+                && is_of(calls[met].verb, side)
+                && is_of(call.verb, opposite(side))
+            {
                 let from = match end {
                     End::Front => begin(calls, partner),
                     End::Back => call.begin,
