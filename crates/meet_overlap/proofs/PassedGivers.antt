@@ -1,5 +1,5 @@
 -- A giver was met though another one, whose turn came first, stood in the line.
-use Rattle.std.proofs.Common.{◌≡◌, ◌≢◌, ℕ, ◌<◌, ◌≤◌, true, Some, List, ◌∷◌, Contains, refl, sym, ap, ◌∙◌, subst, ⊎_elim, arith}
+use Rattle.std.proofs.Common.{◌≡◌, ◌≢◌, ℕ, ◌<◌, ◌≤◌, true, Some, None, List, [], ◌∷◌, Contains, refl, sym, ap, ◌∙◌, subst, ⊎_elim, arith}
 use Rattle.std.specs.Prelude.{slice_get, IfSome}
 use Rattle.std.proofs.lemmas.Bool.Decides.{eqb_tells}
 use Rattle.meet_tickets.specs.declared.lines.Entry.{Entry}
@@ -12,7 +12,7 @@ use Rattle.meet_tickets.specs.declared.records.Deed.{Deed}
 use Rattle.meet_tickets.specs.declared.records.Deed.TheVariants.{GiveWaits, GiveMeets, GiveFails, GiveKept, TakeWaits, TakeMeets, TakeFails, EntryInterrupted}
 use Rattle.meet_tickets.specs.BySeat.{is_request}
 use Rattle.meet_tickets.specs.Meeting.{end_of}
-use Rattle.meet_tickets.specs.ByLists.{State, empty, IsStep}
+use Rattle.meet_tickets.specs.ByLists.{State, Pair, empty, IsStep}
 use Rattle.meet_tickets.proofs.Lists.Members.{Contains-partner, Contains-nil}
 use Rattle.meet_overlap.specs.declared.calls.Answer.{Answer}
 use Rattle.meet_overlap.specs.declared.calls.Answer.TheVariants.{Got as GotItem}
@@ -26,14 +26,14 @@ use Rattle.meet_overlap.specs.Calls.{Begins, Moves, told_by, stage_after}
 use Rattle.meet_overlap.specs.Explaining.{Event, Explains}
 use Rattle.meet_overlap.specs.Marks.{Gives, IsTaking}
 use Rattle.meet_overlap.specs.Reasons.{IsPassed, IsBehind, item_of}
-use Rattle.meet_overlap.proofs.Courses.{Happens, IsCourse, later, after_event, happens, goes_on, own_call, still, answers}
-use Rattle.meet_overlap.proofs.Effects.{Effect, effect, IsNewEntry, IsWell}
-use Rattle.meet_overlap.proofs.Giving.{GivesOne, gives_or_not, gives_by, new_item}
-use Rattle.meet_overlap.proofs.InLine.{IsUnmixed, none_front, alone_taker, met_first}
-use Rattle.meet_overlap.proofs.Standing.{seen_by, own_seen, unseen}
+use Rattle.meet_overlap.proofs.Courses.{Happens, IsCourse, later, after_event, happens, goes_on, never_left, own_call, still, answers}
+use Rattle.meet_overlap.proofs.Effects.{NewPair, Effect, effect, IsNewEntry, IsWell}
+use Rattle.meet_overlap.proofs.Giving.{GivesOne, gives_or_not, gives_by, new_item, new_pair}
+use Rattle.meet_overlap.proofs.InLine.{IsUnmixed, IsOrdered, none_front, alone_giver, alone_taker, met_first}
+use Rattle.meet_overlap.proofs.Standing.{WasMet, was_met, LetsEnd, request_with, entry_with, IsStanding, stands_on, now_waiting, seen_by, own_seen, unseen}
 use Rattle.meet_overlap.proofs.Tables.{got_below}
 use Rattle.meet_overlap.proofs.Twice.{gives_from, not_ahead}
-use Rattle.meet_overlap.proofs.Watching.{ComesAfter, never_first, HasBegun, comes_after, Stands, IsWatched, watched}
+use Rattle.meet_overlap.proofs.Watching.{ComesAfter, never_first, HasBegun, comes_after, Stands, IsWatched, too_early, watched}
 use Rattle.meet_overlap.proofs.Ways.{put_same}
 
 -- a taker met a giver of the item, and another giver waits
@@ -59,6 +59,40 @@ meets_one k s i t mark (Take Forever) (EntryInterrupted Taker) taking b told ste
 meets_one k s i t mark (Take Timed) (EntryInterrupted Taker) taking b told step unmixed f n there item = absurd (cc)
 meets_one k s i t mark (Take p) d taking b told step unmixed f n there item = absurd b
 
+-- where no such item is there, its request waits
+waits_first : (k : Kind) (s : State) (i t mark : ℕ) (verb : Verb) (d : Deed) → IsTaking verb → Begins verb d → IfSome (told_by d) (λ a. a ≡ GotItem mark) → IsStep k s i t d →
+    ((y : Entry ℕ) → Contains s.line y → y.item ≡ Some mark → ⊥) → d ≡ TakeWaits
+waits_first k s i t mark (Keep m) d taking b told step none = absurd taking
+waits_first k s i t mark (Give p m) d taking b told step none = absurd taking
+waits_first k s i t mark (InterruptSeat j) d taking b told step none = absurd taking
+waits_first k s i t mark (Take p) (TakeMeets m v) taking b told step none =
+    let same : m ≡ mark = cc in
+    absurd (none step.1.0 (Contains-partner (end_of k.order) s.line Taker step.1.0 step.1.1) (step.1.3 ∙ ap Some same))
+waits_first k s i t mark (Take Now) TakeFails taking b told step none = absurd (cc)
+waits_first k s i t mark (Take Forever) TakeWaits taking b told step none = refl
+waits_first k s i t mark (Take Timed) TakeWaits taking b told step none = refl
+waits_first k s i t mark (Take Forever) (EntryInterrupted Taker) taking b told step none = absurd (cc)
+waits_first k s i t mark (Take Timed) (EntryInterrupted Taker) taking b told step none = absurd (cc)
+waits_first k s i t mark (Take p) d taking b told step none = absurd b
+
+takes_none : (verb : Verb) → IsTaking verb → item_of verb ≡ None
+takes_none (Keep m) taking = absurd taking
+takes_none (Give p m) taking = absurd taking
+takes_none (Take p) taking = refl
+takes_none (InterruptSeat j) taking = absurd taking
+
+taken_met : (verb : Verb) (mark : ℕ) → IsTaking verb → WasMet verb (GotItem mark)
+taken_met (Keep m) mark taking = absurd taking
+taken_met (Give p m) mark taking = absurd taking
+taken_met (Take p) mark taking = tt
+taken_met (InterruptSeat j) mark taking = absurd taking
+
+lets_mark : (verb : Verb) (mark t : ℕ) (p : Pair) → IsTaking verb → LetsEnd verb (GotItem mark) t p → p.mark ≡ mark
+lets_mark (Keep m) mark t p taking lets = absurd taking
+lets_mark (Give q m) mark t p taking lets = absurd taking
+lets_mark (Take q) mark t p taking lets = lets.1
+lets_mark (InterruptSeat j) mark t p taking lets = absurd taking
+
 -- the first deed of a call that gives is a request
 giver_asks : (mark : ℕ) (verb : Verb) (d : Deed) → Gives verb mark → Begins verb d → is_request d ≡ true
 giver_asks mark (Take p) d gives b = absurd gives
@@ -75,6 +109,9 @@ giver_asks mark (Give Timed m) (EntryInterrupted Giver) gives b = refl
 giver_asks mark (Give p m) d gives b = absurd b
 
 module _ (k : Kind) (calls : List Call) (u : IsPassed k calls) (g : IsGiverMet u.caller.call.verb u.caller.returned.answer u.met.call.verb u.waiting.call.verb u.mark) where
+  was : WasMet u.waiting.call.verb u.waiting.returned.answer
+  was = was_met calls u.caller.returned.at u.waiting.call.verb u.waiting.returned.answer u.unmet
+
   -- who gives an item of this mark is the one that was met
   gives_alone : (e : Event) (s : State) (time : ℕ) (stages : ℕ → Stage) (h : Happens k calls s time stages e) → GivesOne u.mark e.entry.deed → e.call ≡ u.met.number
   gives_alone e s time stages h one =
@@ -105,25 +142,46 @@ module _ (k : Kind) (calls : List Call) (u : IsPassed k calls) (g : IsGiverMet u
     new_is : (y : Entry ℕ) → IsNewEntry s e.entry.ticket e.entry.deed y → y.item ≡ Some u.mark → GivesOne u.mark e.entry.deed
     new_is y new item = ⊎_elim (λ one. one) (λ none. absurd (new_item u.mark e.entry.deed y.item new.item none item)) (gives_or_not u.mark e.entry.deed)
 
-    goes : stages u.waiting.number ≡ Ahead → e.call ≢ u.waiting.number → (end : End) → IsBehind end u.seen u.waiting.call u.met.call → NoneYet end s → NoneYet end (after_event s e)
+    goes : stages u.waiting.number ≡ Ahead → e.call ≢ u.waiting.number → (end : End) → IsBehind end u.seen u.waiting.call u.caller.call u.met.call → NoneYet end s → NoneYet end (after_event s e)
     goes ahead other Front behind none = λ y there item. ⊎_elim
         (λ q. none y q.0 item)
         (λ q.
         let at = gives_alone e s time stages h (new_is y q item) in
         let mine : h.of.call.begin ≡ u.met.call.begin = ap (λ (z : Call). z.begin) (own_call k calls u.met e at h.of) in
         let begun = h.of.within.begun in
-        unseen k calls u.waiting u.caller.returned.at u.unmet u.seen u.waits events (after_event s e) e.time (later stages e) (still k calls u.waiting stages e other ∙ ahead) (omega arith) (goes_on k calls s time stages e events c))
+        unseen k calls u.waiting was u.seen u.waits events (after_event s e) e.time (later stages e) (still k calls u.waiting stages e other ∙ ahead) (omega arith) (goes_on k calls s time stages e events c))
         (f.line y there)
     goes ahead other Back behind none = tt
 
+    -- until the one that waits stands there, no pair has such an item
+    no_pair : u.seen < u.met.call.begin → stages u.waiting.number ≡ Ahead → e.call ≢ u.waiting.number → NoneYet Front s → (p : Pair) → NewPair e.entry.deed e.entry.ticket p → p.mark ≡ u.mark → ⊥
+    no_pair behind ahead other none p new is = ⊎_elim
+        (λ one.
+        let at = gives_alone e s time stages h one in
+        let mine : h.of.call.begin ≡ u.met.call.begin = ap (λ (z : Call). z.begin) (own_call k calls u.met e at h.of) in
+        let begun = h.of.within.begun in
+        unseen k calls u.waiting was u.seen u.waits events (after_event s e) e.time (later stages e) (still k calls u.waiting stages e other ∙ ahead) (omega arith) (goes_on k calls s time stages e events c))
+        (λ gives_none.
+        let q = new_pair u.mark e.entry.deed e.entry.ticket p gives_none new is in
+        let step : IsStep k s e.entry.seat e.entry.ticket (TakeMeets u.mark q.0) = subst (IsStep k s e.entry.seat e.entry.ticket) q.1 h.step in
+        none step.1.0 (Contains-partner (end_of k.order) s.line Taker step.1.0 step.1.1) step.1.3)
+        (gives_or_not u.mark e.entry.deed)
+
+    -- the one that waits can't join a line in which a taker stands
+    joins_none : stages u.waiting.number ≡ Ahead → e.call ≡ u.waiting.number → IsUnmixed s.line → (y : Entry ℕ) → Contains s.line y → y.item ≡ None → ⊥
+    joins_none ahead at unmixed y there item =
+        let deed = (own_seen k calls u.waiting was u.seen u.waits e s time stages ahead h at).0 ∙ ap request_with g.holds in
+        let step : IsStep k s e.entry.seat e.entry.ticket (GiveWaits g.item) = subst (IsStep k s e.entry.seat e.entry.ticket) deed h.step in
+        alone_giver s.line (none_front (end_of k.order) s.line Giver step.1) unmixed y there item
+
     -- the one that waits isn't the one that is met
-    not_both : stages u.waiting.number ≡ Ahead → e.call ≡ u.waiting.number → e.call ≡ u.met.number → (end : End) → IsBehind end u.seen u.waiting.call u.met.call → ⊥
+    not_both : stages u.waiting.number ≡ Ahead → e.call ≡ u.waiting.number → e.call ≡ u.met.number → (end : End) → IsBehind end u.seen u.waiting.call u.caller.call u.met.call → ⊥
     not_both ahead at same end behind =
-        let le = (own_seen k calls u.waiting u.caller.returned.at u.unmet u.seen u.waits e s time stages ahead h at).1 in
+        let le = (own_seen k calls u.waiting was u.seen u.waits e s time stages ahead h at).1 in
         let begun = h.of.within.begun in
         by_end end behind le begun
       where
-        by_end : (end : End) → IsBehind end u.seen u.waiting.call u.met.call → e.time ≤ u.seen → h.of.call.begin ≤ e.time → ⊥
+        by_end : (end : End) → IsBehind end u.seen u.waiting.call u.caller.call u.met.call → e.time ≤ u.seen → h.of.call.begin ≤ e.time → ⊥
         by_end Front behind le begun =
             let mine : h.of.call.begin ≡ u.met.call.begin = ap (λ (z : Call). z.begin) (own_call k calls u.met e same h.of) in
             absurd (omega arith)
@@ -135,7 +193,7 @@ module _ (k : Kind) (calls : List Call) (u : IsPassed k calls) (g : IsGiverMet u
             let early = behind.2 in
             absurd (omega arith)
 
-    begun_then : e.call ≡ u.waiting.number → (end : End) → IsBehind end u.seen u.waiting.call u.met.call → HasBegun end (later stages e u.met.number)
+    begun_then : e.call ≡ u.waiting.number → (end : End) → IsBehind end u.seen u.waiting.call u.caller.call u.met.call → HasBegun end (later stages e u.met.number)
     begun_then at Front behind = tt
     begun_then at Back behind = λ ahead.
         let mine : h.of.call.begin ≡ u.waiting.call.begin = ap (λ (z : Call). z.begin) (own_call k calls u.waiting e at h.of) in
@@ -185,6 +243,38 @@ module _ (k : Kind) (calls : List Call) (u : IsPassed k calls) (g : IsGiverMet u
         let there = Contains-partner (end_of k.order) s.line Taker step.1.0 step.1.1 in
         never_first (end_of k.order) step.1.0.ticket entry.ticket (met_first (end_of k.order) s.line Taker step.1.0 step.1.1 b.ordered.sorted entry b.there) (known.line step.1.0 there step.1.3)
 
+  met : WasMet u.caller.call.verb u.caller.returned.answer
+  met = subst (WasMet u.caller.call.verb) (sym g.got) (taken_met u.caller.call.verb u.mark g.takes)
+
+  -- the caller's request waits, and the one that waits isn't there yet
+  meanwhile : (events : List Event) (s : State) (time : ℕ) (stages : ℕ → Stage) (entry : Entry ℕ) → u.seen < u.met.call.begin → IsStanding k calls u.caller met s stages entry → stages u.waiting.number ≡ Ahead → NoneYet Front s →
+      IsCourse k calls s time stages events → ⊥
+  meanwhile [] s time stages entry behind b ahead none c = never_left k calls u.waiting (stages u.waiting.number) (λ over. let q = sym ahead ∙ over in absurd (cc)) (c.formed u.waiting.number u.waiting.call u.waiting.known)
+  meanwhile (e ∷ events) s time stages entry behind b ahead none c = ⊎_elim
+      (λ at. joins_none e events s time stages c ahead at.1 b.ordered.unmixed entry b.there (b.items entry b.there refl ∙ takes_none u.caller.call.verb g.takes))
+      (λ other. meanwhile events (after_event s e) e.time (later stages e) entry behind
+      (stands_on k calls u.caller met e events s time stages entry b c
+      (λ p new lets. no_pair e events s time stages c behind ahead other.1 none p new (lets_mark u.caller.call.verb u.mark entry.ticket p g.takes (subst (λ y. LetsEnd u.caller.call.verb y entry.ticket p) g.got lets))))
+      (still k calls u.waiting stages e other.1 ∙ ahead)
+      (goes e events s time stages c ahead other.1 Front behind none)
+      (goes_on k calls s time stages e events c))
+      (eqb_tells e.call u.waiting.number)
+
+  early : (e : Event) (events : List Event) (s : State) (time : ℕ) (stages : ℕ → Stage) → IsCourse k calls s time stages (e ∷ events) → IsWell s → IsOrdered s → stages u.waiting.number ≡ Ahead → stages u.caller.number ≡ Ahead →
+      e.call ≢ u.waiting.number → e.call ≡ u.caller.number → (end : End) → IsBehind end u.seen u.waiting.call u.caller.call u.met.call → NoneYet end s → ⊥
+  early e events s time stages c well ordered ahead mine other at Back behind none = too_early k calls u.waiting u.caller u.seen u.waits u.unmet behind.3 e events s time stages c ahead other at
+  early e events s time stages c well ordered ahead mine other at Front behind none =
+      let h = happens k calls s time stages e events c in
+      let stage : stages e.call ≡ Ahead = ap stages at ∙ mine in
+      let moves : Moves u.caller.call Ahead e.entry = subst (λ y. Moves u.caller.call y e.entry) stage (subst (λ y. Moves y (stages e.call) e.entry) (own_call k calls u.caller e at h.of) h.moves) in
+      let deed = waits_first k s e.entry.seat e.entry.ticket u.mark u.caller.call.verb e.entry.deed g.takes moves.0 (answers k calls u.caller (GotItem u.mark) g.got e.entry.deed moves.1) h.step none in
+      let item = takes_none u.caller.call.verb g.takes in
+      meanwhile events (after_event s e) e.time (later stages e) (entry_with e.entry.seat e.entry.ticket (item_of u.caller.call.verb)) behind
+      (now_waiting k calls u.caller met e s time stages well ordered mine h at (deed ∙ ap request_with (sym item)))
+      (still k calls u.waiting stages e other ∙ ahead)
+      (goes e events s time stages c ahead other Front behind none)
+      (goes_on k calls s time stages e events c)
+
   apart : u.waiting.number ≡ u.caller.number → ⊥
   apart same =
       let mine : slice_get calls u.caller.number ≡ Some u.waiting.call = subst (λ n. slice_get calls n ≡ Some u.waiting.call) same u.waiting.known in
@@ -200,9 +290,10 @@ module _ (k : Kind) (calls : List Call) (u : IsPassed k calls) (g : IsGiverMet u
   watch = record {
     goes = λ e events s time stages c ahead other not_caller known. goes e events s time stages c ahead other (end_of k.order) u.behind known;
     joins = λ e events s time stages c well ahead at not_caller above known. joins e events s time stages c well ahead at above known;
+    early = λ e events s time stages c well ordered ahead mine other at known. early e events s time stages c well ordered ahead mine other at (end_of k.order) u.behind known;
     stays = λ e events s time stages c entry b not_caller known. stays e events s time stages c entry.ticket b.waits.low known;
     ends = λ e events s time stages c entry b ahead at known. ends e events s time stages c entry b ahead at known;
   }
 
   pub giver_passed : (history : List (Record Deed)) → Explains k calls history → ⊥
-  giver_passed = watched k calls u.waiting u.caller u.seen u.waits u.unmet Before IsThere watch u.before apart (none_empty (end_of k.order))
+  giver_passed = watched k calls u.waiting u.caller u.seen u.waits u.unmet Before IsThere watch apart (none_empty (end_of k.order))

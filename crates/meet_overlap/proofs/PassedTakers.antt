@@ -1,5 +1,5 @@
 -- A taker was met though another one, whose turn came first, stood in the line.
-use Rattle.std.proofs.Common.{◌≡◌, ◌≢◌, ℕ, ◌<◌, ◌≤◌, inr, true, Some, None, List, ◌∷◌, Contains, refl, sym, ap, ◌∙◌, subst, ⊎_elim, arith}
+use Rattle.std.proofs.Common.{◌≡◌, ◌≢◌, ℕ, ◌<◌, ◌≤◌, ◌⊎◌, inl, inr, true, Some, None, List, [], ◌∷◌, Contains, refl, sym, ap, ◌∙◌, subst, ⊎_elim, arith}
 use Rattle.std.specs.Prelude.{slice_get, IfSome}
 use Rattle.std.proofs.lemmas.Bool.Decides.{eqb_tells}
 use Rattle.std.proofs.lemmas.List.Elements.{Contains-push}
@@ -12,9 +12,9 @@ use Rattle.meet_tickets.specs.declared.records.Record.{Record}
 use Rattle.meet_tickets.specs.declared.records.Deed.{Deed}
 use Rattle.meet_tickets.specs.declared.records.Deed.TheVariants.{GiveWaits, GiveMeets, GiveFails, GiveKept, TakeWaits, TakeMeets, TakeFails, EntryInterrupted}
 use Rattle.meet_tickets.specs.BySeat.{is_request}
-use Rattle.meet_tickets.specs.Meeting.{end_of}
+use Rattle.meet_tickets.specs.Meeting.{end_of, partner}
 use Rattle.meet_tickets.specs.ByLists.{State, Pair, IsStep, after}
-use Rattle.meet_tickets.proofs.Lists.Members.{Contains-nil}
+use Rattle.meet_tickets.proofs.Lists.Members.{Contains-partner, Contains-nil}
 use Rattle.meet_overlap.specs.declared.calls.Answer.{Answer}
 use Rattle.meet_overlap.specs.declared.calls.Answer.TheVariants.{Went, Got as GotItem}
 use Rattle.meet_overlap.specs.declared.calls.Call.{Call}
@@ -27,14 +27,14 @@ use Rattle.meet_overlap.specs.Calls.{Begins, Moves, told_by, stage_after}
 use Rattle.meet_overlap.specs.Explaining.{Event, Explains}
 use Rattle.meet_overlap.specs.Marks.{Gives, IsTaking}
 use Rattle.meet_overlap.specs.Reasons.{IsPassed, IsBehind, item_of}
-use Rattle.meet_overlap.proofs.Courses.{Happens, IsCourse, later, after_event, happens, goes_on, own_call, still, answers}
-use Rattle.meet_overlap.proofs.Effects.{Effect, effect, well_stays}
+use Rattle.meet_overlap.proofs.Courses.{Happens, IsCourse, later, after_event, happens, goes_on, never_left, own_call, still, answers}
+use Rattle.meet_overlap.proofs.Effects.{NewPair, Leaves, Effect, effect, IsWell, well_stays}
 use Rattle.meet_overlap.proofs.Giving.{GivesOne, GivesNone, gives_or_not, gives_by}
-use Rattle.meet_overlap.proofs.InLine.{IsUnmixed, none_front, alone_giver, met_first, ComesFirst}
-use Rattle.meet_overlap.proofs.Standing.{seen_by, own_seen, unseen}
+use Rattle.meet_overlap.proofs.InLine.{IsUnmixed, IsOrdered, none_front, alone_giver, alone_taker, met_first, ComesFirst, IsKept, finds_one, leaves_by, kept_stays, own_entry, now_kept}
+use Rattle.meet_overlap.proofs.Standing.{WasMet, was_met, LetsEnd, request_with, entry_with, IsStanding, stands_on, now_waiting, seen_by, own_seen, unseen}
 use Rattle.meet_overlap.proofs.Tables.{got_below}
-use Rattle.meet_overlap.proofs.Twice.{GetsBy, gets, opens, IsFresh, met_entry, fresh_gives, fresh_line, fresh_pairs, still_giver, won, not_ahead}
-use Rattle.meet_overlap.proofs.Watching.{ComesAfter, never_first, HasBegun, comes_after, Stands, IsWatched, watched}
+use Rattle.meet_overlap.proofs.Twice.{GetsBy, gets, opens, IsFresh, IsGiven, given_stays, met_entry, fresh_gives, fresh_line, fresh_pairs, still_giver, won, not_ahead}
+use Rattle.meet_overlap.proofs.Watching.{ComesAfter, never_first, HasBegun, comes_after, Stands, IsWatched, too_early, watched}
 use Rattle.meet_overlap.proofs.Ways.{put_same}
 
 -- a giver met a taker, which got its item, and another taker waits
@@ -61,6 +61,30 @@ meets_one k s i t mark (Give Timed m) (GiveWaits n) gives b told step unmixed f 
 meets_one k s i t mark (Give Forever m) (EntryInterrupted Giver) gives b told step unmixed f there item = absurd (cc)
 meets_one k s i t mark (Give Timed m) (EntryInterrupted Giver) gives b told step unmixed f there item = absurd (cc)
 meets_one k s i t mark (Give p m) d gives b told step unmixed f there item = absurd b
+
+-- how a giver whose item went makes its request: it waits, meets a taker, or its item is kept
+abbrev Requests : Verb → (mark : ℕ) → Deed → Type 0
+Requests verb mark d = ((d ≡ GiveWaits mark) × (item_of verb ≡ Some mark) × WasMet verb Went) ⊎ (((v : ℕ) × (d ≡ GiveMeets mark v)) ⊎ (d ≡ GiveKept mark))
+
+requests : (mark : ℕ) (verb : Verb) (d : Deed) → Gives verb mark → Begins verb d → IfSome (told_by d) (λ a. a ≡ Went) → Requests verb mark d
+requests mark (Take p) d gives b told = absurd gives
+requests mark (InterruptSeat j) d gives b told = absurd gives
+requests mark (Keep m) (GiveMeets n v) gives b told = inr (inl (v, ap (λ y. GiveMeets y v) (b ∙ gives)))
+requests mark (Keep m) (GiveKept n) gives b told = inr (inr (ap GiveKept (b ∙ gives)))
+requests mark (Keep m) d gives b told = absurd b
+requests mark (Give p m) (GiveMeets n v) gives b told = inr (inl (v, ap (λ y. GiveMeets y v) (b ∙ gives)))
+requests mark (Give Now m) (GiveFails n) gives b told = absurd (cc)
+requests mark (Give Forever m) (GiveWaits n) gives b told = inl (ap GiveWaits (b ∙ gives), ap Some gives, tt)
+requests mark (Give Timed m) (GiveWaits n) gives b told = inl (ap GiveWaits (b ∙ gives), ap Some gives, tt)
+requests mark (Give Forever m) (EntryInterrupted Giver) gives b told = absurd (cc)
+requests mark (Give Timed m) (EntryInterrupted Giver) gives b told = absurd (cc)
+requests mark (Give p m) d gives b told = absurd b
+
+lets_giver : (verb : Verb) (mark t : ℕ) (p : Pair) → Gives verb mark → LetsEnd verb Went t p → p.giver ≡ t
+lets_giver (Keep m) mark t p gives lets = absurd lets
+lets_giver (Give q m) mark t p gives lets = lets
+lets_giver (Take q) mark t p gives lets = absurd gives
+lets_giver (InterruptSeat j) mark t p gives lets = absurd gives
 
 -- the first deed of a call that takes is a request
 taker_asks : (verb : Verb) (d : Deed) → IsTaking verb → Begins verb d → is_request d ≡ true
@@ -94,6 +118,9 @@ was_ahead (Open v) r t is = absurd (cc)
 was_ahead Over r t is = absurd (cc)
 
 module _ (k : Kind) (calls : List Call) (u : IsPassed k calls) (g : IsTakerMet u.caller.call.verb u.caller.returned.answer u.met.call.verb u.met.returned.answer u.waiting.call.verb u.mark) where
+  was : WasMet u.waiting.call.verb u.waiting.returned.answer
+  was = was_met calls u.caller.returned.at u.waiting.call.verb u.waiting.returned.answer u.unmet
+
   -- the caller alone gives the item
   pub only : (n : ℕ) (c : Call) → slice_get calls n ≡ Some c → Gives c.verb u.mark → n ≡ u.caller.number
   only n c known gives =
@@ -183,24 +210,63 @@ module _ (k : Kind) (calls : List Call) (u : IsPassed k calls) (g : IsTakerMet u
       early = by_end (end_of k.order) u.behind b.early;
     }
       where
-        by_end : (end : End) → IsBehind end u.seen u.waiting.call u.met.call → NotYet end (stages u.met.number) → NotYet end (later stages e u.met.number)
+        by_end : (end : End) → IsBehind end u.seen u.waiting.call u.caller.call u.met.call → NotYet end (stages u.met.number) → NotYet end (later stages e u.met.number)
         by_end Front behind early = ⊎_elim
             (λ at.
             let own : h.of.call.begin ≡ u.met.call.begin = ap (λ (z : Call). z.begin) (own_call k calls u.met e at.1 h.of) in
             let begun = h.of.within.begun in
-            absurd (unseen k calls u.waiting u.caller.returned.at u.unmet u.seen u.waits events (after_event s e) e.time (later stages e) (still k calls u.waiting stages e other ∙ ahead) (omega arith) (goes_on k calls s time stages e events c)))
+            absurd (unseen k calls u.waiting was u.seen u.waits events (after_event s e) e.time (later stages e) (still k calls u.waiting stages e other ∙ ahead) (omega arith) (goes_on k calls s time stages e events c)))
             (λ apart. still k calls u.met stages e apart.1 ∙ early)
             (eqb_tells e.call u.met.number)
         by_end Back behind early = tt
 
+    -- a pair with the item is made while the one that is met is ahead: that can't get it any more
+    wins : IsWell s → IsGiven k calls u.mark u.caller.number only s stages → stages u.met.number ≡ Ahead → e.call ≢ u.met.number → (p : Pair) → Contains (after_event s e).pairs p → p.mark ≡ u.mark → ⊥
+    wins well given early not_met p there is =
+        let on : later stages e u.met.number ≡ Ahead = still k calls u.met stages e not_met ∙ early in
+        won k calls u.mark u.caller.number only u.met g.takes g.got events (after_event s e) e.time (later stages e) (record {
+          well = well_stays k s e.entry.seat e.entry.ticket e.entry.deed well h.step;
+          given = given_stays k calls u.mark u.caller.number only e s time stages h given;
+          pair = p;
+          there = there;
+          is = is;
+          going = λ over. let q = sym on ∙ over in absurd (cc);
+          other = λ t at same. let q = sym on ∙ at in absurd (cc);
+        }) (goes_on k calls s time stages e events c)
+
+    -- so it is where the caller meets a taker, and where a taker meets the item
+    gives_other : IsWell s → IsGiven k calls u.mark u.caller.number only s stages → stages u.met.number ≡ Ahead → e.call ≢ u.met.number → (v : ℕ) → e.entry.deed ≡ GiveMeets u.mark v → ⊥
+    gives_other well given early not_met v is =
+        let own : Pair = record { giver = e.entry.ticket; taker = v; mark = u.mark } in
+        wins well given early not_met own (subst (λ d. Contains (after s e.entry.seat e.entry.ticket d).pairs own) (sym is) (Contains-push s.pairs own)) refl
+
+    takes_other : IsWell s → IsGiven k calls u.mark u.caller.number only s stages → stages u.met.number ≡ Ahead → e.call ≢ u.met.number → (v : ℕ) → e.entry.deed ≡ TakeMeets u.mark v → ⊥
+    takes_other well given early not_met v is =
+        let own : Pair = record { giver = v; taker = e.entry.ticket; mark = u.mark } in
+        wins well given early not_met own (subst (λ d. Contains (after s e.entry.seat e.entry.ticket d).pairs own) (sym is) (Contains-push s.pairs own)) refl
+
+    -- the one that is met comes after the one that waits was seen
+    met_late : u.seen < u.met.call.begin → stages u.waiting.number ≡ Ahead → e.call ≢ u.waiting.number → e.call ≡ u.met.number → ⊥
+    met_late behind ahead other at =
+        let own : h.of.call.begin ≡ u.met.call.begin = ap (λ (z : Call). z.begin) (own_call k calls u.met e at h.of) in
+        let begun = h.of.within.begun in
+        unseen k calls u.waiting was u.seen u.waits events (after_event s e) e.time (later stages e) (still k calls u.waiting stages e other ∙ ahead) (omega arith) (goes_on k calls s time stages e events c)
+
+    -- the one that waits joins a line in which no giver is met
+    joins_none : stages u.waiting.number ≡ Ahead → e.call ≡ u.waiting.number → partner (end_of k.order) s.line Taker ≡ None
+    joins_none ahead at =
+        let deed = (own_seen k calls u.waiting was u.seen u.waits e s time stages ahead h at).0 ∙ ap request_with g.none in
+        let step : IsStep k s e.entry.seat e.entry.ticket TakeWaits = subst (IsStep k s e.entry.seat e.entry.ticket) deed h.step in
+        step.1
+
     -- the one that waits isn't the one that is met
-    not_both : stages u.waiting.number ≡ Ahead → e.call ≡ u.waiting.number → e.call ≡ u.met.number → (end : End) → IsBehind end u.seen u.waiting.call u.met.call → ⊥
+    not_both : stages u.waiting.number ≡ Ahead → e.call ≡ u.waiting.number → e.call ≡ u.met.number → (end : End) → IsBehind end u.seen u.waiting.call u.caller.call u.met.call → ⊥
     not_both ahead at same end behind =
-        let le = (own_seen k calls u.waiting u.caller.returned.at u.unmet u.seen u.waits e s time stages ahead h at).1 in
+        let le = (own_seen k calls u.waiting was u.seen u.waits e s time stages ahead h at).1 in
         let begun = h.of.within.begun in
         by_end end behind le begun
       where
-        by_end : (end : End) → IsBehind end u.seen u.waiting.call u.met.call → e.time ≤ u.seen → h.of.call.begin ≤ e.time → ⊥
+        by_end : (end : End) → IsBehind end u.seen u.waiting.call u.caller.call u.met.call → e.time ≤ u.seen → h.of.call.begin ≤ e.time → ⊥
         by_end Front behind le begun =
             let own : h.of.call.begin ≡ u.met.call.begin = ap (λ (z : Call). z.begin) (own_call k calls u.met e same h.of) in
             absurd (omega arith)
@@ -212,7 +278,7 @@ module _ (k : Kind) (calls : List Call) (u : IsPassed k calls) (g : IsTakerMet u
             let early = behind.2 in
             absurd (omega arith)
 
-    begun_then : e.call ≡ u.waiting.number → (end : End) → IsBehind end u.seen u.waiting.call u.met.call → HasBegun end (later stages e u.met.number)
+    begun_then : e.call ≡ u.waiting.number → (end : End) → IsBehind end u.seen u.waiting.call u.caller.call u.met.call → HasBegun end (later stages e u.met.number)
     begun_then at Front behind = tt
     begun_then at Back behind = λ ahead.
         let own : h.of.call.begin ≡ u.waiting.call.begin = ap (λ (z : Call). z.begin) (own_call k calls u.waiting e at h.of) in
@@ -285,6 +351,110 @@ module _ (k : Kind) (calls : List Call) (u : IsPassed k calls) (g : IsTakerMet u
         gives_none (Take p) taking gives = gives
         gives_none (InterruptSeat j) taking gives = taking
 
+  module _ (behind : u.seen < u.met.call.begin) where
+    -- the one that waits and the one that is met are ahead, and the item was given or not
+    pub record AreEarly (s : State) (stages : ℕ → Stage) : Type 0 where
+      pub first : stages u.waiting.number ≡ Ahead
+      pub other : stages u.met.number ≡ Ahead
+      pub given : IsGiven k calls u.mark u.caller.number only s stages
+
+    early_on : (e : Event) (events : List Event) (s : State) (time : ℕ) (stages : ℕ → Stage) → IsCourse k calls s time stages (e ∷ events) → e.call ≢ u.waiting.number → e.call ≢ u.met.number → AreEarly s stages → AreEarly (after_event s e) (later stages e)
+    early_on e events s time stages c not_waiting not_met b = record {
+      first = still k calls u.waiting stages e not_waiting ∙ b.first;
+      other = still k calls u.met stages e not_met ∙ b.other;
+      given = given_stays k calls u.mark u.caller.number only e s time stages (happens k calls s time stages e events c) b.given;
+    }
+
+    ends_ahead : (s : State) (stages : ℕ → Stage) (time : ℕ) → AreEarly s stages → IsCourse k calls s time stages [] → ⊥
+    ends_ahead s stages time b c = never_left k calls u.waiting (stages u.waiting.number) (λ over. let q = sym b.first ∙ over in absurd (cc)) (c.formed u.waiting.number u.waiting.call u.waiting.known)
+
+    -- the caller waits, and the one that waits later isn't there yet
+    meanwhile : (events : List Event) (s : State) (time : ℕ) (stages : ℕ → Stage) (entry : Entry ℕ) (met : WasMet u.caller.call.verb u.caller.returned.answer) → item_of u.caller.call.verb ≡ Some u.mark → IsStanding k calls u.caller met s stages entry →
+        AreEarly s stages → IsCourse k calls s time stages events → ⊥
+    meanwhile [] s time stages entry met item b known c = ends_ahead s stages time known c
+    meanwhile (e ∷ events) s time stages entry met item b known c = ⊎_elim
+        (λ at. alone_taker s.line (none_front (end_of k.order) s.line Taker (joins_none e events s time stages c known.first at.1)) b.ordered.unmixed entry u.mark b.there (b.items entry b.there refl ∙ item))
+        (λ other. ⊎_elim
+        (λ at. met_late e events s time stages c behind known.first other.1 at.1)
+        (λ not_met. meanwhile events (after_event s e) e.time (later stages e) entry met item
+        (stands_on k calls u.caller met e events s time stages entry b c (λ p new lets. no_pair not_met.1 p (lets_giver u.caller.call.verb u.mark entry.ticket p g.gives (subst (λ y. LetsEnd u.caller.call.verb y entry.ticket p) g.went lets)) e.entry.deed refl new))
+        (early_on e events s time stages c other.1 not_met.1 known) (goes_on k calls s time stages e events c))
+        (eqb_tells e.call u.met.number))
+        (eqb_tells e.call u.waiting.number)
+      where
+        h : Happens k calls s time stages e
+        h = happens k calls s time stages e events c
+
+        no_pair : e.call ≢ u.met.number → (p : Pair) → p.giver ≡ entry.ticket → (d : Deed) → e.entry.deed ≡ d → NewPair d e.entry.ticket p → ⊥
+        no_pair not_met p same (GiveMeets n v) is new =
+            let step : IsStep k s e.entry.seat e.entry.ticket (GiveMeets n v) = subst (IsStep k s e.entry.seat e.entry.ticket) is h.step in
+            let above = step.0.above in let low = b.waits.low in
+            let giver : p.giver ≡ e.entry.ticket = ap (λ (y : Pair). y.giver) new in absurd (omega arith)
+        no_pair not_met p same (TakeMeets n v) is new =
+            let step : IsStep k s e.entry.seat e.entry.ticket (TakeMeets n v) = subst (IsStep k s e.entry.seat e.entry.ticket) is h.step in
+            let there = Contains-partner (end_of k.order) s.line Taker step.1.0 step.1.1 in
+            let giver : p.giver ≡ v = ap (λ (y : Pair). y.giver) new in
+            let mine = b.items step.1.0 there (step.1.2 ∙ sym giver ∙ same) ∙ item in
+            let mark : n ≡ u.mark = let q = sym step.1.3 ∙ mine in cc in
+            takes_other e events s time stages c b.well known.given known.other not_met v (is ∙ ap (λ y. TakeMeets y v) mark)
+        no_pair not_met p same d is new = new
+
+    -- the caller's item is kept, and the one that waits later isn't there yet
+    is_kept : (front : end_of k.order ≡ Front) (events : List Event) (s : State) (time : ℕ) (stages : ℕ → Stage) (entry : Entry ℕ) → IsKept k front u.mark s entry → AreEarly s stages → IsCourse k calls s time stages events → ⊥
+    is_kept front [] s time stages entry b known c = ends_ahead s stages time known c
+    is_kept front (e ∷ events) s time stages entry b known c = ⊎_elim
+        (λ at. finds_one k front u.mark s entry b (joins_none e events s time stages c known.first at.1))
+        (λ other. ⊎_elim
+        (λ at. met_late e events s time stages c behind known.first other.1 at.1)
+        (λ not_met.
+        let h = happens k calls s time stages e events c in
+        let stays : Leaves e.entry.deed e.entry.ticket entry.ticket → ⊥ = λ leaves.
+        let q = leaves_by k front u.mark s entry b e.entry.seat e.entry.ticket e.entry.deed h.step leaves in
+        takes_other e events s time stages c b.well known.given known.other not_met.1 q.0 q.1 in
+        is_kept front events (after_event s e) e.time (later stages e) entry (kept_stays k front u.mark s entry b e.entry.seat e.entry.ticket e.entry.deed h.step stays)
+        (early_on e events s time stages c other.1 not_met.1 known) (goes_on k calls s time stages e events c))
+        (eqb_tells e.call u.met.number))
+        (eqb_tells e.call u.waiting.number)
+
+  gives_none : (verb : Verb) → IsTaking verb → Gives verb u.mark → ⊥
+  gives_none (Keep n) taking gives = taking
+  gives_none (Give p n) taking gives = taking
+  gives_none (Take p) taking gives = gives
+  gives_none (InterruptSeat j) taking gives = taking
+
+  -- the caller makes its request before the one that waits
+  early : (e : Event) (events : List Event) (s : State) (time : ℕ) (stages : ℕ → Stage) → IsCourse k calls s time stages (e ∷ events) → IsWell s → IsOrdered s → stages u.waiting.number ≡ Ahead → stages u.caller.number ≡ Ahead →
+      e.call ≢ u.waiting.number → e.call ≡ u.caller.number → (end : End) → end_of k.order ≡ end → IsBehind end u.seen u.waiting.call u.caller.call u.met.call → NotYet end (stages u.met.number) → IsNew s stages → ⊥
+  early e events s time stages c well ordered ahead mine other at Back is behind late fresh = too_early k calls u.waiting u.caller u.seen u.waits u.unmet behind.3 e events s time stages c ahead other at
+  early e events s time stages c well ordered ahead mine other at Front front behind late fresh = ⊎_elim
+      (λ q. meanwhile behind events (after_event s e) e.time (later stages e) (entry_with e.entry.seat e.entry.ticket (item_of u.caller.call.verb)) (met_by q.2) q.1
+      (now_waiting k calls u.caller (met_by q.2) e s time stages well ordered mine h at (q.0 ∙ ap request_with (sym q.1)))
+      (early_on behind e events s time stages c other not_met known) (goes_on k calls s time stages e events c))
+      (λ r. ⊎_elim
+      (λ q. gives_other e events s time stages c well (inl fresh) late not_met q.0 q.1)
+      (λ q.
+      let step : IsStep k s e.entry.seat e.entry.ticket (GiveKept u.mark) = subst (IsStep k s e.entry.seat e.entry.ticket) q h.step in
+      is_kept behind front events (after_event s e) e.time (later stages e) (own_entry k front u.mark e.entry.seat e.entry.ticket)
+      (subst (λ d. IsKept k front u.mark (after s e.entry.seat e.entry.ticket d) (own_entry k front u.mark e.entry.seat e.entry.ticket)) (sym q) (now_kept k front u.mark s e.entry.seat e.entry.ticket well ordered step))
+      (early_on behind e events s time stages c other not_met known) (goes_on k calls s time stages e events c))
+      r)
+      (requests u.mark u.caller.call.verb e.entry.deed g.gives moves.0 (answers k calls u.caller Went g.went e.entry.deed moves.1))
+    where
+      h : Happens k calls s time stages e
+      h = happens k calls s time stages e events c
+
+      moves : Moves u.caller.call Ahead e.entry
+      moves = subst (λ y. Moves u.caller.call y e.entry) (ap stages at ∙ mine) (subst (λ y. Moves y (stages e.call) e.entry) (own_call k calls u.caller e at h.of) h.moves)
+
+      not_met : e.call ≢ u.met.number
+      not_met same = gives_none u.met.call.verb g.takes (subst (λ (y : Call). Gives y.verb u.mark) (sym (own_call k calls u.caller e at h.of) ∙ own_call k calls u.met e same h.of) g.gives)
+
+      known : AreEarly behind s stages
+      known = record { first = ahead; other = late; given = inl fresh }
+
+      met_by : WasMet u.caller.call.verb Went → WasMet u.caller.call.verb u.caller.returned.answer
+      met_by q = subst (WasMet u.caller.call.verb) (sym g.went) q
+
   apart : u.waiting.number ≡ u.caller.number → ⊥
   apart same =
       let mine : slice_get calls u.caller.number ≡ Some u.waiting.call = subst (λ n. slice_get calls n ≡ Some u.waiting.call) same u.waiting.known in
@@ -302,6 +472,7 @@ module _ (k : Kind) (calls : List Call) (u : IsPassed k calls) (g : IsTakerMet u
   watch = record {
     goes = λ e events s time stages c ahead other not_caller known. goes e events s time stages c ahead other not_caller known;
     joins = λ e events s time stages c well ahead at not_caller above known. joins e events s time stages c ahead at not_caller above known;
+    early = λ e events s time stages c well ordered ahead mine other at known. early e events s time stages c well ordered ahead mine other at (end_of k.order) refl u.behind known.early known.fresh;
     stays = λ e events s time stages c entry b not_caller known. stays e events s time stages c entry.ticket b.waits.low not_caller known;
     ends = λ e events s time stages c entry b ahead at known. ends e events s time stages c entry b ahead at known;
   }
@@ -311,7 +482,7 @@ module _ (k : Kind) (calls : List Call) (u : IsPassed k calls) (g : IsTakerMet u
   none_yet Back = tt
 
   pub taker_passed : (history : List (Record Deed)) → Explains k calls history → ⊥
-  taker_passed = watched k calls u.waiting u.caller u.seen u.waits u.unmet IsBefore IsThere watch u.before apart (record {
+  taker_passed = watched k calls u.waiting u.caller u.seen u.waits u.unmet IsBefore IsThere watch apart (record {
     fresh = record { ahead = refl; line = λ e there item. Contains-nil e there; pairs = λ p there is. Contains-nil p there };
     going = λ over. absurd (cc);
     low = λ t is. absurd (cc);

@@ -19,7 +19,7 @@ use Rattle.meet_overlap.specs.Reasons.{IsUnmet, item_of}
 use Rattle.meet_overlap.proofs.Courses.{IsCourse, later, after_event, happens, goes_on, whole_course, never_left, own_call, still, too_late}
 use Rattle.meet_overlap.proofs.Effects.{IsWell, well_stays, well_empty}
 use Rattle.meet_overlap.proofs.InLine.{IsOrdered, ordered_stays, ordered_empty, ComesFirst}
-use Rattle.meet_overlap.proofs.Standing.{IsStanding, stands, own_seen, unseen, now_standing, entry_with, above_waits}
+use Rattle.meet_overlap.proofs.Standing.{WasMet, was_met, IsStanding, stands, own_seen, unseen, now_standing, entry_with, above_waits}
 
 -- the first ticket's turn comes after the other's, where the line is met at this end
 abbrev pub ComesAfter : End → (one other : ℕ) → Type 0
@@ -41,9 +41,12 @@ comes_after Front stage one other begun ahead above = above
 comes_after Back stage one other begun ahead above = absurd (begun ahead)
 
 module _ (k : Kind) (calls : List Call) (waiting caller : IsEnded calls) (seen : ℕ) (waits : waiting.call.waits ≡ Some seen) (unmet : IsUnmet calls waiting.call.verb waiting.returned.answer caller.returned.at) where
+  pub was : WasMet waiting.call.verb waiting.returned.answer
+  was = was_met calls caller.returned.at waiting.call.verb waiting.returned.answer unmet
+
   -- the one that was seen to wait stands in the line
   abbrev pub Stands : State → (ℕ → Stage) → Entry ℕ → Type 0
-  Stands s stages entry = IsStanding k calls waiting caller.returned.at unmet s stages entry
+  Stands s stages entry = IsStanding k calls waiting was s stages entry
 
   -- what is true before it stands there, and what of its ticket while it does, up to the other one's request, which can't be
   pub record IsWatched (Before : State → (ℕ → Stage) → Type 0) (There : State → (ℕ → Stage) → ℕ → Type 0) : Type 0 where
@@ -51,12 +54,22 @@ module _ (k : Kind) (calls : List Call) (waiting caller : IsEnded calls) (seen :
         e.call ≢ waiting.number → e.call ≢ caller.number → Before s stages → Before (after_event s e) (later stages e)
     pub joins : (e : Event) (events : List Event) (s : State) (time : ℕ) (stages : ℕ → Stage) → IsCourse k calls s time stages (e ∷ events) → IsWell s → stages waiting.number ≡ Ahead →
         e.call ≡ waiting.number → e.call ≢ caller.number → s.last < e.entry.ticket → Before s stages → There (after_event s e) (later stages e) e.entry.ticket
+    pub early : (e : Event) (events : List Event) (s : State) (time : ℕ) (stages : ℕ → Stage) → IsCourse k calls s time stages (e ∷ events) → IsWell s → IsOrdered s → stages waiting.number ≡ Ahead → stages caller.number ≡ Ahead →
+        e.call ≢ waiting.number → e.call ≡ caller.number → Before s stages → ⊥
     pub stays : (e : Event) (events : List Event) (s : State) (time : ℕ) (stages : ℕ → Stage) → IsCourse k calls s time stages (e ∷ events) → (entry : Entry ℕ) → Stands s stages entry →
         e.call ≢ caller.number → There s stages entry.ticket → There (after_event s e) (later stages e) entry.ticket
     pub ends : (e : Event) (events : List Event) (s : State) (time : ℕ) (stages : ℕ → Stage) → IsCourse k calls s time stages (e ∷ events) → (entry : Entry ℕ) → Stands s stages entry →
         stages caller.number ≡ Ahead → e.call ≡ caller.number → There s stages entry.ticket → ⊥
 
-  module _ (Before : State → (ℕ → Stage) → Type 0) (There : State → (ℕ → Stage) → ℕ → Type 0) (watch : IsWatched Before There) (before : seen < caller.call.begin) (apart : waiting.number ≡ caller.number → ⊥) where
+  -- a call that begins after that one was seen to wait makes no request before that stands there
+  pub too_early : seen < caller.call.begin → (e : Event) (events : List Event) (s : State) (time : ℕ) (stages : ℕ → Stage) → IsCourse k calls s time stages (e ∷ events) → stages waiting.number ≡ Ahead → e.call ≢ waiting.number → e.call ≡ caller.number → ⊥
+  too_early before e events s time stages c ahead other at =
+      let h = happens k calls s time stages e events c in
+      let begun = h.of.within.begun in
+      let mine : h.of.call.begin ≡ caller.call.begin = ap (λ (y : Call). y.begin) (own_call k calls caller e at h.of) in
+      unseen k calls waiting was seen waits events (after_event s e) e.time (later stages e) (still k calls waiting stages e other ∙ ahead) (omega arith) (goes_on k calls s time stages e events c)
+
+  module _ (Before : State → (ℕ → Stage) → Type 0) (There : State → (ℕ → Stage) → ℕ → Type 0) (watch : IsWatched Before There) (apart : waiting.number ≡ caller.number → ⊥) where
     never_over : (stages : ℕ → Stage) → stages caller.number ≡ Ahead → stages caller.number ≡ Over → ⊥
     never_over stages ahead over = let q = sym ahead ∙ over in absurd (cc)
 
@@ -68,7 +81,7 @@ module _ (k : Kind) (calls : List Call) (waiting caller : IsEnded calls) (seen :
         let on : later stages e caller.number ≡ Ahead = still k calls caller stages e q.1 ∙ ahead in
         ⊎_elim
         (λ late. too_late k calls caller events (after_event s e) e.time (later stages e) (never_over (later stages e) on) late (goes_on k calls s time stages e events c))
-        (λ le. there_it_is events (after_event s e) e.time (later stages e) entry (stands k calls waiting caller.returned.at unmet e events s time stages entry b c le) (watch.stays e events s time stages c entry b q.1 there) on (goes_on k calls s time stages e events c))
+        (λ le. there_it_is events (after_event s e) e.time (later stages e) entry (stands k calls waiting was caller.returned.at unmet e events s time stages entry b c le) (watch.stays e events s time stages c entry b q.1 there) on (goes_on k calls s time stages e events c))
         (cases_lt caller.returned.at e.time))
         (eqb_tells e.call caller.number)
 
@@ -87,14 +100,11 @@ module _ (k : Kind) (calls : List Call) (waiting caller : IsEnded calls) (seen :
         (λ q.
         let other : e.call ≢ caller.number = λ is. apart (sym q.1 ∙ is) in
         there_it_is events (after_event s e) e.time (later stages e) (entry_with e.entry.seat e.entry.ticket (item_of waiting.call.verb))
-        (now_standing k calls waiting caller.returned.at unmet seen waits e s time stages b.well b.ordered b.first h q.1)
-        (watch.joins e events s time stages c b.well b.first q.1 other (above_waits k s e.entry.seat e.entry.ticket (item_of waiting.call.verb) (subst (IsStep k s e.entry.seat e.entry.ticket) (own_seen k calls waiting caller.returned.at unmet seen waits e s time stages b.first h q.1).0 h.step)) known)
+        (now_standing k calls waiting was seen waits e s time stages b.well b.ordered b.first h q.1)
+        (watch.joins e events s time stages c b.well b.first q.1 other (above_waits k s e.entry.seat e.entry.ticket (item_of waiting.call.verb) (subst (IsStep k s e.entry.seat e.entry.ticket) (own_seen k calls waiting was seen waits e s time stages b.first h q.1).0 h.step)) known)
         (still k calls caller stages e other ∙ b.other) (goes_on k calls s time stages e events c))
         (λ q. ⊎_elim
-        (λ at.
-        let begun = h.of.within.begun in
-        let mine : h.of.call.begin ≡ caller.call.begin = ap (λ (y : Call). y.begin) (own_call k calls caller e at.1 h.of) in
-        unseen k calls waiting caller.returned.at unmet seen waits events (after_event s e) e.time (later stages e) (still k calls waiting stages e q.1 ∙ b.first) (omega arith) (goes_on k calls s time stages e events c))
+        (λ at. watch.early e events s time stages c b.well b.ordered b.first b.other q.1 at.1 known)
         (λ other. before_it events (after_event s e) e.time (later stages e) (record {
           well = well_stays k s e.entry.seat e.entry.ticket e.entry.deed b.well h.step;
           ordered = ordered_stays k s e.entry.seat e.entry.ticket e.entry.deed b.well b.ordered h.step;

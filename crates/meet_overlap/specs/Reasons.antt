@@ -117,13 +117,15 @@ Meets (Give p n) Went (Take q) (GotItem x) (Take r) mark = (n ≡ mark) × (x �
 Meets (Keep n) Went (Take q) (GotItem x) (Take r) mark = (n ≡ mark) × (x ≡ mark)
 Meets caller answer met other waiting mark = ⊥
 
--- where the line is met at this end, the second call's turn comes after that of the first one, which was seen to wait
-abbrev pub IsBehind : End → (seen : ℕ) → (waiting met : Call) → Type 0
-IsBehind Front seen waiting met = seen < met.begin
-IsBehind Back seen waiting met = (early : ℕ) × (met.waits ≡ Some early) × (early < waiting.begin)
+-- a call that was seen to wait has its turn before another one that a caller met: in front of it, or on top of it when
+-- the caller began, where the line is met at its back
+abbrev pub IsBehind : End → (seen : ℕ) → (waiting caller met : Call) → Type 0
+IsBehind Front seen waiting caller met = seen < met.begin
+IsBehind Back seen waiting caller met = (early : ℕ) × (met.waits ≡ Some early) × (early < waiting.begin)
+    × (seen < caller.begin)
 
--- a call was seen to wait before one of the other side began that met another one, whose turn came later: the item which
--- they met with is given by one call alone; and none may have met the one that waited that began by the end of that one
+-- a call was seen to wait, and one of the other side met another one, whose turn came later: the item which they met with
+-- is given by one call alone; and none may have met the one that waited that began by the end of the caller
 pub record IsPassed (k : Kind) (calls : List Call) : Type 0 where
   pub waiting : IsEnded calls
   pub seen : ℕ
@@ -134,8 +136,7 @@ pub record IsPassed (k : Kind) (calls : List Call) : Type 0 where
   pub meets : Meets caller.call.verb caller.returned.answer met.call.verb met.returned.answer waiting.call.verb mark
   pub giver : ℕ
   pub only : IsOnlyGiver calls (length calls) mark giver
-  pub behind : IsBehind (end_of k.order) seen waiting.call met.call
-  pub before : seen < caller.call.begin
+  pub behind : IsBehind (end_of k.order) seen waiting.call caller.call met.call
   pub unmet : IsUnmet calls waiting.call.verb waiting.returned.answer caller.returned.at
 
 -- the reason is true of the calls, with the numbers and items that it names; of how far a search came nothing is said

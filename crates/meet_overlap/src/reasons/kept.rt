@@ -174,15 +174,31 @@ pub(crate) fn waiting_throughout(
     throughout(alloc, calls, waiting, looks, most)
 }
 
-/// The last of these stays that lasted longer than the call of this number, if one of the last few did.
-fn last_until(calls: &[Call], there: &[Stay], number: usize) -> Option<Stay> {
+/// When the call was seen to wait that this one met, or the last time there is if it wasn't.
+fn partner_seen(calls: &[Call], partners: &Partners, number: usize) -> u64 {
+    match partners.of(number) {
+        None => u64::MAX,
+        Some(met) => {
+            if met < calls.len() {
+                calls[met].waits.unwrap_or(u64::MAX)
+            } else {
+                u64::MAX
+            }
+        }
+    }
+}
+
+/// The last of these stays that lasted longer than the call of this number, and is of a call that began after the one
+/// was seen to wait that this one met, if it is one of the last few.
+fn last_until(calls: &[Call], partners: &Partners, there: &[Stay], number: usize) -> Option<Stay> {
     if number >= calls.len() {
         return None;
     }
     let by = end(&calls[number]);
+    let seen = partner_seen(calls, partners, number);
     for back in 0..there.len().min(FEW) {
         let stay = there[there.len() - 1 - back];
-        if by < stay.met {
+        if by < stay.met && seen < begin(calls, Some(stay.number)) {
             return Some(stay);
         }
     }
@@ -190,10 +206,12 @@ fn last_until(calls: &[Call], there: &[Stay], number: usize) -> Option<Stay> {
 }
 
 /// For each of these looks, the last stay that began before the time from which it must have been there, and that is
-/// likely to have lasted until the call ended. Returns at most `most` of them. Fails only if an allocation fails.
+/// likely to have lasted until the call ended, above the call that this one met. Returns at most `most` of them. Fails
+/// only if an allocation fails.
 fn last_throughout(
     alloc: Global,
     calls: &[Call],
+    partners: &Partners,
     mut stays: Vec<Stay>,
     mut looks: Vec<Look>,
     most: usize,
@@ -221,7 +239,7 @@ fn last_throughout(
                 break;
             }
         }
-        if let Some(stay) = last_until(calls, there.as_slice(), look.number) {
+        if let Some(stay) = last_until(calls, partners, there.as_slice(), look.number) {
             if found.len() < most {
                 found.push(There {
                     put: stay.number,
@@ -233,7 +251,8 @@ fn last_throughout(
     Ok(found)
 }
 
-/// The same as `waiting_throughout`, but of the calls that are there the last one is found.
+/// The same as `waiting_throughout`, but of the calls that are there the last one is found, if it came after the call that
+/// was met.
 pub(crate) fn last_waiting_throughout(
     alloc: Global,
     calls: &[Call],
@@ -243,5 +262,5 @@ pub(crate) fn last_waiting_throughout(
     most: usize,
 ) -> Result<Vec<There>, AllocError> {
     let waiting = all_waiting(alloc, calls, partners, side)?;
-    last_throughout(alloc, calls, waiting, looks, most)
+    last_throughout(alloc, calls, partners, waiting, looks, most)
 }

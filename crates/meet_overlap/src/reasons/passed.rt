@@ -31,9 +31,9 @@ fn meets(caller: Verb, answer: Answer, met: Verb, other: Answer, waiting: Verb) 
     }
 }
 
-/// Whether the second call's turn comes after that of the first one, where the line is met at this end.
-fn behind(end: End, seen: u64, waiting: &Call, met: &Call) -> bool
-    ensures { IsTrue result → IsBehind end seen waiting.now met.now }
+/// Whether a call that was seen to wait has its turn before the one that a caller met, where the line is met at this end.
+fn behind(end: End, seen: u64, waiting: &Call, caller: &Call, met: &Call) -> bool
+    ensures { IsTrue result → IsBehind end seen waiting.now caller.now met.now }
 {
     match end {
         End::Front => seen < met.begin,
@@ -41,7 +41,7 @@ fn behind(end: End, seen: u64, waiting: &Call, met: &Call) -> bool
             let Some(early) = met.waits else {
                 return false;
             };
-            early < waiting.begin
+            early < waiting.begin && seen < caller.begin
         }
     }
 }
@@ -78,14 +78,11 @@ fn passed(kind: Kind, calls: &[Call], first: usize, second: usize, third: usize)
     ) else {
         return None;
     };
-    if !behind(kind.order.end(), seen, waiting, met) {
+    if !behind(kind.order.end(), seen, waiting, caller, met) {
         return None;
     }
     let giver = if gives(met.verb, mark) { second } else { third };
-    if seen < caller.begin
-        && gives_alone(calls, mark, giver)
-        && unmet(calls, waiting.verb, left.answer, came.at)
-    {
+    if gives_alone(calls, mark, giver) && unmet(calls, waiting.verb, left.answer, came.at) {
         Some(Reason::Passed {
             item: mark,
             caller: third,
@@ -107,6 +104,14 @@ fn is_of(verb: Verb, side: Side) -> bool {
     }
 }
 
+/// The side that this one meets.
+fn opposite(side: Side) -> Side {
+    match side {
+        Side::Producers => Side::Consumers,
+        Side::Consumers => Side::Producers,
+    }
+}
+
 /// The calls that met one of this side.
 fn looks(
     alloc: Global,
@@ -120,9 +125,12 @@ fn looks(
         let call = &calls[number];
         let partner = partners.of(number);
         if let Some(met) = partner {
-            if met < calls.len() && is_of(calls[met].verb, side) && !is_of(call.verb, side) {
+            if met < calls.len()
+                && is_of(calls[met].verb, side)
+                && is_of(call.verb, opposite(side))
+            {
                 let from = match end {
-                    End::Front => call.begin.min(begin(calls, partner)),
+                    End::Front => begin(calls, partner),
                     End::Back => call.begin,
                 };
                 looks.push(Look { from, number })?;

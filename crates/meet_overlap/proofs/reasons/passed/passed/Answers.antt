@@ -28,8 +28,7 @@ returns-then-unmet-clause-is c =
         meets = c.in-Some-meets.ensures;
         giver = c.if-gives.giver;
         only = c.gives_alone.ensures c.if-gives_alone.true;
-        behind = subst (λ e. IsBehind e c.in-Some.seen waiting met) c.end.ensures (c.behind.ensures c.if-not-behind.false);
-        before = c.if-seen-caller.true;
+        behind = subst (λ e. IsBehind e c.in-Some.seen waiting caller met) c.end.ensures (c.behind.ensures c.if-not-behind.false);
         unmet = c.unmet.ensures c.if-unmet.true;
       },
       refl,
