@@ -32,6 +32,7 @@ pub mod Sound
 pub mod Standing
 pub mod Tables
 pub mod Timed
+pub mod Turns
 pub mod Twice
 pub mod Watching
 pub mod Ways

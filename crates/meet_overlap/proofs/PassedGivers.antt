@@ -22,7 +22,7 @@ use Rattle.meet_overlap.specs.declared.calls.Stage.{Stage}
 use Rattle.meet_overlap.specs.declared.calls.Stage.TheVariants.{Ahead}
 use Rattle.meet_overlap.specs.declared.calls.Verb.{Verb}
 use Rattle.meet_overlap.specs.declared.calls.Verb.TheVariants.{Keep, Give, Take, Interrupt as InterruptSeat}
-use Rattle.meet_overlap.specs.Calls.{Begins, Moves, told_by, stage_after}
+use Rattle.meet_overlap.specs.Calls.{Begins, Moves, told_by}
 use Rattle.meet_overlap.specs.Explaining.{Event, Explains}
 use Rattle.meet_overlap.specs.Marks.{Gives, IsTaking}
 use Rattle.meet_overlap.specs.Reasons.{IsPassed, IsBehind, item_of}
@@ -30,11 +30,11 @@ use Rattle.meet_overlap.proofs.Courses.{Happens, IsCourse, later, after_event, h
 use Rattle.meet_overlap.proofs.Effects.{NewPair, Effect, effect, IsNewEntry, IsWell}
 use Rattle.meet_overlap.proofs.Giving.{GivesOne, gives_or_not, gives_by, new_item, new_pair}
 use Rattle.meet_overlap.proofs.InLine.{IsUnmixed, IsOrdered, none_front, alone_giver, alone_taker, met_first}
-use Rattle.meet_overlap.proofs.Standing.{WasMet, was_met, LetsEnd, request_with, entry_with, IsStanding, stands_on, now_waiting, seen_by, own_seen, unseen}
+use Rattle.meet_overlap.proofs.Standing.{WasMet, was_met, LetsEnd, request_with, entry_with, IsStanding, stands_on, now_waiting, own_seen, unseen}
 use Rattle.meet_overlap.proofs.Tables.{got_below}
-use Rattle.meet_overlap.proofs.Twice.{gives_from, not_ahead}
-use Rattle.meet_overlap.proofs.Watching.{ComesAfter, never_first, HasBegun, comes_after, Stands, IsWatched, too_early, watched}
-use Rattle.meet_overlap.proofs.Ways.{put_same}
+use Rattle.meet_overlap.proofs.Turns.{ComesAfter, never_first, HasBegun, comes_after, not_both, begun_then, begun_stays}
+use Rattle.meet_overlap.proofs.Twice.{gives_from}
+use Rattle.meet_overlap.proofs.Watching.{Stands, IsWatched, too_early, watched}
 
 -- a taker met a giver of the item, and another giver waits
 pub record IsGiverMet (caller : Verb) (answer : Answer) (met waiting : Verb) (mark : ℕ) : Type 0 where
@@ -112,6 +112,9 @@ module _ (k : Kind) (calls : List Call) (u : IsPassed k calls) (g : IsGiverMet u
   was : WasMet u.waiting.call.verb u.waiting.returned.answer
   was = was_met calls u.caller.returned.at u.waiting.call.verb u.waiting.returned.answer u.unmet
 
+  asks : (d : Deed) → Begins u.met.call.verb d → is_request d ≡ true
+  asks d b = giver_asks u.mark u.met.call.verb d g.gives b
+
   -- who gives an item of this mark is the one that was met
   gives_alone : (e : Event) (s : State) (time : ℕ) (stages : ℕ → Stage) (h : Happens k calls s time stages e) → GivesOne u.mark e.entry.deed → e.call ≡ u.met.number
   gives_alone e s time stages h one =
@@ -174,33 +177,6 @@ module _ (k : Kind) (calls : List Call) (u : IsPassed k calls) (g : IsGiverMet u
         let step : IsStep k s e.entry.seat e.entry.ticket (GiveWaits g.item) = subst (IsStep k s e.entry.seat e.entry.ticket) deed h.step in
         alone_giver s.line (none_front (end_of k.order) s.line Giver step.1) unmixed y there item
 
-    -- the one that waits isn't the one that is met
-    not_both : stages u.waiting.number ≡ Ahead → e.call ≡ u.waiting.number → e.call ≡ u.met.number → (end : End) → IsBehind end u.seen u.waiting.call u.caller.call u.met.call → ⊥
-    not_both ahead at same end behind =
-        let le = (own_seen k calls u.waiting was u.seen u.waits e s time stages ahead h at).1 in
-        let begun = h.of.within.begun in
-        by_end end behind le begun
-      where
-        by_end : (end : End) → IsBehind end u.seen u.waiting.call u.caller.call u.met.call → e.time ≤ u.seen → h.of.call.begin ≤ e.time → ⊥
-        by_end Front behind le begun =
-            let mine : h.of.call.begin ≡ u.met.call.begin = ap (λ (z : Call). z.begin) (own_call k calls u.met e same h.of) in
-            absurd (omega arith)
-        by_end Back behind le begun =
-            let mine : h.of.call.begin ≡ u.waiting.call.begin = ap (λ (z : Call). z.begin) (own_call k calls u.waiting e at h.of) in
-            let one : u.waiting.call.waits ≡ u.met.call.waits = ap (λ (z : Call). z.waits) (sym (own_call k calls u.waiting e at h.of) ∙ own_call k calls u.met e same h.of) in
-            let seen : Some u.seen ≡ Some behind.0 = sym u.waits ∙ one ∙ behind.1 in
-            let is : u.seen ≡ behind.0 = cc in
-            let early = behind.2 in
-            absurd (omega arith)
-
-    begun_then : e.call ≡ u.waiting.number → (end : End) → IsBehind end u.seen u.waiting.call u.caller.call u.met.call → HasBegun end (later stages e u.met.number)
-    begun_then at Front behind = tt
-    begun_then at Back behind = λ ahead.
-        let mine : h.of.call.begin ≡ u.waiting.call.begin = ap (λ (z : Call). z.begin) (own_call k calls u.waiting e at h.of) in
-        let begun = h.of.within.begun in
-        let early = behind.2 in
-        seen_by k calls u.met behind.0 behind.1 (λ d b. giver_asks u.mark u.met.call.verb d g.gives b) events (after_event s e) e.time (later stages e) ahead (omega arith) (goes_on k calls s time stages e events c)
-
     comes_before : IsWell s → (end : End) → NoneYet end s → (y : Entry ℕ) → Contains s.line y → y.item ≡ Some u.mark → s.last < e.entry.ticket → ComesAfter end y.ticket e.entry.ticket
     comes_before well Front none y there item above = absurd (none y there item)
     comes_before well Back none y there item above = let low = well.line y there in omega arith
@@ -209,17 +185,10 @@ module _ (k : Kind) (calls : List Call) (u : IsPassed k calls) (g : IsGiverMet u
     joins well ahead at above none = record {
       line = λ y there item. ⊎_elim
           (λ q. comes_before well (end_of k.order) none y q.0 item above)
-          (λ q. absurd (not_both ahead at (gives_alone e s time stages h (new_is y q item)) (end_of k.order) u.behind))
+          (λ q. absurd (not_both k calls u asks e events s time stages c ahead at (gives_alone e s time stages h (new_is y q item)) (end_of k.order) u.behind))
           (f.line y there);
-      begun = begun_then at (end_of k.order) u.behind;
+      begun = begun_then k calls u asks e events s time stages c at (end_of k.order) u.behind;
     }
-
-    begun_stays : (end : End) → HasBegun end (stages u.met.number) → HasBegun end (later stages e u.met.number)
-    begun_stays Front begun = tt
-    begun_stays Back begun = λ ahead. ⊎_elim
-        (λ at. not_ahead (stages e.call) e.entry (sym (put_same stages e.call (stage_after (stages e.call) e.entry)) ∙ ap (later stages e) at.1 ∙ ahead))
-        (λ other. begun (sym (still k calls u.met stages e other.1) ∙ ahead))
-        (eqb_tells e.call u.met.number)
 
     stays : (x : ℕ) → x ≤ s.last → IsThere s stages x → IsThere (after_event s e) (later stages e) x
     stays x low b = record {
@@ -231,7 +200,7 @@ module _ (k : Kind) (calls : List Call) (u : IsPassed k calls) (g : IsGiverMet u
           let above = q.above in let ticket = q.ticket in
           comes_after (end_of k.order) (stages u.met.number) y.ticket x b.begun (ap stages (sym at) ∙ gives_from u.mark h.of.call (stages e.call) e.entry h.moves one) (omega arith))
           (f.line y there);
-      begun = begun_stays (end_of k.order) b.begun;
+      begun = begun_stays k calls u asks e events s time stages c (end_of k.order) b.begun;
     }
 
     ends : (entry : Entry ℕ) → Stands k calls u.waiting u.caller u.seen u.waits u.unmet s stages entry → stages u.caller.number ≡ Ahead → e.call ≡ u.caller.number → IsThere s stages entry.ticket → ⊥

@@ -31,10 +31,11 @@ use Rattle.meet_overlap.proofs.Courses.{Happens, IsCourse, later, after_event, h
 use Rattle.meet_overlap.proofs.Effects.{NewPair, Leaves, Effect, effect, IsWell, well_stays}
 use Rattle.meet_overlap.proofs.Giving.{GivesOne, GivesNone, gives_or_not, gives_by}
 use Rattle.meet_overlap.proofs.InLine.{IsUnmixed, IsOrdered, none_front, alone_giver, alone_taker, met_first, ComesFirst, IsKept, finds_one, leaves_by, kept_stays, own_entry, now_kept}
-use Rattle.meet_overlap.proofs.Standing.{WasMet, was_met, LetsEnd, request_with, entry_with, IsStanding, stands_on, now_waiting, seen_by, own_seen, unseen}
+use Rattle.meet_overlap.proofs.Standing.{WasMet, was_met, LetsEnd, request_with, entry_with, IsStanding, stands_on, now_waiting, own_seen, unseen}
 use Rattle.meet_overlap.proofs.Tables.{got_below}
-use Rattle.meet_overlap.proofs.Twice.{GetsBy, gets, opens, IsFresh, IsGiven, given_stays, met_entry, fresh_gives, fresh_line, fresh_pairs, still_giver, won, not_ahead}
-use Rattle.meet_overlap.proofs.Watching.{ComesAfter, never_first, HasBegun, comes_after, Stands, IsWatched, too_early, watched}
+use Rattle.meet_overlap.proofs.Turns.{ComesAfter, never_first, HasBegun, comes_after, not_both, begun_then, begun_stays}
+use Rattle.meet_overlap.proofs.Twice.{GetsBy, gets, opens, IsFresh, IsGiven, given_stays, met_entry, fresh_gives, fresh_line, fresh_pairs, still_giver, won}
+use Rattle.meet_overlap.proofs.Watching.{Stands, IsWatched, too_early, watched}
 use Rattle.meet_overlap.proofs.Ways.{put_same}
 
 -- a giver met a taker, which got its item, and another taker waits
@@ -120,6 +121,9 @@ was_ahead Over r t is = absurd (cc)
 module _ (k : Kind) (calls : List Call) (u : IsPassed k calls) (g : IsTakerMet u.caller.call.verb u.caller.returned.answer u.met.call.verb u.met.returned.answer u.waiting.call.verb u.mark) where
   was : WasMet u.waiting.call.verb u.waiting.returned.answer
   was = was_met calls u.caller.returned.at u.waiting.call.verb u.waiting.returned.answer u.unmet
+
+  asks : (d : Deed) → Begins u.met.call.verb d → is_request d ≡ true
+  asks d b = taker_asks u.met.call.verb d g.takes b
 
   -- the caller alone gives the item
   pub only : (n : ℕ) (c : Call) → slice_get calls n ≡ Some c → Gives c.verb u.mark → n ≡ u.caller.number
@@ -259,33 +263,6 @@ module _ (k : Kind) (calls : List Call) (u : IsPassed k calls) (g : IsTakerMet u
         let step : IsStep k s e.entry.seat e.entry.ticket TakeWaits = subst (IsStep k s e.entry.seat e.entry.ticket) deed h.step in
         step.1
 
-    -- the one that waits isn't the one that is met
-    not_both : stages u.waiting.number ≡ Ahead → e.call ≡ u.waiting.number → e.call ≡ u.met.number → (end : End) → IsBehind end u.seen u.waiting.call u.caller.call u.met.call → ⊥
-    not_both ahead at same end behind =
-        let le = (own_seen k calls u.waiting was u.seen u.waits e s time stages ahead h at).1 in
-        let begun = h.of.within.begun in
-        by_end end behind le begun
-      where
-        by_end : (end : End) → IsBehind end u.seen u.waiting.call u.caller.call u.met.call → e.time ≤ u.seen → h.of.call.begin ≤ e.time → ⊥
-        by_end Front behind le begun =
-            let own : h.of.call.begin ≡ u.met.call.begin = ap (λ (z : Call). z.begin) (own_call k calls u.met e same h.of) in
-            absurd (omega arith)
-        by_end Back behind le begun =
-            let own : h.of.call.begin ≡ u.waiting.call.begin = ap (λ (z : Call). z.begin) (own_call k calls u.waiting e at h.of) in
-            let one : u.waiting.call.waits ≡ u.met.call.waits = ap (λ (z : Call). z.waits) (sym (own_call k calls u.waiting e at h.of) ∙ own_call k calls u.met e same h.of) in
-            let seen : Some u.seen ≡ Some behind.0 = sym u.waits ∙ one ∙ behind.1 in
-            let is : u.seen ≡ behind.0 = cc in
-            let early = behind.2 in
-            absurd (omega arith)
-
-    begun_then : e.call ≡ u.waiting.number → (end : End) → IsBehind end u.seen u.waiting.call u.caller.call u.met.call → HasBegun end (later stages e u.met.number)
-    begun_then at Front behind = tt
-    begun_then at Back behind = λ ahead.
-        let own : h.of.call.begin ≡ u.waiting.call.begin = ap (λ (z : Call). z.begin) (own_call k calls u.waiting e at h.of) in
-        let begun = h.of.within.begun in
-        let early = behind.2 in
-        seen_by k calls u.met behind.0 behind.1 (λ d b. taker_asks u.met.call.verb d g.takes b) events (after_event s e) e.time (later stages e) ahead (omega arith) (goes_on k calls s time stages e events c)
-
     -- where it waits already, its turn comes after the new one's
     comes_before : (end : End) → NotYet end (stages u.met.number) → (t : ℕ) → stages u.met.number ≡ Open t → t ≤ s.last → s.last < e.entry.ticket → ComesAfter end t e.entry.ticket
     comes_before Front early t is low above = let q = sym early ∙ is in absurd (cc)
@@ -293,20 +270,13 @@ module _ (k : Kind) (calls : List Call) (u : IsPassed k calls) (g : IsTakerMet u
 
     joins : stages u.waiting.number ≡ Ahead → e.call ≡ u.waiting.number → e.call ≢ u.caller.number → s.last < e.entry.ticket → IsBefore s stages → IsThere (after_event s e) (later stages e) e.entry.ticket
     joins ahead at not_caller above b =
-        let other : e.call ≢ u.met.number = λ same. not_both ahead at same (end_of k.order) u.behind in
+        let other : e.call ≢ u.met.number = λ same. not_both k calls u asks e events s time stages c ahead at same (end_of k.order) u.behind in
         record {
           fresh = fresh_on not_caller b.fresh;
           going = going_on b.fresh b.going;
           waits = λ t is. let was : stages u.met.number ≡ Open t = sym (still k calls u.met stages e other) ∙ is in comes_before (end_of k.order) b.early t was (b.low t was) above;
-          begun = begun_then at (end_of k.order) u.behind;
+          begun = begun_then k calls u asks e events s time stages c at (end_of k.order) u.behind;
         }
-
-    begun_stays : (end : End) → HasBegun end (stages u.met.number) → HasBegun end (later stages e u.met.number)
-    begun_stays Front begun = tt
-    begun_stays Back begun = λ ahead. ⊎_elim
-        (λ at. not_ahead (stages e.call) e.entry (after_mine at.1 Ahead ahead))
-        (λ other. begun (sym (still k calls u.met stages e other.1) ∙ ahead))
-        (eqb_tells e.call u.met.number)
 
     stays : (x : ℕ) → x ≤ s.last → e.call ≢ u.caller.number → IsThere s stages x → IsThere (after_event s e) (later stages e) x
     stays x low not_caller b = record {
@@ -318,7 +288,7 @@ module _ (k : Kind) (calls : List Call) (u : IsPassed k calls) (g : IsTakerMet u
           comes_after (end_of k.order) (stages u.met.number) t x b.begun (ap stages (sym at.1) ∙ was_ahead (stages e.call) e.entry t (after_mine at.1 (Open t) is)) (omega arith))
           (λ apart. b.waits t (sym (still k calls u.met stages e apart.1) ∙ is))
           (eqb_tells e.call u.met.number);
-      begun = begun_stays (end_of k.order) b.begun;
+      begun = begun_stays k calls u asks e events s time stages c (end_of k.order) b.begun;
     }
 
     -- the caller's request meets another than the one that is met, which can't get the item any more

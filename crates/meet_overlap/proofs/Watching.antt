@@ -4,8 +4,6 @@ use Rattle.std.proofs.Common.{◌≡◌, ◌≢◌, ℕ, ◌<◌, Some, List, []
 use Rattle.std.proofs.lemmas.Bool.{cases_lt}
 use Rattle.std.proofs.lemmas.Bool.Decides.{eqb_tells}
 use Rattle.meet_tickets.specs.declared.lines.Entry.{Entry}
-use Rattle.meet_tickets.specs.declared.places.End.{End}
-use Rattle.meet_tickets.specs.declared.places.End.TheVariants.{Front, Back}
 use Rattle.meet_tickets.specs.declared.places.Kind.{Kind}
 use Rattle.meet_tickets.specs.declared.records.Record.{Record}
 use Rattle.meet_tickets.specs.declared.records.Deed.{Deed}
@@ -18,27 +16,8 @@ use Rattle.meet_overlap.specs.Marks.{IsEnded}
 use Rattle.meet_overlap.specs.Reasons.{IsUnmet, item_of}
 use Rattle.meet_overlap.proofs.Courses.{IsCourse, later, after_event, happens, goes_on, whole_course, never_left, own_call, still, too_late}
 use Rattle.meet_overlap.proofs.Effects.{IsWell, well_stays, well_empty}
-use Rattle.meet_overlap.proofs.InLine.{IsOrdered, ordered_stays, ordered_empty, ComesFirst}
+use Rattle.meet_overlap.proofs.InLine.{IsOrdered, ordered_stays, ordered_empty}
 use Rattle.meet_overlap.proofs.Standing.{WasMet, was_met, IsStanding, stands, own_seen, unseen, now_standing, entry_with, above_waits}
-
--- the first ticket's turn comes after the other's, where the line is met at this end
-abbrev pub ComesAfter : End → (one other : ℕ) → Type 0
-ComesAfter Front one other = other < one
-ComesAfter Back one other = one < other
-
-pub never_first : (end : End) (one other : ℕ) → ComesFirst end one other → ComesAfter end one other → ⊥
-never_first Front one other first after = absurd (omega arith)
-never_first Back one other first after = absurd (omega arith)
-
--- a call has made its request, where the last one's turn comes first
-abbrev pub HasBegun : End → Stage → Type 0
-HasBegun Front stage = Unit {0}
-HasBegun Back stage = stage ≡ Ahead → ⊥
-
--- so a ticket that it gets by a request comes after one that stood there before
-pub comes_after : (end : End) (stage : Stage) (one other : ℕ) → HasBegun end stage → stage ≡ Ahead → other < one → ComesAfter end one other
-comes_after Front stage one other begun ahead above = above
-comes_after Back stage one other begun ahead above = absurd (begun ahead)
 
 module _ (k : Kind) (calls : List Call) (waiting caller : IsEnded calls) (seen : ℕ) (waits : waiting.call.waits ≡ Some seen) (unmet : IsUnmet calls waiting.call.verb waiting.returned.answer caller.returned.at) where
   pub was : WasMet waiting.call.verb waiting.returned.answer

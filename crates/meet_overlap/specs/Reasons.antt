@@ -124,8 +124,8 @@ IsBehind Front seen waiting caller met = seen < met.begin
 IsBehind Back seen waiting caller met = (early : ℕ) × (met.waits ≡ Some early) × (early < waiting.begin)
     × (seen < caller.begin)
 
--- a call was seen to wait, and one of the other side met another one, whose turn came later: the item which they met with
--- is given by one call alone; and none may have met the one that waited that began by the end of the caller
+-- a call was seen to wait, and one of the other side met another one, whose turn came later: the item which they met
+-- with is given by one call alone; and none may have met the one that waited that began by the end of the caller
 pub record IsPassed (k : Kind) (calls : List Call) : Type 0 where
   pub waiting : IsEnded calls
   pub seen : ℕ

@@ -81,9 +81,9 @@ pub enum Reason {
         caller: usize,
         waiting: usize,
     },
-    /// `caller` met a call with the item though `waiting`, a call of the same side as that one, waited all the time, and its
-    /// turn came first: in front, or on top where the last one is met first. No call can have met `waiting` by the end of
-    /// `caller`. `held` is the item that `waiting` gives, if it gives one.
+    /// `caller` met a call with the item though `waiting`, a call of the same side as that one, waited all the time, and
+    /// its turn came first: in front, or on top where the last one is met first. No call can have met `waiting` by the
+    /// end of `caller`. `held` is the item that `waiting` gives, if it gives one.
     Passed {
         item: u64,
         caller: usize,

@@ -251,8 +251,8 @@ fn last_throughout(
     Ok(found)
 }
 
-/// The same as `waiting_throughout`, but of the calls that are there the last one is found, if it came after the call that
-/// was met.
+/// The same as `waiting_throughout`, but of the calls that are there the last one is found, if it came after the call
+/// that was met.
 pub(crate) fn last_waiting_throughout(
     alloc: Global,
     calls: &[Call],

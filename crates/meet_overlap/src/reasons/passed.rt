@@ -31,7 +31,8 @@ fn meets(caller: Verb, answer: Answer, met: Verb, other: Answer, waiting: Verb) 
     }
 }
 
-/// Whether a call that was seen to wait has its turn before the one that a caller met, where the line is met at this end.
+/// Whether a call that was seen to wait has its turn before the one that a caller met, where the line is met at this
+/// end.
 fn behind(end: End, seen: u64, waiting: &Call, caller: &Call, met: &Call) -> bool
     ensures { IsTrue result → IsBehind end seen waiting.now caller.now met.now }
 {
@@ -46,7 +47,8 @@ fn behind(end: End, seen: u64, waiting: &Call, caller: &Call, met: &Call) -> boo
     }
 }
 
-/// That the third call met the second one though the first one, whose turn came before, waited all the time; if it is so.
+/// That the third call met the second one though the first one, whose turn came before, waited all the time; if it is
+/// so.
 fn passed(kind: Kind, calls: &[Call], first: usize, second: usize, third: usize) -> Option<Reason>
     requires waits { first < length calls.now }
     requires met { second < length calls.now }
@@ -171,8 +173,8 @@ fn passed_of(
     Ok(None)
 }
 
-/// A call that was met though one of its side, whose turn came first, waited all the time, if one is found. Fails only if
-/// an allocation fails.
+/// A call that was met though one of its side, whose turn came first, waited all the time, if one is found. Fails only
+/// if an allocation fails.
 pub(crate) fn find_passed(
     alloc: Global,
     kind: Kind,
