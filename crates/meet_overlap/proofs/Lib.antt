@@ -17,6 +17,7 @@ pub mod Overlooking
 pub mod Overtaking
 pub mod PassedGivers
 pub mod PassedTakers
+pub mod PassedTurns
 pub mod Passing
 pub mod Paths
 pub mod PlaySteps
@@ -32,7 +33,6 @@ pub mod Sound
 pub mod Standing
 pub mod Tables
 pub mod Timed
-pub mod Turns
 pub mod Twice
 pub mod Watching
 pub mod Ways

@@ -32,7 +32,7 @@ use Rattle.meet_overlap.proofs.Giving.{GivesOne, gives_or_not, gives_by, new_ite
 use Rattle.meet_overlap.proofs.InLine.{IsUnmixed, IsOrdered, none_front, alone_giver, alone_taker, met_first}
 use Rattle.meet_overlap.proofs.Standing.{WasMet, was_met, LetsEnd, request_with, entry_with, IsStanding, stands_on, now_waiting, own_seen, unseen}
 use Rattle.meet_overlap.proofs.Tables.{got_below}
-use Rattle.meet_overlap.proofs.Turns.{ComesAfter, never_first, HasBegun, comes_after, not_both, begun_then, begun_stays}
+use Rattle.meet_overlap.proofs.PassedTurns.{ComesAfter, never_first, HasBegun, comes_after, not_both, begun_then, begun_stays}
 use Rattle.meet_overlap.proofs.Twice.{gives_from}
 use Rattle.meet_overlap.proofs.Watching.{Stands, IsWatched, too_early, watched}
 

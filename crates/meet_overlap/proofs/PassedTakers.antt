@@ -33,7 +33,7 @@ use Rattle.meet_overlap.proofs.Giving.{GivesOne, GivesNone, gives_or_not, gives_
 use Rattle.meet_overlap.proofs.InLine.{IsUnmixed, IsOrdered, none_front, alone_giver, alone_taker, met_first, ComesFirst, IsKept, finds_one, leaves_by, kept_stays, own_entry, now_kept}
 use Rattle.meet_overlap.proofs.Standing.{WasMet, was_met, LetsEnd, request_with, entry_with, IsStanding, stands_on, now_waiting, own_seen, unseen}
 use Rattle.meet_overlap.proofs.Tables.{got_below}
-use Rattle.meet_overlap.proofs.Turns.{ComesAfter, never_first, HasBegun, comes_after, not_both, begun_then, begun_stays}
+use Rattle.meet_overlap.proofs.PassedTurns.{ComesAfter, never_first, HasBegun, comes_after, not_both, begun_then, begun_stays}
 use Rattle.meet_overlap.proofs.Twice.{GetsBy, gets, opens, IsFresh, IsGiven, given_stays, met_entry, fresh_gives, fresh_line, fresh_pairs, still_giver, won}
 use Rattle.meet_overlap.proofs.Watching.{Stands, IsWatched, too_early, watched}
 use Rattle.meet_overlap.proofs.Ways.{put_same}
