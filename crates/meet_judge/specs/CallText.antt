@@ -15,7 +15,7 @@ use Rattle.meet_overlap.specs.declared.calls.Verb.{Verb}
 use Rattle.meet_overlap.specs.declared.calls.Verb.TheVariants.{Keep, Give, Take, Interrupt}
 use Rattle.meet_overlap.specs.declared.reasons.Reason.{Reason}
 use Rattle.meet_overlap.specs.declared.reasons.Reason.TheVariants.{Ungiven, Untaken, Overtaken, Doubled, Overlooked}
-use Rattle.meet_overlap.specs.declared.reasons.Reason.TheVariants.{Missed, Stuck as SearchStuck}
+use Rattle.meet_overlap.specs.declared.reasons.Reason.TheVariants.{Missed, Passed, Stuck as SearchStuck}
 use Rattle.meet_overlap.specs.declared.search.Stuck.{Stuck}
 use Rattle.meet_run.specs.Scripts.Spelling.{place_text, option_text}
 
@@ -129,6 +129,8 @@ reason_text (Doubled item first second giver) count =
 reason_text (Overlooked item taker giver) count =
     (codes "refused line " ++ line_number taker) ++ codes ": nothing was found" ++ put_text giver item
 reason_text (Missed item caller waiting) count = missed_text caller waiting item
+reason_text (Passed item caller waiting held) count =
+    case_text caller item (codes " was got out of order") None [] ++ waited_text waiting held
 reason_text (SearchStuck stuck) count = stuck_text stuck count
 
 -- the same as a line

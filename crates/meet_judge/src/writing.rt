@@ -355,6 +355,15 @@ fn push_reason(out: &mut Vec<u8>, reason: Reason, count: u64) -> Result<(), Allo
             caller,
             waiting,
         } => push_missed(out, caller, waiting, item),
+        Reason::Passed {
+            item,
+            caller,
+            waiting,
+            held,
+        } => {
+            push_case(out, caller, item, b" was got out of order", None, b"")?;
+            push_waited(out, waiting, held)
+        }
         Reason::Stuck(stuck) => push_stuck(out, stuck, count),
     }
 }

@@ -25,7 +25,7 @@ use Rattle.meet_overlap.specs.declared.calls.Verb.TheVariants.{Keep, Give, Take,
 use Rattle.meet_overlap.specs.declared.calls.Call.{Call}
 use Rattle.meet_overlap.specs.declared.calls.Stage.{Stage}
 use Rattle.meet_overlap.specs.declared.calls.Stage.TheVariants.{Ahead, Open, Over}
-use Rattle.meet_overlap.specs.Calls.{Tells, IsWithin, MayStop, told_by, stage_after}
+use Rattle.meet_overlap.specs.Calls.{Tells, IsInTurn, IsWithin, MayStop, told_by, stage_after}
 use Rattle.meet_overlap.specs.Explaining.{Event, Explains, records_of}
 use Rattle.meet_overlap.specs.Known.{LeadsOn, IsBarren, AreBarren, HasAlike, HasNoPlay, HasNonePlayed, IsAlike, IsOverdue, IsRunTo, IsRunThere, IsNoted, IsBound, IsDue, IsPatient, AreLeast}
 use Rattle.meet_overlap.specs.declared.due.Due.{Due}
@@ -53,6 +53,7 @@ play_alike k calls (e ∷ run) w v alike is =
       time = p.time;
       tells = p.tells;
       within = p.within;
+      turn = p.turn;
     } in (
       subst (λ x. Plays k calls x e) (same w v alike) seats,
       play_alike k calls run (world_after k w e) (world_after k v e) (record {
@@ -248,12 +249,12 @@ there_more k calls w v x old new there n = record {
 
 -- a step of the search is noted
 pub step_noted : (k : Kind) (calls : List Call) (w : World) (n : ℕ) (call : Call) → slice_get calls n ≡ Some call → (d : Deed) (t time : ℕ) (then : World) (old new : List (Record Deed)) →
-    deed_of k w.moment.seats call (w.stages n) ≡ Some d → t ≡ ticket_of w.moment call.verb (w.stages n) → time ≡ max w.time call.begin → Tells call d → IsWithin call time d →
+    deed_of k w.moment.seats call (w.stages n) ≡ Some d → t ≡ ticket_of w.moment call.verb (w.stages n) → time ≡ max w.time call.begin → Tells call d → IsWithin call time d → IsInTurn calls w.stages n →
     then ≡ world_after k w (record { call = n; time = time; entry = record { seat = call.seat; ticket = t; deed = d } }) →
     new ≡ old ++ record { seat = call.seat; ticket = t; deed = d } ∷ [] → IsNoted k calls w then old new
-step_noted k calls w n call known d t time then old new is ticket at tells within leaves noted = record {
+step_noted k calls w n call known d t time then old new is ticket at tells within turn leaves noted = record {
   event = record { call = n; time = time; entry = record { seat = call.seat; ticket = t; deed = d } };
-  steps = record { call = call; known = known; seat = refl; ticket = ticket; deed = is; time = at; tells = tells; within = within };
+  steps = record { call = call; known = known; seat = refl; ticket = ticket; deed = is; time = at; tells = tells; within = within; turn = turn };
   leaves = leaves;
   noted = noted;
 }

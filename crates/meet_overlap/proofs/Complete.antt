@@ -1,6 +1,6 @@
 -- Where there is a way there is a run: the search numbers the tickets as they come, and takes each event as early as it
 -- can be.
-use Rattle.std.proofs.Common.{◌≡◌, ℕ, suc, zero, ◌+◌, ◌<◌, ◌≤◌, Bool, true, false, cond, Option, Some, None, List, [], ◌∷◌, refl, sym, ap, ◌∙◌, subst, ⊎_elim, arith}
+use Rattle.std.proofs.Common.{◌≡◌, ℕ, suc, zero, ◌+◌, ◌<◌, ◌≤◌, Bool, true, false, cond, Option, Some, None, List, [], ◌∷◌, refl, sym, ap, ◌∙◌, subst, ⊎_elim, inl, arith}
 use Rattle.std.specs.Prelude.{option_map, max, IfSome}
 use Rattle.std.proofs.lemmas.Bool.{cases_lt}
 use Rattle.meet_tickets.proofs.Tellings.Histories.{tellings_are_one}
@@ -114,6 +114,12 @@ request_next g m call Ahead r moves q = by_verb call.verb moves.0
 request_next g m call (Open t) r moves q = absurd (ending_no_request call.verb r.deed moves.1 q)
 request_next g m call Over r moves q = absurd moves
 
+-- a call that is ahead under other names is ahead
+ahead_named : (g : ℕ → ℕ) (s : Stage) → rename_stage g s ≡ Ahead → s ≡ Ahead
+ahead_named g Ahead e = refl
+ahead_named g (Open t) e = absurd (cc)
+ahead_named g Over e = absurd (cc)
+
 -- the search makes it
 pub made : (g : ℕ → ℕ) → IsNaming g → (k : Kind) (calls : List Call) (w : World) (time : ℕ) (e : Event) → w.time ≤ time →
     Comes k calls (rename_world g time w) e → IsNamed g w e → Made g k calls w e
@@ -149,6 +155,7 @@ made g naming k calls w time e le comes named =
           ended = IfSome-earlier call.returned (max w.time call.begin) e.time early comes.within.ended;
           seen = λ q. seen-earlier call.waits (max w.time call.begin) e.time (told_by e.entry.deed) (told_by d) early (sym told) (comes.within.seen (sym request ∙ q));
         };
+        turn = λ m mine later lt own there same. ahead_named g (w.stages m) (comes.turn m mine later lt own there same);
       };
     }
   where
@@ -278,7 +285,9 @@ explained_run k calls events explained =
       owned = explained.owned;
       rising = explained.rising;
       formed = explained.formed;
-    }))
+      turns = explained.turns;
+    })
+    (λ n call known. inl refl))
 
 -- a run explains
 pub run_explains : (k : Kind) (calls : List Call) (events : List Event) → IsRun k calls start events → IsExplained k calls events
@@ -289,6 +298,7 @@ run_explains k calls events run =
       owned = whole.owned;
       rising = whole.rising;
       formed = whole.formed;
+      turns = whole.turns;
     }
 
 -- where there is no run nothing explains

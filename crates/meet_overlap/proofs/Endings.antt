@@ -168,6 +168,13 @@ module _ (k : Kind) (calls : List Call) where
         time = p.time;
         tells = p.tells;
         within = p.within;
+        turn = λ n mine later lt own there same. ⊎_elim
+            (λ q.
+            let ahead : w.stages m.number ≡ Ahead = sym (ap w.stages q.1) ∙ p.turn n mine later lt own there same in
+            let waits = m.stage in
+            absurd (cc))
+            (λ q. put_other w.stages m.number Over n q.1 ∙ p.turn n mine later lt own there same)
+            (eqb_tells n m.number);
       }
 
   -- and leaves what the ending leaves behind it

@@ -84,6 +84,35 @@ front_least (x ∷ line) side h is sorted e there = here (is_on side x) is
         (λ behind. let lt = sorted.0 e behind in let t : x.ticket ≡ h.ticket = ap (λ (g : Entry ℕ). g.ticket) same in omega arith)
         (Contains-cases x line e there)
 
+-- the last of a rising line has the greatest ticket
+last_most : (x : Entry ℕ) (line : List (Entry ℕ)) (h : Entry ℕ) → slice_get (x ∷ line) (length line) ≡ Some h → IsSorted (x ∷ line) → (e : Entry ℕ) → Contains (x ∷ line) e → e.ticket ≤ h.ticket
+last_most x [] h is sorted e there = ⊎_elim
+    (λ at. let same : x ≡ h = cc in let t : e.ticket ≡ h.ticket = ap (λ (g : Entry ℕ). g.ticket) (sym at ∙ same) in omega arith)
+    (λ behind. absurd (Contains-nil e behind))
+    (Contains-cases x [] e there)
+last_most x (y ∷ line) h is sorted e there = ⊎_elim
+    (λ at.
+    let low = last_most y line h is sorted.1 y (first y line) in
+    let lt = sorted.0 y (first y line) in
+    let t : x.ticket ≡ e.ticket = ap (λ (g : Entry ℕ). g.ticket) at in omega arith)
+    (λ behind. last_most y line h is sorted.1 e behind)
+    (Contains-cases x (y ∷ line) e there)
+
+-- the first ticket's turn isn't after the other's, where the line is met at this end
+abbrev pub ComesFirst : End → (one other : ℕ) → Type 0
+ComesFirst Front one other = one ≤ other
+ComesFirst Back one other = other ≤ one
+
+-- who is met comes first
+pub met_first : (end : End) (line : List (Entry ℕ)) (side : Side) (h : Entry ℕ) → partner end line side ≡ Some h → IsSorted line → (e : Entry ℕ) → Contains line e → ComesFirst end h.ticket e.ticket
+met_first Front line side h is sorted e there = front_least line side h is sorted e there
+met_first Back [] side h is sorted e there = absurd (Contains-nil e there)
+met_first Back (x ∷ line) side h is sorted e there = here (is_on side x) is
+  where
+    here : (b : Bool) → (if b then None else met Back (x ∷ line)) ≡ Some h → e.ticket ≤ h.ticket
+    here true q = absurd (cc)
+    here false q = last_most x line h (let at : length line ≡ length (x ∷ line) - 1 = omega arith in ap (slice_get (x ∷ line)) at ∙ q) sorted e there
+
 -- a line in order: of one side, by rising tickets; and open tickets are below the last
 pub record IsOrdered (s : State) : Type 0 where
   pub sorted : IsSorted s.line

@@ -7,6 +7,7 @@ pub mod Effects
 pub mod Endings
 pub mod Giving
 pub mod InLine
+pub mod InTurn
 pub mod Keeping
 pub mod LineParts
 pub mod Missing
@@ -14,6 +15,10 @@ pub mod NeverGiven
 pub mod NeverTaken
 pub mod Overlooking
 pub mod Overtaking
+pub mod PassedGivers
+pub mod PassedTakers
+pub mod PassedTurns
+pub mod Passing
 pub mod Paths
 pub mod PlaySteps
 pub mod Played
@@ -29,5 +34,6 @@ pub mod Standing
 pub mod Tables
 pub mod Timed
 pub mod Twice
+pub mod Watching
 pub mod Ways
 pub mod Windows

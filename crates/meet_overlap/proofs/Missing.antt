@@ -1,5 +1,5 @@
 -- If a call found nobody although one of the other side waited all the time, no history explains the calls.
-use Rattle.std.proofs.Common.{◌≡◌, ◌≢◌, ℕ, Some, None, List, [], ◌∷◌, Contains, refl, sym, ap, ◌∙◌, subst, ⊎_elim, arith}
+use Rattle.std.proofs.Common.{◌≡◌, ◌≢◌, ℕ, Some, List, [], ◌∷◌, Contains, refl, sym, ap, ◌∙◌, subst, ⊎_elim, arith}
 use Rattle.std.specs.Prelude.{slice_get, IfSome}
 use Rattle.std.proofs.lemmas.Bool.{cases_lt}
 use Rattle.std.proofs.lemmas.Bool.Decides.{eqb_tells}
@@ -18,14 +18,14 @@ use Rattle.meet_overlap.specs.declared.calls.Call.{Call}
 use Rattle.meet_overlap.specs.declared.calls.Stage.{Stage}
 use Rattle.meet_overlap.specs.declared.calls.Stage.TheVariants.{Ahead, Over}
 use Rattle.meet_overlap.specs.declared.calls.Verb.{Verb}
-use Rattle.meet_overlap.specs.declared.calls.Verb.TheVariants.{Keep, Give, Take, Interrupt as InterruptSeat}
+use Rattle.meet_overlap.specs.declared.calls.Verb.TheVariants.{Give, Take}
 use Rattle.meet_overlap.specs.Calls.{Begins, Moves, told_by}
 use Rattle.meet_overlap.specs.Explaining.{Event, Explains}
 use Rattle.meet_overlap.specs.Reasons.{Misses, IsMissed, item_of}
 use Rattle.meet_overlap.proofs.Courses.{Happens, IsCourse, later, after_event, happens, goes_on, whole_course, never_left, own_call, still, too_late, answers}
 use Rattle.meet_overlap.proofs.Effects.{IsWell, well_stays, well_empty}
 use Rattle.meet_overlap.proofs.InLine.{IsUnmixed, IsOrdered, ordered_stays, ordered_empty, none_front, alone_giver, alone_taker}
-use Rattle.meet_overlap.proofs.Standing.{IsStanding, stands, unseen, now_standing, entry_with}
+use Rattle.meet_overlap.proofs.Standing.{WasMet, was_met, IsStanding, stands, unseen, now_standing, entry_with}
 
 -- a call that finds nobody makes its request where none of the other side stands
 alone : (k : Kind) (s : State) (i t : ℕ) (verb : Verb) (answer : Answer) (other : Verb) (d : Deed) → Misses verb answer other → Begins verb d → IfSome (told_by d) (λ a. a ≡ answer) → IsStep k s i t d → IsUnmixed s.line →
@@ -55,6 +55,9 @@ apart (Give Timed m) TimeRanOut misses = misses
 apart verb answer misses = misses
 
 module _ (k : Kind) (calls : List Call) (u : IsMissed calls) where
+  was : WasMet u.waiting.call.verb u.waiting.returned.answer
+  was = was_met calls u.caller.returned.at u.waiting.call.verb u.waiting.returned.answer u.unmet
+
   -- the call's own event, while it is ahead: none of the other side stands there
   finds_nobody : (e : Event) (s : State) (time : ℕ) (stages : ℕ → Stage) → Happens k calls s time stages e → e.call ≡ u.caller.number → stages u.caller.number ≡ Ahead → IsUnmixed s.line → (f : Entry ℕ) → Contains s.line f → f.item ≡ item_of u.waiting.call.verb → ⊥
   finds_nobody e s time stages h at ahead unmixed f there item =
@@ -66,7 +69,7 @@ module _ (k : Kind) (calls : List Call) (u : IsMissed calls) where
   never_over stages ahead over = let q = sym ahead ∙ over in absurd (cc)
 
   -- it stands in the line, and the call is ahead
-  there_it_is : (events : List Event) (s : State) (time : ℕ) (stages : ℕ → Stage) (entry : Entry ℕ) → IsStanding k calls u.waiting u.caller.returned.at u.unmet s stages entry → stages u.caller.number ≡ Ahead → IsCourse k calls s time stages events → ⊥
+  there_it_is : (events : List Event) (s : State) (time : ℕ) (stages : ℕ → Stage) (entry : Entry ℕ) → IsStanding k calls u.waiting was s stages entry → stages u.caller.number ≡ Ahead → IsCourse k calls s time stages events → ⊥
   there_it_is [] s time stages entry b ahead c = never_left k calls u.caller (stages u.caller.number) (never_over stages ahead) (c.formed u.caller.number u.caller.call u.caller.known)
   there_it_is (e ∷ events) s time stages entry b ahead c =
       let h = happens k calls s time stages e events c in
@@ -76,7 +79,7 @@ module _ (k : Kind) (calls : List Call) (u : IsMissed calls) where
       let on : later stages e u.caller.number ≡ Ahead = still k calls u.caller stages e q.1 ∙ ahead in
       ⊎_elim
       (λ late. too_late k calls u.caller events (after_event s e) e.time (later stages e) (never_over (later stages e) on) late (goes_on k calls s time stages e events c))
-      (λ le. there_it_is events (after_event s e) e.time (later stages e) entry (stands k calls u.waiting u.caller.returned.at u.unmet e events s time stages entry b c le) on (goes_on k calls s time stages e events c))
+      (λ le. there_it_is events (after_event s e) e.time (later stages e) entry (stands k calls u.waiting was u.caller.returned.at u.unmet e events s time stages entry b c le) on (goes_on k calls s time stages e events c))
       (cases_lt u.caller.returned.at e.time))
       (eqb_tells e.call u.caller.number)
 
@@ -101,14 +104,14 @@ module _ (k : Kind) (calls : List Call) (u : IsMissed calls) where
       let h = happens k calls s time stages e events c in
       ⊎_elim
       (λ q. there_it_is events (after_event s e) e.time (later stages e) (entry_with e.entry.seat e.entry.ticket (item_of u.waiting.call.verb))
-      (now_standing k calls u.waiting u.caller.returned.at u.unmet u.seen u.waits e s time stages b.well b.ordered b.waiting h q.1)
+      (now_standing k calls u.waiting was u.seen u.waits e s time stages b.well b.ordered b.waiting h q.1)
       (still k calls u.caller stages e (not_both e q.1) ∙ b.caller) (goes_on k calls s time stages e events c))
       (λ q. ⊎_elim
       (λ at.
       let begun = h.of.within.begun in
       let before = u.before in
       let mine : h.of.call.begin ≡ u.caller.call.begin = ap (λ (y : Call). y.begin) (own_call k calls u.caller e at.1 h.of) in
-      unseen k calls u.waiting u.caller.returned.at u.unmet u.seen u.waits events (after_event s e) e.time (later stages e) (still k calls u.waiting stages e q.1 ∙ b.waiting) (omega arith) (goes_on k calls s time stages e events c))
+      unseen k calls u.waiting was u.seen u.waits events (after_event s e) e.time (later stages e) (still k calls u.waiting stages e q.1 ∙ b.waiting) (omega arith) (goes_on k calls s time stages e events c))
       (λ other. before_it events (after_event s e) e.time (later stages e) (record {
         well = well_stays k s e.entry.seat e.entry.ticket e.entry.deed b.well h.step;
         ordered = ordered_stays k s e.entry.seat e.entry.ticket e.entry.deed b.well b.ordered h.step;

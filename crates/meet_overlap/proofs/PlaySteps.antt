@@ -6,7 +6,7 @@ use Rattle.meet_tickets.specs.declared.records.Record.{Record}
 use Rattle.meet_tickets.specs.declared.records.Deed.{Deed}
 use Rattle.meet_overlap.specs.declared.calls.Call.{Call}
 use Rattle.meet_overlap.specs.Explaining.{Event}
-use Rattle.meet_overlap.specs.Calls.{Tells, IsWithin}
+use Rattle.meet_overlap.specs.Calls.{Tells, IsInTurn, IsWithin}
 use Rattle.meet_overlap.specs.Known.{IsOnlyPlay, LeadsOn}
 use Rattle.meet_overlap.specs.Plays.{play_ticket, Plays}
 use Rattle.meet_overlap.specs.Search.{World, world_after, deed_of}
@@ -47,12 +47,16 @@ module _ (k : Kind) (calls : List Call) (w : World) (n : ℕ) (call : Call) (kno
       let two : IsWithin call (max w.time call.begin) e.entry.deed = subst (λ t. IsWithin call t e.entry.deed) (same_time e at s) one in
       not_within (subst (IsWithin call (max w.time call.begin)) (same_deed d is e at s) two)
 
+  -- nor where a later call of its seat has begun
+  pub none_turns : (IsInTurn calls w.stages n → ⊥) → (e : Event) → e.call ≡ n → Plays k calls w e → ⊥
+  none_turns not_turn e at s = not_turn (subst (IsInTurn calls w.stages) at s.turn)
+
   -- else this is the only one
-  pub only_next : (d : Deed) (t : ℕ) → deed_of k w.moment.seats call (w.stages n) ≡ Some d → t ≡ play_ticket w.moment.seats n call.verb (w.stages n) → Tells call d → IsWithin call (max w.time call.begin) d →
+  pub only_next : (d : Deed) (t : ℕ) → deed_of k w.moment.seats call (w.stages n) ≡ Some d → t ≡ play_ticket w.moment.seats n call.verb (w.stages n) → Tells call d → IsWithin call (max w.time call.begin) d → IsInTurn calls w.stages n →
       IsOnlyPlay k calls w n (record { call = n; time = max w.time call.begin; entry = record { seat = call.seat; ticket = t; deed = d } })
-  only_next d t is ticket tells within = record {
+  only_next d t is ticket tells within turn = record {
     call = refl;
-    plays = record { call = call; known = known; seat = refl; ticket = ticket; deed = is; time = refl; tells = tells; within = within };
+    plays = record { call = call; known = known; seat = refl; ticket = ticket; deed = is; time = refl; tells = tells; within = within; turn = turn };
     only = λ f at s. same f at s;
   }
     where
@@ -87,12 +91,12 @@ module _ (k : Kind) (calls : List Call) (w : World) (n : ℕ) (call : Call) (kno
 
 -- a step of a play leads on
 pub play_leads : (k : Kind) (calls : List Call) (w : World) (n : ℕ) (call : Call) → slice_get calls n ≡ Some call → (d : Deed) (t time : ℕ) (then : World) →
-    deed_of k w.moment.seats call (w.stages n) ≡ Some d → t ≡ play_ticket w.moment.seats n call.verb (w.stages n) → time ≡ max w.time call.begin → Tells call d → IsWithin call time d →
+    deed_of k w.moment.seats call (w.stages n) ≡ Some d → t ≡ play_ticket w.moment.seats n call.verb (w.stages n) → time ≡ max w.time call.begin → Tells call d → IsWithin call time d → IsInTurn calls w.stages n →
     then ≡ world_after k w (record { call = n; time = time; entry = record { seat = call.seat; ticket = t; deed = d } }) → LeadsOn k calls w n then
-play_leads k calls w n call known d t time then is ticket at tells within leaves =
+play_leads k calls w n call known d t time then is ticket at tells within turn leaves =
     let early : IsWithin call (max w.time call.begin) d = subst (λ x. IsWithin call x d) at within in
     record {
       event = record { call = n; time = max w.time call.begin; entry = record { seat = call.seat; ticket = t; deed = d } };
-      only = only_next k calls w n call known d t is ticket tells early;
+      only = only_next k calls w n call known d t is ticket tells early turn;
       leaves = leaves ∙ ap (λ x. world_after k w (record { call = n; time = x; entry = record { seat = call.seat; ticket = t; deed = d } })) at;
     }

@@ -22,7 +22,7 @@ use Rattle.meet_overlap.specs.Search.{World, start, world_after, ticket_of, requ
 use Rattle.meet_overlap.proofs.Tables.{got_below}
 use Rattle.meet_overlap.proofs.Complete.{rename_world}
 use Rattle.meet_overlap.proofs.Renamed.{IsNaming, rename_deed, rename_record, rename_stage, rename_seats, told_alike, requests_alike, stage_alike, put_alike, deed_alike, cut_alike, moment_alike}
-use Rattle.meet_overlap.proofs.Ways.{step_right, put_same, put_other, ending_no_request, interrupt_no_request}
+use Rattle.meet_overlap.proofs.Ways.{step_right, put_same, put_other, never_back, ending_no_request, interrupt_no_request}
 
 -- an event under other names
 abbrev pub rename_event : (ℕ → ℕ) → Event → Event
@@ -93,6 +93,7 @@ step_plays h naming k calls w e s named = record {
     ended = s.within.ended;
     seen = λ q. seen_alike s.call.waits e.time (told_by e.entry.deed) (told_by (rename_deed h e.entry.deed)) (sym (told_alike h e.entry.deed)) (s.within.seen (sym (requests_alike h e.entry.deed) ∙ q));
   };
+  turn = λ m mine later lt own there same. ap (rename_stage h) (s.turn m mine later lt own there same);
 }
 
 -- and leaves the same under the other names
@@ -143,16 +144,6 @@ run_played h naming k calls w (e ∷ run) is called =
       step_plays h naming k calls w e s (λ q. ap h (first q).1 ∙ called_now h w.moment.last (is_request e.entry.deed) e.call (callers run) called q),
       subst (λ x. IsPlay k calls x (map (rename_event h) run)) (sym (step_leaves h naming k w e)) rest,
     )
-
--- no stage comes back to its beginning
-never_back : (s : Stage) (r : Record Deed) → stage_after s r ≡ Ahead → ⊥
-never_back Ahead r e = by_told (told_by r.deed) e
-  where
-    by_told : (o : Option Answer) → stage_told r.ticket o ≡ Ahead → ⊥
-    by_told None e = absurd (cc)
-    by_told (Some a) e = absurd (cc)
-never_back (Open t) r e = absurd (cc)
-never_back Over r e = absurd (cc)
 
 later_ahead : (stages : ℕ → Stage) (key : ℕ) (r : Record Deed) (c : ℕ) → put_at stages key (stage_after (stages key) r) c ≡ Ahead → (c ≢ key) × (stages c ≡ Ahead)
 later_ahead stages key r c e = ⊎_elim

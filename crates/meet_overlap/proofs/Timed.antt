@@ -9,7 +9,7 @@ use Rattle.meet_overlap.specs.declared.calls.Returned.{Returned}
 use Rattle.meet_overlap.specs.declared.calls.Answer.{Answer}
 use Rattle.meet_overlap.specs.declared.calls.Stage.TheVariants.{Ahead}
 use Rattle.meet_overlap.specs.Calls.{Remains, told_by}
-use Rattle.meet_overlap.specs.Explaining.{Event, records_of, dealt, AreOf, IsRising, IsExplained}
+use Rattle.meet_overlap.specs.Explaining.{Event, records_of, dealt, AreOf, IsRising, NoneBefore, AreInTurn, IsExplained}
 use Rattle.meet_overlap.specs.Ordered.{IsInTime, AreBy, AreInTime, AreOrdered, IsOrderlyExplained}
 
 -- the events at the least times that their order allows
@@ -62,6 +62,15 @@ timed_rising : (calls : List Call) (time : ℕ) (events : List Event) (by : AreB
 timed_rising calls time [] by = tt
 timed_rising calls time (e ∷ events) by = (omega arith, timed_rising calls (max time by.0.call.begin) events by.1)
 
+timed_before : (calls : List Call) (time n i : ℕ) (events : List Event) (by : AreBy calls events) → NoneBefore n i events → NoneBefore n i (timed calls time events by)
+timed_before calls time n i [] by none = tt
+timed_before calls time n i (e ∷ events) by none = (none.0, timed_before calls (max time by.0.call.begin) n i events by.1 none.1)
+
+timed_turns : (calls : List Call) (time : ℕ) (events : List Event) (by : AreBy calls events) → AreInTurn events → AreInTurn (timed calls time events by)
+timed_turns calls time [] by turns = tt
+timed_turns calls time (e ∷ events) by turns =
+    (timed_before calls (max time by.0.call.begin) e.call e.entry.seat events by.1 turns.0, timed_turns calls (max time by.0.call.begin) events by.1 turns.1)
+
 ended_at_zero : (o : Option Returned) → IfSome o (λ r. 0 ≤ r.at)
 ended_at_zero None = tt
 ended_at_zero (Some r) = omega arith
@@ -87,6 +96,7 @@ timed_explains k calls events o = record {
   legal = subst (IsLegal k) (sym (timed_records calls 0 events o.by)) o.legal;
   owned = timed_owned calls 0 events o.by (first_in_time calls events o.by o.ordered) o.ordered;
   rising = timed_rising calls 0 events o.by;
+  turns = timed_turns calls 0 events o.by o.turns;
   formed = λ n call known. subst (Remains call Ahead) (sym (timed_dealt n calls 0 events o.by)) (o.formed n call known);
 }
 
@@ -122,7 +132,7 @@ ordered_of calls (e ∷ events) of now rising =
 
 -- and events that explain the calls at their times are in order
 pub explained_orderly : (k : Kind) (calls : List Call) (events : List Event) → IsExplained k calls events → IsOrderlyExplained k calls events
-explained_orderly k calls events e = record { legal = e.legal; by = by_of calls events e.owned; ordered = ordered_of calls events e.owned 0 e.rising; formed = e.formed }
+explained_orderly k calls events e = record { legal = e.legal; by = by_of calls events e.owned; ordered = ordered_of calls events e.owned 0 e.rising; turns = e.turns; formed = e.formed }
 
 -- events in order have times at which their records explain the calls
 pub orderly_explained : (k : Kind) (calls : List Call) (events : List Event) → IsOrderlyExplained k calls events → (at_times : List Event) × IsExplained k calls at_times × (records_of at_times ≡ records_of events)

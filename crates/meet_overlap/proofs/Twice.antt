@@ -33,7 +33,7 @@ use Rattle.meet_overlap.proofs.Tables.{got_below}
 use Rattle.meet_overlap.proofs.Ways.{put_same, put_other}
 
 -- a call that gives by a deed was ahead, and isn't any more
-gives_from : (m : ℕ) (c : Call) (stage : Stage) (r : Record Deed) → Moves c stage r → GivesOne m r.deed → stage ≡ Ahead
+pub gives_from : (m : ℕ) (c : Call) (stage : Stage) (r : Record Deed) → Moves c stage r → GivesOne m r.deed → stage ≡ Ahead
 gives_from m c Ahead r moves one = refl
 gives_from m c (Open t) r moves one = absurd (ends c.verb r.deed moves.1 one)
   where
@@ -45,7 +45,7 @@ gives_from m c (Open t) r moves one = absurd (ends c.verb r.deed moves.1 one)
     ends verb d b g = b
 gives_from m c Over r moves one = absurd moves
 
-not_ahead : (stage : Stage) (r : Record Deed) → stage_after stage r ≡ Ahead → ⊥
+pub not_ahead : (stage : Stage) (r : Record Deed) → stage_after stage r ≡ Ahead → ⊥
 not_ahead Ahead r is = told (told_by r.deed) is
   where
     told : (o : Option Answer) → stage_told r.ticket o ≡ Ahead → ⊥
@@ -54,7 +54,7 @@ not_ahead Ahead r is = told (told_by r.deed) is
 not_ahead (Open t) r is = absurd (cc)
 not_ahead Over r is = absurd (cc)
 
-is_over : (stage : Stage) → (stage ≡ Over) ⊎ (stage ≡ Over → ⊥)
+pub is_over : (stage : Stage) → (stage ≡ Over) ⊎ (stage ≡ Over → ⊥)
 is_over Ahead = inr (λ is. absurd (cc))
 is_over (Open t) = inr (λ is. absurd (cc))
 is_over Over = inl refl
@@ -64,7 +64,7 @@ told_open t u None is = cc
 told_open t u (Some a) is = absurd (cc)
 
 -- by which event a call gets an item of this mark: it meets it, or was met by it
-abbrev GetsBy : ℕ → State → Stage → Deed → Type 0
+abbrev pub GetsBy : ℕ → State → Stage → Deed → Type 0
 GetsBy m s Ahead d = (v : ℕ) × (d ≡ TakeMeets m v)
 GetsBy m s (Open t) d = (v : ℕ) × Contains s.pairs (record { giver = v; taker = t; mark = m })
 GetsBy m s Over d = ⊥
@@ -96,7 +96,7 @@ module _ (k : Kind) (calls : List Call) (x : IsEnded calls) (taking : IsTaking x
   ends s i t u (Take p) (Withdrawn Interrupted) taking b step at told = absurd (cc)
   ends s i t u (Take p) d taking b step at told = absurd b
 
-  gets : (s : State) (stage : Stage) (r : Record Deed) → Moves x.call stage r → IsStep k s r.seat r.ticket r.deed → stage_after stage r ≡ Over → GetsBy m s stage r.deed
+  pub gets : (s : State) (stage : Stage) (r : Record Deed) → Moves x.call stage r → IsStep k s r.seat r.ticket r.deed → stage_after stage r ≡ Over → GetsBy m s stage r.deed
   gets s Ahead r moves step over = ⊎_elim
       (λ none. absurd (open_goes_on r.ticket (told_by r.deed) none over))
       (λ q. q)
@@ -117,7 +117,7 @@ module _ (k : Kind) (calls : List Call) (x : IsEnded calls) (taking : IsTaking x
   waits_anew s i t (Take Timed) (EntryInterrupted Taker) taking b told step none = absurd (cc)
   waits_anew s i t (Take p) d taking b told step none = absurd b
 
-  opens : (s : State) (stage : Stage) (r : Record Deed) (u : ℕ) → Moves x.call stage r → IsStep k s r.seat r.ticket r.deed → stage_after stage r ≡ Open u → (r.ticket ≡ u) × (s.last < u)
+  pub opens : (s : State) (stage : Stage) (r : Record Deed) (u : ℕ) → Moves x.call stage r → IsStep k s r.seat r.ticket r.deed → stage_after stage r ≡ Open u → (r.ticket ≡ u) × (s.last < u)
   opens s Ahead r u moves step is = (at, subst (λ y. s.last < y) at (by_told (told_by r.deed) refl is))
     where
       at : r.ticket ≡ u
@@ -160,11 +160,11 @@ module _ (k : Kind) (calls : List Call) (m giver : ℕ) (only : (n : ℕ) (c : C
     begun_after : e.call ≡ giver → later stages e giver ≡ Ahead → ⊥
     begun_after at is = not_ahead (stages e.call) e.entry (sym (put_same stages e.call (stage_after (stages e.call) e.entry)) ∙ ap (later stages e) at ∙ is)
 
-    still_giver : e.call ≢ giver → later stages e giver ≡ stages giver
+    pub still_giver : e.call ≢ giver → later stages e giver ≡ stages giver
     still_giver other = put_other stages e.call (stage_after (stages e.call) e.entry) giver (λ q. other (sym q))
 
     -- the giver's request
-    fresh_gives : IsFresh s stages → GivesOne m e.entry.deed → IsUsed (after_event s e) (later stages e)
+    pub fresh_gives : IsFresh s stages → GivesOne m e.entry.deed → IsUsed (after_event s e) (later stages e)
     fresh_gives b one_ =
         let at = only e.call h.of.call h.of.known (gives_by m h.of.call (stages e.call) e.entry h.moves one_) in
         record {
@@ -186,10 +186,10 @@ module _ (k : Kind) (calls : List Call) (m giver : ℕ) (only : (n : ℕ) (c : C
         let at = only e.call h.of.call h.of.known (gives_by m h.of.call (stages e.call) e.entry h.moves one_) in
         b.begun (ap stages (sym at) ∙ gives_from m h.of.call (stages e.call) e.entry h.moves one_)
 
-    fresh_line : IsFresh s stages → GivesNone m e.entry.deed → (g : Entry ℕ) → Contains (after_event s e).line g → g.item ≡ Some m → ⊥
+    pub fresh_line : IsFresh s stages → GivesNone m e.entry.deed → (g : Entry ℕ) → Contains (after_event s e).line g → g.item ≡ Some m → ⊥
     fresh_line b none g there item = ⊎_elim (λ q. b.line g q.0 item) (λ q. new_item m e.entry.deed g.item q.item none item) (f.line g there)
 
-    fresh_pairs : IsFresh s stages → GivesNone m e.entry.deed → (p : Pair) → Contains (after_event s e).pairs p → p.mark ≡ m → ⊥
+    pub fresh_pairs : IsFresh s stages → GivesNone m e.entry.deed → (p : Pair) → Contains (after_event s e).pairs p → p.mark ≡ m → ⊥
     fresh_pairs b none p there is = ⊎_elim
         (λ q. b.pairs p q is)
         (λ q. let t = takes_one p none q is in let e0 = met_entry s e.entry.seat e.entry.ticket t.0 t.1 in b.line e0.0 e0.1 e0.2)
@@ -262,7 +262,7 @@ module _ (k : Kind) (calls : List Call) (m giver : ℕ) (only : (n : ℕ) (c : C
         b.given
     cannot_get s stages b i t Over d at gets step = gets
 
-    won : (events : List Event) (s : State) (time : ℕ) (stages : ℕ → Stage) → IsWon y s stages → IsCourse k calls s time stages events → ⊥
+    pub won : (events : List Event) (s : State) (time : ℕ) (stages : ℕ → Stage) → IsWon y s stages → IsCourse k calls s time stages events → ⊥
     won [] s time stages b c = never_left k calls y (stages y.number) b.going (c.formed y.number y.call y.known)
     won (e ∷ events) s time stages b c = won events (after_event s e) e.time (later stages e) (record {
       well = well_stays k s e.entry.seat e.entry.ticket e.entry.deed b.well h.step;

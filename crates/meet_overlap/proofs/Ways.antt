@@ -1,7 +1,7 @@
 -- An explanation told step by step: each event may come next, and at the end each call may be left.
-use Rattle.std.proofs.Common.{◌≡◌, ◌≢◌, ℕ, ◌<◌, ◌≤◌, ◌==◌, Bool, true, false, cond, Option, Some, None, List, [], ◌∷◌, map, filter, refl, sym, ap, ◌∙◌, subst, ⊎_elim, arith}
+use Rattle.std.proofs.Common.{◌≡◌, ◌≢◌, ℕ, ◌<◌, ◌≤◌, ◌==◌, ◌⊎◌, inl, inr, Bool, true, false, cond, Option, Some, None, List, [], ◌∷◌, map, filter, refl, sym, ap, ◌∙◌, subst, ⊎_elim, arith}
 use Rattle.std.specs.Prelude.{slice_get}
-use Rattle.std.proofs.lemmas.Bool.{eq-eqb, ne_eqb}
+use Rattle.std.proofs.lemmas.Bool.{eq-eqb, ne_eqb, cases_lt}
 use Rattle.std.proofs.lemmas.Bool.Decides.{eqb_tells}
 use Rattle.meet_tickets.specs.declared.places.Kind.{Kind}
 use Rattle.meet_tickets.specs.declared.records.Record.{Record}
@@ -14,8 +14,9 @@ use Rattle.meet_overlap.specs.declared.calls.Call.{Call}
 use Rattle.meet_overlap.specs.Explaining.{Event}
 use Rattle.meet_overlap.specs.declared.calls.Stage.{Stage}
 use Rattle.meet_overlap.specs.declared.calls.Stage.TheVariants.{Ahead, Open, Over}
-use Rattle.meet_overlap.specs.Calls.{Begins, Ends, Tells, Moves, Remains, IsWithin, stage_after}
-use Rattle.meet_overlap.specs.Explaining.{records_of, dealt, AreOf, IsRising}
+use Rattle.meet_overlap.specs.declared.calls.Answer.{Answer}
+use Rattle.meet_overlap.specs.Calls.{Begins, Ends, Tells, Moves, Remains, IsInTurn, IsWithin, told_by, stage_told, stage_after}
+use Rattle.meet_overlap.specs.Explaining.{records_of, dealt, AreOf, IsRising, NoneBefore, AreInTurn}
 use Rattle.meet_overlap.specs.Search.{World, world_after, deed_of, ticket_of, request_ticket, is_held, ending_of, Steps, IsRun, MayAllStop}
 use Rattle.meet_overlap.proofs.Sound.{request_allowed, ending_allowed}
 
@@ -28,6 +29,7 @@ pub record Comes (k : Kind) (calls : List Call) (w : World) (e : Event) : Type 0
   pub risen : w.time ≤ e.time
   pub moves : Moves call (w.stages e.call) e.entry
   pub fits : Fits k w.moment e.entry
+  pub turn : IsInTurn calls w.stages e.call
 
 -- these events lead from here to where each call may be left
 abbrev pub IsWay : Kind → List Call → World → List Event → Type 0
@@ -102,6 +104,7 @@ step_comes k calls w e s =
       risen = let time = s.time in omega arith;
       moves = right.0;
       fits = right.1;
+      turn = s.turn;
     }
 
 -- a run of the search is a way
@@ -168,15 +171,50 @@ module _ (calls : List Call) (stages : ℕ → Stage) (e : Event) (events : List
           subst (λ s. Remains call s (dealt n events)) (sym (put_other stages e.call (stage_after (stages e.call) e.entry) n ne))
           (subst (Remains call (stages n)) (dealt_other e events n ne) (formed n call is))
 
+-- no stage comes back to its beginning
+pub never_back : (s : Stage) (r : Record Deed) → stage_after s r ≡ Ahead → ⊥
+never_back Ahead r e = by_told (told_by r.deed) e
+  where
+    by_told : (o : Option Answer) → stage_told r.ticket o ≡ Ahead → ⊥
+    by_told None e = absurd (cc)
+    by_told (Some a) e = absurd (cc)
+never_back (Open t) r e = absurd (cc)
+never_back Over r e = absurd (cc)
+
+-- a call that has begun has begun behind an event too
+begun_stays : (stages : ℕ → Stage) (key n : ℕ) (r : Record Deed) → (stages n ≡ Ahead → ⊥) → put_at stages key (stage_after (stages key) r) n ≡ Ahead → ⊥
+begun_stays stages key n r begun e = ⊎_elim
+    (λ q.
+    let same : put_at stages key (stage_after (stages key) r) n ≡ stage_after (stages key) r = ap (put_at stages key (stage_after (stages key) r)) q.1 ∙ put_same stages key (stage_after (stages key) r) in
+    never_back (stages key) r (sym same ∙ e))
+    (λ q. begun (sym (put_other stages key (stage_after (stages key) r) n q.1) ∙ e))
+    (eqb_tells n key)
+
+-- behind the begin of a call no earlier one of its seat makes a record
+none_before : (k : Kind) (calls : List Call) (w : World) (events : List Event) → IsWay k calls w events → (n : ℕ) (call : Call) → slice_get calls n ≡ Some call → (w.stages n ≡ Ahead → ⊥) → NoneBefore n call.seat events
+none_before k calls w [] way n call known begun = tt
+none_before k calls w (e ∷ events) way n call known begun = (
+  λ seat. ⊎_elim
+      (λ lt. absurd (begun (way.0.turn n way.0.call call lt way.0.known known (sym seat ∙ way.0.seat))))
+      (λ le. le)
+      (cases_lt e.call n),
+  none_before k calls (world_after k w e) events way.1 n call known (begun_stays w.stages e.call n e.entry begun),
+)
+
+-- each call that has begun has no earlier one of its seat behind it
+abbrev pub AreBegun : List Call → (ℕ → Stage) → List Event → Type 0
+AreBegun calls stages events = (n : ℕ) (call : Call) → slice_get calls n ≡ Some call → (stages n ≡ Ahead) ⊎ NoneBefore n call.seat events
+
 -- what a way says of its events as a whole
 pub record IsWhole (k : Kind) (calls : List Call) (w : World) (events : List Event) : Type 0 where
   pub legal : IsLegalBySeatFrom k w.moment (records_of events)
   pub owned : AreOf calls events
   pub rising : IsRising w.time events
   pub formed : AreFormed calls w.stages events
+  pub turns : AreInTurn events
 
 pub way_whole : (k : Kind) (calls : List Call) (w : World) (events : List Event) → IsWay k calls w events → IsWhole k calls w events
-way_whole k calls w [] way = record { legal = tt; owned = tt; rising = tt; formed = way }
+way_whole k calls w [] way = record { legal = tt; owned = tt; rising = tt; formed = way; turns = tt }
 way_whole k calls w (e ∷ events) way =
     let comes = way.0 in
     let rest = way_whole k calls (world_after k w e) events way.1 in
@@ -185,11 +223,40 @@ way_whole k calls w (e ∷ events) way =
       owned = (record { call = comes.call; known = comes.known; seat = comes.seat; within = comes.within }, rest.owned);
       rising = (comes.risen, rest.rising);
       formed = formed_before calls w.stages e events comes.call comes.known comes.moves rest.formed;
+      turns = (
+        subst (λ i. NoneBefore e.call i events) (sym comes.seat)
+            (none_before k calls (world_after k w e) events way.1 e.call comes.call comes.known (λ q. never_back (w.stages e.call) e.entry (sym (put_same w.stages e.call (stage_after (w.stages e.call) e.entry)) ∙ q))),
+        rest.turns,
+      );
     }
 
-pub whole_way : (k : Kind) (calls : List Call) (w : World) (events : List Event) → IsWhole k calls w events → IsWay k calls w events
-whole_way k calls w [] whole = whole.formed
-whole_way k calls w (e ∷ events) whole =
+-- an event comes in its seat's turn
+in_turn : (calls : List Call) (stages : ℕ → Stage) (e : Event) (events : List Event) (call : Call) → slice_get calls e.call ≡ Some call → e.entry.seat ≡ call.seat → AreBegun calls stages (e ∷ events) → IsInTurn calls stages e.call
+in_turn calls stages e events call known seat begun m mine later lt own there same = ⊎_elim
+    (λ ahead. ahead)
+    (λ none.
+    let is : mine ≡ call = one_call calls e.call mine call own known in
+    let le : m ≤ e.call = none.0 (seat ∙ sym (ap (λ (c : Call). c.seat) is) ∙ sym same) in
+    absurd (omega arith))
+    (begun m later there)
+
+-- and behind it those have begun that had, and its own
+begun_later : (calls : List Call) (stages : ℕ → Stage) (e : Event) (events : List Event) (call : Call) → slice_get calls e.call ≡ Some call → e.entry.seat ≡ call.seat → AreBegun calls stages (e ∷ events) → NoneBefore e.call e.entry.seat events →
+    AreBegun calls (put_at stages e.call (stage_after (stages e.call) e.entry)) events
+begun_later calls stages e events call known seat begun none n other there = ⊎_elim
+    (λ q.
+    let at : slice_get calls e.call ≡ Some other = subst (λ x. slice_get calls x ≡ Some other) q.1 there in
+    let is : call ≡ other = one_call calls e.call call other known at in
+    inr (subst (λ x. NoneBefore x other.seat events) (sym q.1) (subst (λ i. NoneBefore e.call i events) (seat ∙ ap (λ (c : Call). c.seat) is) none)))
+    (λ q. ⊎_elim
+    (λ ahead. inl (put_other stages e.call (stage_after (stages e.call) e.entry) n q.1 ∙ ahead))
+    (λ before. inr before.1)
+    (begun n other there))
+    (eqb_tells n e.call)
+
+pub whole_way : (k : Kind) (calls : List Call) (w : World) (events : List Event) → IsWhole k calls w events → AreBegun calls w.stages events → IsWay k calls w events
+whole_way k calls w [] whole begun = whole.formed
+whole_way k calls w (e ∷ events) whole begun =
     let of = whole.owned.0 in (
       record {
         call = of.call;
@@ -199,11 +266,14 @@ whole_way k calls w (e ∷ events) whole =
         risen = whole.rising.0;
         moves = (formed_now calls w.stages e events of.call of.known whole.formed).0;
         fits = whole.legal.0;
+        turn = in_turn calls w.stages e events of.call of.known of.seat begun;
       },
       whole_way k calls (world_after k w e) events (record {
         legal = whole.legal.1;
         owned = whole.owned.1;
         rising = whole.rising.1;
         formed = formed_later calls w.stages e events whole.formed;
-      }),
+        turns = whole.turns.1;
+      })
+          (begun_later calls w.stages e events of.call of.known of.seat begun whole.turns.0),
     )

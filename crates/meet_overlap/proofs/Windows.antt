@@ -1,5 +1,5 @@
 -- What is read of a window that was written to, that grew, or that was moved.
-use Rattle.std.proofs.Common.{◌≡◌, ◌≢◌, Some, ℕ, suc, ◌+◌, ◌-◌, ◌<◌, ◌≤◌, ◌⊎◌, inl, inr, sym, ◌∙◌, ap, List, [], ◌∷◌, ◌++◌, length, drop, get_or, set, true, false, eqb, ⊎_elim, arith}
+use Rattle.std.proofs.Common.{◌≡◌, ◌≢◌, Some, ℕ, suc, refl, zero, ◌+◌, ◌-◌, ◌<◌, ◌≤◌, ◌⊎◌, inl, inr, sym, ◌∙◌, ap, List, [], ◌∷◌, ◌++◌, length, drop, get_or, set, true, false, eqb, ⊎_elim, arith}
 use Rattle.std.specs.Prelude.{if◌then◌else◌, nat_lt}
 use Rattle.std.proofs.Math.Path.{fun_ext}
 use Rattle.std.proofs.lemmas.List.{get_or-set_other, get_or-set_same}
@@ -20,6 +20,16 @@ before first xs n lt = ap (λ b. if b then Over else get_or xs (n - first) Ahead
 
 within : (first : ℕ) (xs : List Stage) (n : ℕ) → first ≤ n → stage_in first xs n ≡ get_or xs (n - first) Ahead
 within first xs n le = ap (λ b. if b then Over else get_or xs (n - first) Ahead) (le-ltb n first le)
+
+past_end : {A : Type 0} (xs : List A) (d : A) (i : ℕ) → length xs ≤ i → get_or xs i d ≡ d
+past_end [] d zero le = refl
+past_end [] d (suc i) le = refl
+past_end (x ∷ xs) d zero le = absurd (omega arith)
+past_end (x ∷ xs) d (suc i) le = past_end xs d i (omega arith)
+
+-- a call behind the window is ahead
+pub beyond : (first : ℕ) (xs : List Stage) (n : ℕ) → first + length xs ≤ n → stage_in first xs n ≡ Ahead
+beyond first xs n past = within first xs n (omega arith) ∙ past_end xs Ahead (n - first) (omega arith)
 
 -- calls behind the window are ahead, whether they stand there or not
 pub stage_grown : (first : ℕ) (xs : List Stage) → stage_in first (xs ++ Ahead ∷ []) ≡ stage_in first xs

@@ -1,5 +1,5 @@
 -- Which records a call makes: its request, and where that waits, the ending of its ticket.
-use Rattle.std.specs.Prelude.{◌≡◌, ℕ, ◌≤◌, true, Option, Some, None, IfSome, List, [], ◌∷◌}
+use Rattle.std.specs.Prelude.{◌≡◌, ℕ, ◌<◌, ◌≤◌, true, Option, Some, None, IfSome, List, [], ◌∷◌, slice_get}
 use Rattle.meet_tickets.specs.declared.places.Side.TheVariants.{Giver, Taker}
 use Rattle.meet_tickets.specs.declared.records.Record.{Record}
 use Rattle.meet_tickets.specs.declared.records.Cause.TheVariants.{Cancelled, Expired, Interrupted}
@@ -95,6 +95,11 @@ MayStop call Over = Unit {0}
 abbrev pub Remains : Call → Stage → List (Record Deed) → Type 0
 Remains call stage [] = MayStop call stage
 Remains call stage (r ∷ records) = Moves call stage r × Remains call (stage_after stage r) records
+
+-- no call of its seat that stands behind the one of this number has begun
+abbrev pub IsInTurn : List Call → (stages : ℕ → Stage) → (number : ℕ) → Type 0
+IsInTurn calls stages n = (m : ℕ) (call later : Call) → n < m → slice_get calls n ≡ Some call
+    → slice_get calls m ≡ Some later → later.seat ≡ call.seat → stages m ≡ Ahead
 
 -- the deed may be made at this time: not before the call began, nor after it ended; the request of a call that was seen
 -- to wait waits, and is made by then

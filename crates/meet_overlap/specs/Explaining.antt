@@ -39,12 +39,23 @@ abbrev pub IsRising : (time : ℕ) → List Event → Type 0
 IsRising time [] = Unit {0}
 IsRising time (e ∷ events) = (time ≤ e.time) × IsRising e.time events
 
--- these events explain the calls: their records are a legal history, times lie in the calls and don't go back, and the
--- records that are dealt to a call are those that it makes, with its answer
+-- none of these events is of a call of this seat before the one of this number
+abbrev pub NoneBefore : (number seat : ℕ) → List Event → Type 0
+NoneBefore n i [] = Unit {0}
+NoneBefore n i (e ∷ events) = (e.entry.seat ≡ i → n ≤ e.call) × NoneBefore n i events
+
+-- the calls of a seat make their records in their order
+abbrev pub AreInTurn : List Event → Type 0
+AreInTurn [] = Unit {0}
+AreInTurn (e ∷ events) = NoneBefore e.call e.entry.seat events × AreInTurn events
+
+-- these events explain the calls: their records are a legal history, times lie in the calls and don't go back, the calls
+-- of a seat come in their order, and the records that are dealt to a call are those that it makes, with its answer
 pub record IsExplained (k : Kind) (calls : List Call) (events : List Event) : Type 0 where
   pub legal : IsLegal k (records_of events)
   pub owned : AreOf calls events
   pub rising : IsRising 0 events
+  pub turns : AreInTurn events
   pub formed : (number : ℕ) (call : Call) → slice_get calls number ≡ Some call
       → Remains call Ahead (dealt number events)
 

@@ -107,6 +107,11 @@ pub record IsRunThere (k : Kind) (calls : List Call) (w : World) (history : List
 abbrev pub HasAlike : List Reached → World → Type 0
 HasAlike seen w = (i : ℕ) × (i < length seen) × ((d : Reached) → IsAlike (world_of (slice_index_or seen i d)) w)
 
+-- no call that has begun stands behind the latest of its seat
+abbrev pub AreLatest : List Call → (stages : ℕ → Stage) → (latest : ℕ → ℕ) → Type 0
+AreLatest calls stages latest = (n : ℕ) (call : Call) → slice_get calls n ≡ Some call
+    → (stages n ≡ Ahead) ⊎ (n ≤ latest call.seat)
+
 -- no call from a number on begins before the time that stands there
 abbrev pub AreLeast : List Call → List ℕ → Type 0
 AreLeast calls begins = (from number : ℕ) (call : Call) → from ≤ number → slice_get calls number ≡ Some call

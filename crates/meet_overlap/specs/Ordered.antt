@@ -7,7 +7,7 @@ use Rattle.meet_tickets.specs.ByLists.{IsLegal}
 use Rattle.meet_overlap.specs.declared.calls.Call.{Call}
 use Rattle.meet_overlap.specs.declared.calls.Stage.TheVariants.{Ahead}
 use Rattle.meet_overlap.specs.Calls.{Remains, told_by}
-use Rattle.meet_overlap.specs.Explaining.{Event, records_of, dealt}
+use Rattle.meet_overlap.specs.Explaining.{Event, records_of, dealt, AreInTurn}
 
 -- the deed is still in time: the call hasn't ended, and a request of one that was seen to wait isn't late for that
 pub record IsInTime (call : Call) (time : ℕ) (deed : Deed) : Type 0 where
@@ -40,5 +40,6 @@ pub record IsOrderlyExplained (k : Kind) (calls : List Call) (events : List Even
   pub legal : IsLegal k (records_of events)
   pub by : AreBy calls events
   pub ordered : AreOrdered calls events by
+  pub turns : AreInTurn events
   pub formed : (number : ℕ) (call : Call) → slice_get calls number ≡ Some call
       → Remains call Ahead (dealt number events)

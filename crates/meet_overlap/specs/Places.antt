@@ -18,6 +18,10 @@ hold_at holds seat = slice_index_or holds seat Free
 abbrev pub flag_at : List Bool → ℕ → Bool
 flag_at flags seat = slice_index_or flags seat false
 
+-- the latest call of a seat that has begun; the first where none has
+abbrev pub latest_at : List ℕ → ℕ → ℕ
+latest_at latest seat = slice_index_or latest seat 0
+
 -- how far a call is, where the window begins at the call of this number: over before it, and ahead behind it
 abbrev pub stage_in : (first : ℕ) → List Stage → ℕ → Stage
 stage_in first stages number = if nat_lt number first then Over else slice_index_or stages (number - first) Ahead

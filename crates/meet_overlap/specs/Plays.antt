@@ -8,7 +8,7 @@ use Rattle.meet_overlap.specs.declared.calls.Verb.TheVariants.{Keep, Give, Take,
 use Rattle.meet_overlap.specs.declared.calls.Call.{Call}
 use Rattle.meet_overlap.specs.declared.calls.Stage.{Stage}
 use Rattle.meet_overlap.specs.declared.calls.Stage.TheVariants.{Ahead, Open, Over}
-use Rattle.meet_overlap.specs.Calls.{Tells, IsWithin}
+use Rattle.meet_overlap.specs.Calls.{Tells, IsInTurn, IsWithin}
 use Rattle.meet_overlap.specs.Explaining.{Event}
 use Rattle.meet_overlap.specs.Search.{World, world_after, deed_of, MayAllStop}
 
@@ -35,6 +35,7 @@ pub record Plays (k : Kind) (calls : List Call) (w : World) (e : Event) : Type 0
   pub time : e.time ≡ max w.time call.begin
   pub tells : Tells call e.entry.deed
   pub within : IsWithin call e.time e.entry.deed
+  pub turn : IsInTurn calls w.stages e.call
 
 -- these events lead from here to where each call may be left
 abbrev pub IsPlay : Kind → List Call → World → List Event → Type 0

@@ -1,7 +1,8 @@
 -- Reasons why no history explains calls, in the calls' own words.
 use Rattle.std.specs.Prelude.{◌≡◌, ℕ, ◌<◌, ◌≤◌, IfSome, List, Option, Some, None, ⊤, length}
 use Rattle.meet_tickets.specs.declared.places.Kind.{Kind}
-use Rattle.meet_tickets.specs.declared.places.End.TheVariants.{Front}
+use Rattle.meet_tickets.specs.declared.places.End.{End}
+use Rattle.meet_tickets.specs.declared.places.End.TheVariants.{Front, Back}
 use Rattle.meet_tickets.specs.Meeting.{end_of}
 use Rattle.meet_overlap.specs.declared.calls.Answer.{Answer}
 use Rattle.meet_overlap.specs.declared.calls.Answer.TheVariants.{Went, Got as GotItem, Nothing, Expired as TimeRanOut}
@@ -11,8 +12,8 @@ use Rattle.meet_overlap.specs.declared.calls.Verb.{Verb}
 use Rattle.meet_overlap.specs.declared.calls.Verb.TheVariants.{Keep, Give, Take, Interrupt as InterruptSeat}
 use Rattle.meet_overlap.specs.declared.reasons.Reason.{Reason}
 use Rattle.meet_overlap.specs.declared.reasons.Reason.TheVariants.{Ungiven, Untaken, Overtaken, Doubled, Overlooked}
-use Rattle.meet_overlap.specs.declared.reasons.Reason.TheVariants.{Missed, Stuck}
-use Rattle.meet_overlap.specs.Marks.{HandsOver, IsKeeping, IsTaking, IsEnded, NoneGave, NoneMayGive, NoneTook}
+use Rattle.meet_overlap.specs.declared.reasons.Reason.TheVariants.{Missed, Passed, Stuck}
+use Rattle.meet_overlap.specs.Marks.{Gives, HandsOver, IsKeeping, IsTaking, IsEnded, NoneGave, NoneMayGive, NoneTook}
 use Rattle.meet_overlap.specs.Marks.{IsOnlyGiver, IsGiverOf, IsTakerOf}
 
 -- a call got an item, and no call may have given it that began by its end
@@ -109,6 +110,35 @@ pub record IsMissed (calls : List Call) : Type 0 where
   pub before : seen < caller.call.begin
   pub unmet : IsUnmet calls waiting.call.verb waiting.returned.answer caller.returned.at
 
+-- the first call met the second one with an item of this mark, and the third one is of the second one's side
+abbrev pub Meets : Verb → Answer → Verb → Answer → Verb → (mark : ℕ) → Type 0
+Meets (Take p) (GotItem n) met other (Give q x) mark = (n ≡ mark) × Gives met mark
+Meets (Give p n) Went (Take q) (GotItem x) (Take r) mark = (n ≡ mark) × (x ≡ mark)
+Meets (Keep n) Went (Take q) (GotItem x) (Take r) mark = (n ≡ mark) × (x ≡ mark)
+Meets caller answer met other waiting mark = ⊥
+
+-- a call that was seen to wait has its turn before another one that a caller met: in front of it, or on top of it when
+-- the caller began, where the line is met at its back
+abbrev pub IsBehind : End → (seen : ℕ) → (waiting caller met : Call) → Type 0
+IsBehind Front seen waiting caller met = seen < met.begin
+IsBehind Back seen waiting caller met = (early : ℕ) × (met.waits ≡ Some early) × (early < waiting.begin)
+    × (seen < caller.begin)
+
+-- a call was seen to wait, and one of the other side met another one, whose turn came later: the item which they met
+-- with is given by one call alone; and none may have met the one that waited that began by the end of the caller
+pub record IsPassed (k : Kind) (calls : List Call) : Type 0 where
+  pub waiting : IsEnded calls
+  pub seen : ℕ
+  pub waits : waiting.call.waits ≡ Some seen
+  pub caller : IsEnded calls
+  pub met : IsEnded calls
+  pub mark : ℕ
+  pub meets : Meets caller.call.verb caller.returned.answer met.call.verb met.returned.answer waiting.call.verb mark
+  pub giver : ℕ
+  pub only : IsOnlyGiver calls (length calls) mark giver
+  pub behind : IsBehind (end_of k.order) seen waiting.call caller.call met.call
+  pub unmet : IsUnmet calls waiting.call.verb waiting.returned.answer caller.returned.at
+
 -- the reason is true of the calls, with the numbers and items that it names; of how far a search came nothing is said
 abbrev pub IsReason : Kind → List Call → Reason → Type 0
 IsReason k calls (Ungiven item taker giver) =
@@ -123,6 +153,8 @@ IsReason k calls (Overlooked item taker giver) = (is : IsOverlooked k calls) × 
     × (is.looked.number ≡ taker) × (is.put.number ≡ giver)
 IsReason k calls (Missed item caller waiting) = (is : IsMissed calls) × (item_of is.waiting.call.verb ≡ item)
     × (is.caller.number ≡ caller) × (is.waiting.number ≡ waiting)
+IsReason k calls (Passed item caller waiting held) = (is : IsPassed k calls) × (is.mark ≡ item)
+    × (is.caller.number ≡ caller) × (is.waiting.number ≡ waiting) × (item_of is.waiting.call.verb ≡ held)
 IsReason k calls (Stuck stuck) = ⊤
 
 -- the reason was found without a search
@@ -133,4 +165,5 @@ IsFound (Overtaken item taker kept giver) = ⊤
 IsFound (Doubled item first second giver) = ⊤
 IsFound (Overlooked item taker giver) = ⊤
 IsFound (Missed item caller waiting) = ⊤
+IsFound (Passed item caller waiting held) = ⊤
 IsFound (Stuck stuck) = ⊥

@@ -23,7 +23,7 @@ use Rattle.meet_overlap.specs.declared.calls.Call.{Call}
 use Rattle.meet_overlap.specs.Explaining.{Event}
 use Rattle.meet_overlap.specs.declared.calls.Stage.{Stage}
 use Rattle.meet_overlap.specs.declared.calls.Stage.TheVariants.{Ahead, Open, Over}
-use Rattle.meet_overlap.specs.Calls.{Tells, MayStop, IsWithin, stage_after}
+use Rattle.meet_overlap.specs.Calls.{Tells, MayStop, IsInTurn, IsWithin, stage_after}
 
 -- what the events so far left: the place, how far each call is, and the time of the last event
 pub record World : Type 0 where
@@ -151,6 +151,7 @@ pub record Steps (k : Kind) (calls : List Call) (w : World) (e : Event) : Type 0
   pub time : e.time ≡ max w.time call.begin
   pub tells : Tells call e.entry.deed
   pub within : IsWithin call e.time e.entry.deed
+  pub turn : IsInTurn calls w.stages e.call
 
 -- each call may be left as it is
 abbrev pub MayAllStop : List Call → (ℕ → Stage) → Type 0

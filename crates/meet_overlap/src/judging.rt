@@ -4,8 +4,8 @@ ghost use Rattle.std.specs.Prelude.{◌<◌, length, IfOk, IfErr, IfSome, IsTrue
 ghost use Rattle.meet_tickets.specs.declared.records.Record.{Record};
 ghost use Rattle.meet_tickets.specs.declared.records.Deed.{Deed};
 ghost use Rattle.meet_overlap.specs.Explaining.{Explains};
-ghost use Rattle.meet_overlap.specs.Known.{IsNoted};
-ghost use Rattle.meet_overlap.specs.Places.{world_of};
+ghost use Rattle.meet_overlap.specs.Known.{AreLatest, IsNoted};
+ghost use Rattle.meet_overlap.specs.Places.{latest_at, world_of};
 ghost use Rattle.meet_overlap.specs.Reasons.{IsReason};
 
 use crate::calls::Call;
@@ -17,22 +17,27 @@ use crate::next::{deed, ticket as next_ticket};
 use crate::reasons::{Reason, find_reason};
 use crate::search::search;
 use crate::stages::stage;
+use crate::turns::{is_latest, put_latest};
 use crate::world::{Reached, advance, beginning};
 use meet_tickets::{Deed, Kind, Record};
 use std::alloc::Global;
 
-/// The call of this number makes its next record, which is noted; or it has none, and it isn't known where the calls
-/// are then.
+/// The call of this number makes its next record, which is noted, as is that it is the latest of its seat; or it has
+/// none, and it isn't known where the calls are then.
 fn note(
     kind: Kind,
     calls: &[Call],
     reached: &mut Reached,
+    latest: &mut Vec<usize>,
     number: usize,
     history: &mut Vec<Record<Deed>>,
 ) -> Result<bool, Fault>
-    requires { number < length calls.now }
-    ensures { IfOk result (λ made. IsTrue made → IsNoted kind calls.now (world_of reached.old) (world_of reached.new)
+    requires there { number < length calls.now }
+    requires latest { AreLatest calls.now (world_of reached.old).stages (latest_at latest.old.items) }
+    ensures noted { IfOk result (λ made. IsTrue made → IsNoted kind calls.now (world_of reached.old) (world_of reached.new)
         history.old.items history.new.items) }
+    ensures latest { IfOk result (λ made. IsTrue made
+        → AreLatest calls.now (world_of reached.new).stages (latest_at latest.new.items)) }
 {
     let call = &calls[number];
     let stage = stage(&reached.window, number);
@@ -50,6 +55,9 @@ fn note(
     if !is_within(call, time, &deed) {
         return Ok(false);
     }
+    if !is_latest(latest.as_slice(), call.seat, number) {
+        return Ok(false);
+    }
     let Some(ticket) = next_ticket(&reached.place, call.verb, &stage) else {
         return Err(Fault::TicketsSpent);
     };
@@ -59,6 +67,7 @@ fn note(
         deed,
     };
     advance(kind, reached, number, time, &entry)?;
+    put_latest(latest, call.seat, number)?;
     history.push(entry)?;
     Ok(true)
 }
@@ -74,12 +83,13 @@ fn written(
 {
     let mut history = Vec::new(alloc);
     let mut reached = beginning(alloc);
+    let mut latest = Vec::new(alloc);
     for number in order {
         let number = *number;
         if number >= calls.len() {
             return Ok(None);
         }
-        if !note(kind, calls, &mut reached, number, &mut history)? {
+        if !note(kind, calls, &mut reached, &mut latest, number, &mut history)? {
             return Ok(None);
         }
     }

@@ -25,6 +25,7 @@ mod search;
 mod seen;
 mod settling;
 mod stages;
+mod turns;
 mod world;
 
 pub use calls::{Answer, Call, Calls, Patience, Returned, Stage, Verb};

@@ -14,6 +14,7 @@ use crate::making::entry_held;
 use crate::next::deed;
 use crate::place::Place;
 use crate::stages::stage;
+use crate::turns::is_in_turn;
 use crate::world::{Reached, after};
 use meet_tickets::{Kind, Record, Ticket};
 use std::alloc::Global;
@@ -72,6 +73,9 @@ pub(crate) fn play(
         return Ok(None);
     }
     if !is_within(call, time, &deed) {
+        return Ok(None);
+    }
+    if !is_in_turn(calls, &reached.window, number) {
         return Ok(None);
     }
     let Some(ticket) = ticket(&reached.place, number, call.verb, &stage) else {

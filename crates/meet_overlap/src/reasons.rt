@@ -14,6 +14,7 @@ mod marks;
 mod missed;
 mod overlooked;
 mod overtaken;
+mod passed;
 mod ungiven;
 mod untaken;
 
@@ -25,6 +26,7 @@ use meet_tickets::Kind;
 use missed::find_missed;
 use overlooked::find_overlooked;
 use overtaken::find_overtaken;
+use passed::find_passed;
 use std::alloc::{AllocError, Global};
 use ungiven::find_ungiven;
 use untaken::find_untaken;
@@ -79,6 +81,15 @@ pub enum Reason {
         caller: usize,
         waiting: usize,
     },
+    /// `caller` met a call with the item though `waiting`, a call of the same side as that one, waited all the time, and
+    /// its turn came first: in front, or on top where the last one is met first. No call can have met `waiting` by the
+    /// end of `caller`. `held` is the item that `waiting` gives, if it gives one.
+    Passed {
+        item: u64,
+        caller: usize,
+        waiting: usize,
+        held: Option<u64>,
+    },
     /// None of these was found. A search came through all orders, and this far.
     Stuck(Stuck),
 }
@@ -108,5 +119,8 @@ pub(crate) fn find_reason(
     if let Some(reason) = find_overtaken(alloc, kind, calls, partners)? {
         return Ok(Some(reason));
     }
-    find_missed(alloc, kind, calls, partners)
+    if let Some(reason) = find_missed(alloc, kind, calls, partners)? {
+        return Ok(Some(reason));
+    }
+    find_passed(alloc, kind, calls, partners)
 }

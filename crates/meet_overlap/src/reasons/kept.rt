@@ -4,6 +4,9 @@ use crate::calls::{Answer, Call, Verb};
 use crate::guess::{Partners, end};
 use std::alloc::{AllocError, Global};
 
+/// How many stays are tried for one look.
+const FEW: usize = 8;
+
 /// A call that stood in the wait queue, or whose item did: from when it surely stood there, and when the call began that
 /// met it.
 #[derive(Clone, Copy, PartialEq, Eq, PartialOrd, Ord)]
@@ -169,4 +172,95 @@ pub(crate) fn waiting_throughout(
 ) -> Result<Vec<There>, AllocError> {
     let waiting = all_waiting(alloc, calls, partners, side)?;
     throughout(alloc, calls, waiting, looks, most)
+}
+
+/// When the call was seen to wait that this one met, or the last time there is if it wasn't.
+fn partner_seen(calls: &[Call], partners: &Partners, number: usize) -> u64 {
+    match partners.of(number) {
+        None => u64::MAX,
+        Some(met) => {
+            if met < calls.len() {
+                calls[met].waits.unwrap_or(u64::MAX)
+            } else {
+                u64::MAX
+            }
+        }
+    }
+}
+
+/// The last of these stays that lasted longer than the call of this number, and is of a call that began after the one
+/// was seen to wait that this one met, if it is one of the last few.
+fn last_until(calls: &[Call], partners: &Partners, there: &[Stay], number: usize) -> Option<Stay> {
+    if number >= calls.len() {
+        return None;
+    }
+    let by = end(&calls[number]);
+    let seen = partner_seen(calls, partners, number);
+    for back in 0..there.len().min(FEW) {
+        let stay = there[there.len() - 1 - back];
+        if by < stay.met && seen < begin(calls, Some(stay.number)) {
+            return Some(stay);
+        }
+    }
+    None
+}
+
+/// For each of these looks, the last stay that began before the time from which it must have been there, and that is
+/// likely to have lasted until the call ended, above the call that this one met. Returns at most `most` of them. Fails
+/// only if an allocation fails.
+fn last_throughout(
+    alloc: Global,
+    calls: &[Call],
+    partners: &Partners,
+    mut stays: Vec<Stay>,
+    mut looks: Vec<Look>,
+    most: usize,
+) -> Result<Vec<There>, AllocError> {
+    stays.sort_unstable();
+    looks.sort_unstable();
+    let mut found = Vec::new(alloc);
+    let mut there = Vec::new(alloc);
+    let mut next = 0;
+    for look in &looks {
+        for _ in next..stays.len() {
+            if next < stays.len() && stays[next].from < look.from {
+                there.push(stays[next])?;
+                next += 1;
+            } else {
+                break;
+            }
+        }
+        for _ in 0..there.len() {
+            let Some(last) = there.pop() else {
+                break;
+            };
+            if look.from < last.met {
+                there.push(last)?;
+                break;
+            }
+        }
+        if let Some(stay) = last_until(calls, partners, there.as_slice(), look.number) {
+            if found.len() < most {
+                found.push(There {
+                    put: stay.number,
+                    looked: look.number,
+                })?;
+            }
+        }
+    }
+    Ok(found)
+}
+
+/// The same as `waiting_throughout`, but of the calls that are there the last one is found, if it came after the call
+/// that was met.
+pub(crate) fn last_waiting_throughout(
+    alloc: Global,
+    calls: &[Call],
+    partners: &Partners,
+    side: Side,
+    looks: Vec<Look>,
+    most: usize,
+) -> Result<Vec<There>, AllocError> {
+    let waiting = all_waiting(alloc, calls, partners, side)?;
+    last_throughout(alloc, calls, partners, waiting, looks, most)
 }

@@ -37,7 +37,7 @@ fn misses(verb: Verb, answer: Answer, other: Verb) -> bool
 }
 
 /// Whether a call's answer is that it was met, and none may have met it that began by this time.
-fn unmet(calls: &[Call], verb: Verb, answer: Answer, by: u64) -> bool
+pub(super) fn unmet(calls: &[Call], verb: Verb, answer: Answer, by: u64) -> bool
     ensures { IsTrue result → IsUnmet calls.now verb answer by }
 {
     match (verb, answer) {
@@ -48,7 +48,7 @@ fn unmet(calls: &[Call], verb: Verb, answer: Answer, by: u64) -> bool
 }
 
 /// The item that a call gives, if it gives one.
-fn item(verb: Verb) -> Option<u64>
+pub(super) fn item(verb: Verb) -> Option<u64>
     ensures { result ≡ item_of verb }
 {
     match verb {
