@@ -2,6 +2,7 @@
 
 use crate::calls::{Answer, Call, Verb};
 use crate::guess::{Partners, end};
+use meet_tickets::End;
 use std::alloc::{AllocError, Global};
 
 /// How many stays are tried for one look.
@@ -110,70 +111,6 @@ fn longer(one: Option<Stay>, other: Stay) -> Option<Stay> {
     }
 }
 
-/// For each of these looks, a stay that began before the time from which it must have been there, and that is likely to
-/// have lasted until the call ended. Returns at most `most` of them. Fails only if an allocation fails.
-fn throughout(
-    alloc: Global,
-    calls: &[Call],
-    mut stays: Vec<Stay>,
-    mut looks: Vec<Look>,
-    most: usize,
-) -> Result<Vec<There>, AllocError> {
-    stays.sort_unstable();
-    looks.sort_unstable();
-    let mut found = Vec::new(alloc);
-    let mut next = 0;
-    let mut longest: Option<Stay> = None;
-    for look in &looks {
-        for _ in next..stays.len() {
-            if next < stays.len() && stays[next].from < look.from {
-                longest = longer(longest, stays[next]);
-                next += 1;
-            } else {
-                break;
-            }
-        }
-        if let Some(stay) = longest {
-            if look.number < calls.len()
-                && end(&calls[look.number]) < stay.met
-                && found.len() < most
-            {
-                found.push(There {
-                    put: stay.number,
-                    looked: look.number,
-                })?;
-            }
-        }
-    }
-    Ok(found)
-}
-
-/// For each of these calls, an item that was put before the time from which it must have been there, and that is likely
-/// to have been there until the call ended. Returns at most `most` of them. Fails only if an allocation fails.
-pub(crate) fn kept_throughout(
-    alloc: Global,
-    calls: &[Call],
-    partners: &Partners,
-    looks: Vec<Look>,
-    most: usize,
-) -> Result<Vec<There>, AllocError> {
-    let kept = all_kept(alloc, calls, partners)?;
-    throughout(alloc, calls, kept, looks, most)
-}
-
-/// The same, of the calls of this side that were seen to wait by the time from which they must have been there.
-pub(crate) fn waiting_throughout(
-    alloc: Global,
-    calls: &[Call],
-    partners: &Partners,
-    side: Side,
-    looks: Vec<Look>,
-    most: usize,
-) -> Result<Vec<There>, AllocError> {
-    let waiting = all_waiting(alloc, calls, partners, side)?;
-    throughout(alloc, calls, waiting, looks, most)
-}
-
 /// When the call was seen to wait that this one met, or the last time there is if it wasn't.
 fn partner_seen(calls: &[Call], partners: &Partners, number: usize) -> u64 {
     match partners.of(number) {
@@ -205,11 +142,59 @@ fn last_until(calls: &[Call], partners: &Partners, there: &[Stay], number: usize
     None
 }
 
-/// For each of these looks, the last stay that began before the time from which it must have been there, and that is
-/// likely to have lasted until the call ended, above the call that this one met. Returns at most `most` of them. Fails
-/// only if an allocation fails.
-fn last_throughout(
+/// The stays that began, as far as one of them is looked for: the one that stays longest, or all of them, where the line
+/// is met at its back.
+#[derive(Drop)]
+struct Begun {
+    end: End,
+    longest: Option<Stay>,
+    there: Vec<Stay>,
+}
+
+impl Begun {
+    /// One more began. Fails only if an allocation fails.
+    fn note(&mut self, stay: Stay) -> Result<(), AllocError> {
+        match self.end {
+            End::Front => {
+                self.longest = longer(self.longest, stay);
+            }
+            End::Back => self.there.push(stay)?,
+        }
+        Ok(())
+    }
+
+    /// One that is likely to have lasted until the call ended; at the back, above the call that this one met. Those on
+    /// top that didn't last until the look's time go.
+    fn find(&mut self, calls: &[Call], partners: &Partners, look: Look) -> Option<Stay> {
+        match self.end {
+            End::Front => {
+                let stay = self.longest?;
+                if look.number < calls.len() && end(&calls[look.number]) < stay.met {
+                    Some(stay)
+                } else {
+                    None
+                }
+            }
+            End::Back => {
+                for _ in 0..self.there.len() {
+                    let top = self.there.len();
+                    if top == 0 || look.from < self.there[top - 1].met {
+                        break;
+                    }
+                    let _ = self.there.pop();
+                }
+                last_until(calls, partners, self.there.as_slice(), look.number)
+            }
+        }
+    }
+}
+
+/// For each of these looks, a stay that began before the time from which it must have been there, and that is likely to
+/// have lasted until the call ended. Where the line is met at this end, its turn came before that of the call which was
+/// met. Returns at most `most` of them. Fails only if an allocation fails.
+fn throughout(
     alloc: Global,
+    end: End,
     calls: &[Call],
     partners: &Partners,
     mut stays: Vec<Stay>,
@@ -219,27 +204,22 @@ fn last_throughout(
     stays.sort_unstable();
     looks.sort_unstable();
     let mut found = Vec::new(alloc);
-    let mut there = Vec::new(alloc);
+    let mut begun = Begun {
+        end,
+        longest: None,
+        there: Vec::new(alloc),
+    };
     let mut next = 0;
     for look in &looks {
         for _ in next..stays.len() {
             if next < stays.len() && stays[next].from < look.from {
-                there.push(stays[next])?;
+                begun.note(stays[next])?;
                 next += 1;
             } else {
                 break;
             }
         }
-        for _ in 0..there.len() {
-            let Some(last) = there.pop() else {
-                break;
-            };
-            if look.from < last.met {
-                there.push(last)?;
-                break;
-            }
-        }
-        if let Some(stay) = last_until(calls, partners, there.as_slice(), look.number) {
+        if let Some(stay) = begun.find(calls, partners, *look) {
             if found.len() < most {
                 found.push(There {
                     put: stay.number,
@@ -251,10 +231,23 @@ fn last_throughout(
     Ok(found)
 }
 
-/// The same as `waiting_throughout`, but of the calls that are there the last one is found, if it came after the call
-/// that was met.
-pub(crate) fn last_waiting_throughout(
+/// For each of these calls, an item that was put before the time from which it must have been there, and that is likely
+/// to have been there until the call ended. Returns at most `most` of them. Fails only if an allocation fails.
+pub(crate) fn kept_throughout(
     alloc: Global,
+    calls: &[Call],
+    partners: &Partners,
+    looks: Vec<Look>,
+    most: usize,
+) -> Result<Vec<There>, AllocError> {
+    let kept = all_kept(alloc, calls, partners)?;
+    throughout(alloc, End::Front, calls, partners, kept, looks, most)
+}
+
+/// The same, of the calls of this side that were seen to wait by the time from which they must have been there.
+pub(crate) fn waiting_throughout(
+    alloc: Global,
+    end: End,
     calls: &[Call],
     partners: &Partners,
     side: Side,
@@ -262,5 +255,5 @@ pub(crate) fn last_waiting_throughout(
     most: usize,
 ) -> Result<Vec<There>, AllocError> {
     let waiting = all_waiting(alloc, calls, partners, side)?;
-    last_throughout(alloc, calls, partners, waiting, looks, most)
+    throughout(alloc, end, calls, partners, waiting, looks, most)
 }

@@ -9,7 +9,7 @@ use super::marks::{none_may_give, none_took};
 use crate::calls::{Answer, Call, Patience, Verb};
 use crate::guess::Partners;
 use crate::reasons::Reason;
-use meet_tickets::Kind;
+use meet_tickets::{End, Kind};
 use std::alloc::{AllocError, Global};
 
 /// The side that a call meets which found nobody.
@@ -122,7 +122,7 @@ fn missed_of(
     ensures found { IfOk result (λ found. IfSome found IsFound) }
 {
     let looks = looks(alloc, calls, side)?;
-    let likely = waiting_throughout(alloc, calls, partners, side, looks, MOST_LOOKS)?;
+    let likely = waiting_throughout(alloc, End::Front, calls, partners, side, looks, MOST_LOOKS)?;
     for there in &likely {
         let (waiting, caller) = (there.put, there.looked);
         if waiting < calls.len() && caller < calls.len() {

@@ -4,7 +4,7 @@ ghost use Rattle.std.specs.Prelude.{◌≡◌, ◌<◌, length, IsTrue, IfOk, If
 ghost use Rattle.meet_overlap.specs.Reasons.{IsBehind, IsFound, IsReason, Meets};
 
 use super::MOST_LOOKS;
-use super::kept::{Look, Side, begin, last_waiting_throughout, waiting_throughout};
+use super::kept::{Look, Side, begin, waiting_throughout};
 use super::marks::{gives, gives_alone};
 use super::missed::{item, unmet};
 use crate::calls::{Answer, Call, Verb};
@@ -156,10 +156,7 @@ fn passed_of(
 {
     let end = kind.order.end();
     let looks = looks(alloc, end, calls, partners, side)?;
-    let likely = match end {
-        End::Front => waiting_throughout(alloc, calls, partners, side, looks, MOST_LOOKS)?,
-        End::Back => last_waiting_throughout(alloc, calls, partners, side, looks, MOST_LOOKS)?,
-    };
+    let likely = waiting_throughout(alloc, end, calls, partners, side, looks, MOST_LOOKS)?;
     for there in &likely {
         let (waiting, caller) = (there.put, there.looked);
         if let Some(met) = partners.of(caller) {
