@@ -9,8 +9,8 @@
 //! here is this one under a lock: a call is one step, and has one record. What seats hold is in `seats`, how requests
 //! meet, for all queues, in `meetings`, what is asked and recorded in `calls`, the synchronous queue in `dual`.
 //!
-//! `#[inline(always)]` stands where a call passes on its way from `step` to the line and the seats. So a call is one
-//! function from where a program makes it, and nine matches on its kind fall away.
+//! `#[inline(always)]` stands where a put or a take passes on its way from `step` to the line and the seats. So a call is
+//! one function from where a program makes it, and nine matches on its kind fall away. The other calls are called.
 #![tactic(auto)]
 
 mod answers;

@@ -181,7 +181,6 @@ impl<T> Linked<T> {
     }
 
     /// The last entry leaves, if there is one.
-    #[inline(always)]
     pub(crate) fn meet_last(&mut self) -> Option<Entry<T>>
         ensures entry { result ≡ met Back self.old.entries }
         ensures entries { self.new.entries ≡ unmet Back self.old.entries }

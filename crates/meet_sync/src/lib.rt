@@ -11,8 +11,8 @@
 //!   (`closed_queues_keep_their_promise`).
 //!
 //! `#[inline(always)]` stands where a call passes on its way from `ask` to the place below, so that a call is one function
-//! from where a program makes it. It doesn't stand on `turn` and `await_end`: the compiler leaves a function out of line
-//! that has grown too large, and then all within it would be calls.
+//! from where a program makes it. It doesn't stand on `turn` and `await_end`: the compiler drops the attribute of a
+//! function that has grown too large, and says nothing. `bin/instructions` does.
 #![tactic(auto)]
 
 mod asked;

@@ -122,7 +122,6 @@ impl<W: Work, C: Drop, G, N: PoolLedgers> Home<W, C, G, N> {
 
     /// Records what a worker's job answered, and that it is ready for the next, under one hold of the lock: what it
     /// does then; none where it has gone, or a step is refused.
-    #[inline(always)]
     fn step_twice<R: Wait>(
         &self,
         rt: &R,
@@ -134,8 +133,8 @@ impl<W: Work, C: Drop, G, N: PoolLedgers> Home<W, C, G, N> {
         ensures { IfSome result DutyFits }
     {
         let mut shared = hold_patiently(rt, &self.shared, self.patience);
-        let next = match shared.work(seat, WorkerCall::Finish(answer)) {
-            Next::Ended(seat) => shared.work(seat, WorkerCall::Ready),
+        let next = match shared.finish(seat, answer) {
+            Next::Ended(seat) => shared.ready(seat),
             _ => return None,
         };
         drop(shared);

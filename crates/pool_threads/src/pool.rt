@@ -89,7 +89,6 @@ fn outcome_of<W: Work, C: Call<W> + Drop>(executed: Executed<C>) -> Outcome<C>
 
 impl<W: Work, C: Drop, G: Gate + Drop, S, N: PoolLedgers> Pool<W, C, G, S, N> {
     /// Hands a job in under one hold of the lock, and wakes the worker that it was handed to.
-    #[inline(always)]
     fn hand<R: Wait>(
         &self,
         rt: &R,

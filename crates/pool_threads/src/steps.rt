@@ -51,7 +51,6 @@ pub enum Next<C, S> {
 
 impl<W: Work, C: Drop, N: PoolLedgers> PoolShared<W, C, N> {
     /// Makes a step of a worker, whose list has room for the receipt.
-    #[inline(always)]
     pub fn work(&mut self, seat: WorkerSeat<W, N>, call: WorkerCall) -> Next<C, WorkerSeat<W, N>>
         requires room { 0 < seat.room }
         requires finish { (answer : _) → (call ≡ FinishCall answer) → EndsRunningWorth W.worth seat.list answer }
@@ -69,7 +68,7 @@ impl<W: Work, C: Drop, N: PoolLedgers> PoolShared<W, C, N> {
 
     /// A worker's `ready`.
     #[inline(always)]
-    fn ready(&mut self, mut seat: WorkerSeat<W, N>) -> Next<C, WorkerSeat<W, N>>
+    pub(crate) fn ready(&mut self, mut seat: WorkerSeat<W, N>) -> Next<C, WorkerSeat<W, N>>
         requires room { 0 < seat.room }
         ensures fits { NextFits seat result }
         ensures step { Works self.old.object self.new.object seat core.Ready result }
@@ -119,7 +118,11 @@ impl<W: Work, C: Drop, N: PoolLedgers> PoolShared<W, C, N> {
 
     /// A worker's job answered this.
     #[inline(always)]
-    fn finish(&mut self, mut seat: WorkerSeat<W, N>, answer: u64) -> Next<C, WorkerSeat<W, N>>
+    pub(crate) fn finish(
+        &mut self,
+        mut seat: WorkerSeat<W, N>,
+        answer: u64,
+    ) -> Next<C, WorkerSeat<W, N>>
         requires room { 0 < seat.room }
         requires worth { EndsRunningWorth W.worth seat.list answer }
         ensures fits { NextFits seat result }

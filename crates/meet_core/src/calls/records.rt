@@ -39,7 +39,6 @@ pub fn answered_put<T>(seat: SeatNo, mark: u64, put: Put<T>) -> Answered<T>
 }
 
 /// The answer to an offer of an item with this mark.
-#[inline(always)]
 pub(crate) fn of_offer<T>(seat: SeatNo, mark: u64, offered: Offered<T>) -> Answered<T>
     ensures { result ≡ (QueueAnswer.Offered offered, Some (offer_record seat mark offered)) }
 {
@@ -66,7 +65,6 @@ pub(crate) fn of_take<T: Marked>(seat: SeatNo, took: Took<T>) -> Answered<T>
 }
 
 /// The answer to a poll.
-#[inline(always)]
 pub(crate) fn of_poll<T: Marked>(seat: SeatNo, polled: Polled<T>) -> Answered<T>
     ensures { result ≡ (QueueAnswer.Polled polled, Some (poll_record T.mark_of seat polled)) }
 {

@@ -153,7 +153,6 @@ impl<J> PoolCore<J> {
     }
 
     /// The follow-up of the worker's take.
-    #[inline(always)]
     pub fn follow(&mut self, seat: SeatNo) -> Result<(Ticket, Followed<J>), Refusal>
         ensures step { IfOk result (λ told. FollowStep self.old seat told.0 told.1 self.new) }
         ensures room { self.old.room ≤ self.new.room }
@@ -232,7 +231,6 @@ impl<J> PoolCore<J> {
     }
 
     /// It runs the job that it starts with.
-    #[inline(always)]
     fn run_first(&mut self, seat: SeatNo, worker: u64) -> (Ticket, Ready<J>)
         requires worker { seat ≡ self.old.settings.sizes.callers + worker }
         requires there { worker < length self.old.pool.workers }
@@ -280,7 +278,6 @@ impl<J> PoolCore<J> {
     }
 
     /// It finds no job.
-    #[inline(always)]
     fn find_none(&mut self, seat: SeatNo, worker: u64) -> (Ticket, Ready<J>)
         requires worker { seat ≡ self.old.settings.sizes.callers + worker }
         requires there { worker < length self.old.pool.workers }
@@ -316,7 +313,6 @@ fn no_ticket() -> Ticket
 }
 
 /// Takes the job that a worker starts with out of its hands.
-#[inline(always)]
 fn take_first<J>(workers: &mut Crew<J>, worker: u64) -> Task<J>
     requires there { worker < length workers.old }
     requires starting { is_starting (slice_index_or workers.old worker Absent) ≡ true }
@@ -332,7 +328,6 @@ fn take_first<J>(workers: &mut Crew<J>, worker: u64) -> Task<J>
 }
 
 /// Takes the job that a worker was handed out of its hands.
-#[inline(always)]
 fn take_handed<J>(workers: &mut Crew<J>, worker: u64) -> Task<J>
     requires there { worker < length workers.old }
     requires handed { IsHanded (slice_index_or workers.old worker Absent) }
