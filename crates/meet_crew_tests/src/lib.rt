@@ -1,5 +1,11 @@
 //! Tests of crews, on public calls alone.
 #![tactic(auto)]
 
+#[cfg(test)]
+mod growth;
+#[cfg(test)]
 mod limits;
+#[cfg(test)]
 mod numbers;
+#[cfg(test)]
+mod stops;

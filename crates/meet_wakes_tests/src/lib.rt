@@ -6,6 +6,8 @@ mod chance;
 #[cfg(test)]
 mod flags;
 #[cfg(test)]
+mod parks;
+#[cfg(test)]
 mod wakes;
 #[cfg(test)]
 mod wakes_of_chance;

@@ -8,9 +8,9 @@ ghost use Rattle.meet_tickets.specs.Limits.{most_records};
 use crate::ItsTag;
 use crate::chores::{Before, Chore, Flags, another};
 use crate::pools::{
-    AtOnce, OurSeat, Ours, answers, closed, handed, made, one_worker, only, stopped,
+    AtOnce, OurSeat, Ours, answers, closed, handed, made, one_worker, only, shut, stopped,
 };
-use meet_cells::{Gate, ParkGate};
+use meet_cells::{Gate, ParkGate, Turn};
 use meet_tickets::Order;
 use pool_core::{Policy, PoolQueue};
 use pool_threads::{Job, NewPool, Outcome, PoolFault, PoolLedgers, ThreadStarter};
@@ -169,6 +169,63 @@ fn an_idle_worker_stays(rt: HostRuntime) {
     let (queue, starter) = (PoolQueue::Hand(Order::Fair), ThreadStarter::new());
     let parts = one_worker(&rt, alloc, 0, queue, Policy::Abort, AtOnce {}, starter);
     assert_eq!(rt; left_idle(&rt, alloc, parts), 1_000);
+}
+
+/// A gate at which each limit is over at once.
+#[derive(Drop)]
+struct Elapsing {}
+
+impl Gate for Elapsing {
+    fn wait<R: Wait + Clock>(&self, _rt: &R, _limit: Option<u64>) -> Turn {
+        thread::yield_now();
+        Turn::Elapsed
+    }
+
+    fn wake(&self) {}
+}
+
+/// Starts a worker with a job, and waits until there is no worker, ten seconds at most: how many there are.
+fn play_elapsed<N, R>(rt: &R, alloc: Global, parts: NewPool<Elapsing, ThreadStarter>) -> u64
+where
+    N: PoolLedgers + Send + Sync + 'static,
+    R: Abort + Threads + Wait + Clock + Copy + Send + 'static,
+    requires ledgers { AreOf N.name N.folds N.parts parts.blanks }
+    requires one_each { N.parts ≡ parts.sizes.callers + parts.sizes.maximum }
+    requires cap { N.cap ≡ most_records }
+    requires gates { vec_len parts.gates ≡ parts.sizes.maximum }
+    requires settings { N.settings ≡ record { sizes = parts.sizes; queue = parts.queue; policy = parts.policy } }
+{
+    let (pool, seats) = made::<N, Chore<R>, Elapsing, ThreadStarter>(rt, alloc, parts);
+    let (seat, _started) = handed(rt, &pool, only(rt, seats), Chore::new(1));
+    let mut workers = pool.counters(rt).workers;
+    for _ in 0..10_000 {
+        if workers == 0 {
+            break;
+        }
+        thread::sleep(rt, Duration::from_millis(1));
+        workers = pool.counters(rt).workers;
+    }
+    let seat = shut(rt, &pool, seat);
+    closed(rt, alloc, pool, seat);
+    workers
+}
+
+/// The same, with whatever ledgers.
+fn idled_out<R>(rt: &R, alloc: Global, parts: NewPool<Elapsing, ThreadStarter>) -> u64
+where
+    R: Abort + Threads + Wait + Clock + Copy + Send + 'static,
+    requires one_each { IsOneEach parts.sizes parts.blanks (vec_len parts.gates) }
+{
+    play_elapsed::<Brand, R>(rt, alloc, parts)
+}
+
+/// Excess threads are terminated if they have been idle for more than their keep-alive (`ThreadPoolExecutor`).
+#[test]
+fn an_excess_worker_ends(rt: HostRuntime) {
+    let alloc = rt.alloc();
+    let (queue, starter) = (PoolQueue::Hand(Order::Fair), ThreadStarter::new());
+    let parts = one_worker(&rt, alloc, 0, queue, Policy::Abort, Elapsing {}, starter);
+    assert_eq!(rt; idled_out(&rt, alloc, parts), 0);
 }
 
 /// What came of three jobs, of which the third takes the second's place, and of a shutdown that hands back what is

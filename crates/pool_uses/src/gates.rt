@@ -6,7 +6,7 @@ ghost use Rattle.pool_uses.specs.Parts.{IsOneEach};
 ghost use Rattle.meet_tickets.specs.Limits.{most_records};
 
 use crate::chores::{Before, Chore, Flags, another};
-use crate::pools::{OurSeat, Ours, closed, handed, made, one_worker, only, shut, sizes};
+use crate::pools::{OurSeat, Ours, closed, handed, made, one_worker, only, shut, sizes, stopped};
 use meet_cells::{Gate, ParkGate, Turn};
 use meet_place::Blanks;
 use pool_core::{Policy, PoolQueue};
@@ -19,7 +19,7 @@ use std::sync::{Arc, Wait};
 use std::test::*;
 use std::thread;
 use std::thread::Threads;
-use std::time::{Clock, Duration};
+use std::time::{Clock, Duration, Instant};
 
 /// What a gate is asked for.
 #[derive(Drop)]
@@ -218,4 +218,94 @@ fn two_idle_workers_are_woken(rt: HostRuntime) {
         blanks: Blanks::new(3),
     };
     assert_eq!(rt; woken(&rt, alloc, parts), 2);
+}
+
+/// How a pool is shut down.
+#[derive(Clone, Copy)]
+enum Ending {
+    Shutdown,
+    ShutdownNow,
+}
+
+/// Shuts a pool down so, and waits for its end.
+fn ended<N: PoolLedgers, R: Abort + Wait + Clock + Copy>(
+    rt: &R,
+    pool: &Chores<R, N>,
+    seat: OurSeat<N>,
+    ending: Ending,
+) -> OurSeat<N> {
+    match ending {
+        Ending::Shutdown => shut(rt, pool, seat),
+        Ending::ShutdownNow => {
+            let (seat, _none) = stopped(rt, pool, seat);
+            pool.await_end(rt);
+            seat
+        }
+    }
+}
+
+/// Starts a worker with a job, and shuts the pool down once it is idle: how long the end took, if there is a clock.
+fn play_shut<N, R>(
+    rt: &R,
+    alloc: Global,
+    parts: NewPool<ParkGate, ThreadStarter>,
+    ending: Ending,
+) -> Option<Duration>
+where
+    N: PoolLedgers + Send + Sync + 'static,
+    R: Abort + Threads + Wait + Clock + Copy + Send + 'static,
+    requires ledgers { AreOf N.name N.folds N.parts parts.blanks }
+    requires one_each { N.parts ≡ parts.sizes.callers + parts.sizes.maximum }
+    requires cap { N.cap ≡ most_records }
+    requires gates { vec_len parts.gates ≡ parts.sizes.maximum }
+    requires settings { N.settings ≡ record { sizes = parts.sizes; queue = parts.queue; policy = parts.policy } }
+{
+    let (pool, seats) = made::<N, Chore<R>, ParkGate, ThreadStarter>(rt, alloc, parts);
+    let (seat, _started) = handed(rt, &pool, only(rt, seats), Chore::new(1));
+    rests(rt, &pool, 1);
+    let start = Instant::now(rt).ok();
+    let seat = ended(rt, &pool, seat, ending);
+    let lasted = lasted(rt, start);
+    closed(rt, alloc, pool, seat);
+    lasted
+}
+
+/// How long ago this was, if there is a clock.
+fn lasted<R: Clock>(rt: &R, start: Option<Instant>) -> Option<Duration> {
+    start?.elapsed(rt).ok()
+}
+
+/// The same, with whatever ledgers.
+fn shut_idle<R>(
+    rt: &R,
+    alloc: Global,
+    parts: NewPool<ParkGate, ThreadStarter>,
+    ending: Ending,
+) -> Option<Duration>
+where
+    R: Abort + Threads + Wait + Clock + Copy + Send + 'static,
+    requires one_each { IsOneEach parts.sizes parts.blanks (vec_len parts.gates) }
+{
+    play_shut::<Brand, R>(rt, alloc, parts, ending)
+}
+
+/// An idle worker is woken by a shutdown (`interruptIdleWorkers`), and ends long before its keep-alive of a minute is
+/// over.
+#[test]
+fn a_shutdown_wakes_an_idle_worker(rt: HostRuntime) {
+    let alloc = rt.alloc();
+    for ending in [Ending::Shutdown, Ending::ShutdownNow] {
+        let (queue, starter) = (PoolQueue::Unbounded, ThreadStarter::new());
+        let parts = one_worker(
+            &rt,
+            alloc,
+            1,
+            queue,
+            Policy::Abort,
+            ParkGate::new(),
+            starter,
+        );
+        let lasted = shut_idle(&rt, alloc, parts, ending).expect(&rt, "a clock");
+        assert!(rt; lasted < Duration::from_secs(30));
+    }
 }
