@@ -86,9 +86,9 @@ Misses (Give Now m) Nothing (Take p) = Unit {0}
 Misses (Give Timed m) TimeRanOut (Take p) = Unit {0}
 Misses verb answer other = ⊥
 
--- the call's answer is that it was met, and none may have met it that began by this time
+-- the call's answer is that it was met, and none can have met it by this time
 abbrev pub IsUnmet : List Call → Verb → Answer → (by : ℕ) → Type 0
-IsUnmet calls (Give p m) Went by = NoneTook calls (length calls) m by
+IsUnmet calls (Give p m) Went by = NoneGot calls m by
 IsUnmet calls (Take p) (GotItem m) by = NoneMayGive calls (length calls) m by
 IsUnmet calls verb answer by = ⊥
 
@@ -99,8 +99,8 @@ item_of (Give p m) = Some m
 item_of (Take p) = None
 item_of (InterruptSeat j) = None
 
--- a call was seen to wait before one of the other side began that found nobody, and none may have met it that began by
--- the end of that one
+-- a call was seen to wait before one of the other side began that found nobody, and none can have met it by the end of
+-- that one
 pub record IsMissed (calls : List Call) : Type 0 where
   pub waiting : IsEnded calls
   pub seen : ℕ
@@ -125,7 +125,7 @@ IsBehind Back seen waiting caller met = (early : ℕ) × (met.waits ≡ Some ear
     × (seen < caller.begin)
 
 -- a call was seen to wait, and one of the other side met another one, whose turn came later: the item which they met
--- with is given by one call alone; and none may have met the one that waited that began by the end of the caller
+-- with is given by one call alone; and none can have met the one that waited by the end of the caller
 pub record IsPassed (k : Kind) (calls : List Call) : Type 0 where
   pub waiting : IsEnded calls
   pub seen : ℕ
