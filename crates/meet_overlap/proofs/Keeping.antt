@@ -1,11 +1,11 @@
--- A call that puts an item into a queue that keeps it, where nobody may have got that item in time: it is kept, and stays.
-use Rattle.std.proofs.Common.{◌≡◌, ℕ, ◌≤◌, List, ◌∷◌, length, ap, ◌∙◌, subst, refl, arith}
+-- A call that puts an item into a queue that keeps it, where nobody can have got that item in time: it is kept, and stays.
+use Rattle.std.proofs.Common.{◌≡◌, ℕ, ◌≤◌, List, ◌∷◌, ap, ◌∙◌, subst, refl, arith}
 use Rattle.meet_tickets.specs.declared.lines.Entry.{Entry}
 use Rattle.meet_tickets.specs.declared.places.Kind.{Kind}
 use Rattle.meet_tickets.specs.declared.places.End.TheVariants.{Front}
 use Rattle.meet_tickets.specs.declared.records.Record.{Record}
 use Rattle.meet_tickets.specs.declared.records.Deed.{Deed}
-use Rattle.meet_tickets.specs.declared.records.Deed.TheVariants.{GiveMeets, GiveKept, TakeMeets}
+use Rattle.meet_tickets.specs.declared.records.Deed.TheVariants.{GiveMeets, GiveKept}
 use Rattle.meet_tickets.specs.Meeting.{end_of}
 use Rattle.meet_tickets.specs.ByLists.{State}
 use Rattle.meet_overlap.specs.declared.calls.Call.{Call}
@@ -13,14 +13,13 @@ use Rattle.meet_overlap.specs.declared.calls.Stage.{Stage}
 use Rattle.meet_overlap.specs.declared.calls.Stage.TheVariants.{Ahead, Open, Over}
 use Rattle.meet_overlap.specs.declared.calls.Verb.{Verb}
 use Rattle.meet_overlap.specs.declared.calls.Verb.TheVariants.{Keep, Give, Take, Interrupt as InterruptSeat}
-use Rattle.meet_overlap.specs.Calls.{Begins, Ends, Tells, Moves}
+use Rattle.meet_overlap.specs.Calls.{Begins, Ends, Moves}
 use Rattle.meet_overlap.specs.Explaining.{Event}
-use Rattle.meet_overlap.specs.Marks.{IsEnded, IsKeeping, IsTaking, MayGet, NoneTook}
+use Rattle.meet_overlap.specs.Marks.{IsEnded, IsKeeping, NoneGot}
 use Rattle.meet_overlap.proofs.Courses.{Happens, IsCourse, happens, own_call, own_time}
 use Rattle.meet_overlap.proofs.Effects.{Leaves, IsWell}
 use Rattle.meet_overlap.proofs.InLine.{IsKept, leaves_by}
-use Rattle.meet_overlap.proofs.Promised.{AreOpenTakers, gives_promised}
-use Rattle.meet_overlap.proofs.Tables.{got_below}
+use Rattle.meet_overlap.proofs.Untouched.{IsUntouched, none_gives, none_takes}
 
 -- how an item of this mark is put
 abbrev Puts : ℕ → Deed → Type 0
@@ -28,7 +27,7 @@ Puts m (GiveMeets n v) = n ≡ m
 Puts m (GiveKept n) = n ≡ m
 Puts m d = ⊥
 
-module _ (k : Kind) (calls : List Call) (put : IsEnded calls) (mark by : ℕ) (keeps : IsKeeping put.call.verb mark) (none : NoneTook calls (length calls) mark by) (later : put.returned.at ≤ by) where
+module _ (k : Kind) (calls : List Call) (put : IsEnded calls) (mark by : ℕ) (keeps : IsKeeping put.call.verb mark) (none : NoneGot calls mark by) (later : put.returned.at ≤ by) where
   put_begins : (verb : Verb) (d : Deed) → IsKeeping verb mark → Begins verb d → Puts mark d
   put_begins (Give p m) d keeps b = absurd keeps
   put_begins (Take p) d keeps b = absurd keeps
@@ -49,9 +48,9 @@ module _ (k : Kind) (calls : List Call) (put : IsEnded calls) (mark by : ℕ) (k
   put_moves Over r moves = absurd moves
 
   -- its event: the item is kept
-  pub is_kept : (e : Event) (events : List Event) (s : State) (time : ℕ) (stages : ℕ → Stage) → IsWell s → AreOpenTakers calls stages time s → IsCourse k calls s time stages (e ∷ events) →
+  pub is_kept : (e : Event) (events : List Event) (s : State) (time : ℕ) (stages : ℕ → Stage) → IsWell s → IsUntouched k calls mark by none s time stages → IsCourse k calls s time stages (e ∷ events) →
       e.call ≡ put.number → e.entry.deed ≡ GiveKept mark
-  is_kept e events s time stages well takers c at = by_deed e.entry.deed refl (put_moves (stages e.call) e.entry moves)
+  is_kept e events s time stages well untouched c at = by_deed e.entry.deed refl (put_moves (stages e.call) e.entry moves)
     where
       h : Happens k calls s time stages e
       h = happens k calls s time stages e events c
@@ -62,32 +61,14 @@ module _ (k : Kind) (calls : List Call) (put : IsEnded calls) (mark by : ℕ) (k
       by_deed : (d : Deed) → e.entry.deed ≡ d → Puts mark d → e.entry.deed ≡ GiveKept mark
       by_deed (GiveMeets m v) is same =
           let within = own_time k calls put e at h.of in
-          absurd (gives_promised k calls mark by none e events s time stages well takers c v (is ∙ ap (λ y. GiveMeets y v) same) (omega arith))
+          absurd (none_gives k calls mark by e events s time stages c (omega arith) none well untouched v (is ∙ ap (λ y. GiveMeets y v) same))
       by_deed (GiveKept m) is same = is ∙ ap GiveKept same
       by_deed d is none = absurd none
 
-  takes_kept : (c : Call) (stage : Stage) (r : Record Deed) (v : ℕ) → Moves c stage r → r.deed ≡ TakeMeets mark v → IsTaking c.verb × MayGet c mark
-  takes_kept c Ahead r v moves is = (takes c.verb (subst (Begins c.verb) is moves.0), subst (Tells c) is moves.1)
-    where
-      takes : (verb : Verb) → Begins verb (TakeMeets mark v) → IsTaking verb
-      takes (Take p) b = tt
-      takes (Keep m) b = absurd b
-      takes (Give p m) b = absurd b
-      takes (InterruptSeat j) b = absurd b
-  takes_kept c (Open t) r v moves is = absurd (never c.verb (subst (Ends c.verb) is moves.1))
-    where
-      never : (verb : Verb) → Ends verb (TakeMeets mark v) → ⊥
-      never (Keep m) b = b
-      never (Give p m) b = b
-      never (Take p) b = b
-      never (InterruptSeat j) b = b
-  takes_kept c Over r v moves is = absurd moves
-
   -- an event by then doesn't take it out of the line
-  pub stays_kept : (front : end_of k.order ≡ Front) (e : Event) (s : State) (time : ℕ) (stages : ℕ → Stage) (entry : Entry ℕ) (b : IsKept k front mark s entry) → Happens k calls s time stages e → e.time ≤ by →
+  pub stays_kept : (front : end_of k.order ≡ Front) (e : Event) (events : List Event) (s : State) (time : ℕ) (stages : ℕ → Stage) (entry : Entry ℕ) (b : IsKept k front mark s entry) → IsUntouched k calls mark by none s time stages → IsCourse k calls s time stages (e ∷ events) → e.time ≤ by →
       Leaves e.entry.deed e.entry.ticket entry.ticket → ⊥
-  stays_kept front e s time stages entry b h le leaves =
+  stays_kept front e events s time stages entry b untouched c le leaves =
+      let h = happens k calls s time stages e events c in
       let q = leaves_by k front mark s entry b e.entry.seat e.entry.ticket e.entry.deed h.step leaves in
-      let first = takes_kept h.of.call (stages e.call) e.entry q.0 h.moves q.1 in
-      let begun = h.of.within.begun in
-      none e.call h.of.call (got_below calls e.call h.of.call h.of.known) h.of.known first.0 first.1 (omega arith)
+      none_takes k calls mark by e events s time stages c le none b.well untouched q.0 q.1

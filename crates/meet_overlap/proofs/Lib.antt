@@ -34,6 +34,7 @@ pub mod Standing
 pub mod Tables
 pub mod Timed
 pub mod Twice
+pub mod Untouched
 pub mod Watching
 pub mod Ways
 pub mod Windows

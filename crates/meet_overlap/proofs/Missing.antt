@@ -25,7 +25,7 @@ use Rattle.meet_overlap.specs.Reasons.{Misses, IsMissed, item_of}
 use Rattle.meet_overlap.proofs.Courses.{Happens, IsCourse, later, after_event, happens, goes_on, whole_course, never_left, own_call, still, too_late, answers}
 use Rattle.meet_overlap.proofs.Effects.{IsWell, well_stays, well_empty}
 use Rattle.meet_overlap.proofs.InLine.{IsUnmixed, IsOrdered, ordered_stays, ordered_empty, none_front, alone_giver, alone_taker}
-use Rattle.meet_overlap.proofs.Standing.{WasMet, was_met, IsStanding, stands, unseen, now_standing, entry_with}
+use Rattle.meet_overlap.proofs.Standing.{WasMet, was_met, IsUnmetYet, unmet_stays, unmet_empty, IsStanding, stands, unseen, now_standing, entry_with}
 
 -- a call that finds nobody makes its request where none of the other side stands
 alone : (k : Kind) (s : State) (i t : ℕ) (verb : Verb) (answer : Answer) (other : Verb) (d : Deed) → Misses verb answer other → Begins verb d → IfSome (told_by d) (λ a. a ≡ answer) → IsStep k s i t d → IsUnmixed s.line →
@@ -68,10 +68,17 @@ module _ (k : Kind) (calls : List Call) (u : IsMissed calls) where
   never_over : (stages : ℕ → Stage) → stages u.caller.number ≡ Ahead → stages u.caller.number ≡ Over → ⊥
   never_over stages ahead over = let q = sym ahead ∙ over in absurd (cc)
 
+  -- what is known of a moment, since none can have met it
+  abbrev IsUnmetNow : State → (time : ℕ) → (ℕ → Stage) → Type 0
+  IsUnmetNow s time stages = IsUnmetYet k calls u.caller.returned.at u.waiting.call.verb u.waiting.returned.answer u.unmet s time stages
+
+  unmet_on : (e : Event) (s : State) (time : ℕ) (stages : ℕ → Stage) → IsWell s → Happens k calls s time stages e → IsUnmetNow s time stages → IsUnmetNow (after_event s e) e.time (later stages e)
+  unmet_on e s time stages well h yet = unmet_stays k calls u.caller.returned.at u.waiting.call.verb u.waiting.returned.answer u.unmet e s time stages well h yet
+
   -- it stands in the line, and the call is ahead
-  there_it_is : (events : List Event) (s : State) (time : ℕ) (stages : ℕ → Stage) (entry : Entry ℕ) → IsStanding k calls u.waiting was s stages entry → stages u.caller.number ≡ Ahead → IsCourse k calls s time stages events → ⊥
-  there_it_is [] s time stages entry b ahead c = never_left k calls u.caller (stages u.caller.number) (never_over stages ahead) (c.formed u.caller.number u.caller.call u.caller.known)
-  there_it_is (e ∷ events) s time stages entry b ahead c =
+  there_it_is : (events : List Event) (s : State) (time : ℕ) (stages : ℕ → Stage) (entry : Entry ℕ) → IsStanding k calls u.waiting was s stages entry → IsUnmetNow s time stages → stages u.caller.number ≡ Ahead → IsCourse k calls s time stages events → ⊥
+  there_it_is [] s time stages entry b yet ahead c = never_left k calls u.caller (stages u.caller.number) (never_over stages ahead) (c.formed u.caller.number u.caller.call u.caller.known)
+  there_it_is (e ∷ events) s time stages entry b yet ahead c =
       let h = happens k calls s time stages e events c in
       ⊎_elim
       (λ q. finds_nobody e s time stages h q.1 ahead b.ordered.unmixed entry b.there (b.items entry b.there refl))
@@ -79,7 +86,7 @@ module _ (k : Kind) (calls : List Call) (u : IsMissed calls) where
       let on : later stages e u.caller.number ≡ Ahead = still k calls u.caller stages e q.1 ∙ ahead in
       ⊎_elim
       (λ late. too_late k calls u.caller events (after_event s e) e.time (later stages e) (never_over (later stages e) on) late (goes_on k calls s time stages e events c))
-      (λ le. there_it_is events (after_event s e) e.time (later stages e) entry (stands k calls u.waiting was u.caller.returned.at u.unmet e events s time stages entry b c le) on (goes_on k calls s time stages e events c))
+      (λ le. there_it_is events (after_event s e) e.time (later stages e) entry (stands k calls u.waiting was u.caller.returned.at u.unmet e events s time stages entry b yet c le) (unmet_on e s time stages b.well h yet) on (goes_on k calls s time stages e events c))
       (cases_lt u.caller.returned.at e.time))
       (eqb_tells e.call u.caller.number)
 
@@ -98,13 +105,14 @@ module _ (k : Kind) (calls : List Call) (u : IsMissed calls) where
       let is : u.waiting.call ≡ u.caller.call = cc in
       apart u.caller.call.verb u.caller.returned.answer (subst (λ (y : Call). Misses u.caller.call.verb u.caller.returned.answer y.verb) is u.misses)
 
-  before_it : (events : List Event) (s : State) (time : ℕ) (stages : ℕ → Stage) → IsBefore s stages → IsCourse k calls s time stages events → ⊥
-  before_it [] s time stages b c = never_left k calls u.caller (stages u.caller.number) (never_over stages b.caller) (c.formed u.caller.number u.caller.call u.caller.known)
-  before_it (e ∷ events) s time stages b c =
+  before_it : (events : List Event) (s : State) (time : ℕ) (stages : ℕ → Stage) → IsBefore s stages → IsUnmetNow s time stages → IsCourse k calls s time stages events → ⊥
+  before_it [] s time stages b yet c = never_left k calls u.caller (stages u.caller.number) (never_over stages b.caller) (c.formed u.caller.number u.caller.call u.caller.known)
+  before_it (e ∷ events) s time stages b yet c =
       let h = happens k calls s time stages e events c in
       ⊎_elim
       (λ q. there_it_is events (after_event s e) e.time (later stages e) (entry_with e.entry.seat e.entry.ticket (item_of u.waiting.call.verb))
       (now_standing k calls u.waiting was u.seen u.waits e s time stages b.well b.ordered b.waiting h q.1)
+      (unmet_on e s time stages b.well h yet)
       (still k calls u.caller stages e (not_both e q.1) ∙ b.caller) (goes_on k calls s time stages e events c))
       (λ q. ⊎_elim
       (λ at.
@@ -117,11 +125,11 @@ module _ (k : Kind) (calls : List Call) (u : IsMissed calls) where
         ordered = ordered_stays k s e.entry.seat e.entry.ticket e.entry.deed b.well b.ordered h.step;
         waiting = still k calls u.waiting stages e q.1 ∙ b.waiting;
         caller = still k calls u.caller stages e other.1 ∙ b.caller;
-      }) (goes_on k calls s time stages e events c))
+      }) (unmet_on e s time stages b.well h yet) (goes_on k calls s time stages e events c))
       (eqb_tells e.call u.caller.number))
       (eqb_tells e.call u.waiting.number)
 
 -- so nothing explains the calls
 pub missed_explains : (k : Kind) (calls : List Call) → IsMissed calls → (history : List (Record Deed)) → Explains k calls history → ⊥
 missed_explains k calls u history explains =
-    before_it k calls u explains.events empty 0 (λ n. Ahead) (record { well = well_empty; ordered = ordered_empty; waiting = refl; caller = refl }) (whole_course k calls history explains)
+    before_it k calls u explains.events empty 0 (λ n. Ahead) (record { well = well_empty; ordered = ordered_empty; waiting = refl; caller = refl }) (unmet_empty k calls u.caller.returned.at u.waiting.call.verb u.waiting.returned.answer u.unmet) (whole_course k calls history explains)

@@ -11,7 +11,6 @@ use Rattle.meet_tickets.specs.declared.records.Deed.{Deed}
 use Rattle.meet_tickets.specs.declared.records.Deed.TheVariants.{GiveKept, TakeWaits, TakeMeets, TakeFails, EntryInterrupted}
 use Rattle.meet_tickets.specs.Meeting.{end_of, partner}
 use Rattle.meet_tickets.specs.ByLists.{State, empty, IsStep, after}
-use Rattle.meet_tickets.proofs.Lists.Members.{Contains-nil}
 use Rattle.meet_overlap.specs.declared.calls.Answer.{Answer}
 use Rattle.meet_overlap.specs.declared.calls.Answer.TheVariants.{Nothing, Expired as TimeRanOut}
 use Rattle.meet_overlap.specs.declared.calls.Patience.TheVariants.{Now, Timed}
@@ -28,7 +27,7 @@ use Rattle.meet_overlap.proofs.Courses.{Happens, IsCourse, later, after_event, h
 use Rattle.meet_overlap.proofs.Effects.{IsWell, well_stays, well_empty}
 use Rattle.meet_overlap.proofs.InLine.{IsOrdered, ordered_stays, ordered_empty, IsKept, finds_one, kept_stays, own_entry, now_kept}
 use Rattle.meet_overlap.proofs.Keeping.{is_kept, stays_kept}
-use Rattle.meet_overlap.proofs.Promised.{AreOpenTakers, takers_stay}
+use Rattle.meet_overlap.proofs.Untouched.{IsUntouched, untouched_stays, untouched_empty}
 
 -- a call that finds nothing makes its request where nobody is there
 alone : (k : Kind) (s : State) (i t : ℕ) (verb : Verb) (answer : Answer) (d : Deed) → FindsNothing verb answer → Begins verb d → IfSome (told_by d) (λ a. a ≡ answer) → IsStep k s i t d →
@@ -54,12 +53,13 @@ module _ (k : Kind) (calls : List Call) (u : IsOverlooked k calls) where
   never_over stages ahead over = let q = sym ahead ∙ over in absurd (cc)
 
   -- the item is kept, and the call is ahead
-  pub record IsThere (s : State) (stages : ℕ → Stage) : Type 0 where
+  pub record IsThere (s : State) (time : ℕ) (stages : ℕ → Stage) : Type 0 where
     pub entry : Entry ℕ
+    pub untouched : IsUntouched k calls u.mark u.looked.returned.at u.none_got s time stages
     pub kept : IsKept k u.order u.mark s entry
     pub ahead : stages u.looked.number ≡ Ahead
 
-  there_it_is : (events : List Event) (s : State) (time : ℕ) (stages : ℕ → Stage) → IsThere s stages → IsCourse k calls s time stages events → ⊥
+  there_it_is : (events : List Event) (s : State) (time : ℕ) (stages : ℕ → Stage) → IsThere s time stages → IsCourse k calls s time stages events → ⊥
   there_it_is [] s time stages b c = never_left k calls u.looked (stages u.looked.number) (never_over stages b.ahead) (c.formed u.looked.number u.looked.call u.looked.known)
   there_it_is (e ∷ events) s time stages b c =
       let h = happens k calls s time stages e events c in
@@ -70,9 +70,14 @@ module _ (k : Kind) (calls : List Call) (u : IsOverlooked k calls) where
       ⊎_elim
       (λ late. too_late k calls u.looked events (after_event s e) e.time (later stages e) (never_over (later stages e) ahead) late (goes_on k calls s time stages e events c))
       (λ le.
-      let stays = stays_kept k calls u.put u.mark u.looked.returned.at u.keeps u.none_took u.later u.order e s time stages b.entry b.kept h le in
+      let stays = stays_kept k calls u.put u.mark u.looked.returned.at u.keeps u.none_got u.later u.order e events s time stages b.entry b.kept b.untouched c le in
       there_it_is events (after_event s e) e.time (later stages e)
-      (record { entry = b.entry; kept = kept_stays k u.order u.mark s b.entry b.kept e.entry.seat e.entry.ticket e.entry.deed h.step stays; ahead = ahead })
+      (record {
+        entry = b.entry;
+        untouched = untouched_stays k calls u.mark u.looked.returned.at u.none_got e s time stages b.kept.well h b.untouched;
+        kept = kept_stays k u.order u.mark s b.entry b.kept e.entry.seat e.entry.ticket e.entry.deed h.step stays;
+        ahead = ahead;
+      })
       (goes_on k calls s time stages e events c))
       (cases_lt u.looked.returned.at e.time))
       (eqb_tells e.call u.looked.number)
@@ -81,7 +86,7 @@ module _ (k : Kind) (calls : List Call) (u : IsOverlooked k calls) where
   pub record IsBefore (s : State) (time : ℕ) (stages : ℕ → Stage) : Type 0 where
     pub well : IsWell s
     pub ordered : IsOrdered s
-    pub takers : AreOpenTakers calls stages time s
+    pub untouched : IsUntouched k calls u.mark u.looked.returned.at u.none_got s time stages
     pub going : stages u.put.number ≡ Over → ⊥
     pub ahead : stages u.looked.number ≡ Ahead
 
@@ -102,13 +107,18 @@ module _ (k : Kind) (calls : List Call) (u : IsOverlooked k calls) where
     puts other is =
         let step : IsStep k s e.entry.seat e.entry.ticket (GiveKept u.mark) = subst (IsStep k s e.entry.seat e.entry.ticket) is h.step in
         there_it_is events (after s e.entry.seat e.entry.ticket (GiveKept u.mark)) e.time (later stages e)
-        (record { entry = own_entry k u.order u.mark e.entry.seat e.entry.ticket; kept = now_kept k u.order u.mark s e.entry.seat e.entry.ticket b.well b.ordered step; ahead = still k calls u.looked stages e other ∙ b.ahead })
+        (record {
+          entry = own_entry k u.order u.mark e.entry.seat e.entry.ticket;
+          untouched = subst (λ y. IsUntouched k calls u.mark u.looked.returned.at u.none_got (after s e.entry.seat e.entry.ticket y) e.time (later stages e)) is (untouched_stays k calls u.mark u.looked.returned.at u.none_got e s time stages b.well h b.untouched);
+          kept = now_kept k u.order u.mark s e.entry.seat e.entry.ticket b.well b.ordered step;
+          ahead = still k calls u.looked stages e other ∙ b.ahead;
+        })
         (subst (λ y. IsCourse k calls (after s e.entry.seat e.entry.ticket y) e.time (later stages e) events) is (goes_on k calls s time stages e events c))
 
   before_it : (events : List Event) (s : State) (time : ℕ) (stages : ℕ → Stage) → IsBefore s time stages → IsCourse k calls s time stages events → ⊥
   before_it [] s time stages b c = never_left k calls u.looked (stages u.looked.number) (never_over stages b.ahead) (c.formed u.looked.number u.looked.call u.looked.known)
   before_it (e ∷ events) s time stages b c = ⊎_elim
-      (λ q. puts e events s time stages b c (not_both e q.1) (is_kept k calls u.put u.mark u.looked.returned.at u.keeps u.none_took u.later e events s time stages b.well b.takers c q.1))
+      (λ q. puts e events s time stages b c (not_both e q.1) (is_kept k calls u.put u.mark u.looked.returned.at u.keeps u.none_got u.later e events s time stages b.well b.untouched c q.1))
       (λ q. ⊎_elim
       (λ at. looks_late e events s time stages b c q.1 at.1)
       (λ other.
@@ -116,7 +126,7 @@ module _ (k : Kind) (calls : List Call) (u : IsOverlooked k calls) where
       before_it events (after_event s e) e.time (later stages e) (record {
         well = well_stays k s e.entry.seat e.entry.ticket e.entry.deed b.well hap.step;
         ordered = ordered_stays k s e.entry.seat e.entry.ticket e.entry.deed b.well b.ordered hap.step;
-        takers = takers_stay k calls s time stages e b.well b.takers hap;
+        untouched = untouched_stays k calls u.mark u.looked.returned.at u.none_got e s time stages b.well hap b.untouched;
         going = λ over. b.going (sym (still k calls u.put stages e q.1) ∙ over);
         ahead = still k calls u.looked stages e other.1 ∙ b.ahead;
       }) (goes_on k calls s time stages e events c))
@@ -144,7 +154,7 @@ overlooked_explains k calls u history explains =
     (record {
       well = well_empty;
       ordered = ordered_empty;
-      takers = λ e there none. absurd (Contains-nil e there);
+      untouched = untouched_empty k calls u.mark u.looked.returned.at u.none_got;
       going = λ over. absurd (cc);
       ahead = refl;
     })

@@ -30,8 +30,8 @@ use Rattle.meet_overlap.proofs.Courses.{Happens, IsCourse, later, after_event, h
 use Rattle.meet_overlap.proofs.Effects.{NewPair, Effect, effect, IsWell, well_stays, well_empty}
 use Rattle.meet_overlap.proofs.InLine.{IsOrdered, ordered_stays, ordered_empty, find_some, front_least, IsKept, gives_none, kept_stays, own_entry, now_kept}
 use Rattle.meet_overlap.proofs.Keeping.{is_kept, stays_kept}
-use Rattle.meet_overlap.proofs.Promised.{AreOpenTakers, takers_stay}
 use Rattle.meet_overlap.proofs.Tables.{got_below}
+use Rattle.meet_overlap.proofs.Untouched.{IsUntouched, untouched_stays, untouched_empty}
 use Rattle.meet_overlap.proofs.Ways.{put_same}
 
 module _ (k : Kind) (calls : List Call) (u : IsOvertaken k calls) where
@@ -83,45 +83,47 @@ module _ (k : Kind) (calls : List Call) (u : IsOvertaken k calls) where
       (eqb_tells e.call u.taken.number)
 
   -- the first item is kept, and every second one stands after it
-  pub record IsBehind (s : State) (stages : ℕ → Stage) : Type 0 where
+  pub record IsBehind (s : State) (time : ℕ) (stages : ℕ → Stage) : Type 0 where
     pub entry : Entry ℕ
+    pub untouched : IsUntouched k calls u.first u.taken.returned.at u.none_got s time stages
     pub kept : IsKept k u.order u.first s entry
     pub going : stages u.taken.number ≡ Over → ⊥
     pub behind : (e : Entry ℕ) → Contains s.line e → e.item ≡ Some u.second → entry.ticket < e.ticket
     pub pairs : (p : Pair) → Contains s.pairs p → p.mark ≡ u.second → ⊥
 
   -- nobody meets the second one
-  meets_none : (s : State) (stages : ℕ → Stage) (b : IsBehind s stages) (i t v : ℕ) → IsStep k s i t (TakeMeets u.second v) → ⊥
-  meets_none s stages b i t v step =
+  meets_none : (s : State) (time : ℕ) (stages : ℕ → Stage) (b : IsBehind s time stages) (i t v : ℕ) → IsStep k s i t (TakeMeets u.second v) → ⊥
+  meets_none s time stages b i t v step =
       let there = Contains-partner (end_of k.order) s.line Taker step.1.0 step.1.1 in
       let lt = b.behind step.1.0 there step.1.3 in
       let le = front_least s.line Taker step.1.0 (find_some k u.order s.line Taker step.1.0 step.1.1) b.kept.ordered.sorted b.entry b.kept.there in
       absurd (omega arith)
 
-  pair_other : (s : State) (stages : ℕ → Stage) (b : IsBehind s stages) (i t : ℕ) (d : Deed) (p : Pair) → IsStep k s i t d → NewPair d t p → p.mark ≡ u.second → ⊥
-  pair_other s stages b i t (GiveMeets m v) p step new is = gives_none k u.order u.first s b.entry b.kept i t m v step
-  pair_other s stages b i t (TakeMeets m v) p step new is =
+  pair_other : (s : State) (time : ℕ) (stages : ℕ → Stage) (b : IsBehind s time stages) (i t : ℕ) (d : Deed) (p : Pair) → IsStep k s i t d → NewPair d t p → p.mark ≡ u.second → ⊥
+  pair_other s time stages b i t (GiveMeets m v) p step new is = gives_none k u.order u.first s b.entry b.kept i t m v step
+  pair_other s time stages b i t (TakeMeets m v) p step new is =
       let mark : m ≡ u.second = sym (ap (λ (y : Pair). y.mark) new) ∙ is in
-      meets_none s stages b i t v (subst (λ y. IsStep k s i t (TakeMeets y v)) mark step)
-  pair_other s stages b i t d p step new is = new
+      meets_none s time stages b i t v (subst (λ y. IsStep k s i t (TakeMeets y v)) mark step)
+  pair_other s time stages b i t d p step new is = new
 
-  behind_it : (events : List Event) (s : State) (time : ℕ) (stages : ℕ → Stage) → IsBehind s stages → IsCourse k calls s time stages events → ⊥
+  behind_it : (events : List Event) (s : State) (time : ℕ) (stages : ℕ → Stage) → IsBehind s time stages → IsCourse k calls s time stages events → ⊥
   behind_it [] s time stages b c = never_left k calls u.taken (stages u.taken.number) b.going (c.formed u.taken.number u.taken.call u.taken.known)
   behind_it (e ∷ events) s time stages b c =
       let h = happens k calls s time stages e events c in
       let f = effect k s e.entry.seat e.entry.ticket e.entry.deed h.step in
-      let going = going_on s time stages e h (λ v step. meets_none s stages b e.entry.seat e.entry.ticket v step) b.pairs b.going in
+      let going = going_on s time stages e h (λ v step. meets_none s time stages b e.entry.seat e.entry.ticket v step) b.pairs b.going in
       ⊎_elim
       (λ late. too_late k calls u.taken events (after_event s e) e.time (later stages e) going late (goes_on k calls s time stages e events c))
       (λ le.
-      let stays = stays_kept k calls u.put u.first u.taken.returned.at u.keeps u.none_took u.later u.order e s time stages b.entry b.kept h le in
+      let stays = stays_kept k calls u.put u.first u.taken.returned.at u.keeps u.none_got u.later u.order e events s time stages b.entry b.kept b.untouched c le in
       let low = b.kept.well.line b.entry b.kept.there in
       behind_it events (after_event s e) e.time (later stages e) (record {
         entry = b.entry;
+        untouched = untouched_stays k calls u.first u.taken.returned.at u.none_got e s time stages b.kept.well h b.untouched;
         kept = kept_stays k u.order u.first s b.entry b.kept e.entry.seat e.entry.ticket e.entry.deed h.step stays;
         going = going;
         behind = λ g there is. ⊎_elim (λ q. b.behind g q.0 is) (λ q. let above = q.above in let at = q.ticket in omega arith) (f.line g there);
-        pairs = λ p there is. ⊎_elim (λ q. b.pairs p q is) (λ q. pair_other s stages b e.entry.seat e.entry.ticket e.entry.deed p h.step q is) (f.pairs p there);
+        pairs = λ p there is. ⊎_elim (λ q. b.pairs p q is) (λ q. pair_other s time stages b e.entry.seat e.entry.ticket e.entry.deed p h.step q is) (f.pairs p there);
       }) (goes_on k calls s time stages e events c))
       (cases_lt u.taken.returned.at e.time)
 
@@ -129,7 +131,7 @@ module _ (k : Kind) (calls : List Call) (u : IsOvertaken k calls) where
   pub record IsBefore (s : State) (time : ℕ) (stages : ℕ → Stage) : Type 0 where
     pub well : IsWell s
     pub ordered : IsOrdered s
-    pub takers : AreOpenTakers calls stages time s
+    pub untouched : IsUntouched k calls u.first u.taken.returned.at u.none_got s time stages
     pub ahead : stages u.put.number ≡ Over → ⊥
     pub going : stages u.taken.number ≡ Over → ⊥
     pub line : (e : Entry ℕ) → Contains s.line e → e.item ≡ Some u.second → ⊥
@@ -156,6 +158,7 @@ module _ (k : Kind) (calls : List Call) (u : IsOvertaken k calls) where
         behind_it events (after s e.entry.seat e.entry.ticket (GiveKept u.first)) e.time (later stages e)
         (record {
           entry = own_entry k u.order u.first e.entry.seat e.entry.ticket;
+          untouched = subst (λ y. IsUntouched k calls u.first u.taken.returned.at u.none_got (after s e.entry.seat e.entry.ticket y) e.time (later stages e)) is (untouched_stays k calls u.first u.taken.returned.at u.none_got e s time stages b.well h b.untouched);
           kept = now_kept k u.order u.first s e.entry.seat e.entry.ticket b.well b.ordered step;
           going = going_on s time stages e h (λ v met. none_met s time stages b e.entry.seat e.entry.ticket v met) b.pairs b.going;
           behind = λ g there is. ⊎_elim (λ q. absurd (b.line g q.0 is)) (λ q. absurd (twice (let y = sym q.item ∙ is in cc))) (eff.line g there);
@@ -194,7 +197,7 @@ module _ (k : Kind) (calls : List Call) (u : IsOvertaken k calls) where
         record {
           well = well_stays k s e.entry.seat e.entry.ticket e.entry.deed b.well h.step;
           ordered = ordered_stays k s e.entry.seat e.entry.ticket e.entry.deed b.well b.ordered h.step;
-          takers = takers_stay k calls s time stages e b.well b.takers h;
+          untouched = untouched_stays k calls u.first u.taken.returned.at u.none_got e s time stages b.well h b.untouched;
           ahead = λ over. b.ahead (sym (still k calls u.put stages e other) ∙ over);
           going = going_on s time stages e h (λ v met. none_met s time stages b e.entry.seat e.entry.ticket v met) b.pairs b.going;
           line = λ g there is. ⊎_elim (λ q. b.line g q.0 is) (λ q. new_item u.second e.entry.deed g.item q.item none is) (f.line g there);
@@ -204,7 +207,7 @@ module _ (k : Kind) (calls : List Call) (u : IsOvertaken k calls) where
   before_it : (events : List Event) (s : State) (time : ℕ) (stages : ℕ → Stage) → IsBefore s time stages → IsCourse k calls s time stages events → ⊥
   before_it [] s time stages b c = never_left k calls u.taken (stages u.taken.number) b.going (c.formed u.taken.number u.taken.call u.taken.known)
   before_it (e ∷ events) s time stages b c = ⊎_elim
-      (λ q. put_first e events s time stages b c q.1 (is_kept k calls u.put u.first u.taken.returned.at u.keeps u.none_took u.later e events s time stages b.well b.takers c q.1))
+      (λ q. put_first e events s time stages b c q.1 (is_kept k calls u.put u.first u.taken.returned.at u.keeps u.none_got u.later e events s time stages b.well b.untouched c q.1))
       (λ q. ⊎_elim
       (gives_second e events s time stages b c q.1)
       (λ none. before_it events (after_event s e) e.time (later stages e) (stays_before e events s time stages b c q.1 none) (goes_on k calls s time stages e events c))
@@ -218,7 +221,7 @@ overtaken_explains k calls u history explains =
     (record {
       well = well_empty;
       ordered = ordered_empty;
-      takers = λ e there none. absurd (Contains-nil e there);
+      untouched = untouched_empty k calls u.first u.taken.returned.at u.none_got;
       ahead = λ over. absurd (cc);
       going = λ over. absurd (cc);
       line = λ e there is. Contains-nil e there;

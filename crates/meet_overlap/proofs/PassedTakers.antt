@@ -34,7 +34,7 @@ use Rattle.meet_overlap.proofs.InLine.{IsUnmixed, IsOrdered, none_front, alone_g
 use Rattle.meet_overlap.proofs.Standing.{WasMet, was_met, LetsEnd, request_with, entry_with, IsStanding, stands_on, now_waiting, own_seen, unseen}
 use Rattle.meet_overlap.proofs.Tables.{got_below}
 use Rattle.meet_overlap.proofs.PassedTurns.{ComesAfter, never_first, HasBegun, comes_after, not_both, begun_then, begun_stays}
-use Rattle.meet_overlap.proofs.Twice.{GetsBy, gets, opens, IsFresh, IsGiven, given_stays, met_entry, fresh_gives, fresh_line, fresh_pairs, still_giver, won}
+use Rattle.meet_overlap.proofs.Twice.{GetsBy, gets, opens, IsFresh, IsGiven, given_stays, met_entry, fresh_gives, fresh_line, fresh_pairs, still_giver, won, gives_other, takes_other}
 use Rattle.meet_overlap.proofs.Watching.{Stands, IsWatched, too_early, watched}
 use Rattle.meet_overlap.proofs.Ways.{put_same}
 
@@ -224,31 +224,6 @@ module _ (k : Kind) (calls : List Call) (u : IsPassed k calls) (g : IsTakerMet u
             (eqb_tells e.call u.met.number)
         by_end Back behind early = tt
 
-    -- a pair with the item is made while the one that is met is ahead: that can't get it any more
-    wins : IsWell s → IsGiven k calls u.mark u.caller.number only s stages → stages u.met.number ≡ Ahead → e.call ≢ u.met.number → (p : Pair) → Contains (after_event s e).pairs p → p.mark ≡ u.mark → ⊥
-    wins well given early not_met p there is =
-        let on : later stages e u.met.number ≡ Ahead = still k calls u.met stages e not_met ∙ early in
-        won k calls u.mark u.caller.number only u.met g.takes g.got events (after_event s e) e.time (later stages e) (record {
-          well = well_stays k s e.entry.seat e.entry.ticket e.entry.deed well h.step;
-          given = given_stays k calls u.mark u.caller.number only e s time stages h given;
-          pair = p;
-          there = there;
-          is = is;
-          going = λ over. let q = sym on ∙ over in absurd (cc);
-          other = λ t at same. let q = sym on ∙ at in absurd (cc);
-        }) (goes_on k calls s time stages e events c)
-
-    -- so it is where the caller meets a taker, and where a taker meets the item
-    gives_other : IsWell s → IsGiven k calls u.mark u.caller.number only s stages → stages u.met.number ≡ Ahead → e.call ≢ u.met.number → (v : ℕ) → e.entry.deed ≡ GiveMeets u.mark v → ⊥
-    gives_other well given early not_met v is =
-        let own : Pair = record { giver = e.entry.ticket; taker = v; mark = u.mark } in
-        wins well given early not_met own (subst (λ d. Contains (after s e.entry.seat e.entry.ticket d).pairs own) (sym is) (Contains-push s.pairs own)) refl
-
-    takes_other : IsWell s → IsGiven k calls u.mark u.caller.number only s stages → stages u.met.number ≡ Ahead → e.call ≢ u.met.number → (v : ℕ) → e.entry.deed ≡ TakeMeets u.mark v → ⊥
-    takes_other well given early not_met v is =
-        let own : Pair = record { giver = v; taker = e.entry.ticket; mark = u.mark } in
-        wins well given early not_met own (subst (λ d. Contains (after s e.entry.seat e.entry.ticket d).pairs own) (sym is) (Contains-push s.pairs own)) refl
-
     -- the one that is met comes after the one that waits was seen
     met_late : u.seen < u.met.call.begin → stages u.waiting.number ≡ Ahead → e.call ≢ u.waiting.number → e.call ≡ u.met.number → ⊥
     met_late behind ahead other at =
@@ -366,7 +341,7 @@ module _ (k : Kind) (calls : List Call) (u : IsPassed k calls) (g : IsTakerMet u
             let giver : p.giver ≡ v = ap (λ (y : Pair). y.giver) new in
             let mine = b.items step.1.0 there (step.1.2 ∙ sym giver ∙ same) ∙ item in
             let mark : n ≡ u.mark = let q = sym step.1.3 ∙ mine in cc in
-            takes_other e events s time stages c b.well known.given known.other not_met v (is ∙ ap (λ y. TakeMeets y v) mark)
+            takes_other k calls u.mark u.caller.number only u.met g.takes g.got e events s time stages c b.well known.given known.other not_met v (is ∙ ap (λ y. TakeMeets y v) mark)
         no_pair not_met p same d is new = new
 
     -- the caller's item is kept, and the one that waits later isn't there yet
@@ -380,7 +355,7 @@ module _ (k : Kind) (calls : List Call) (u : IsPassed k calls) (g : IsTakerMet u
         let h = happens k calls s time stages e events c in
         let stays : Leaves e.entry.deed e.entry.ticket entry.ticket → ⊥ = λ leaves.
         let q = leaves_by k front u.mark s entry b e.entry.seat e.entry.ticket e.entry.deed h.step leaves in
-        takes_other e events s time stages c b.well known.given known.other not_met.1 q.0 q.1 in
+        takes_other k calls u.mark u.caller.number only u.met g.takes g.got e events s time stages c b.well known.given known.other not_met.1 q.0 q.1 in
         is_kept front events (after_event s e) e.time (later stages e) entry (kept_stays k front u.mark s entry b e.entry.seat e.entry.ticket e.entry.deed h.step stays)
         (early_on e events s time stages c other.1 not_met.1 known) (goes_on k calls s time stages e events c))
         (eqb_tells e.call u.met.number))
@@ -401,7 +376,7 @@ module _ (k : Kind) (calls : List Call) (u : IsPassed k calls) (g : IsTakerMet u
       (now_waiting k calls u.caller (met_by q.2) e s time stages well ordered mine h at (q.0 ∙ ap request_with (sym q.1)))
       (early_on behind e events s time stages c other not_met known) (goes_on k calls s time stages e events c))
       (λ r. ⊎_elim
-      (λ q. gives_other e events s time stages c well (inl fresh) late not_met q.0 q.1)
+      (λ q. gives_other k calls u.mark u.caller.number only u.met g.takes g.got e events s time stages c well (inl fresh) late not_met q.0 q.1)
       (λ q.
       let step : IsStep k s e.entry.seat e.entry.ticket (GiveKept u.mark) = subst (IsStep k s e.entry.seat e.entry.ticket) q h.step in
       is_kept behind front events (after_event s e) e.time (later stages e) (own_entry k front u.mark e.entry.seat e.entry.ticket)

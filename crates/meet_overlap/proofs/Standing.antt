@@ -1,5 +1,4 @@
--- A call that was seen to wait, and was met: none may have met it that began by a time. Until then it stands in the wait
--- queue.
+-- A call that was seen to wait, and was met: none can have met it by a time. Until then it stands in the wait queue.
 use Rattle.std.proofs.Common.{◌≡◌, ℕ, suc, zero, ◌<◌, ◌≤◌, ◌⊎◌, inl, inr, true, Option, Some, None, List, [], ◌∷◌, Contains, refl, sym, ap, ◌∙◌, subst, ⊎_elim, arith}
 use Rattle.std.specs.Prelude.{IfSome}
 use Rattle.std.proofs.lemmas.Bool.Decides.{eqb_tells}
@@ -13,7 +12,7 @@ use Rattle.meet_tickets.specs.declared.records.Deed.{Deed}
 use Rattle.meet_tickets.specs.declared.records.Deed.TheVariants.{GiveWaits, GiveMeets, GiveFails, GiveKept, TakeWaits, TakeMeets, TakeFails, EntryInterrupted, Done, Got, Withdrawn, Interrupt}
 use Rattle.meet_tickets.specs.BySeat.{is_request}
 use Rattle.meet_tickets.specs.Meeting.{end_of}
-use Rattle.meet_tickets.specs.ByLists.{State, Pair, IsStep, after}
+use Rattle.meet_tickets.specs.ByLists.{State, Pair, empty, IsStep, after}
 use Rattle.meet_tickets.proofs.Lists.Members.{Contains-partner}
 use Rattle.meet_overlap.specs.declared.calls.Answer.{Answer}
 use Rattle.meet_overlap.specs.declared.calls.Answer.TheVariants.{Went, Got as GotItem}
@@ -22,16 +21,17 @@ use Rattle.meet_overlap.specs.declared.calls.Call.{Call}
 use Rattle.meet_overlap.specs.declared.calls.Stage.{Stage}
 use Rattle.meet_overlap.specs.declared.calls.Stage.TheVariants.{Ahead, Open, Over}
 use Rattle.meet_overlap.specs.declared.calls.Verb.{Verb}
-use Rattle.meet_overlap.specs.declared.calls.Verb.TheVariants.{Keep, Give, Take, Interrupt as InterruptSeat}
+use Rattle.meet_overlap.specs.declared.calls.Verb.TheVariants.{Give, Take}
 use Rattle.meet_overlap.specs.Calls.{Begins, Ends, Moves, Tells, told_by, stage_told, stage_after}
 use Rattle.meet_overlap.specs.Explaining.{Event}
-use Rattle.meet_overlap.specs.Marks.{IsEnded, IsTaking, MayGet, MayGive}
+use Rattle.meet_overlap.specs.Marks.{IsEnded, MayGive}
 use Rattle.meet_overlap.specs.Reasons.{IsUnmet, item_of}
 use Rattle.meet_overlap.proofs.Courses.{Happens, IsCourse, later, after_event, happens, goes_on, never_left, own_call, still, answers}
 use Rattle.meet_overlap.proofs.Effects.{NewItem, NewPair, Leaves, Effect, effect, IsWell, well_stays}
 use Rattle.meet_overlap.proofs.Giving.{GivesOne, gives_by}
 use Rattle.meet_overlap.proofs.InLine.{IsOrdered, ordered_stays, stays_in}
 use Rattle.meet_overlap.proofs.Tables.{got_below}
+use Rattle.meet_overlap.proofs.Untouched.{IsUntouched, untouched_stays, untouched_empty, none_takes}
 use Rattle.meet_overlap.proofs.Ways.{put_same}
 
 -- the pair lets a call that waits by this ticket end with this answer
@@ -70,24 +70,6 @@ leaves_or_stays (Withdrawn Interrupted) t x = inr (λ q. q)
 leaves_or_stays (Interrupt j) zero x = inr (λ q. q)
 leaves_or_stays (Interrupt j) (suc t) x = either x (suc t)
 
--- a call takes and gets what it meets
-pub takes_met : (c : Call) (stage : Stage) (r : Record Deed) (m v : ℕ) → Moves c stage r → r.deed ≡ TakeMeets m v → IsTaking c.verb × MayGet c m
-takes_met c Ahead r m v moves is = (takes c.verb (subst (Begins c.verb) is moves.0), subst (Tells c) is moves.1)
-  where
-    takes : (verb : Verb) → Begins verb (TakeMeets m v) → IsTaking verb
-    takes (Take p) b = tt
-    takes (Keep n) b = absurd b
-    takes (Give p n) b = absurd b
-    takes (InterruptSeat j) b = absurd b
-takes_met c (Open t) r m v moves is = absurd (never c.verb (subst (Ends c.verb) is moves.1))
-  where
-    never : (verb : Verb) → Ends verb (TakeMeets m v) → ⊥
-    never (Keep n) b = b
-    never (Give p n) b = b
-    never (Take p) b = b
-    never (InterruptSeat j) b = b
-takes_met c Over r m v moves is = absurd moves
-
 -- a call that gives to one that it meets says that its item went
 gives_met : (c : Call) (stage : Stage) (r : Record Deed) (m v : ℕ) → Moves c stage r → r.deed ≡ GiveMeets m v → MayGive c
 gives_met c Ahead r m v moves is = subst (Tells c) is moves.1
@@ -104,6 +86,23 @@ pub was_met : (calls : List Call) (by : ℕ) (verb : Verb) (answer : Answer) →
 was_met calls by (Give p m) Went unmet = tt
 was_met calls by (Take p) (GotItem m) unmet = tt
 was_met calls by verb answer unmet = absurd unmet
+
+-- what is known of a moment where none can have met a call by a time
+module _ (k : Kind) (calls : List Call) (by : ℕ) where
+  abbrev pub IsUnmetYet : (verb : Verb) (answer : Answer) → IsUnmet calls verb answer by → State → (time : ℕ) → (ℕ → Stage) → Type 0
+  IsUnmetYet (Give p m) Went none s time stages = IsUntouched k calls m by none s time stages
+  IsUnmetYet verb answer none s time stages = Unit {0}
+
+  pub unmet_stays : (verb : Verb) (answer : Answer) (none : IsUnmet calls verb answer by) (e : Event) (s : State) (time : ℕ) (stages : ℕ → Stage) → IsWell s → Happens k calls s time stages e → IsUnmetYet verb answer none s time stages →
+      IsUnmetYet verb answer none (after_event s e) e.time (later stages e)
+  unmet_stays (Give p m) Went none e s time stages well h known = untouched_stays k calls m by none e s time stages well h known
+  unmet_stays (Take p) (GotItem m) none e s time stages well h known = tt
+  unmet_stays verb answer none e s time stages well h known = absurd none
+
+  pub unmet_empty : (verb : Verb) (answer : Answer) (none : IsUnmet calls verb answer by) → IsUnmetYet verb answer none empty 0 (λ n. Ahead)
+  unmet_empty (Give p m) Went none = untouched_empty k calls m by none
+  unmet_empty (Take p) (GotItem m) none = tt
+  unmet_empty verb answer none = absurd none
 
 -- a call whose request waits
 own_request : (verb : Verb) (answer : Answer) (d : Deed) → WasMet verb answer → Begins verb d → (is_request d ≡ true) × (told_by d ≡ None → d ≡ request_with (item_of verb))
@@ -273,41 +272,41 @@ module _ (k : Kind) (calls : List Call) (w : IsEnded calls) (was : WasMet w.call
       next : IsOpen (after_event s e) (later stages e) entry.ticket
       next = open_stays e s time stages entry.ticket b.waits h none
 
-  -- none may have met it that began by this time
+  -- none can have met it by this time
   module _ (by : ℕ) (unmet : IsUnmet calls w.call.verb w.returned.answer by) where
     -- an event by then makes no pair for a ticket that stands in the line with its item
-    none_meets : (e : Event) (s : State) (time : ℕ) (stages : ℕ → Stage) (x : ℕ) → Happens k calls s time stages e → e.time ≤ by → x ≤ s.last → ((f : Entry ℕ) → Contains s.line f → f.ticket ≡ x → f.item ≡ item_of w.call.verb) →
+    none_meets : (e : Event) (events : List Event) (s : State) (time : ℕ) (stages : ℕ → Stage) (x : ℕ) → IsCourse k calls s time stages (e ∷ events) → IsWell s → IsUnmetYet k calls by w.call.verb w.returned.answer unmet s time stages → e.time ≤ by → x ≤ s.last → ((f : Entry ℕ) → Contains s.line f → f.ticket ≡ x → f.item ≡ item_of w.call.verb) →
         (p : Pair) → NewPair e.entry.deed e.entry.ticket p → LetsEnd w.call.verb w.returned.answer x p → ⊥
-    none_meets e s time stages x h le low items p new lets = by_deed w.call.verb w.returned.answer e.entry.deed refl unmet items h.step new lets
+    none_meets e events s time stages x c well known le low items p new lets = by_deed w.call.verb w.returned.answer e.entry.deed refl unmet known items h.step new lets
       where
+        h : Happens k calls s time stages e
+        h = happens k calls s time stages e events c
+
         begun : h.of.call.begin ≤ by
         begun = let early = h.of.within.begun in omega arith
 
-        by_deed : (verb : Verb) (answer : Answer) (d : Deed) → e.entry.deed ≡ d → IsUnmet calls verb answer by → ((f : Entry ℕ) → Contains s.line f → f.ticket ≡ x → f.item ≡ item_of verb) → IsStep k s e.entry.seat e.entry.ticket d → NewPair d e.entry.ticket p →
+        by_deed : (verb : Verb) (answer : Answer) (d : Deed) → e.entry.deed ≡ d → (none : IsUnmet calls verb answer by) → IsUnmetYet k calls by verb answer none s time stages → ((f : Entry ℕ) → Contains s.line f → f.ticket ≡ x → f.item ≡ item_of verb) → IsStep k s e.entry.seat e.entry.ticket d → NewPair d e.entry.ticket p →
             LetsEnd verb answer x p → ⊥
-        by_deed (Give q n) Went (GiveMeets m v) is none items step new lets = let giver : p.giver ≡ e.entry.ticket = ap (λ (y : Pair). y.giver) new in let above = step.0.above in absurd (omega arith)
-        by_deed (Give q n) Went (TakeMeets m v) is none items step new lets =
+        by_deed (Give q n) Went (GiveMeets m v) is none known items step new lets = let giver : p.giver ≡ e.entry.ticket = ap (λ (y : Pair). y.giver) new in let above = step.0.above in absurd (omega arith)
+        by_deed (Give q n) Went (TakeMeets m v) is none known items step new lets =
             let there = Contains-partner (end_of k.order) s.line Taker step.1.0 step.1.1 in
             let item = items step.1.0 there (step.1.2 ∙ sym (ap (λ (y : Pair). y.giver) new) ∙ lets) in
             let same : m ≡ n = let q = sym step.1.3 ∙ item in cc in
-            let met = takes_met h.of.call (stages e.call) e.entry n v h.moves (is ∙ ap (λ y. TakeMeets y v) same) in
-            none e.call h.of.call (got_below calls e.call h.of.call h.of.known) h.of.known met.0 met.1 begun
-        by_deed (Take q) (GotItem n) (GiveMeets m v) is none items step new lets =
+            none_takes k calls n by e events s time stages c le none well known v (is ∙ ap (λ y. TakeMeets y v) same)
+        by_deed (Take q) (GotItem n) (GiveMeets m v) is none known items step new lets =
             let same : m ≡ n = sym (ap (λ (y : Pair). y.mark) new) ∙ lets.1 in
             let deed : e.entry.deed ≡ GiveMeets n v = is ∙ ap (λ y. GiveMeets y v) same in
             none e.call h.of.call (got_below calls e.call h.of.call h.of.known) h.of.known
             (gives_by n h.of.call (stages e.call) e.entry h.moves (subst (GivesOne n) (sym deed) refl))
             (gives_met h.of.call (stages e.call) e.entry n v h.moves deed) begun
-        by_deed (Take q) (GotItem n) (TakeMeets m v) is none items step new lets = let taker : p.taker ≡ e.entry.ticket = ap (λ (y : Pair). y.taker) new in let at = lets.0 in let above = step.0.above in absurd (omega arith)
-        by_deed verb answer (GiveMeets m v) is none items step new lets = lets
-        by_deed verb answer (TakeMeets m v) is none items step new lets = lets
-        by_deed verb answer d is none items step new lets = new
+        by_deed (Take q) (GotItem n) (TakeMeets m v) is none known items step new lets = let taker : p.taker ≡ e.entry.ticket = ap (λ (y : Pair). y.taker) new in let at = lets.0 in let above = step.0.above in absurd (omega arith)
+        by_deed verb answer (GiveMeets m v) is none known items step new lets = lets
+        by_deed verb answer (TakeMeets m v) is none known items step new lets = lets
+        by_deed verb answer d is none known items step new lets = new
 
     -- an event by then leaves it there
-    pub stands : (e : Event) (events : List Event) (s : State) (time : ℕ) (stages : ℕ → Stage) (entry : Entry ℕ) → IsStanding s stages entry → IsCourse k calls s time stages (e ∷ events) → e.time ≤ by → IsStanding (after_event s e) (later stages e) entry
-    stands e events s time stages entry b c le =
-        let h = happens k calls s time stages e events c in
-        stands_on e events s time stages entry b c (none_meets e s time stages entry.ticket h le b.waits.low b.items)
+    pub stands : (e : Event) (events : List Event) (s : State) (time : ℕ) (stages : ℕ → Stage) (entry : Entry ℕ) → IsStanding s stages entry → IsUnmetYet k calls by w.call.verb w.returned.answer unmet s time stages → IsCourse k calls s time stages (e ∷ events) → e.time ≤ by → IsStanding (after_event s e) (later stages e) entry
+    stands e events s time stages entry b known c le = stands_on e events s time stages entry b c (none_meets e events s time stages entry.ticket c b.well known le b.waits.low b.items)
 
   -- by a request that waits it stands in the line
   pub now_waiting : (e : Event) (s : State) (time : ℕ) (stages : ℕ → Stage) → IsWell s → IsOrdered s → stages w.number ≡ Ahead → Happens k calls s time stages e → e.call ≡ w.number → e.entry.deed ≡ request_with (item_of w.call.verb) → IsStanding (after_event s e) (later stages e) (entry_with e.entry.seat e.entry.ticket (item_of w.call.verb))

@@ -10,7 +10,7 @@ use Rattle.meet_tickets.specs.declared.places.Side.TheVariants.{Taker}
 use Rattle.meet_tickets.specs.declared.records.Cause.TheVariants.{Expired, Interrupted}
 use Rattle.meet_tickets.specs.declared.records.Record.{Record}
 use Rattle.meet_tickets.specs.declared.records.Deed.{Deed}
-use Rattle.meet_tickets.specs.declared.records.Deed.TheVariants.{TakeWaits, TakeMeets, TakeFails, EntryInterrupted, Done, Got, Withdrawn}
+use Rattle.meet_tickets.specs.declared.records.Deed.TheVariants.{GiveMeets, TakeWaits, TakeMeets, TakeFails, EntryInterrupted, Done, Got, Withdrawn}
 use Rattle.meet_tickets.specs.Meeting.{end_of}
 use Rattle.meet_tickets.specs.ByLists.{State, Pair, empty, IsStep, after}
 use Rattle.meet_tickets.proofs.Lists.Members.{Contains-partner, Contains-nil}
@@ -288,6 +288,33 @@ module _ (k : Kind) (calls : List Call) (m giver : ℕ) (only : (n : ℕ) (c : C
 
         after_mine : e.call ≡ y.number → (stage : Stage) → later stages e y.number ≡ stage → stage_after (stages e.call) e.entry ≡ stage
         after_mine at stage is = sym (put_same stages e.call (stage_after (stages e.call) e.entry)) ∙ ap (later stages e) at ∙ is
+
+    module _ (e : Event) (events : List Event) (s : State) (time : ℕ) (stages : ℕ → Stage) (c : IsCourse k calls s time stages (e ∷ events)) (well : IsWell s) (given : IsGiven s stages) (early : stages y.number ≡ Ahead) (other : e.call ≢ y.number) where
+      -- a pair with the item is made while the call is ahead: it can't get it any more
+      wins_early : (p : Pair) → Contains (after_event s e).pairs p → p.mark ≡ m → ⊥
+      wins_early p there is =
+          let on : later stages e y.number ≡ Ahead = still k calls y stages e other ∙ early in
+          let h : Happens k calls s time stages e = happens k calls s time stages e events c in
+          won events (after_event s e) e.time (later stages e) (record {
+            well = well_stays k s e.entry.seat e.entry.ticket e.entry.deed well h.step;
+            given = given_stays e s time stages h given;
+            pair = p;
+            there = there;
+            is = is;
+            going = λ over. let q = sym on ∙ over in absurd (cc);
+            other = λ t at same. let q = sym on ∙ at in absurd (cc);
+          }) (goes_on k calls s time stages e events c)
+
+      -- so it is where the giver meets a taker, and where a taker meets the item
+      pub gives_other : (v : ℕ) → e.entry.deed ≡ GiveMeets m v → ⊥
+      gives_other v is =
+          let own : Pair = record { giver = e.entry.ticket; taker = v; mark = m } in
+          wins_early own (subst (λ d. Contains (after s e.entry.seat e.entry.ticket d).pairs own) (sym is) (Contains-push s.pairs own)) refl
+
+      pub takes_other : (v : ℕ) → e.entry.deed ≡ TakeMeets m v → ⊥
+      takes_other v is =
+          let own : Pair = record { giver = v; taker = e.entry.ticket; mark = m } in
+          wins_early own (subst (λ d. Contains (after s e.entry.seat e.entry.ticket d).pairs own) (sym is) (Contains-push s.pairs own)) refl
 
   -- neither of two calls has got the item
   pub record IsRace (x y : IsEnded calls) (s : State) (stages : ℕ → Stage) : Type 0 where

@@ -1,5 +1,5 @@
 -- What calls do with an item of a mark.
-use Rattle.std.specs.Prelude.{◌≡◌, ℕ, ◌<◌, ◌≤◌, IfSome, List, Some, slice_get}
+use Rattle.std.specs.Prelude.{◌≡◌, ℕ, ◌<◌, ◌≤◌, ◌⊎◌, IfSome, List, Some, length, slice_get}
 use Rattle.meet_overlap.specs.declared.calls.Answer.TheVariants.{Went, Got as GotItem}
 use Rattle.meet_overlap.specs.declared.calls.Call.{Call}
 use Rattle.meet_overlap.specs.declared.calls.Returned.{Returned}
@@ -69,6 +69,19 @@ NoneTook calls count mark by = (n : ℕ) (call : Call) → n < count → slice_g
 abbrev pub IsOnlyGiver : List Call → (count mark giver : ℕ) → Type 0
 IsOnlyGiver calls count mark giver = (n : ℕ) (call : Call) → n < count → slice_get calls n ≡ Some call
     → Gives call.verb mark → n ≡ giver
+
+-- a call got an item of this mark, and began after this time
+pub record IsGotLater (calls : List Call) (mark by : ℕ) : Type 0 where
+  pub taken : IsEnded calls
+  pub takes : IsTaking taken.call.verb
+  pub got : taken.returned.answer ≡ GotItem mark
+  pub later : by < taken.call.begin
+
+-- nobody can have got an item of this mark by this time: no call began by then that may have got it, or one call alone
+-- gives it, and a call got it that began later
+abbrev pub NoneGot : List Call → (mark by : ℕ) → Type 0
+NoneGot calls mark by = NoneTook calls (length calls) mark by
+    ⊎ ((giver : ℕ) × IsOnlyGiver calls (length calls) mark giver × IsGotLater calls mark by)
 
 -- the call of this number gives an item of this mark
 abbrev pub IsGiverOf : List Call → (mark number : ℕ) → Type 0

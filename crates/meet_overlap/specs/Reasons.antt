@@ -14,7 +14,7 @@ use Rattle.meet_overlap.specs.declared.reasons.Reason.{Reason}
 use Rattle.meet_overlap.specs.declared.reasons.Reason.TheVariants.{Ungiven, Untaken, Overtaken, Doubled, Overlooked}
 use Rattle.meet_overlap.specs.declared.reasons.Reason.TheVariants.{Missed, Passed, Stuck}
 use Rattle.meet_overlap.specs.Marks.{Gives, HandsOver, IsKeeping, IsTaking, IsEnded, NoneGave, NoneMayGive, NoneTook}
-use Rattle.meet_overlap.specs.Marks.{IsOnlyGiver, IsGiverOf, IsTakerOf}
+use Rattle.meet_overlap.specs.Marks.{NoneGot, IsOnlyGiver, IsGiverOf, IsTakerOf}
 
 -- a call got an item, and no call may have given it that began by its end
 pub record IsUngiven (calls : List Call) : Type 0 where
@@ -32,8 +32,8 @@ pub record IsUntaken (calls : List Call) : Type 0 where
   pub hands : HandsOver given.call.verb mark
   pub none : NoneTook calls (length calls) mark given.returned.at
 
--- the first item was put before any call began that gives the second one; and that was got before any call began that
--- may have got the first
+-- the first item was put before any call began that gives the second one; and that was got when nobody can have got the
+-- first
 pub record IsOvertaken (k : Kind) (calls : List Call) : Type 0 where
   pub order : end_of k.order ≡ Front
   pub put : IsEnded calls
@@ -44,7 +44,7 @@ pub record IsOvertaken (k : Kind) (calls : List Call) : Type 0 where
   pub takes : IsTaking taken.call.verb
   pub got : taken.returned.answer ≡ GotItem second
   pub none_gave : NoneGave calls (length calls) second put.returned.at
-  pub none_took : NoneTook calls (length calls) first taken.returned.at
+  pub none_got : NoneGot calls first taken.returned.at
   pub later : put.returned.at ≤ taken.returned.at
 
 -- two calls got an item that one call alone gives
@@ -66,7 +66,7 @@ FindsNothing (Take Now) Nothing = Unit {0}
 FindsNothing (Take Timed) TimeRanOut = Unit {0}
 FindsNothing verb answer = ⊥
 
--- an item was put before a call began that found nothing, and no call may have got it that began by the end of that one
+-- an item was put before a call began that found nothing, and nobody can have got it by the end of that one
 pub record IsOverlooked (k : Kind) (calls : List Call) : Type 0 where
   pub order : end_of k.order ≡ Front
   pub put : IsEnded calls
@@ -76,7 +76,7 @@ pub record IsOverlooked (k : Kind) (calls : List Call) : Type 0 where
   pub finds : FindsNothing looked.call.verb looked.returned.answer
   pub before : put.returned.at < looked.call.begin
   pub later : put.returned.at ≤ looked.returned.at
-  pub none_took : NoneTook calls (length calls) mark looked.returned.at
+  pub none_got : NoneGot calls mark looked.returned.at
 
 -- the first call's answer is that nobody was there, and the second one is of the other side
 abbrev pub Misses : Verb → Answer → Verb → Type 0
@@ -86,9 +86,9 @@ Misses (Give Now m) Nothing (Take p) = Unit {0}
 Misses (Give Timed m) TimeRanOut (Take p) = Unit {0}
 Misses verb answer other = ⊥
 
--- the call's answer is that it was met, and none may have met it that began by this time
+-- the call's answer is that it was met, and none can have met it by this time
 abbrev pub IsUnmet : List Call → Verb → Answer → (by : ℕ) → Type 0
-IsUnmet calls (Give p m) Went by = NoneTook calls (length calls) m by
+IsUnmet calls (Give p m) Went by = NoneGot calls m by
 IsUnmet calls (Take p) (GotItem m) by = NoneMayGive calls (length calls) m by
 IsUnmet calls verb answer by = ⊥
 
@@ -99,8 +99,8 @@ item_of (Give p m) = Some m
 item_of (Take p) = None
 item_of (InterruptSeat j) = None
 
--- a call was seen to wait before one of the other side began that found nobody, and none may have met it that began by
--- the end of that one
+-- a call was seen to wait before one of the other side began that found nobody, and none can have met it by the end of
+-- that one
 pub record IsMissed (calls : List Call) : Type 0 where
   pub waiting : IsEnded calls
   pub seen : ℕ
@@ -125,7 +125,7 @@ IsBehind Back seen waiting caller met = (early : ℕ) × (met.waits ≡ Some ear
     × (seen < caller.begin)
 
 -- a call was seen to wait, and one of the other side met another one, whose turn came later: the item which they met
--- with is given by one call alone; and none may have met the one that waited that began by the end of the caller
+-- with is given by one call alone; and none can have met the one that waited by the end of the caller
 pub record IsPassed (k : Kind) (calls : List Call) : Type 0 where
   pub waiting : IsEnded calls
   pub seen : ℕ

@@ -10,6 +10,7 @@ ghost use Rattle.meet_overlap.specs.Reasons.{IsFound, IsReason};
 
 mod doubled;
 mod kept;
+mod later;
 mod marks;
 mod missed;
 mod overlooked;

@@ -5,7 +5,8 @@ ghost use Rattle.meet_overlap.specs.Reasons.{IsFound, IsReason, IsUnmet, Misses,
 
 use super::MOST_LOOKS;
 use super::kept::{Look, Side, waiting_throughout};
-use super::marks::{none_may_give, none_took};
+use super::later::none_got;
+use super::marks::none_may_give;
 use crate::calls::{Answer, Call, Patience, Verb};
 use crate::guess::Partners;
 use crate::reasons::Reason;
@@ -36,12 +37,13 @@ fn misses(verb: Verb, answer: Answer, other: Verb) -> bool
     }
 }
 
-/// Whether a call's answer is that it was met, and none may have met it that began by this time.
-pub(super) fn unmet(calls: &[Call], verb: Verb, answer: Answer, by: u64) -> bool
+/// Whether a call's answer is that it was met, and none can have met it by this time. If it gives an item, it is the call
+/// of this number.
+pub(super) fn unmet(calls: &[Call], number: usize, verb: Verb, answer: Answer, by: u64) -> bool
     ensures { IsTrue result → IsUnmet calls.now verb answer by }
 {
     match (verb, answer) {
-        (Verb::Give(_, mark), Answer::Went) => none_took(calls, mark, by),
+        (Verb::Give(_, mark), Answer::Went) => none_got(calls, mark, number, by),
         (Verb::Take(_), Answer::Got(mark)) => none_may_give(calls, mark, by),
         _ => false,
     }
@@ -60,7 +62,7 @@ pub(super) fn item(verb: Verb) -> Option<u64>
 }
 
 /// That the second call found nobody, though the first one, which is of the other side, was seen to wait before it
-/// began, and no call may have met that which began by its end; if it is so.
+/// began, and no call can have met that by its end; if it is so.
 fn missed(kind: Kind, calls: &[Call], first: usize, second: usize) -> Option<Reason>
     requires waits { first < length calls.now }
     requires finds { second < length calls.now }
@@ -81,7 +83,7 @@ fn missed(kind: Kind, calls: &[Call], first: usize, second: usize) -> Option<Rea
     if !misses(caller.verb, came.answer, waiting.verb) {
         return None;
     }
-    if seen < caller.begin && unmet(calls, waiting.verb, met.answer, came.at) {
+    if seen < caller.begin && unmet(calls, first, waiting.verb, met.answer, came.at) {
         Some(Reason::Missed {
             item: item(waiting.verb),
             caller: second,

@@ -5,7 +5,7 @@ ghost use Rattle.meet_overlap.specs.Reasons.{IsFound, FindsNothing, IsReason};
 
 use super::MOST_LOOKS;
 use super::kept::{Look, kept_throughout};
-use super::marks::none_took;
+use super::later::none_got;
 use crate::calls::{Answer, Call, Patience, Verb};
 use crate::guess::Partners;
 use crate::reasons::Reason;
@@ -29,8 +29,8 @@ fn finds_nothing(verb: Verb, answer: Answer) -> bool
     }
 }
 
-/// That the second call found nothing, though the first one had put an item before it began, and no call may have got
-/// that which began by its end; if it is so.
+/// That the second call found nothing, though the first one had put an item before it began, and nobody can have got that
+/// by its end; if it is so.
 fn overlooked(kind: Kind, calls: &[Call], first: usize, second: usize) -> Option<Reason>
     requires put { first < length calls.now }
     requires looked { second < length calls.now }
@@ -58,7 +58,7 @@ fn overlooked(kind: Kind, calls: &[Call], first: usize, second: usize) -> Option
     if came.at < went.at {
         return None;
     }
-    if went.at < looked.begin && none_took(calls, item, came.at) {
+    if went.at < looked.begin && none_got(calls, item, first, came.at) {
         Some(Reason::Overlooked {
             item,
             taker: second,

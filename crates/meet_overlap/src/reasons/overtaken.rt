@@ -5,15 +5,16 @@ ghost use Rattle.meet_overlap.specs.Reasons.{IsFound, IsReason};
 
 use super::MOST_LOOKS;
 use super::kept::{Look, begin, kept_throughout};
-use super::marks::{none_gave, none_took, takes};
+use super::later::none_got;
+use super::marks::{none_gave, takes};
 use crate::calls::{Answer, Call, Verb};
 use crate::guess::Partners;
 use crate::reasons::Reason;
 use meet_tickets::{End, Kind};
 use std::alloc::{AllocError, Global};
 
-/// That the second call got an item which was given after the first call had put its own, and before any call began
-/// that may have got that; if it is so.
+/// That the second call got an item which was given after the first call had put its own, and nobody can have got that by
+/// then; if it is so.
 fn overtaken(kind: Kind, calls: &[Call], first: usize, second: usize) -> Option<Reason>
     requires put { first < length calls.now }
     requires taken { second < length calls.now }
@@ -44,7 +45,7 @@ fn overtaken(kind: Kind, calls: &[Call], first: usize, second: usize) -> Option<
     if came.at < went.at {
         return None;
     }
-    if none_gave(calls, item, went.at) && none_took(calls, kept, came.at) {
+    if none_gave(calls, item, went.at) && none_got(calls, kept, first, came.at) {
         Some(Reason::Overtaken {
             item,
             taker: second,

@@ -84,7 +84,7 @@ fn passed(kind: Kind, calls: &[Call], first: usize, second: usize, third: usize)
         return None;
     }
     let giver = if gives(met.verb, mark) { second } else { third };
-    if gives_alone(calls, mark, giver) && unmet(calls, waiting.verb, left.answer, came.at) {
+    if gives_alone(calls, mark, giver) && unmet(calls, first, waiting.verb, left.answer, came.at) {
         Some(Reason::Passed {
             item: mark,
             caller: third,

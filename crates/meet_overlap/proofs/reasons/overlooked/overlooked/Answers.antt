@@ -6,8 +6,8 @@ use Rattle.meet_overlap.specs.declared.calls.Verb.TheVariants.{Keep}
 use Rattle.meet_overlap.specs.Marks.{IsKeeping}
 use Rattle.meet_overlap.proofs.reasons.overlooked.overlooked.Goals as goal
 
-pub returns-then-none_took-clause-is : goal.returns-then-none_took-clause-is
-returns-then-none_took-clause-is c =
+pub returns-then-none_got-clause-is : goal.returns-then-none_got-clause-is
+returns-then-none_got-clause-is c =
     let calls = c.args.calls.now in
     let put = c.index-calls-first.result in
     let looked = c.index-calls-second.result in
@@ -26,7 +26,7 @@ returns-then-none_took-clause-is c =
         finds = c.finds_nothing.ensures c.if-not-finds_nothing.false;
         before = c.if-went-looked.true;
         later = later;
-        none_took = c.none_took.ensures c.if-none_took.true;
+        none_got = c.none_got.ensures c.if-none_got.true;
       },
       refl,
       refl,

@@ -7,8 +7,8 @@ use Rattle.meet_overlap.specs.declared.calls.Verb.TheVariants.{Keep}
 use Rattle.meet_overlap.specs.Marks.{IsKeeping}
 use Rattle.meet_overlap.proofs.reasons.overtaken.overtaken.Goals as goal
 
-pub returns-then-none_took-clause-is : goal.returns-then-none_took-clause-is
-returns-then-none_took-clause-is c =
+pub returns-then-none_got-clause-is : goal.returns-then-none_got-clause-is
+returns-then-none_got-clause-is c =
     let calls = c.args.calls.now in
     let put = c.index-calls-first.result in
     let taken = c.index-calls-second.result in
@@ -29,7 +29,7 @@ returns-then-none_took-clause-is c =
         takes = c.takes.ensures.0 c.if-not-takes.false;
         got = got;
         none_gave = c.none_gave.ensures c.if-none_gave.true;
-        none_took = c.none_took.ensures c.if-none_took.true;
+        none_got = c.none_got.ensures c.if-none_got.true;
         later = later;
       },
       refl,
