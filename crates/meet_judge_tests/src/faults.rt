@@ -57,7 +57,7 @@ fn judged_of(
     end
 }
 
-/// Each byte is read once, and then the end. Where a read fails the calls aren't judged, and the reason is told.
+/// Each byte is read once, and then the end. If a read fails, no call is judged, and the error says why.
 #[test]
 fn reads_that_fail(rt: HostRuntime) {
     let alloc = rt.alloc();
@@ -82,7 +82,7 @@ fn sink_of(alloc: Global, failed_write: u64, gives_up: bool) -> Sink {
     }
 }
 
-/// A verdict is written byte by byte. Where a write fails, or takes no byte, that is told, behind a beginning of it.
+/// A verdict is written byte by byte. If a write fails, or takes no byte, a part of it was written, and the error says so.
 fn writes(rt: &impl Abort, alloc: Global, row: Row, failed: u64, gives_up: bool) {
     let (text, _, whole) = row;
     let mut reader = feed_of(text, 0, ErrorKind::BrokenPipe);

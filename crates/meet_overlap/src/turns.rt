@@ -23,7 +23,7 @@ fn is_ahead(stage: Stage) -> bool
     }
 }
 
-/// Where the window ends, of so many calls.
+/// The number of the first call after the window, or of calls if there is none.
 fn end_of(window: &Window, count: usize) -> usize
     ensures within { result ≤ count }
     ensures behind { result < count → window.now.first + length window.now.stages.items ≤ result }
