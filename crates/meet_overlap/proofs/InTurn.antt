@@ -1,5 +1,5 @@
 -- The latest call of each seat that has begun tells whether a call comes in its turn.
-use Rattle.std.proofs.Common.{◌≡◌, ℕ, ◌≤◌, Some, List, refl, sym, ap, ◌∙◌, subst, ⊎_elim, inl, inr, arith}
+use Rattle.std.proofs.Common.{◌≡◌, ℕ, ◌≤◌, Some, List, ap, ◌∙◌, subst, ⊎_elim, inl, inr, arith}
 use Rattle.std.specs.Prelude.{slice_get}
 use Rattle.std.proofs.lemmas.Bool.Decides.{eqb_tells}
 use Rattle.meet_tickets.specs.BySeat.{put_at}

@@ -15,7 +15,7 @@ use Rattle.meet_overlap.specs.declared.calls.Stage.{Stage}
 use Rattle.meet_overlap.specs.declared.calls.Stage.TheVariants.{Ahead, Open, Over}
 use Rattle.meet_overlap.specs.declared.calls.Verb.{Verb}
 use Rattle.meet_overlap.specs.declared.calls.Verb.TheVariants.{Keep, Give, Take, Interrupt as InterruptSeat}
-use Rattle.meet_overlap.specs.Calls.{Begins, Moves, MayStop, told_by, stage_told, stage_after}
+use Rattle.meet_overlap.specs.Calls.{Begins, Moves, MayStop, told_by, stage_after}
 use Rattle.meet_overlap.specs.Explaining.{Event}
 use Rattle.meet_overlap.specs.Plays.{own_ticket, play_ticket, Plays, IsPlay}
 use Rattle.meet_overlap.specs.Search.{World, start, world_after, ticket_of, request_ticket, Steps, IsRun}

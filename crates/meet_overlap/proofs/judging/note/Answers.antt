@@ -1,5 +1,5 @@
 -- Proof of `note`, src/judging.rt. What the next event of the call of this number leaves, if it has one.
-use Rattle.std.proofs.Common.{◌≡◌, ◌≤◌, ◌∙◌, ap, sym, Some, length, refl, subst, arith}
+use Rattle.std.proofs.Common.{◌≡◌, ◌∙◌, ap, sym, Some, length, refl, subst, arith}
 use Rattle.std.specs.Prelude.{slice_get, max}
 use Rattle.std.proofs.lemmas.Option.{slice_get_read}
 use Rattle.meet_tickets.specs.BySeat.{put_at}
