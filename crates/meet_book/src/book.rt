@@ -237,7 +237,7 @@ where
     }
 }
 
-/// Makes a list of records longer, where it has no room for so many more. The only refusal is Memory.
+/// Grows a list of records that has no room for `wanted` more. Fails only if an allocation fails.
 #[cold]
 #[inline(never)]
 fn grow<D: Copy>(records: &mut Vec<Record<D>>, wanted: usize) -> Result<(), Refusal>

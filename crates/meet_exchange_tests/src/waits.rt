@@ -113,7 +113,7 @@ fn an_exchange_goes_on_over_four_slots(rt: HostRuntime) {
 }
 
 /// A slot in which others stay at work is left, also without a limit: the exchange goes on to the next, and meets the
-/// one who waits there.
+/// partner that waits there.
 #[test]
 fn an_exchange_without_a_limit_leaves_a_busy_slot(rt: HostRuntime) {
     let Ok((arena, mut seats)) = Arena::<u64>::new(rt.alloc(), 2, 4) else {

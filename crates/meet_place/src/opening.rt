@@ -28,7 +28,7 @@ pub fn hold<'a, T, R: Wait>(rt: &R, lock: &'a Mutex<T>) -> MutexGuard<'a, T> {
     }
 }
 
-/// The same, where a thread lets others run twice as often after each try as after the one before, up to so many times:
+/// The same, but a thread yields twice as often after each try as after the one before, at most `most` times:
 /// who holds the lock may come back at once, and finds what it guards in its cache.
 #[inline(always)]
 pub fn hold_patiently<'a, T, R: Wait>(rt: &R, lock: &'a Mutex<T>, most: u64) -> MutexGuard<'a, T> {

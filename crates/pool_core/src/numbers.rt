@@ -66,7 +66,7 @@ impl Numbers {
         self.words[place] = with_bit(word, number % 64, is);
     }
 
-    /// The same of a number that was in it, or wasn't, as is told. Where that stays so it writes nothing, and other
+    /// The same of a number of which the caller says whether it was in it. If that stays so, it writes nothing: other
     /// threads keep what they have of the set in their caches.
     #[inline(always)]
     pub(crate) fn change(&mut self, number: u64, was: bool, is: bool)
