@@ -1,4 +1,5 @@
 pub mod Lined
+pub mod Links
 pub mod Nodes
 pub mod Rolled
 pub mod Runs

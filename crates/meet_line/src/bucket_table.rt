@@ -3,6 +3,7 @@
 ghost use Rattle.std.specs.Prelude.{◌≡◌, ℕ, ◌*◌, ◌%◌, ◌^◌, ◌<◌, ◌≤◌, None, IfSome, OnOk, OnErr, vec_len, replicate};
 ghost use Rattle.meet_line.specs.Rolled.{IsTableSize};
 
+use crate::nodes::Link;
 use std::alloc::AllocError;
 
 /// The bucket of a ticket, where there are so many: its lowest bits, as their number is a power of two.
@@ -35,12 +36,12 @@ pub(crate) fn doubled(count: usize, needed: usize) -> Option<usize>
 }
 
 /// A table of so many empty buckets, in the place of a shorter one, which stays as it was where there is no memory.
-pub(crate) fn empty_out(table: &mut Vec<Option<usize>>, size: usize) -> Result<(), AllocError>
+pub(crate) fn empty_out(table: &mut Vec<Link>, size: usize) -> Result<(), AllocError>
     requires { vec_len table.old ≤ size }
     ensures emptied { OnOk result (table.new.items ≡ replicate size None) }
     ensures unchanged { OnErr result (table.new.items ≡ table.old.items) }
 {
     table.reserve(size - table.len())?;
     table.clear();
-    table.resize(size, None)
+    table.resize(size, Link::none())
 }

@@ -8,7 +8,7 @@ ghost use Rattle.meet_line.specs.Rolled.{Placed, StandsAt, IsFound, IsLastKey, I
 ghost use Rattle.meet_line.specs.Rolled.{bucket_at, AreChained, IsLine, IsRechained, IsTableSize};
 
 use crate::bucket_table::{bucket_of, doubled, empty_out};
-use crate::nodes::{Node, chain, link_after, link_before, link_newer, link_older};
+use crate::nodes::{Link, Node, chain, link_after, link_before, link_newer, link_older};
 use slab::Slab;
 use std::alloc::{AllocError, Global};
 use std::marker::Model;
@@ -17,9 +17,9 @@ use std::marker::Model;
 #[derive(Drop)]
 pub(crate) struct Roll {
     nodes: Slab<Node>,
-    first: Option<usize>,
-    last: Option<usize>,
-    table: Vec<Option<usize>>,
+    first: Link,
+    last: Link,
+    table: Vec<Link>,
 }
 
 impl Model for Roll {
@@ -43,8 +43,9 @@ pub(crate) struct Found {
     pub(crate) looked: usize,
 }
 
-/// The node of this key joins its bucket's chain; the key after it in the line, if there is one.
-fn chain_next(nodes: &mut Slab<Node>, table: &mut Vec<Option<usize>>, key: usize) -> Option<usize>
+/// The node of this key, to which `own` links, joins its bucket's chain; the key after it in the line, if there is one.
+fn chain_next(nodes: &mut Slab<Node>, table: &mut Vec<Link>, key: usize, own: Link) -> Link
+    requires own { own ≡ Some key }
     requires there { ContainsKey nodes.old key }
     requires some { 0 < length table.old.items }
     requires size { IsTableSize (length table.old.items) }
@@ -56,7 +57,7 @@ fn chain_next(nodes: &mut Slab<Node>, table: &mut Vec<Option<usize>>, key: usize
 {
     let node = nodes[key];
     let bucket = bucket_of(node.ticket, table.len());
-    chain(nodes, &mut table[bucket], key);
+    chain(nodes, &mut table[bucket], key, own);
     node.after
 }
 
@@ -100,7 +101,7 @@ fn widen_nodes<X>(
 }
 
 /// The nodes of a line join the chains of a table that is empty, in order of arrival.
-fn rechain(nodes: &mut Slab<Node>, first: Option<usize>, table: &mut Vec<Option<usize>>)
+fn rechain(nodes: &mut Slab<Node>, first: Link, table: &mut Vec<Link>)
     requires line { IsLine nodes.old first (keys_of nodes.old first) }
     requires empty { table.old.items ≡ replicate (length table.old.items) None }
     requires some { 0 < length table.old.items }
@@ -111,8 +112,8 @@ fn rechain(nodes: &mut Slab<Node>, first: Option<usize>, table: &mut Vec<Option<
 {
     let mut at = first;
     for _step in 0..nodes.len() {
-        if let Some(key) = at {
-            at = chain_next(nodes, table, key);
+        if let Some(key) = at.key() {
+            at = chain_next(nodes, table, key, at);
         }
     }
 }
@@ -126,8 +127,8 @@ impl Roll {
     {
         Roll {
             nodes: Slab::new(alloc),
-            first: None,
-            last: None,
+            first: Link::none(),
+            last: Link::none(),
             table: Vec::new(alloc),
         }
     }
@@ -171,7 +172,7 @@ impl Roll {
         ensures { result ≡ first_key self.now.places }
     {
         let _ = &self.nodes;
-        self.first
+        self.first.key()
     }
 
     /// The key of the last ticket, if there is one.
@@ -179,7 +180,7 @@ impl Roll {
         ensures { IsLastKey self.now.places result }
     {
         let _ = &self.nodes;
-        self.last
+        self.last.key()
     }
 
     /// The key of the ticket behind the one under this key, if there is one.
@@ -187,7 +188,7 @@ impl Roll {
         ensures { (front : List Placed) (place : Placed) (rest : List Placed) → self.now.places ≡ front ++ place ∷ rest
             → place.key ≡ key → result ≡ first_key rest }
     {
-        self.nodes.get(key)?.after
+        self.nodes.get(key)?.after.key()
     }
 
     /// Looks for a ticket in its bucket, from the newest on.
@@ -202,13 +203,13 @@ impl Roll {
         }
         let mut at = self.table[bucket_of(ticket, self.table.len())];
         for looked in 0..self.nodes.len() {
-            let Some(key) = at else {
+            let Some(key) = at.key() else {
                 return Found { key: None, looked };
             };
             let node = &self.nodes[key];
             if node.ticket == ticket {
                 return Found {
-                    key: at,
+                    key: Some(key),
                     looked: looked + 1,
                 };
             }
@@ -278,14 +279,16 @@ impl Roll {
         let key = self.nodes.insert_reserved(Node {
             ticket,
             before: last,
-            after: None,
+            after: Link::none(),
             older: newest,
-            newer: None,
+            newer: Link::none(),
         });
-        link_after(&mut self.nodes, &mut self.first, last, Some(key));
-        self.last = Some(key);
-        link_newer(&mut self.nodes, newest, Some(key));
-        self.table[bucket] = Some(key);
+        let _below = self.nodes.capacity();
+        let own = Link::to(key);
+        link_after(&mut self.nodes, &mut self.first, last, own);
+        self.last = own;
+        link_newer(&mut self.nodes, newest, own);
+        self.table[bucket] = own;
         key
     }
 

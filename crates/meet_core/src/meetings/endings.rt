@@ -31,7 +31,7 @@ impl<T: Marked, L: Line<T>> Meetings<T, L> {
         if !self.seats.hold(seat).is_settled() {
             return Ok(Followed::NotYet);
         }
-        Ok(Followed::of(self.seats.replace(seat, Hold::Free)))
+        Ok(Followed::of(self.seats.free_up(seat)))
     }
 
     /// Takes the seat's open ticket back, with a giver's item, where it stands in the line; else it is late. Refuses

@@ -108,7 +108,7 @@ impl<T: Marked, L: Line<T>> Meetings<T, L> {
         ensures places { places_of self.new ≡ places_of self.old }
     {
         let gives = count_if_gives(&item);
-        self.seats.put(seat, Hold::Waiting(ticket));
+        self.seats.enter(seat, Hold::Waiting(ticket));
         self.line.push_back(Entry {
             ticket,
             seat,

@@ -2,8 +2,8 @@
 
 ghost use Rattle.std.specs.Prelude.{◌≡◌, ◌<◌, None, Some, IsSome, length};
 ghost use Rattle.meet_tickets.specs.BySeat.{put_at};
-ghost use Rattle.meet_tickets.specs.declared.lines.Hold.TheVariants.{Handed, Served};
-ghost use Rattle.meet_core.specs.Table.{hold_at, HasNoItem};
+ghost use Rattle.meet_tickets.specs.declared.lines.Hold.TheVariants.{Waiting, Handed, Served};
+ghost use Rattle.meet_core.specs.Table.{hold_at};
 
 use crate::seats::SeatTable;
 use meet_line::let_go_none;
@@ -14,7 +14,7 @@ use meet_tickets::{Entry, Hold, Marked, Ticket};
 pub(super) fn serve<T>(seats: &mut SeatTable<T>, taker: Entry<T>, giver: Ticket, item: T) -> Ticket
     requires side { taker.item ≡ None }
     requires seat { taker.seat < length seats.old.holds }
-    requires no_item { HasNoItem (hold_at seats.old.holds taker.seat) }
+    requires waited { hold_at seats.old.holds taker.seat ≡ Waiting taker.ticket }
     ensures ticket { result ≡ taker.ticket }
     ensures held { hold_at seats.new.holds ≡ put_at (hold_at seats.old.holds) taker.seat
         (Served taker.ticket giver item) }
@@ -28,7 +28,7 @@ pub(super) fn serve<T>(seats: &mut SeatTable<T>, taker: Entry<T>, giver: Ticket,
         waits: _,
     } = taker;
     let_go_none(brought);
-    seats.put(seat, Hold::Served(ticket, giver, item));
+    seats.settle(seat, Hold::Served(ticket, giver, item));
     ticket
 }
 
@@ -41,7 +41,7 @@ pub(super) fn collect<T: Marked>(
 ) -> (Ticket, T)
     requires side { IsSome giver.item }
     requires seat { giver.seat < length seats.old.holds }
-    requires no_item { HasNoItem (hold_at seats.old.holds giver.seat) }
+    requires waited { hold_at seats.old.holds giver.seat ≡ Waiting giver.ticket }
     ensures ticket { result.0 ≡ giver.ticket }
     ensures item { giver.item ≡ Some result.1 }
     ensures held { hold_at seats.new.holds ≡ put_at (hold_at seats.old.holds) giver.seat
@@ -56,7 +56,7 @@ pub(super) fn collect<T: Marked>(
         waits: _,
     } = giver;
     let item = item.unwrap();
-    seats.put(seat, Hold::Handed(ticket, taker, item.mark()));
+    seats.settle(seat, Hold::Handed(ticket, taker, item.mark()));
     (ticket, item)
 }
 

@@ -1,11 +1,11 @@
 //! The table of a place's seats: what each holds, which are flagged, and how many tickets are open.
 
-ghost use Rattle.std.specs.Prelude.{◌≡◌, ◌+◌, ◌++◌, ◌≤◌, ◌<◌, false, is_some, length, replicate, count_by, vec_len};
+ghost use Rattle.std.specs.Prelude.{◌≡◌, ℕ, ◌+◌, ◌++◌, ◌≤◌, ◌<◌, false, true, is_some, length, replicate, count_by, vec_len};
 ghost use Rattle.std.specs.Prelude.{IsOk, IfOk, OnOk, OnErr};
 ghost use Rattle.std.specs.Vec.{vec_capacity};
-ghost use Rattle.meet_tickets.specs.BySeat.{put_at, owed_of, settled_of};
+ghost use Rattle.meet_tickets.specs.BySeat.{put_at, owed_of, settled_of, is_settled};
 ghost use Rattle.meet_tickets.specs.Limits.{most_seats};
-ghost use Rattle.meet_tickets.specs.declared.lines.Hold.TheVariants.{Free};
+ghost use Rattle.meet_tickets.specs.declared.lines.Hold.TheVariants.{Free, Waiting};
 ghost use Rattle.meet_core.specs.Table.{grown, hold_at};
 ghost use Rattle.meet_core.specs.Left.{left_of_hold, left_at_seats};
 
@@ -163,6 +163,60 @@ impl<T> SeatTable<T> {
         ensures flags { self.new.flags ≡ self.old.flags }
     {
         let_go_hold(self.replace(seat, hold));
+    }
+
+    /// Puts what this seat holds, where it held nothing.
+    #[inline(always)]
+    pub fn enter(&mut self, seat: SeatNo, hold: Hold<T>)
+        requires seat { seat < length self.old.holds }
+        requires free { hold_at self.old.holds seat ≡ Free }
+        ensures holds { hold_at self.new.holds ≡ put_at (hold_at self.old.holds) seat hold }
+        ensures count { length self.new.holds ≡ length self.old.holds }
+        ensures flags { self.new.flags ≡ self.old.flags }
+    {
+        self.owed += u64::from(hold.is_open());
+        self.settled += u64::from(hold.is_settled());
+        let was = mem::replace(&mut self.holds[seat.number() as usize], hold);
+        self.changed = Some(seat);
+        match was {
+            Hold::Free => {}
+            _ => unreachable!(),
+        }
+    }
+
+    /// Puts what this seat holds, which is settled, where its ticket stood in the line.
+    #[inline(always)]
+    pub fn settle(&mut self, seat: SeatNo, hold: Hold<T>)
+        requires seat { seat < length self.old.holds }
+        requires waited { (t : ℕ) × (hold_at self.old.holds seat ≡ Waiting t) }
+        requires settled { is_settled hold ≡ true }
+        ensures holds { hold_at self.new.holds ≡ put_at (hold_at self.old.holds) seat hold }
+        ensures count { length self.new.holds ≡ length self.old.holds }
+        ensures flags { self.new.flags ≡ self.old.flags }
+    {
+        self.settled += 1;
+        let was = mem::replace(&mut self.holds[seat.number() as usize], hold);
+        self.changed = Some(seat);
+        match was {
+            Hold::Waiting(_) => {}
+            _ => unreachable!(),
+        }
+    }
+
+    /// Takes what this seat holds, which is settled.
+    #[inline(always)]
+    pub fn free_up(&mut self, seat: SeatNo) -> Hold<T>
+        requires seat { seat < length self.old.holds }
+        requires settled { is_settled (hold_at self.old.holds seat) ≡ true }
+        ensures was { result ≡ hold_at self.old.holds seat }
+        ensures holds { hold_at self.new.holds ≡ put_at (hold_at self.old.holds) seat Free }
+        ensures count { length self.new.holds ≡ length self.old.holds }
+        ensures flags { self.new.flags ≡ self.old.flags }
+    {
+        self.owed -= 1;
+        self.settled -= 1;
+        self.changed = Some(seat);
+        mem::replace(&mut self.holds[seat.number() as usize], Hold::Free)
     }
 
     /// How many seats have an open ticket that isn't in the line.

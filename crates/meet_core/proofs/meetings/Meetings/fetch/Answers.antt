@@ -1,10 +1,9 @@
 -- Proof of `Meetings::fetch`, src/meetings/moves.rt. Fetches the item of the giver that is met, with its ticket.
-use Rattle.std.proofs.Common.{◌≡◌, ◌-◌, ◌∙◌, sym, subst, refl, arith}
+use Rattle.std.proofs.Common.{◌≡◌, ◌-◌, ◌∙◌, sym, refl, arith}
 use Rattle.meet_tickets.specs.declared.places.Side.TheVariants.{Giver, Taker}
 use Rattle.meet_tickets.specs.Meeting.{count_on}
 use Rattle.meet_tickets.proofs.Line.Counted.{giver-fetched}
 use Rattle.meet_tickets.proofs.Line.Keeping.{kept-paired, kept-fetched}
-use Rattle.meet_core.specs.Table.{HasNoItem}
 use Rattle.meet_line.proofs.Sound.{HasOneSide-sound, Stands-partner, IsSound-met, IsSound-unmet}
 use Rattle.meet_core.proofs.Following.{there-waiting}
 use Rattle.meet_core.proofs.meetings.Meetings.fetch.Goals as goal
@@ -21,9 +20,9 @@ pub collect-requires-clause-seat : goal.collect-requires-clause-seat
 collect-requires-clause-seat g c =
     there-waiting _ _ _ ((Stands-partner g.L.Line.end Taker c.in_ok-giver.giver c.self.invariant.0 (sym c.in_ok-giver.ensures.partner)).held c.if-giver.true)
 
-pub collect-requires-clause-no_item : goal.collect-requires-clause-no_item
-collect-requires-clause-no_item g c =
-    subst HasNoItem (sym ((Stands-partner g.L.Line.end Taker c.in_ok-giver.giver c.self.invariant.0 (sym c.in_ok-giver.ensures.partner)).held c.if-giver.true)) tt
+pub collect-requires-clause-waited : goal.collect-requires-clause-waited
+collect-requires-clause-waited g c =
+    (Stands-partner g.L.Line.end Taker c.in_ok-giver.giver c.self.invariant.0 (sym c.in_ok-giver.ensures.partner)).held c.if-giver.true
 
 pub invariant_of-self-then-giver : goal.invariant_of-self-then-giver
 invariant_of-self-then-giver g c =

@@ -1,6 +1,6 @@
 -- Proof of `Meetings::hand`, src/meetings/moves.rt. Hands the item to the taker that is met, and answers its ticket;
 -- without one the item comes back.
-use Rattle.std.proofs.Common.{◌≡◌, ◌∙◌, sym, ap, subst, refl, Some, false}
+use Rattle.std.proofs.Common.{◌≡◌, ◌∙◌, sym, ap, refl, Some, false}
 use Rattle.meet_tickets.specs.declared.places.Side.TheVariants.{Giver}
 use Rattle.meet_tickets.specs.Meeting.{is_on}
 use Rattle.meet_tickets.proofs.Line.Counted.{givers-stay}
@@ -8,7 +8,7 @@ use Rattle.meet_tickets.proofs.Line.Keeping.{kept-paired}
 use Rattle.meet_tickets.proofs.Line.Partners.{none-from}
 use Rattle.meet_tickets.proofs.Line.Sides.{partner-other}
 use Rattle.meet_tickets.specs.BySeat.{put_at}
-use Rattle.meet_core.specs.Table.{hold_at, HasNoItem}
+use Rattle.meet_core.specs.Table.{hold_at}
 use Rattle.meet_core.specs.Queue.{Queue}
 use Rattle.meet_line.proofs.Sound.{HasOneSide-sound, held-taker, IsSound-met}
 use Rattle.meet_core.proofs.Following.{there-waiting}
@@ -22,9 +22,8 @@ pub serve-requires-clause-seat : goal.serve-requires-clause-seat
 serve-requires-clause-seat g c =
     there-waiting _ _ _ (held-taker g.L.Line.end c.in-Some.taker c.self.invariant.0 (sym c.in-Some.ensures.partner)).held
 
-pub serve-requires-clause-no_item : goal.serve-requires-clause-no_item
-serve-requires-clause-no_item g c =
-    subst HasNoItem (sym (held-taker g.L.Line.end c.in-Some.taker c.self.invariant.0 (sym c.in-Some.ensures.partner)).held) tt
+pub serve-requires-clause-waited : goal.serve-requires-clause-waited
+serve-requires-clause-waited g c = (held-taker g.L.Line.end c.in-Some.taker c.self.invariant.0 (sym c.in-Some.ensures.partner)).held
 
 pub invariant_of-self : goal.invariant_of-self
 invariant_of-self g c =

@@ -7,7 +7,7 @@ use Rattle.meet_core.proofs.meetings.Meetings.wait.Goals as goal
 
 pub invariant_of-self : goal.invariant_of-self
 invariant_of-self g c = (
-  rw (c.push_back.ensures.entries, c.put.ensures.holds) (IsSound-queued g.L.Line.end c.args.seat c.args.ticket c.args.item c.self.invariant.0
+  rw (c.push_back.ensures.entries, c.enter.ensures.holds) (IsSound-queued g.L.Line.end c.args.seat c.args.ticket c.args.item c.self.invariant.0
       (rw (← c.self.view_is) at c.requires.free)
       (rw (← c.self.view_is) at c.requires.new)
       (rw (← c.self.view_is) at c.requires.used)

@@ -17,4 +17,4 @@ pub returns : goal.returns
 returns c front place rest all own =
     let here : get c.self.inside.nodes c.args.key ≡ Some c.in_ok-get.field-0.now = sym c.get.ensures ∙ ap option_copied c.in_ok-get.was in
     let is = after-key c.self.inside.nodes c.self.inside.first c.self.inside.last c.self.inside.table.items _ c.self.invariant front place rest (ap (λ v. v.places) c.self.view_is ∙ all) in
-    ap (λ o. option_map_or (λ (n : Node). n.after) o None) (sym here) ∙ ap (field_at (λ n. n.after) None c.self.inside.nodes) (sym own) ∙ is
+    c.key.ensures ∙ ap (λ o. option_map_or (λ (n : Node). n.after) o None) (sym here) ∙ ap (field_at (λ n. n.after) None c.self.inside.nodes) (sym own) ∙ is

@@ -32,7 +32,7 @@ index-node-requires c =
     let m = length c.self.inside.table.items in
     let keys = keys_of s c.self.inside.first in
     let chain = chain_of s m (c.args.ticket % m) keys in
-    let has : HasLooked s chain c.args.ticket (Some c.in-Some.key) c.loop-looked.looked = subst (λ o. HasLooked s chain c.args.ticket o c.loop-looked.looked) c.in-Some.is c.loop-looked.invariant in
+    let has : HasLooked s chain c.args.ticket (Some c.in-Some.key) c.loop-looked.looked = subst (λ o. HasLooked s chain c.args.ticket o c.loop-looked.looked) (sym c.key.ensures ∙ c.in-Some.is) c.loop-looked.invariant in
     some-from_there (get s c.in-Some.key) (there-from_next s (falls s m (c.args.ticket % m)) keys c.in-Some.key c.loop-looked.looked c.self.invariant.present (next-from_looked s chain c.args.ticket c.in-Some.key c.loop-looked.looked has).0)
 
 pub returns-then-node-ticket : goal.returns-then-node-ticket
@@ -41,7 +41,7 @@ returns-then-node-ticket c =
     let m = length c.self.inside.table.items in
     let keys = keys_of s c.self.inside.first in
     let chain = chain_of s m (c.args.ticket % m) keys in
-    let has : HasLooked s chain c.args.ticket (Some c.in-Some.key) c.loop-looked.looked = subst (λ o. HasLooked s chain c.args.ticket o c.loop-looked.looked) c.in-Some.is c.loop-looked.invariant in
+    let has : HasLooked s chain c.args.ticket (Some c.in-Some.key) c.loop-looked.looked = subst (λ o. HasLooked s chain c.args.ticket o c.loop-looked.looked) (sym c.key.ensures ∙ c.in-Some.is) c.loop-looked.invariant in
     let own : ticket_at s c.in-Some.key ≡ c.args.ticket = ap (λ o. option_map_or (λ (n : Node). n.ticket) o 0) c.index-node.ensures ∙ c.if-node-ticket.true in
     subst (λ v. IsFound v.places v.buckets c.args.ticket (Some c.in-Some.key) (c.loop-looked.looked + 1)) c.self.view_is (found-there s keys m c.args.ticket c.in-Some.key c.loop-looked.looked own (next-from_looked s chain c.args.ticket c.in-Some.key c.loop-looked.looked has).0)
 
@@ -53,7 +53,7 @@ loop-looked-preserved c =
     let b = c.args.ticket % m in
     let keys = keys_of s c.self.inside.first in
     let chain = chain_of s m b keys in
-    let has : HasLooked s chain c.args.ticket (Some c.in-Some.key) c.loop-looked.looked = subst (λ o. HasLooked s chain c.args.ticket o c.loop-looked.looked) c.in-Some.is c.loop-looked.invariant in
+    let has : HasLooked s chain c.args.ticket (Some c.in-Some.key) c.loop-looked.looked = subst (λ o. HasLooked s chain c.args.ticket o c.loop-looked.looked) (sym c.key.ensures ∙ c.in-Some.is) c.loop-looked.invariant in
     let ticket_is : ticket_at s c.in-Some.key ≡ c.index-node.result.now.ticket = ap (λ o. option_map_or (λ (n : Node). n.ticket) o 0) c.index-node.ensures in
     let other : ticket_at s c.in-Some.key ≢ c.args.ticket = λ same. c.if-node-ticket.false (sym ticket_is ∙ same) in
     let older_is : c.index-node.result.now.older ≡ field_at (λ n. n.older) None s c.in-Some.key = ap (λ o. option_map_or (λ (n : Node). n.older) o None) (sym c.index-node.ensures) in
