@@ -8,7 +8,8 @@
 # A row is so many threads that put and as many that take, 100,000 items in all. A time is that of the clock from before the first thread
 # is started until all have ended, by the item, in nanoseconds; the processor's is that of all threads together. A number is the median of
 # twelve rounds, each over a new queue; the programs take turns, so that what else the machine does falls on all of them. Of the tails a
-# time is that of one put, from its call to its return: the medians of three rounds.
+# time is that of one put, from its call to its return: the medians of three rounds. `steady` is `park` over a queue that as many items went
+# through before: it makes a checkpoint every 2^14 records, so that what is timed takes no memory that wasn't in use.
 set -euo pipefail
 . "$(dirname "$0")/built.bash"
 items=100000
@@ -37,6 +38,7 @@ fi
 command_of() {
     case $1 in
         park | spin | bare) command=("$(program_of bench_threads)" "$1") ;;
+        steady) command=("$(program_of bench_threads)" park) ;;
         fair | unfair | transfer) [ -f "$work/Race.class" ] && command=(java -cp "$work" Race "$1") ;;
         crossbeam) [ -x "$work/crossbeam/target/release/race" ] && command=("$work/crossbeam/target/release/race") ;;
         go) [ -x "$work/go_race" ] && command=("$work/go_race") ;;
@@ -69,16 +71,18 @@ ratio() {
     awk -v one="$1" -v other="$2" 'BEGIN { if (one == "-" || other == "-") print "-"; else printf "%.2f", one / other }'
 }
 
-ways=(bare park spin fair unfair transfer crossbeam go)
+ways=(bare park steady spin fair unfair transfer crossbeam go)
 for pairs in 1 2 4 16; do
     handed=$((items / pairs * pairs))
     for ((sample = 0; sample < samples; sample++)); do
         for way in "${ways[@]}"; do
             command_of "$way" || continue
-            run "$way" "$pairs"
+            more=() passes=1
+            [ "$way" = steady ] && more=(steady 32768) passes=2
+            run "$way" "$pairs" "${more[@]}"
             awk -v items="$handed" '$1 == "nanoseconds" { printf "%.0f\n", $2 / items }' "$work/times" >>"$work/clock.$way.$pairs"
             # A process that warms up first tells the round's own processor time.
-            awk -v items="$handed" 'FNR == NR { if ($1 == "processor") told = $2; next } { if (!told) told = ($1 + $2) * 1e9 }
+            awk -v items="$((handed * passes))" 'FNR == NR { if ($1 == "processor") told = $2; next } { if (!told) told = ($1 + $2) * 1e9 }
                 END { printf "%.0f\n", told / items }' "$work/times" "$work/used" >>"$work/busy.$way.$pairs"
         done
     done
@@ -106,9 +110,9 @@ cat <<END
 nanoseconds an item, $items items in all, the median of $samples rounds: $(nproc) processors, $(date -u +%F); fair, unfair and transfer are
 Java's. Aims: park/fair at most 0.20, 0.45, 0.90, 0.85, and park/crossbeam 1.10
 END
-table clock park/fair park/crossbeam spin/fair park/bare
+table clock park/fair park/crossbeam steady/crossbeam spin/fair park/bare
 echo "nanoseconds of the processor an item; aim: park/fair at most 1.00"
-table busy park/fair park/crossbeam
+table busy park/fair park/crossbeam steady/crossbeam
 
 echo "nanoseconds of one put: the median, and what 99 in 100 and 999 in 1,000 didn't exceed; tended with a checkpoint every 2^14 records"
 printf '%5s %9s %10s %10s %10s\n' pairs queue median p99 p99.9

@@ -13,7 +13,7 @@ use handoffs::{HandoffRace, Queue};
 
 /// What is said of words that can't be read.
 const USAGE: &str = "\
-usage: bench_threads park|spin|bare PAIRS EACH ROUNDS [tails [CAP]]
+usage: bench_threads park|spin|bare PAIRS EACH ROUNDS [tails|steady [CAP]]
        bench_threads checkpoint SEATS KEPT ROUNDS
        bench_threads arena|lock THREADS SLOTS EACH ROUNDS";
 

@@ -1,7 +1,7 @@
 //! The program `bench_threads`: how long it takes threads to hand items on or to exchange them, and how long a
 //! checkpoint takes.
 //!
-//!     bench_threads park|spin|bare PAIRS EACH ROUNDS [tails [CAP]]
+//!     bench_threads park|spin|bare PAIRS EACH ROUNDS [tails|steady [CAP]]
 //!     bench_threads checkpoint SEATS KEPT ROUNDS
 //!     bench_threads arena|lock THREADS SLOTS EACH ROUNDS
 //!

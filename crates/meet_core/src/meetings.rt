@@ -23,14 +23,17 @@ mod probes;
 
 /// The meetings of one thread's queue: its line, its seats, its last ticket and the next, and how many givers stand in
 /// the line and how many items are kept there.
+///
+/// What each call writes stands together, at the end of the line, here, and at the head of the seats: fields lie in
+/// memory in their order, and each line of the processor's that a call writes has to come from who called before.
 #[derive(Drop)]
 pub struct Meetings<T: Marked, L: Line<T>> {
     line: L,
     givers: u64,
-    seats: SeatTable<T>,
     last: Ticket,
     next: u64,
     kept: u64,
+    seats: SeatTable<T>,
 }
 
 impl<T: Marked, L: Line<T>> Model for Meetings<T, L> {

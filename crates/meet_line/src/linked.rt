@@ -17,13 +17,13 @@ use meet_tickets::{Entry, Refusal, Ticket};
 use std::alloc::Global;
 use std::marker::Model;
 
-/// Entries in order of arrival. `reserve` alone takes memory.
+/// Entries in order of arrival. `reserve` alone takes memory. What each call writes stands last, in the roll too.
 #[derive(Drop)]
 pub(crate) struct Linked<T> {
-    roll: Roll,
     slots: Vec<Option<Entry<T>>>,
-    room: usize,
     looked: usize,
+    roll: Roll,
+    room: usize,
 }
 
 impl<T> Model for Linked<T> {

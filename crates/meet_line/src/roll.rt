@@ -16,10 +16,10 @@ use std::marker::Model;
 /// The tickets of a line, each under a key. `reserve` alone takes memory.
 #[derive(Drop)]
 pub(crate) struct Roll {
+    table: Vec<Link>,
     nodes: Slab<Node>,
     first: Link,
     last: Link,
-    table: Vec<Link>,
 }
 
 impl Model for Roll {

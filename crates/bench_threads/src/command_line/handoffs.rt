@@ -37,6 +37,8 @@ pub enum Timing {
     Whole,
     /// Of each put by itself.
     Tails,
+    /// As a whole, of the second of two passes over one queue, whose memory is in use by then.
+    Steady,
 }
 
 /// Threads that hand items on.
@@ -64,6 +66,7 @@ fn timing_of(words: &[String]) -> Result<(Timing, u64), Wrong> {
     };
     match word.as_str() {
         "tails" => Ok((Timing::Tails, cap)),
+        "steady" => Ok((Timing::Steady, cap)),
         _ => Err(Wrong::Words),
     }
 }
@@ -101,7 +104,7 @@ impl HandoffRace {
     /// How many puts of each thread are timed by themselves.
     pub fn timed(&self) -> usize {
         match self.timing {
-            Timing::Whole => 0,
+            Timing::Whole | Timing::Steady => 0,
             Timing::Tails => self.each as usize,
         }
     }
@@ -113,7 +116,7 @@ impl HandoffRace {
     {
         let is_some = self.pairs != 0 && self.each != 0 && self.cap != 0;
         let most = match self.timing {
-            Timing::Whole => MOST_EACH,
+            Timing::Whole | Timing::Steady => MOST_EACH,
             Timing::Tails => MOST_TIMED,
         };
         is_some && self.pairs <= MOST_PAIRS && self.each <= most && self.cap <= MOST_RECORDS

@@ -129,7 +129,7 @@ where
         slots.push(Mutex::new(slot)).map_err(|_| Refusal::Memory)?;
     }
     let bare = Bare::new(alloc, slots.len()).map_err(|_| Refusal::Memory)?;
-    let nanoseconds = run_timed(rt, alloc, &bare, slots.as_slice(), race.each)?;
+    let nanoseconds = run_timed(rt, alloc, &bare, slots.as_slice(), race)?;
     let mut counted = NOTHING;
     let mut puts = Vec::new(alloc);
     for slot in slots {

@@ -25,7 +25,7 @@ impl HandoffRound {
     pub fn tell<R: Print + Eprint>(self, rt: &R, timing: Timing) -> io::Result<()> {
         self.finish.tell(rt)?;
         match timing {
-            Timing::Whole => Ok(()),
+            Timing::Whole | Timing::Steady => Ok(()),
             Timing::Tails => tell_tails(rt, Tails::of(self.puts)),
         }
     }

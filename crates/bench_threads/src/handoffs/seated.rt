@@ -157,7 +157,7 @@ where
         Err(refused) => return Err(refused.into_why()), // the gates and the ledgers are let go
     };
     let slots = slots_of::<N>(alloc, seats, slots, race.timed());
-    let timed = run_timed(rt, alloc, &queue, slots.as_slice(), race.each);
+    let timed = run_timed(rt, alloc, &queue, slots.as_slice(), race);
     let (backs, counted, puts) = seats_of(alloc, slots, backs);
     if let Err(fault) = queue.close(alloc, backs) {
         let why = fault.why();

@@ -16,14 +16,14 @@ use std::alloc::{AllocError, Global};
 use std::marker::Model;
 use std::mem;
 
-/// The table of a place's seats.
+/// The table of a place's seats. What each call writes stands first.
 #[derive(Drop)]
 pub struct SeatTable<T> {
     owed: u64,
-    holds: Vec<Hold<T>>,
-    flags: Vec<bool>,
     settled: u64,
     changed: Option<SeatNo>,
+    holds: Vec<Hold<T>>,
+    flags: Vec<bool>,
 }
 
 impl<T> Model for SeatTable<T> {
