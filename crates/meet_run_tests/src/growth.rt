@@ -1,5 +1,5 @@
 //! A run that finds no memory ends with Memory, and what it wrote is a beginning of the whole text; the next run
-//! writes the whole. `bin/refuse` runs these tests with each allocation refused in turn.
+//! writes the whole. `dev/check/refuse` runs these tests with each allocation refused in turn.
 
 use crate::tasks::Task;
 use crate::{chains, checkpoints};
