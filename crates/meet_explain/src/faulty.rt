@@ -3,7 +3,7 @@
 use crate::flaws::{Flaw, mended};
 use crate::lines::{count_lines, line_at};
 use crate::words::{BASES, DEEDS, Form, HEADS, VERBS, is_among, nearest, word_at};
-use meet_run::Setup;
+use meet_history::Setup;
 use meet_run::script::first_line::read_setup;
 use meet_run::script::grammar::read_call;
 use meet_run::text::grammar::read_seat;

@@ -3,7 +3,8 @@
 
 use crate::tasks::Task;
 use crate::{chains, checkpoints};
-use meet_run::{Refusal, RunFault, check_chain, check_trace, erase_trace, run_script, run_trace};
+use meet_run::{RunFault, check_chain, check_trace, erase_trace, run_script, run_trace};
+use meet_tickets::Refusal;
 use std::alloc::Global;
 use std::process::Abort;
 use std::test::Fail;

@@ -1,13 +1,16 @@
-//! A drive, and what came of it as text.
+//! What came of a drive, as text.
 
 ghost use Rattle.std.specs.Prelude.{◌≡◌, ◌++◌, OnOk};
 ghost use Rattle.meet_drive.specs.Driven.{IsSized};
-ghost use Rattle.meet_run.specs.Driving.{drive_text, DriveEnds};
+ghost use Rattle.meet_drive.specs.Text.{drive_text, DriveEnds};
 
-use crate::text::faults::{RunFault, cut_short};
-use crate::text::output::write_whole;
-use crate::text::wording::{push_last_line, push_numbered, push_pair};
-use meet_drive::{Drive, Progress, drive_told};
+use crate::outcome::Drive;
+use crate::progress::Progress;
+use crate::whole::drive_told;
+use meet_run::RunFault;
+use meet_run::text::faults::cut_short;
+use meet_run::text::output::write_whole;
+use meet_run::text::wording::{push_last_line, push_numbered, push_pair};
 use meet_tickets::Refusal;
 use std::alloc::{AllocError, Global};
 use std::io::Write;
@@ -17,7 +20,7 @@ use std::time::Clock;
 
 /// Appends what came of a drive: how many items the takers counted, their sum, how many pairs the history tells of, and
 /// the line at the end of a script; four lines.
-#[tactic(auto, unfolding(crate::specs::Driving::drive_text))]
+#[tactic(auto, unfolding(crate::specs::Text::drive_text))]
 pub fn push_drive(out: &mut Vec<u8>, drive: Drive) -> Result<(), AllocError>
     ensures { OnOk result (out.new.items ≡ out.old.items ++ drive_text drive) }
 {
