@@ -1,4 +1,4 @@
-# Shared by the commands of this folder: the path of the repository, and its proved programs.
+# Shared by the commands of bin/ and dev/ that are in bash: the path of the repository, and its proved programs.
 top=$(cd "$(dirname "${BASH_SOURCE[0]}")/.." && pwd)
 
 # Prints the head of the running command's file and ends, if the first word asks for help.
@@ -14,7 +14,7 @@ help_if_asked() {
 # Ends with status 70 if the toolchain isn't on the path.
 need_rt() {
     command -v rt >/dev/null && return
-    echo "bin/${0##*/}: the command rt of the Rattle toolchain isn't on the path; README.md, \"Two commands\", says what it is" >&2
+    echo "$(realpath --relative-to="$top" "$0"): the command rt of the Rattle toolchain isn't on the path; README.md, \"Two commands\", says what it is" >&2
     exit 70
 }
 

@@ -5,8 +5,8 @@ use Rattle.std.specs.Prelude.{codes, IfSome}
 use Rattle.std.specs.Option.{option_map}
 use Rattle.meet_tickets.specs.Limits.{most_records}
 use Rattle.meet_run.specs.Texts.Words.{word_of, rest_of}
-use Rattle.meet_run.specs.Scripts.Grammar.{option_in}
-use Rattle.meet_run.proofs.Scripts.CallLemmas.{bind-some}
+use Rattle.meet_run.specs.Texts.Grammar.{option_in}
+use Rattle.meet_run.proofs.Texts.GrammarLemmas.{bind-some}
 use Rattle.meet_run.proofs.Scripts.SetupLemmas.{IsWithin, option-is}
 use Rattle.bench_calls.specs.declared.tasks.Shape.{Shape}
 use Rattle.bench_calls.specs.declared.tasks.Task.{Task}

@@ -6,7 +6,7 @@ use Rattle.std.specs.Option.{option_map}
 use Rattle.std.specs.Str.{bytes_eq}
 use Rattle.meet_tickets.specs.Limits.{most_records}
 use Rattle.meet_run.specs.Texts.Words.{word_of, rest_of}
-use Rattle.meet_run.specs.Scripts.Grammar.{◌>>=◌, option_in}
+use Rattle.meet_run.specs.Texts.Grammar.{◌>>=◌, option_in}
 use Rattle.bench_calls.specs.declared.tasks.Shape.{Shape}
 use Rattle.bench_calls.specs.declared.tasks.Shape.TheVariants.{Meetings, Withdrawals}
 use Rattle.bench_calls.specs.declared.tasks.Task.{Task}

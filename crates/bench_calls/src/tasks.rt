@@ -4,7 +4,7 @@ ghost use Rattle.std.specs.Prelude.{◌≡◌, IfSome};
 ghost use Rattle.std.specs.Option.{option_map};
 ghost use Rattle.bench_calls.specs.Tasks.{FitsTask, shape_of, number_in, task_at_end, task_with, task_in, task_of};
 
-use meet_run::script::first_line::read_option;
+use meet_run::text::grammar::read_option;
 use meet_run::text::reading::LONGEST_LINE;
 use meet_run::text::words::split_word;
 use meet_tickets::MOST_RECORDS;

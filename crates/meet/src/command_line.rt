@@ -5,7 +5,7 @@ ghost use Rattle.meet.specs.Tasks.{IsWithin};
 
 use clap::{Arg, ArgAction, ArgMatches, Command, Error, value_parser};
 use meet_draw::{LEAST_WIDTH, MOST_WIDTH, Style, USUAL_WIDTH, Width};
-use meet_run::{MOST_EACH, MOST_GIVERS};
+use meet_drive::{MOST_EACH, MOST_GIVERS};
 use pool_run::{MOST_CALLERS, MOST_JOBS, MOST_WORKERS};
 use std::alloc::{AllocError, Global};
 

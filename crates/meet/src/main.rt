@@ -13,11 +13,11 @@ mod command_line;
 use clap::error::ErrorKind;
 use command_line::{Task, Wanted, wanted_of};
 use meet_draw::draw_trace;
+use meet_drive::{Progress, run_drive};
 use meet_explain::explain_trace;
 use meet_judge::judge_calls;
 use meet_run::{
-    Blocks, Progress, RunFault, check_chain, check_trace, erase_trace, report_of, run_drive,
-    run_script, run_trace,
+    Blocks, RunFault, check_chain, check_trace, erase_trace, report_of, run_script, run_trace,
 };
 use meet_sum::sum_trace;
 use meet_tickets::Refusal;

@@ -1,5 +1,5 @@
 //! An envelope bears one refusal of memory: the call that is made again succeeds, and ringing and reading take none.
-//! `bin/refuse` runs this test with each allocation refused in turn.
+//! `dev/check/refuse` runs this test with each allocation refused in turn.
 
 use meet_cells::{Bell, Envelope, Verdict};
 use meet_tickets::{Refusal, Ticket};

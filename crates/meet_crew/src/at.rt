@@ -65,7 +65,7 @@ where
     {
         match &self.seat {
             Some(seat) => seat.number().number(),
-            None => unreachable!(),
+            None => unreachable!(), // a chair at work has its seat
         }
     }
 

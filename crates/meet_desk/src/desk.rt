@@ -56,7 +56,7 @@ impl<D: Copy + Drop, N: Ledgers> Desk<D, N> {
             }
             free = self.came.wait(rt, free);
         }
-        unreachable!()
+        unreachable!() // it loops for ever
     }
 
     /// Gives a seat back, and wakes one thread that waits for a seat.

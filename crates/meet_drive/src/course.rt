@@ -173,7 +173,7 @@ impl<G: Gate, N: Ledgers> Course<G, N> {
                 Err(again) => pending = again,
             }
         }
-        unreachable!()
+        unreachable!() // it loops for ever
     }
 
     /// Makes a call, and waits for its ending: the seat, and how it ended.

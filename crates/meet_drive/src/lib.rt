@@ -1,5 +1,5 @@
 //! A drive: givers and takers, each a thread, pass items through one synchronous queue in fair mode. What came of it is
-//! counted by the takers and told by the queue's own history.
+//! counted by the takers and told by the queue's own history, and is written as text.
 #![tactic(auto)]
 
 mod course;
@@ -7,9 +7,11 @@ mod history;
 mod outcome;
 mod progress;
 mod takings;
+mod text;
 mod threads;
 mod whole;
 
 pub use outcome::Drive;
 pub use progress::{Progress, Silent};
+pub use text::{push_drive, run_drive};
 pub use whole::{MOST_EACH, MOST_GIVERS, drive, drive_in_chapters, drive_told, drive_within};

@@ -1,5 +1,5 @@
-//! An arena bears one refusal of memory: nothing is lost by it, and the call that is made again succeeds. `bin/refuse`
-//! runs this test with each allocation refused in turn.
+//! An arena bears one refusal of memory: nothing is lost by it, and the call that is made again succeeds.
+//! `dev/check/refuse` runs this test with each allocation refused in turn.
 
 ghost use Rattle.std.specs.Prelude.{◌≡◌, ◌<◌};
 ghost use Rattle.meet_exchange.specs.Closed.{AreOf};

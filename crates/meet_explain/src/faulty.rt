@@ -3,11 +3,12 @@
 use crate::flaws::{Flaw, mended};
 use crate::lines::{count_lines, line_at};
 use crate::words::{BASES, DEEDS, Form, HEADS, VERBS, is_among, nearest, word_at};
-use meet_run::Setup;
-use meet_run::script::first_line::{behind_prefix, read_setup};
-use meet_run::script::grammar::{read_call, read_seat};
+use meet_history::Setup;
+use meet_run::script::first_line::read_setup;
+use meet_run::script::grammar::read_call;
+use meet_run::text::grammar::read_seat;
 use meet_run::text::wording::push_numbered;
-use meet_run::text::words::read_number;
+use meet_run::text::words::{behind_prefix, read_number};
 use meet_run::trace::grammar::{read_kind, read_record, read_ticket};
 use meet_tickets::Order;
 use std::alloc::{AllocError, Global};

@@ -1,5 +1,5 @@
 //! Queues for threads bear one refusal of memory: nothing is lost by it, and the call that is made again succeeds.
-//! `bin/refuse` runs these tests with each allocation refused in turn.
+//! `dev/check/refuse` runs these tests with each allocation refused in turn.
 
 ghost use Rattle.std.specs.Prelude.{◌≡◌, vec_len};
 ghost use Rattle.meet_place.specs.Ledgers.{AreOf};

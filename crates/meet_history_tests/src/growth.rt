@@ -1,5 +1,5 @@
-//! Checks and the calls of one thread bear one refusal of memory: the same that is done again succeeds. `bin/refuse`
-//! runs these tests with each allocation refused in turn.
+//! Checks and the calls of one thread bear one refusal of memory: the same that is done again succeeds.
+//! `dev/check/refuse` runs these tests with each allocation refused in turn.
 
 ghost use Rattle.std.specs.Prelude.{◌≡◌, All, IsTrue};
 ghost use Rattle.meet_history.specs.Served.{serves};

@@ -2,7 +2,8 @@
 
 use crate::doubles::{Sink, feed_of};
 use meet_judge::judge_calls;
-use meet_run::{Refusal, RunFault};
+use meet_run::RunFault;
+use meet_tickets::Refusal;
 use std::alloc::Global;
 use std::io::ErrorKind;
 use std::process::Abort;

@@ -1,5 +1,5 @@
-//! Records that are erased bear one refusal of memory: the same that is done again succeeds. `bin/refuse` runs these
-//! tests with each allocation refused in turn.
+//! Records that are erased bear one refusal of memory: the same that is done again succeeds. `dev/check/refuse` runs
+//! these tests with each allocation refused in turn.
 
 use crate::rows::{entry, ticket};
 use meet_laws::erase;

@@ -1,5 +1,5 @@
 //! Lines and tables bear one refusal of memory: nothing is lost by it, and the call that is made again succeeds.
-//! `bin/refuse` runs these tests with each allocation refused in turn.
+//! `dev/check/refuse` runs these tests with each allocation refused in turn.
 
 ghost use Rattle.std.specs.Prelude.{◌≡◌, ◌≤◌};
 ghost use Rattle.meet_tickets.specs.Limits.{most_seats};

@@ -1,5 +1,5 @@
-//! A place bears one refusal of memory: nothing is lost by it, and the call that is made again succeeds. `bin/refuse`
-//! runs this test with each allocation refused in turn.
+//! A place bears one refusal of memory: nothing is lost by it, and the call that is made again succeeds.
+//! `dev/check/refuse` runs this test with each allocation refused in turn.
 
 ghost use Rattle.std.specs.Prelude.{◌≡◌, ◌<◌, [], vec_len};
 ghost use Rattle.meet_place.specs.Ledgers.{AreOf};

@@ -1,5 +1,5 @@
 //! Queues and their books bear one refusal of memory: nothing is lost by it, and the call that is made again succeeds.
-//! `bin/refuse` runs these tests with each allocation refused in turn.
+//! `dev/check/refuse` runs these tests with each allocation refused in turn.
 
 use crate::drains::are_taken;
 use crate::parcels::{Ask, Parcel, Row, Told, seat};

@@ -1,4 +1,5 @@
 pub mod BlockLemmas
+pub mod GrammarLemmas
 pub mod LineLemmas
 pub mod NextLemmas
 pub mod TextLines

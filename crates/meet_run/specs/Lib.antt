@@ -1,4 +1,3 @@
-pub mod Driving
 pub mod Scripts
 pub mod Texts
 pub mod Tracing

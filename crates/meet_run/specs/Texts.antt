@@ -1,5 +1,6 @@
 pub mod Blocks
 pub mod Faults
+pub mod Grammar
 pub mod Reading
 pub mod Words
 pub mod Writing

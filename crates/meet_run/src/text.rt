@@ -3,6 +3,7 @@
 
 pub(crate) mod blocks;
 pub mod faults;
+pub mod grammar;
 pub mod next;
 pub mod output;
 pub mod reading;

@@ -1,6 +1,7 @@
 //! Chains: traces, one behind another, each on the base that those before it leave.
 
-use meet_run::{Refusal, RunFault, check_chain};
+use meet_run::{RunFault, check_chain};
+use meet_tickets::Refusal;
 use std::alloc::Global;
 use std::process::Abort;
 use std::test::Fail;

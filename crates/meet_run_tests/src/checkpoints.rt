@@ -1,6 +1,7 @@
 //! Scripts with checkpoints.
 
-use meet_run::{Refusal, RunFault, check_trace, run_script, run_trace};
+use meet_run::{RunFault, check_trace, run_script, run_trace};
+use meet_tickets::Refusal;
 use std::alloc::Global;
 use std::process::Abort;
 use std::test::Fail;

@@ -1,6 +1,7 @@
 //! How a program says that a run has ended.
 
-use meet_run::{Refusal, RunFault, report_of};
+use meet_run::{RunFault, report_of};
+use meet_tickets::Refusal;
 use std::alloc::Global;
 use std::process::Abort;
 use std::test::Fail;

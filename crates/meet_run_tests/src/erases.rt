@@ -1,7 +1,8 @@
 //! What is left of traces once the tickets that were cut, taken back or refused at their entry are erased.
 
 use crate::tasks::{Task, perform};
-use meet_run::{Refusal, RunFault};
+use meet_run::RunFault;
+use meet_tickets::Refusal;
 use std::alloc::Global;
 use std::process::Abort;
 

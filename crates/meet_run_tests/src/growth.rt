@@ -1,9 +1,10 @@
 //! A run that finds no memory ends with Memory, and what it wrote is a beginning of the whole text; the next run
-//! writes the whole. `bin/refuse` runs these tests with each allocation refused in turn.
+//! writes the whole. `dev/check/refuse` runs these tests with each allocation refused in turn.
 
 use crate::tasks::Task;
 use crate::{chains, checkpoints};
-use meet_run::{Refusal, RunFault, check_chain, check_trace, erase_trace, run_script, run_trace};
+use meet_run::{RunFault, check_chain, check_trace, erase_trace, run_script, run_trace};
+use meet_tickets::Refusal;
 use std::alloc::Global;
 use std::process::Abort;
 use std::test::Fail;

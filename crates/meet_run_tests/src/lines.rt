@@ -2,7 +2,8 @@
 
 use crate::doubles::feed_of;
 use crate::tasks::{Task, perform};
-use meet_run::{Refusal, RunFault};
+use meet_run::RunFault;
+use meet_tickets::Refusal;
 use std::alloc::Global;
 use std::process::Abort;
 

@@ -1,9 +1,9 @@
 //! One line that is read, and one text that is written.
 
 use crate::doubles::{Feed, feed_of, sink_by};
-use meet_run::Refusal;
 use meet_run::text::output::write_whole;
 use meet_run::text::reading::{LineRead, read_line};
+use meet_tickets::Refusal;
 use std::alloc::Global;
 use std::process::Abort;
 use std::test::Fail;

@@ -1,9 +1,10 @@
 //! What is done with a text, and what comes of it.
 
 use meet_run::{
-    MOST_READS, Refusal, RunFault, check_chain_within, check_trace_within, erase_trace_within,
+    MOST_READS, RunFault, check_chain_within, check_trace_within, erase_trace_within,
     run_script_within, run_trace_within,
 };
+use meet_tickets::Refusal;
 use std::alloc::Global;
 use std::io::{Read, Write};
 

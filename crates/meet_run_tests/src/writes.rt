@@ -2,7 +2,7 @@
 
 use crate::doubles::{feed_of, sink_by};
 use crate::tasks::{HANDOFF, Row, Task, cut, perform};
-use meet_run::Refusal;
+use meet_tickets::Refusal;
 use std::alloc::Global;
 use std::process::Abort;
 use std::test::Fail;

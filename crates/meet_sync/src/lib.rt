@@ -12,7 +12,7 @@
 //!
 //! `#[inline(always)]` stands where a call passes on its way from `ask` to the place below, so that a call is one function
 //! from where a program makes it. It doesn't stand on `turn` and `await_end`: the compiler drops the attribute of a
-//! function that has grown too large, and says nothing. `bin/instructions` does.
+//! function that has grown too large, and says nothing. `dev/measure/instructions` does.
 #![tactic(auto)]
 
 mod asked;

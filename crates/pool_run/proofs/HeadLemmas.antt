@@ -20,7 +20,7 @@ use Rattle.pool_core.specs.Calls.{settings_refusal, bad_queue, needs_buffer}
 use Rattle.pool_core.proofs.Begun.{fits-from}
 use Rattle.meet_run.specs.Texts.Words.{behind}
 use Rattle.meet_run.proofs.Texts.WordLemmas.{behind-is}
-use Rattle.meet_run.proofs.Scripts.CallLemmas.{bind-some, chosen-second, number-short}
+use Rattle.meet_run.proofs.Texts.GrammarLemmas.{bind-some, chosen-second, number-short}
 use Rattle.pool_run.specs.FirstLines.{settings_in, makeable, pool_head_in, pool_head_of}
 use Rattle.pool_run.specs.Spelling.{timeout_text, sizes_text, queue_text, policy_text, pool_head_text, FitsSizes, FitsQueue, FitsPoolHead, PoolHeadsHaveOneSpelling}
 use Rattle.pool_run.proofs.SettingsLemmas.{settings_in-is, settings_in-again}

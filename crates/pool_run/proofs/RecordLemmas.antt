@@ -8,10 +8,10 @@ use Rattle.meet_tickets.specs.Limits.{most_seats, most_records, last_ticket}
 use Rattle.pool_core.specs.declared.deeds.PoolDeed.{PoolDeed}
 use Rattle.pool_core.specs.declared.deeds.PoolDeed.TheVariants.{Handed, Started, Kept, KeptStart, Aborted, CallerRuns, Dropped, DroppedOldest, Runs, Waits, Exits, Finished, IdleExit, Leaves, StartFailed, ShutDown, ShutDownNow}
 use Rattle.meet_run.specs.Texts.Words.{word_of, rest_of, number_spelled}
-use Rattle.meet_run.specs.Scripts.Grammar.{◌>>=◌, seat_of}
+use Rattle.meet_run.specs.Texts.Grammar.{◌>>=◌, seat_of}
 use Rattle.meet_run.specs.Tracing.TraceGrammar.{ticket_in, ticket_of}
 use Rattle.meet_run.proofs.Texts.WordLemmas.{number_spelled-is, number_spelled-decimal, word-rest, rest-space, tail-space, no_space-decimal}
-use Rattle.meet_run.proofs.Scripts.CallLemmas.{bind-some, chosen, chosen-second, number-short}
+use Rattle.meet_run.proofs.Texts.GrammarLemmas.{bind-some, chosen, chosen-second, number-short}
 use Rattle.meet_run.proofs.Tracing.TraceLemmas.{ticket-is, seat_word-is, both, word-whole, word-more, ticket-again, seat_word-again, word-alone}
 use Rattle.pool_run.specs.Records.{bare_deed_of, numbered_deed_of, paired_deed_of, tripled_deed_of, deed_behind_one, deed_with, deed_of, deed_behind, record_behind, record_in, pool_record_of, pool_record_at}
 use Rattle.pool_run.specs.RecordSpelling.{pair_text, deed_text, pool_record_text, FitsDeed, FitsPoolRecord, PoolRecordsHaveOneSpelling}

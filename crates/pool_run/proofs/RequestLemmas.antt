@@ -6,9 +6,9 @@ use Rattle.pool_history.specs.declared.one_thread.verbs.PoolRequest.{PoolRequest
 use Rattle.pool_history.specs.declared.one_thread.verbs.PoolVerb.{PoolVerb}
 use Rattle.pool_history.specs.declared.one_thread.verbs.PoolVerb.TheVariants.{Execute, Ready, Follow, Finish, Idle, Leave, Failed, ShutDown, Now, Counters, Checkpoint}
 use Rattle.meet_run.specs.Texts.Words.{word_of, rest_of, number_spelled}
-use Rattle.meet_run.specs.Scripts.Grammar.{seat_of}
+use Rattle.meet_run.specs.Texts.Grammar.{seat_of}
 use Rattle.meet_run.proofs.Texts.WordLemmas.{number_spelled-is, number_spelled-decimal, word-rest, rest-space, tail-space, no_space-decimal}
-use Rattle.meet_run.proofs.Scripts.CallLemmas.{bind-some, chosen, chosen-second, number-short}
+use Rattle.meet_run.proofs.Texts.GrammarLemmas.{bind-some, chosen, chosen-second, number-short}
 use Rattle.meet_run.proofs.Tracing.TraceLemmas.{both, word-whole, word-more, seat_word-is, seat_word-again}
 use Rattle.pool_run.specs.Requests.{bare_verb_of, numbered_verb_of, verb_of, verb_behind, request_in, request_of}
 use Rattle.pool_run.specs.Spelling.{verb_text, request_text, FitsVerb, FitsRequest, RequestsHaveOneSpelling}

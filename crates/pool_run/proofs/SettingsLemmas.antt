@@ -12,7 +12,7 @@ use Rattle.pool_core.specs.declared.settings.Policy.TheVariants.{Abort, CallerRu
 use Rattle.pool_core.specs.declared.settings.Settings.{Settings}
 use Rattle.meet_run.specs.Texts.Words.{word_of, rest_of, behind, number_spelled}
 use Rattle.meet_run.proofs.Texts.WordLemmas.{number_spelled-is, number_spelled-decimal, behind-is, word-rest, IsTail, tail-space, no_space-decimal}
-use Rattle.meet_run.proofs.Scripts.CallLemmas.{bind-some, chosen, chosen-second}
+use Rattle.meet_run.proofs.Texts.GrammarLemmas.{bind-some, chosen, chosen-second}
 use Rattle.pool_run.specs.FirstLines.{number_behind, timeout_in, sizes_in, bounded_in, queue_in, policy_of, policy_in, settings_in, settings_of}
 use Rattle.pool_run.specs.Spelling.{timeout_text, sizes_text, queue_text, policy_text, settings_text, FitsSizes, FitsQueue, FitsSettings, SettingsHaveOneSpelling}
 

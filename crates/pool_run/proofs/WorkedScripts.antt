@@ -19,7 +19,7 @@ use Rattle.pool_history.specs.declared.one_thread.replies.PoolReply.{PoolReply}
 use Rattle.pool_history.specs.declared.one_thread.replies.PoolOutcome.{PoolOutcome}
 use Rattle.pool_history.specs.declared.one_thread.replies.PoolOutcome.TheVariants.{Recorded, Returned, NotYet, Counted, Based}
 use Rattle.meet_run.specs.Texts.Words.{word_of, rest_of, behind, number_spelled}
-use Rattle.meet_run.specs.Scripts.Grammar.{seat_of, seat_in}
+use Rattle.meet_run.specs.Texts.Grammar.{seat_of, seat_in}
 use Rattle.meet_run.proofs.Texts.WordLemmas.{number_spelled-decimal, long-zero}
 use Rattle.pool_run.specs.FirstLines.{settings_of, settings_in, sizes_in, number_behind, timeout_in, queue_in, bounded_in, policy_in, policy_of}
 use Rattle.pool_run.specs.Requests.{request_of, request_in, verb_behind, verb_of, bare_verb_of, numbered_verb_of}

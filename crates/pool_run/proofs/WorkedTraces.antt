@@ -9,7 +9,7 @@ use Rattle.pool_core.specs.declared.settings.PoolQueue.TheVariants.{Unbounded}
 use Rattle.pool_core.specs.declared.settings.Policy.TheVariants.{Discard}
 use Rattle.pool_core.specs.declared.settings.Settings.{Settings}
 use Rattle.meet_run.specs.Texts.Words.{word_of, rest_of, behind}
-use Rattle.meet_run.specs.Scripts.Grammar.{seat_of, seat_in}
+use Rattle.meet_run.specs.Texts.Grammar.{seat_of, seat_in}
 use Rattle.meet_run.specs.Tracing.TraceGrammar.{ticket_of, ticket_in}
 use Rattle.pool_run.specs.FirstLines.{pool_head_of, pool_head_in, makeable, settings_in, sizes_in, number_behind, timeout_in, queue_in, policy_in, policy_of}
 use Rattle.pool_run.specs.Records.{bare_deed_of, numbered_deed_of, paired_deed_of, tripled_deed_of, deed_behind_one, deed_with, deed_of, deed_behind, record_behind, record_in, pool_record_of, pool_record_at}

@@ -12,7 +12,7 @@ use Rattle.pool_core.specs.declared.settings.Policy.TheVariants.{Abort, CallerRu
 use Rattle.pool_core.specs.declared.settings.Settings.{Settings}
 use Rattle.pool_core.specs.Calls.{settings_refusal}
 use Rattle.meet_run.specs.Texts.Words.{word_of, rest_of, behind, number_spelled}
-use Rattle.meet_run.specs.Scripts.Grammar.{◌>>=◌, provided}
+use Rattle.meet_run.specs.Texts.Grammar.{◌>>=◌, provided}
 
 -- a number behind its name, and the rest of the line
 unfoldable pub number_behind : (name rest : List ℕ) → Option (ℕ × List ℕ)

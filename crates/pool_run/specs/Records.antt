@@ -8,7 +8,7 @@ use Rattle.pool_core.specs.declared.deeds.PoolDeed.TheVariants.{Handed, Started,
 use Rattle.pool_core.specs.declared.deeds.PoolDeed.TheVariants.{Dropped, DroppedOldest, Runs, Waits, Exits, Finished}
 use Rattle.pool_core.specs.declared.deeds.PoolDeed.TheVariants.{IdleExit, Leaves, StartFailed, ShutDown, ShutDownNow}
 use Rattle.meet_run.specs.Texts.Words.{word_of, rest_of, number_spelled}
-use Rattle.meet_run.specs.Scripts.Grammar.{◌>>=◌, seat_of}
+use Rattle.meet_run.specs.Texts.Grammar.{◌>>=◌, seat_of}
 use Rattle.meet_run.specs.Tracing.TraceGrammar.{ticket_in, ticket_of}
 
 -- the deed of a word that stands alone

@@ -7,7 +7,7 @@ use Rattle.pool_history.specs.declared.one_thread.verbs.PoolVerb.TheVariants.{Ex
 use Rattle.pool_history.specs.declared.one_thread.verbs.PoolVerb.TheVariants.{Leave, Failed, ShutDown, Now, Counters}
 use Rattle.pool_history.specs.declared.one_thread.verbs.PoolVerb.TheVariants.{Checkpoint}
 use Rattle.meet_run.specs.Texts.Words.{word_of, rest_of, number_spelled}
-use Rattle.meet_run.specs.Scripts.Grammar.{◌>>=◌, seat_of}
+use Rattle.meet_run.specs.Texts.Grammar.{◌>>=◌, seat_of}
 
 -- the verb of a word that stands alone
 unfoldable pub bare_verb_of : (word : List ℕ) → Option PoolVerb

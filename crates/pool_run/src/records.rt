@@ -6,7 +6,7 @@ ghost use Rattle.pool_run.specs.Records.{deed_behind_one, deed_with, deed_of, de
 ghost use Rattle.pool_run.specs.Records.{pool_record_of, pool_record_at};
 ghost use Rattle.pool_run.specs.RecordSpelling.{FitsPoolRecord};
 
-use meet_run::script::grammar::read_seat;
+use meet_run::text::grammar::read_seat;
 use meet_run::text::reading::LONGEST_LINE;
 use meet_run::text::words::{read_number, split_word};
 use meet_run::trace::grammar::read_ticket;

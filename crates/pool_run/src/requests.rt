@@ -4,7 +4,7 @@ ghost use Rattle.std.specs.Prelude.{◌≡◌, IfSome};
 ghost use Rattle.pool_run.specs.Requests.{bare_verb_of, numbered_verb_of, verb_of, verb_behind, request_in, request_of};
 ghost use Rattle.pool_run.specs.Spelling.{FitsRequest};
 
-use meet_run::script::grammar::read_seat;
+use meet_run::text::grammar::read_seat;
 use meet_run::text::reading::LONGEST_LINE;
 use meet_run::text::words::{read_number, split_word};
 use pool_history::{PoolRequest, PoolVerb};

@@ -6,9 +6,8 @@ ghost use Rattle.pool_run.specs.FirstLines.{number_behind, timeout_in, sizes_in,
 ghost use Rattle.pool_run.specs.FirstLines.{policy_in, settings_in, settings_of, makeable, pool_head_in, pool_head_of};
 ghost use Rattle.pool_run.specs.Spelling.{FitsSettings, FitsPoolHead};
 
-use meet_run::script::first_line::behind_prefix;
 use meet_run::text::reading::LONGEST_LINE;
-use meet_run::text::words::{read_number, split_word};
+use meet_run::text::words::{behind_prefix, read_number, split_word};
 use meet_tickets::Order;
 use pool_core::{Policy, PoolQueue, Settings, Sizes};
 

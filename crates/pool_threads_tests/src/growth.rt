@@ -1,5 +1,5 @@
-//! A pool bears one refusal of memory: no job is lost by it, and the call that is made again succeeds. `bin/refuse`
-//! runs this test with each allocation refused in turn.
+//! A pool bears one refusal of memory: no job is lost by it, and the call that is made again succeeds.
+//! `dev/check/refuse` runs this test with each allocation refused in turn.
 
 ghost use Rattle.std.specs.Prelude.{◌≡◌, ◌+◌, IfSome, vec_len};
 ghost use Rattle.meet_place.specs.Ledgers.{AreOf};

@@ -1,11 +1,8 @@
 -- A line reads as a call exactly where it is that call's one spelling.
 use Rattle.std.proofs.Common.{◌≡◌, ℕ, ◌^◌, ◌<◌, ◌≤◌, Bool, true, false, cond, ltb, List, [], ◌∷◌, ◌++◌, length, Option, Some, None, refl, sym, ap, subst, ◌∙◌, arith, rules, length-append, lit<, lit≤}
 use Rattle.std.specs.Prelude.{decimal, codes}
-use Rattle.std.specs.Str.{bytes_eq}
-use Rattle.std.proofs.lemmas.Bool.{ltb-true, lt-ltb, le-ltb}
-use Rattle.std.proofs.lemmas.Fmt.{length-decimal-le}
+use Rattle.std.proofs.lemmas.Bool.{le-ltb}
 use Rattle.std.proofs.lemmas.Option.{cond_some}
-use Rattle.std.proofs.lemmas.Slice.Eq.{bytes_eq-Decides}
 use Rattle.meet_tickets.specs.declared.places.Order.{Order}
 use Rattle.meet_tickets.specs.Limits.{most_seats}
 use Rattle.meet_history.specs.declared.one_thread.verbs.Call.{Call}
@@ -14,27 +11,11 @@ use Rattle.meet_history.specs.declared.one_thread.verbs.Verb.TheVariants.{Put, O
 use Rattle.meet_history.specs.declared.one_thread.verbs.Probe.TheVariants.{Size, Room, Peek, Consumers}
 use Rattle.meet_history.specs.Served.{serves}
 use Rattle.meet_run.specs.Texts.Words.{word_of, rest_of, number_spelled}
-use Rattle.meet_run.specs.Scripts.Grammar.{◌>>=◌, seat_in, bare_verb_of, interrupt_of, numbered_verb_of, verb_of, verb_behind, seat_of, call_in, served_call, call_of}
+use Rattle.meet_run.specs.Texts.Grammar.{◌>>=◌, seat_in, seat_of}
+use Rattle.meet_run.specs.Scripts.Grammar.{bare_verb_of, interrupt_of, numbered_verb_of, verb_of, verb_behind, call_in, served_call, call_of}
 use Rattle.meet_run.specs.Scripts.Spelling.{verb_text, spelling, FitsVerb, FitsCall, CallsHaveOneSpelling}
+use Rattle.meet_run.proofs.Texts.GrammarLemmas.{bind-some, chosen, chosen-second, seat-is, seat-again, number-short}
 use Rattle.meet_run.proofs.Texts.WordLemmas.{number_spelled-is, number_spelled-decimal, word-rest, rest-space, tail-space, no_space-decimal}
-
--- the value of a step that did not fail
-pub bind-some : {A B : Type 0} (o : Option A) (f : A → Option B) (y : B) → (o >>= f) ≡ Some y → (x : A) × (o ≡ Some x) × (f x ≡ Some y)
-bind-some None f y e = absurd cc
-bind-some (Some x) f y e = (x, refl, e)
-
--- a test that must fail
-pub chosen-second : {A : Type 0} (b : Bool) (o : Option A) (x : A) → cond b None o ≡ Some x → (b ≡ false) × (o ≡ Some x)
-chosen-second true o x e = absurd cc
-chosen-second false o x e = (refl, e)
-
--- what a dispatch on a word chose
-pub chosen : {A : Type 0} (word text : List ℕ) (o other : Option A) (x : A) (P : Type 0) → cond (bytes_eq word text) o other ≡ Some x → (word ≡ text → o ≡ Some x → P) → (other ≡ Some x → P) → P
-chosen word text o other x P e this more = go (bytes_eq word text) refl e
-  where
-    go : (b : Bool) → bytes_eq word text ≡ b → cond b o other ≡ Some x → P
-    go true is e = this ((bytes_eq-Decides word text).0 is) e
-    go false is e = more e
 
 abbrev IsBare : (word : List ℕ) → Verb → Type 0
 IsBare word verb = (word ≡ verb_text verb) × FitsVerb verb
@@ -67,15 +48,6 @@ numbered : (word text : List ℕ) (n : ℕ) (a verb : Verb) → (text ++ 32 ∷ 
 numbered word text n a verb spelled fits is e =
     let same : a ≡ verb = cc in
     subst (λ (v : Verb). IsNumbered word n v) same (ap (λ (w : List ℕ). w ++ 32 ∷ decimal n) is ∙ spelled, fits)
-
--- a seat's number
-pub seat-is : (n seat : ℕ) → seat_in n ≡ Some seat → (n ≡ seat) × (n < most_seats)
-unfolding seat_in
-seat-is n seat e = let p = cond_some (ltb n most_seats) n seat e in (p.1, ltb-true n most_seats p.0)
-
-pub seat-again : (n : ℕ) → n < most_seats → seat_in n ≡ Some n
-unfolding seat_in
-seat-again n lt = rw (lt-ltb n most_seats lt) refl
 
 interrupted : (word : List ℕ) (n : ℕ) (verb : Verb) → word ≡ codes "interrupt" → interrupt_of n ≡ Some verb → IsNumbered word n verb
 unfolding interrupt_of
@@ -167,9 +139,6 @@ call_in-again call small fits =
     let wide : call.seat < 2 ^ 64 = omega arith in
     let cut = tail-space (verb_text call.verb) (decimal call.seat) (no_space-decimal call.seat wide) in
     rw (cut.0, cut.1, number_spelled-decimal call.seat wide, seat-again call.seat small, verb-again call.verb fits) refl
-
-pub number-short : (n : ℕ) → n < 2 ^ 64 → length (decimal n) ≤ 20
-number-short n lt = length-decimal-le 20 n (lit< tt) (omega arith) lt
 
 verb-short : (verb : Verb) → FitsVerb verb → length (verb_text verb) ≤ 40
 verb-short (Put n) h = omega (arith, number-short n h)

@@ -11,12 +11,13 @@ use Rattle.meet_tickets.specs.Limits.{most_seats, most_records, most_kept, last_
 use Rattle.meet_run.specs.declared.script.first_line.Options.{Options}
 use Rattle.meet_history.specs.declared.one_thread.setup.Setup.{Setup}
 use Rattle.meet_run.specs.Texts.Words.{word_of, rest_of, behind, number_spelled}
-use Rattle.meet_run.specs.Scripts.Grammar.{◌>>=◌, provided, order_of, option_value, option_in, written_in, may_have, setup_with, setup_at_end, setup_in, setup_of}
+use Rattle.meet_run.specs.Texts.Grammar.{◌>>=◌, provided, order_of, option_value, option_in, may_have}
+use Rattle.meet_run.specs.Scripts.Grammar.{written_in, setup_with, setup_at_end, setup_in, setup_of}
 use Rattle.meet_tickets.specs.Meeting.{FitsBound}
 use Rattle.meet_history.specs.Limits.{IsInLimits}
 use Rattle.meet_run.specs.Scripts.Spelling.{place_text, option_text, written_text, SpellsSetup, SetupsAreSpelled}
 use Rattle.meet_run.proofs.Texts.WordLemmas.{HasNoSpace, number_spelled-is, number_spelled-decimal, behind-is, word-rest, IsTail, tail-none, tail-space, no_space-decimal}
-use Rattle.meet_run.proofs.Scripts.CallLemmas.{bind-some, chosen, chosen-second}
+use Rattle.meet_run.proofs.Texts.GrammarLemmas.{bind-some, chosen, chosen-second}
 
 -- an option that is spelled out is in its limits
 abbrev pub IsWithin : (most : ℕ) → Option ℕ → Type 0

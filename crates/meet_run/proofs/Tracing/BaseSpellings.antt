@@ -11,14 +11,14 @@ use Rattle.meet_tickets.specs.Limits.{most_seats, last_ticket}
 use Rattle.meet_history.specs.declared.pieces.Piece.{Piece}
 use Rattle.meet_history.specs.declared.pieces.Piece.TheVariants.{Stands, Met, Cut, Flagged}
 use Rattle.meet_run.specs.Texts.Words.{word_of, rest_of, behind, number_spelled}
-use Rattle.meet_run.specs.Scripts.Grammar.{◌>>=◌, seat_of}
+use Rattle.meet_run.specs.Texts.Grammar.{◌>>=◌, seat_of}
 use Rattle.meet_run.specs.Tracing.TraceGrammar.{ticket_of, side_of, kind_in}
 use Rattle.meet_run.specs.Tracing.TraceSpelling.{side_text, FitsPair, FitsHead}
 use Rattle.meet_run.specs.Tracing.BaseGrammar.{waits_of, giver_entry, entry_of_line, pair_of_line, pair_behind, cut_of_line, ticketed_piece, piece_with_ticket, piece_with_seat, piece_behind, piece_of, numbers_in, numbers_of, based_head_of}
 use Rattle.meet_run.specs.Tracing.BaseWording.{placed_text, item_text, standing_text, piece_text, numbers_text, based_head_text}
 use Rattle.meet_run.specs.Tracing.BaseSpelling.{FitsItem, FitsStanding, FitsPiece, FitsNumbers, PiecesHaveOneSpelling, BaseNumbersHaveOneSpelling, BasedHeadsHaveOneSpelling}
 use Rattle.meet_run.proofs.Texts.WordLemmas.{HasNoSpace, number_spelled-is, number_spelled-decimal, behind-is, tail-space, no_space-decimal}
-use Rattle.meet_run.proofs.Scripts.CallLemmas.{bind-some, chosen, chosen-second, number-short}
+use Rattle.meet_run.proofs.Texts.GrammarLemmas.{bind-some, chosen, chosen-second, number-short}
 use Rattle.meet_run.proofs.Tracing.HeadLemmas.{kind_in-is, kind_in-again, head-short}
 use Rattle.meet_run.proofs.Tracing.TraceLemmas.{ticket-is, seat_word-is, side-is, both, word-whole, word-more, ticket-again, seat_word-again, word-alone, side-no_space, side-again, side-short}
 

@@ -8,12 +8,12 @@ use Rattle.meet_tickets.specs.declared.places.Kind.{Kind}
 use Rattle.meet_tickets.specs.Limits.{most_kept}
 use Rattle.meet_tickets.specs.Meeting.{FitsBound}
 use Rattle.meet_run.specs.Texts.Words.{word_of, rest_of, behind}
-use Rattle.meet_run.specs.Scripts.Grammar.{order_of, option_in, may_have}
+use Rattle.meet_run.specs.Texts.Grammar.{order_of, option_in, may_have}
 use Rattle.meet_run.specs.Scripts.Spelling.{place_text, option_text}
 use Rattle.meet_run.specs.Tracing.TraceGrammar.{kind_at_end, kind_in, head_in, head_of}
 use Rattle.meet_run.specs.Tracing.TraceSpelling.{head_text, FitsHead, HeadsHaveOneSpelling}
 use Rattle.meet_run.proofs.Texts.WordLemmas.{word-rest, behind-is}
-use Rattle.meet_run.proofs.Scripts.CallLemmas.{bind-some, chosen-second}
+use Rattle.meet_run.proofs.Texts.GrammarLemmas.{bind-some, chosen-second}
 use Rattle.meet_run.proofs.Scripts.SetupLemmas.{option-is, order-is, bound-of, bound-tail, bound-again, place-no_space, order-again, may-of, option-short, place-short}
 
 -- a place's word, and its bound where there is one

@@ -12,12 +12,12 @@ use Rattle.meet_tickets.specs.declared.records.Deed.TheVariants.{GiveWaits, Give
 use Rattle.meet_tickets.specs.declared.records.Record.{Record}
 use Rattle.meet_tickets.specs.Limits.{most_seats, last_ticket}
 use Rattle.meet_run.specs.Texts.Words.{word_of, rest_of, number_spelled}
-use Rattle.meet_run.specs.Scripts.Grammar.{◌>>=◌, seat_in, seat_of}
+use Rattle.meet_run.specs.Texts.Grammar.{◌>>=◌, seat_in, seat_of}
 use Rattle.meet_run.specs.Scripts.Wording.{cause_text}
 use Rattle.meet_run.specs.Tracing.TraceGrammar.{ticket_in, ticket_of, side_of, cause_of, bare_deed_of, marked_deed_of, worded_deed_of, paired_deed_of, deed_with, deed_of, deed_behind, record_behind, record_in, record_of}
 use Rattle.meet_run.specs.Tracing.TraceSpelling.{side_text, deed_text, record_text, FitsDeed, FitsRecord, RecordsHaveOneSpelling}
 use Rattle.meet_run.proofs.Texts.WordLemmas.{HasNoSpace, number_spelled-is, number_spelled-decimal, word-rest, rest-space, tail-none, tail-space, no_space-decimal}
-use Rattle.meet_run.proofs.Scripts.CallLemmas.{bind-some, chosen, chosen-second, seat-is, seat-again, number-short}
+use Rattle.meet_run.proofs.Texts.GrammarLemmas.{bind-some, chosen, chosen-second, seat-is, seat-again, number-short}
 
 -- ---- what is read is spelled
 

@@ -27,7 +27,7 @@ use Rattle.meet_run.specs.Tracing.BaseSpelling.{FitsNumbers, FitsPiece}
 use Rattle.meet_run.specs.Tracing.BaseWording.{piece_text, piece_line, pieces_of, numbers_text, numbers_line, based_head_text, based_head_line, based_text}
 use Rattle.meet_run.specs.Tracing.BasedTraces.{Told, record_from, records_told, told_from, told_behind, IsBasedTrace}
 use Rattle.meet_run.specs.Tracing.TraceTexts.{IsTextOf, FitsTrace, FitsBase, TracesHaveOneText, BasedTracesHaveOneText}
-use Rattle.meet_run.proofs.Scripts.CallLemmas.{chosen-second}
+use Rattle.meet_run.proofs.Texts.GrammarLemmas.{chosen-second}
 use Rattle.meet_run.proofs.Tracing.HeadLemmas.{heads-have-one-spelling}
 use Rattle.meet_run.proofs.Tracing.TraceLemmas.{records-have-one-spelling}
 use Rattle.meet_run.proofs.Scripts.ScriptLemmas.{listed-end, listed-more, listed-fault}

@@ -9,7 +9,7 @@ use Rattle.meet_history.specs.declared.pieces.Piece.TheVariants.{Stands}
 use Rattle.meet_run.specs.Tracing.BaseGrammar.{waits_of, giver_entry, entry_of_line, ticketed_piece, piece_with_ticket, piece_with_seat, piece_behind, piece_of}
 use Rattle.std.proofs.lemmas.Fmt.{decimal_digit}
 use Rattle.meet_run.specs.Texts.Words.{word_of, rest_of, number_spelled}
-use Rattle.meet_run.specs.Scripts.Grammar.{seat_of, seat_in}
+use Rattle.meet_run.specs.Texts.Grammar.{seat_of, seat_in}
 use Rattle.meet_run.specs.Tracing.TraceGrammar.{ticket_of, ticket_in}
 use Rattle.meet_run.proofs.Texts.WordLemmas.{number_spelled-decimal, long-zero}
 use Rattle.meet_run.specs.Tracing.BaseWording.{piece_text, piece_line, numbers_line, based_head_line, based_text}

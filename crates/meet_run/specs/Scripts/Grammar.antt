@@ -1,11 +1,8 @@
 -- What the lines of a script say.
-use Rattle.std.specs.Prelude.{ℕ, nat_lt, nat_le, Bool, true, ◌&&◌, Option, Some, None, option_and_then, unwrap_or}
+use Rattle.std.specs.Prelude.{ℕ, nat_lt, Option, Some, None, unwrap_or}
 use Rattle.std.specs.Prelude.{List, [], ◌∷◌, length, codes, if◌then◌else◌}
-use Rattle.std.specs.Option.{option_map_or}
 use Rattle.std.specs.Str.{bytes_eq}
 use Rattle.meet_tickets.specs.declared.places.Order.{Order}
-use Rattle.meet_tickets.specs.declared.places.Order.TheVariants.{Fair, Unfair, Transfer}
-use Rattle.meet_tickets.specs.Meeting.{keeps}
 use Rattle.meet_tickets.specs.Limits.{most_seats, most_records, most_kept, last_ticket}
 use Rattle.meet_history.specs.declared.one_thread.verbs.Call.{Call}
 use Rattle.meet_history.specs.declared.one_thread.verbs.Verb.{Verb}
@@ -17,20 +14,8 @@ use Rattle.meet_history.specs.declared.one_thread.verbs.Probe.TheVariants.{Size,
 use Rattle.meet_run.specs.declared.script.first_line.Options.{Options}
 use Rattle.meet_history.specs.declared.one_thread.setup.Setup.{Setup}
 use Rattle.meet_history.specs.Served.{serves}
-use Rattle.meet_run.specs.Texts.Words.{word_of, rest_of, behind, number_spelled}
-
--- one step after another, where each may fail
-infixl 10 ◌>>=◌
-abbrev pub ◌>>=◌ : {A B : Type 0} → Option A → (A → Option B) → Option B
-o >>= f = option_and_then f o
-
--- a value, where a test passes
-abbrev pub provided : {A : Type 0} → Bool → A → Option A
-provided test x = if test then Some x else None
-
--- a seat's number
-unfoldable pub seat_in : ℕ → Option ℕ
-seat_in n = provided (nat_lt n most_seats) n
+use Rattle.meet_run.specs.Texts.Words.{word_of, rest_of, number_spelled}
+use Rattle.meet_run.specs.Texts.Grammar.{◌>>=◌, provided, seat_in, seat_of, order_of, option_in, may_have}
 
 -- the verb of a word that stands alone
 unfoldable pub bare_verb_of : (word : List ℕ) → Option Verb
@@ -70,10 +55,6 @@ unfoldable pub verb_behind : (rest : List ℕ) → Option Verb
 verb_behind [] = None
 verb_behind (space ∷ text) = verb_of (word_of text) (rest_of text)
 
--- the seat of a word
-unfoldable pub seat_of : (word : List ℕ) → Option ℕ
-seat_of word = number_spelled word >>= seat_in
-
 -- the call of a line, whatever is served
 unfoldable pub call_in : (line : List ℕ) → Option Call
 call_in line = do
@@ -89,24 +70,6 @@ served_call order call = provided (serves order call.verb) call
 unfoldable pub call_of : Order → (line : List ℕ) → Option Call
 call_of order line = if nat_lt 128 (length line) then None else (call_in line >>= served_call order)
 
--- the order of a place
-unfoldable pub order_of : (word : List ℕ) → Option Order
-order_of word =
-    if bytes_eq word (codes "fair") then Some Fair else (
-    if bytes_eq word (codes "unfair") then Some Unfair else (
-    if bytes_eq word (codes "transfer") then Some Transfer else None))
-
--- an option's number, from 1 on, and the rest of its line
-unfoldable pub option_value : (most : ℕ) → (word rest : List ℕ) → Option (Option ℕ × List ℕ)
-option_value most word rest = do
-  n ← number_spelled word
-  provided (nat_le 1 n && nat_le n most) (Some n, rest)
-
--- an option by its name with a space on either side: its number, if it stands there, and the rest of its line
-unfoldable pub option_in : (name : List ℕ) → (most : ℕ) → (rest : List ℕ) → Option (Option ℕ × List ℕ)
-option_in name most rest =
-    option_map_or (λ text. option_value most (word_of text) (rest_of text)) (behind name rest) (Some (None, rest))
-
 -- the options of a first line, each at most once and in this order
 unfoldable pub written_in : (rest : List ℕ) → Option (Options × List ℕ)
 written_in rest = do
@@ -115,11 +78,6 @@ written_in rest = do
   first ← option_in (codes " first ") last_ticket cap.1
   bound ← option_in (codes " bound ") most_kept first.1
   Some (record { seats = seats.0; cap = cap.0; first = first.0; bound = bound.0 }, bound.1)
-
--- only a place that keeps items has a bound
-abbrev pub may_have : Order → (bound : Option ℕ) → Bool
-may_have order None = true
-may_have order (Some n) = keeps order
 
 -- the place of an order, with the defaults of what isn't spelled out
 abbrev pub setup_with : Order → Options → Setup

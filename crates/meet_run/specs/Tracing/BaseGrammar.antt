@@ -10,7 +10,7 @@ use Rattle.meet_tickets.specs.declared.places.Kind.{Kind}
 use Rattle.meet_history.specs.declared.pieces.Piece.{Piece}
 use Rattle.meet_history.specs.declared.pieces.Piece.TheVariants.{Stands, Met, Cut, Flagged}
 use Rattle.meet_run.specs.Texts.Words.{word_of, rest_of, behind, number_spelled}
-use Rattle.meet_run.specs.Scripts.Grammar.{◌>>=◌, seat_of}
+use Rattle.meet_run.specs.Texts.Grammar.{◌>>=◌, seat_of}
 use Rattle.meet_run.specs.Tracing.TraceGrammar.{ticket_of, side_of, kind_in}
 
 -- whether an entry waits, by its word

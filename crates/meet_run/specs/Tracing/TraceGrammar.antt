@@ -14,7 +14,7 @@ use Rattle.meet_tickets.specs.declared.records.Deed.TheVariants.{Withdrawn, Inte
 use Rattle.meet_tickets.specs.declared.records.Record.{Record}
 use Rattle.meet_tickets.specs.Limits.{most_kept, last_ticket}
 use Rattle.meet_run.specs.Texts.Words.{word_of, rest_of, behind, number_spelled}
-use Rattle.meet_run.specs.Scripts.Grammar.{◌>>=◌, provided, seat_of, order_of, option_in, may_have}
+use Rattle.meet_run.specs.Texts.Grammar.{◌>>=◌, provided, seat_of, order_of, option_in, may_have}
 
 -- a ticket's number
 unfoldable pub ticket_in : ℕ → Option ℕ

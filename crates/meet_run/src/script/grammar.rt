@@ -2,10 +2,10 @@
 
 ghost use Rattle.std.specs.Prelude.{◌≡◌, IfSome};
 ghost use Rattle.meet_run.specs.Scripts.Spelling.{FitsCall};
-ghost use Rattle.meet_run.specs.Scripts.Grammar.{seat_of, bare_verb_of, interrupt_of, numbered_verb_of, verb_of};
-ghost use Rattle.meet_run.specs.Scripts.Grammar.{verb_behind};
+ghost use Rattle.meet_run.specs.Scripts.Grammar.{bare_verb_of, interrupt_of, numbered_verb_of, verb_of, verb_behind};
 ghost use Rattle.meet_run.specs.Scripts.Grammar.{call_in, served_call, call_of};
 
+use crate::text::grammar::read_seat;
 use crate::text::reading::LONGEST_LINE;
 use crate::text::words::{read_number, split_word};
 use meet_history::{Call, Probe, Verb, is_served};
@@ -42,7 +42,7 @@ fn bare_verb(word: &[u8]) -> Option<Verb>
 }
 
 /// The interrupt of the seat with this number.
-#[tactic(auto, unfolding(crate::specs::Scripts::Grammar::interrupt_of, crate::specs::Scripts::Grammar::seat_in))]
+#[tactic(auto, unfolding(crate::specs::Scripts::Grammar::interrupt_of, crate::specs::Texts::Grammar::seat_in))]
 fn interrupt(number: u64) -> Option<Verb>
     ensures { result ≡ interrupt_of number }
 {
@@ -98,15 +98,6 @@ fn read_verb_behind(rest: &[u8]) -> Option<Verb>
             read_verb(word, rest)
         }
     }
-}
-
-/// The seat of a word.
-#[tactic(auto, unfolding(crate::specs::Scripts::Grammar::seat_of, crate::specs::Scripts::Grammar::seat_in))]
-pub fn read_seat(word: &[u8]) -> Option<SeatNo>
-    ensures { result ≡ seat_of word.now }
-{
-    let number = read_number(word)?;
-    SeatNo::new(number)
 }
 
 /// The call of a line, whatever is served.

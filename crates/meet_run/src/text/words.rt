@@ -1,8 +1,9 @@
 //! The words of a line, and numbers as words.
 
 ghost use Rattle.std.specs.Prelude.{◌≡◌, ◌^◌, ◌<◌, ◌≤◌, true, false, IfSome, IfNone};
+ghost use Rattle.std.specs.Option.{option_map};
 ghost use Rattle.std.specs.Str.Parse.{AllDigits, digits_value};
-ghost use Rattle.meet_run.specs.Texts.Words.{word_of, rest_of, number_spelled, BeginsAsNumber};
+ghost use Rattle.meet_run.specs.Texts.Words.{word_of, rest_of, behind, number_spelled, BeginsAsNumber};
 
 /// Cuts a text at its first space: what stands before it, and what is left from it on.
 pub fn split_word(text: &[u8]) -> (&[u8], &[u8])
@@ -11,6 +12,13 @@ pub fn split_word(text: &[u8]) -> (&[u8], &[u8])
 {
     let end = text.iter().position(|b| *b == b' ').unwrap_or(text.len());
     text.split_at(end)
+}
+
+/// What stands behind a prefix, where a text begins with it.
+pub fn behind_prefix<'a>(prefix: &[u8], text: &'a [u8]) -> Option<&'a [u8]>
+    ensures { option_map (λ rest. rest.now) result ≡ behind prefix.now text.now }
+{
+    text.strip_prefix(prefix)
 }
 
 /// Whether a word can't be a number's one spelling by how it begins: it is empty, or has a sign, or a 0 in front.

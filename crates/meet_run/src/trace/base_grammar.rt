@@ -7,10 +7,9 @@ ghost use Rattle.meet_run.specs.Tracing.BaseGrammar.{ticketed_piece, piece_with_
 ghost use Rattle.meet_run.specs.Tracing.BaseGrammar.{piece_of};
 ghost use Rattle.meet_run.specs.Tracing.BaseGrammar.{numbers_in, numbers_of, based_head_of};
 
-use crate::script::first_line::behind_prefix;
-use crate::script::grammar::read_seat;
+use crate::text::grammar::read_seat;
 use crate::text::reading::LONGEST_LINE;
-use crate::text::words::{read_number, split_word};
+use crate::text::words::{behind_prefix, read_number, split_word};
 use crate::trace::grammar::{read_kind, read_side, read_ticket};
 use meet_history::Piece;
 use meet_tickets::{Entry, Kind, OpenCut, OpenPair, SeatNo, Ticket};

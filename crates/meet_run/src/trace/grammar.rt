@@ -8,10 +8,9 @@ ghost use Rattle.meet_run.specs.Tracing.TraceGrammar.{record_behind, record_in, 
 ghost use Rattle.meet_run.specs.Tracing.TraceGrammar.{head_in};
 ghost use Rattle.meet_run.specs.Tracing.TraceGrammar.{head_of};
 
-use crate::script::first_line::{behind_prefix, may_have_bound, read_option, read_order};
-use crate::script::grammar::read_seat;
+use crate::text::grammar::{may_have_bound, read_option, read_order, read_seat};
 use crate::text::reading::LONGEST_LINE;
-use crate::text::words::{read_number, split_word};
+use crate::text::words::{behind_prefix, read_number, split_word};
 use meet_tickets::{Cause, Deed, Kind, MOST_KEPT, Order, Record, SeatNo, Side, Ticket};
 
 /// The ticket of a word.
