@@ -1,6 +1,6 @@
-//! Gates that are woken, and gates at which the time runs out.
+//! Gates that are woken, gates at which the time runs out, and what remains of a limit.
 
-use meet_cells::{Gate, ParkGate, SpinGate, Turn};
+use meet_cells::{Deadline, Gate, ParkGate, SpinGate, Turn};
 use std::io::ErrorKind;
 use std::process::Abort;
 use std::sync::Wait;
@@ -108,4 +108,25 @@ fn without_a_clock_a_limit_is_over(rt: HostRuntime) {
     assert_eq!(rt; gate.wait(&clockless, Some(LONG)), Turn::Woken);
     gate.wake();
     assert_eq!(rt; gate.wait(&clockless, None), Turn::Woken);
+}
+
+/// A limit remains but for the milliseconds that passed, and nothing remains of one that is over.
+#[test]
+fn what_passed_of_a_limit_does_not_remain(rt: HostRuntime) -> Result<(), Fail> {
+    let long = Deadline::after(&rt, Some(LONG)).ok_or("no deadline")?;
+    let short = Deadline::after(&rt, Some(SHORT)).ok_or("no deadline")?;
+    thread::sleep(&rt, Duration::from_millis(2 * SHORT));
+    assert_eq!(rt; short.remaining(&rt), 0);
+    let remains = long.remaining(&rt);
+    assert!(rt; remains <= LONG - 2 * SHORT);
+    assert!(rt; remains > LONG - LATE);
+    Ok(())
+}
+
+#[test]
+fn without_a_clock_all_of_a_limit_remains(rt: HostRuntime) -> Result<(), Fail> {
+    let clockless = Clockless { rt: &rt };
+    let deadline = Deadline::after(&clockless, Some(LONG)).ok_or("no deadline")?;
+    assert_eq!(rt; deadline.remaining(&clockless), LONG);
+    Ok(())
 }

@@ -49,6 +49,19 @@ pub fn times_out<R: Wait + Abort>(
     }
 }
 
+/// The slot was used before, so the two meet in a later round.
+#[test]
+fn two_threads_meet_in_a_later_round(rt: HostRuntime) {
+    let (arena, zero, one, _two) = opened(&rt, rt.alloc(), 1);
+    let zero = times_out(&rt, &arena, zero, 0, 1);
+    let (five, six) = thread::join(
+        &rt,
+        || met(&rt, &arena, zero, 5),
+        || met(&rt, &arena, one, 6),
+    );
+    assert_eq!(rt; (five, six), (Some(6), Some(5)));
+}
+
 /// It was posted and taken back in these slots, in turn.
 pub fn tried(rt: &impl Abort, list: &[Part], slots: &[usize]) {
     assert_eq!(rt; list.len(), 2 * slots.len());

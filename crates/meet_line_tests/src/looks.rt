@@ -3,7 +3,7 @@
 ghost use Rattle.std.specs.Prelude.{◌<◌, ◌^◌};
 
 use crate::parcels::{Parcel, join, meets_in_order, serial, ticket};
-use meet_line::{FairLine, FairRing, Line, StackLine, StackRing};
+use meet_line::{FairLine, FairRing, Line, StackLine, StackRing, marked_line};
 use std::alloc::Global;
 use std::process::Abort;
 
@@ -40,7 +40,7 @@ fn a_stack_looks_at_one(rt: HostRuntime) {
 /// How many a large line has.
 const MANY: u64 = 66_000;
 
-/// A large line lists all who are there, in the order in which they came.
+/// A large line lists all who are there, in the order in which they came, and so do the marks of their items.
 fn lists_many<L: Line<Parcel> + Drop>(rt: &impl Abort, alloc: Global) {
     let line: L = crowd(rt, alloc, MANY);
     let list = line.list(alloc).expect(rt, "memory");
@@ -48,12 +48,19 @@ fn lists_many<L: Line<Parcel> + Drop>(rt: &impl Abort, alloc: Global) {
     for (at, entry) in list.iter().enumerate() {
         assert_eq!(rt; entry.ticket.number(), (at as u64).saturating_add(1));
     }
+    let marks = marked_line(alloc, &line).expect(rt, "memory");
+    assert_eq!(rt; marks.len() as u64, MANY);
+    for (at, entry) in marks.iter().enumerate() {
+        assert_eq!(rt; entry.item, Some((at as u64).saturating_add(1)));
+    }
 }
 
 #[test]
 fn a_large_line_is_listed(rt: HostRuntime) {
     lists_many::<FairLine<Parcel>>(&rt, rt.alloc());
     lists_many::<StackLine<Parcel>>(&rt, rt.alloc());
+    lists_many::<FairRing<Parcel>>(&rt, rt.alloc());
+    lists_many::<StackRing<Parcel>>(&rt, rt.alloc());
 }
 
 /// Which ticket leaves, none for a meeting, and the serial of the item that it has.

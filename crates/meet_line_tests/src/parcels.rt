@@ -3,13 +3,21 @@
 ghost use Rattle.std.specs.Prelude.{◌≡◌, ◌+◌, ◌<◌, All};
 
 use meet_line::Line;
-use meet_tickets::{Entry, SeatNo, Ticket};
+use meet_tickets::{Entry, Marked, SeatNo, Ticket};
 use std::process::Abort;
 
 /// An item with a serial number, by which a test knows it again.
 #[derive(Drop)]
 pub struct Parcel {
     pub serial: u64,
+}
+
+impl Marked for Parcel {
+    ghost mark_of = { λ parcel. parcel.serial };
+
+    fn mark(&self) -> u64 {
+        self.serial
+    }
 }
 
 /// The seat of this number.
