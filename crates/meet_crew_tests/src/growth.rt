@@ -1,5 +1,5 @@
 //! Crews that bear a refused allocation and a refused start of a thread anywhere: with each they succeed, or no thread
-//! begins to work. `bin/refuse` runs this test with each refused in turn.
+//! begins to work. `dev/check/refuse` runs this test with each refused in turn.
 
 use meet_crew::{Chair, Crew, at_fair_queue, at_transfer_queue, at_unfair_queue};
 use meet_tickets::Refusal;
