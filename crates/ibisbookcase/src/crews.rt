@@ -1,5 +1,6 @@
 //! Threads that share a queue which is made for them, each with a chair there: the shortest way.
 
+pub use crate::labels::{Labelled, Labels};
 pub use meet_crew::{
     CallRefused, Chair, Crew, Done, at_fair_queue, at_transfer_queue, at_unfair_queue,
 };

@@ -5,6 +5,7 @@
 
 pub mod crews;
 pub mod exchanger;
+mod labels;
 pub mod one_thread;
 pub mod overlapping;
 pub mod pools;
