@@ -1,0 +1,16 @@
+//! An exchanger whose calls wait: it chooses the slot of an arena itself, and a thread that waits for long parks.
+//!
+//! What a slot is, and what happens there, the arena knows (`meet_exchange`). This crate knows which slot is tried next,
+//! when a thread parks, and who wakes it. `specs/Tries` defines how an exchange ends, and what it did before.
+#![tactic(auto)]
+
+mod attempts;
+mod exchanger;
+mod exchanging;
+mod waiters;
+mod watching;
+
+pub use exchanger::{Exchanger, ExchangerFault};
+pub use meet_exchange::{
+    Back, Closed, Exchanged, LeftIn, Part, Pending, Round, RoundEnd, Seat, SlotDeed, Standing,
+};
