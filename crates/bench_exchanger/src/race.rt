@@ -13,17 +13,26 @@ use std::thread::Threads;
 use std::time::{Clock, Instant};
 
 /// How many milliseconds an exchange takes at most, before its thread sees whether others are still at work.
-const BOUT: u64 = 1;
+const BOUT: u64 = 50;
 
 /// How many bouts an exchange takes at most.
-const MOST_BOUTS: u64 = 10_000;
+const MOST_BOUTS: u64 = 1_000;
 
-/// What threads have in the end, and how many exchanges they made.
+/// What threads have in the end, how many exchanges they made, and how many nanoseconds after the begin the last but one
+/// of them had made its last.
 #[derive(Clone, Copy, Debug)]
 struct Tally {
     items: u64,
     sum: u64,
     exchanges: u64,
+    nanoseconds: u128,
+}
+
+/// The threads that are still at work, and when they began.
+#[derive(Drop)]
+struct AtWork {
+    threads: Mutex<u64>,
+    begin: Instant,
 }
 
 /// Exchanges this seat's item for that of another, and waits for one while others are at work. It returns the item that
@@ -31,7 +40,7 @@ struct Tally {
 fn exchange<R: Wait + Clock>(
     rt: &R,
     exchanger: &Exchanger<u64>,
-    at_work: &Mutex<u64>,
+    at_work: &AtWork,
     seat: Seat<u64>,
     item: u64,
 ) -> (Seat<u64>, u64, bool)
@@ -46,7 +55,7 @@ fn exchange<R: Wait + Clock>(
             Exchanged::Worn(again, own) => return (again, own, false),
             Exchanged::Memory(again, own) => return (again, own, false),
         }
-        if *at_work.lock(rt) < 2 {
+        if *at_work.threads.lock(rt) < 2 {
             return (seat, item, false);
         }
     }
@@ -57,7 +66,7 @@ fn exchange<R: Wait + Clock>(
 fn work<R: Wait + Clock>(
     rt: &R,
     exchanger: &Exchanger<u64>,
-    at_work: &Mutex<u64>,
+    at_work: &AtWork,
     total: &Mutex<Tally>,
     each: u64,
     seat: Seat<u64>,
@@ -77,14 +86,20 @@ fn work<R: Wait + Clock>(
         }
         exchanges = exchanges.saturating_add(1);
     }
-    let mut working = at_work.lock(rt);
-    *working = working.saturating_sub(1);
-    drop(working);
+    let mut threads = at_work.threads.lock(rt);
+    let was = *threads;
+    *threads = was.saturating_sub(1);
+    drop(threads);
     let mut total = total.lock(rt);
+    let mut nanoseconds = total.nanoseconds;
+    if was > 1 {
+        nanoseconds = at_work.begin.elapsed(rt).map_or(0, |passed| passed.as_nanos());
+    }
     *total = Tally {
         items: total.items.saturating_add(1),
         sum: total.sum.saturating_add(item),
         exchanges: total.exchanges.saturating_add(exchanges),
+        nanoseconds,
     };
     Back::Free(seat)
 }
@@ -94,7 +109,7 @@ fn work_all<R: Threads + Wait + Clock + Sync>(
     rt: &R,
     exchanger: &Exchanger<u64>,
     total: &Mutex<Tally>,
-    at_work: &Mutex<u64>,
+    at_work: &AtWork,
     each: u64,
     seats: Vec<Seat<u64>>,
 ) -> Result<Vec<Back<u64>>, AllocError>
@@ -118,11 +133,13 @@ where
         items: 0,
         sum: 0,
         exchanges: 0,
+        nanoseconds: 0,
     });
-    let at_work = Mutex::new(threads);
-    let begin = Instant::now(rt).map_err(|_| Refusal::ReadFault)?;
+    let at_work = AtWork {
+        threads: Mutex::new(threads),
+        begin: Instant::now(rt).map_err(|_| Refusal::ReadFault)?,
+    };
     let worked = work_all(rt, &exchanger, &total, &at_work, each, seats);
-    let passed = begin.elapsed(rt).map_err(|_| Refusal::ReadFault)?;
     let backs = worked.map_err(|_| Refusal::Memory)?;
     if let Err(fault) = exchanger.close(alloc, backs) {
         return Err(fault.into_why());
@@ -131,8 +148,9 @@ where
         items,
         sum,
         exchanges,
+        nanoseconds,
     } = total.into_inner();
     eprintln!(rt; "exchanges {exchanges}").map_err(|_| Refusal::WriteFault)?;
-    eprintln!(rt; "nanoseconds {}", passed.as_nanos()).map_err(|_| Refusal::WriteFault)?;
+    eprintln!(rt; "nanoseconds {nanoseconds}").map_err(|_| Refusal::WriteFault)?;
     println!(rt; "items {items} sum {sum}").map_err(|_| Refusal::WriteFault)
 }

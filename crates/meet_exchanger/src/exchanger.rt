@@ -24,6 +24,8 @@ pub struct Exchanger<T: Marked> {
     pub(crate) waiters: Waiters,
     /// How many slots the arena has.
     pub(crate) slots: usize,
+    /// How many seats it has.
+    seats: u64,
 }
 
 impl<T: Marked> Model for Exchanger<T> {
@@ -34,7 +36,8 @@ impl<T: Marked> Model for Exchanger<T> {
 
     ghost view = { λ e. e.arena };
 
-    ghost invariant = { λ e. (e.slots ≡ e.arena.slots) × (0 < e.slots) };
+    ghost invariant = { λ e. (e.slots ≡ e.arena.slots) × (0 < e.slots)
+        × (e.seats ≡ e.arena.seats) };
 }
 
 /// How many slots there are at most.
@@ -74,9 +77,17 @@ impl<T: Marked> Exchanger<T> {
                 arena,
                 waiters,
                 slots,
+                seats,
             },
             list,
         ))
+    }
+
+    /// Returns how many seats it has.
+    pub fn seats(&self) -> u64
+        ensures { result ≡ self.now.seats }
+    {
+        self.seats
     }
 
     /// Ends the exchanger with all its seats, in any order. It returns the rounds of each slot, what each seat did, and
@@ -109,6 +120,7 @@ impl<T: Marked> Exchanger<T> {
             arena,
             waiters,
             slots,
+            seats: count,
         } = self;
         match arena.close(alloc, seats) {
             Ok(closed) => Ok(closed),
@@ -120,6 +132,7 @@ impl<T: Marked> Exchanger<T> {
                         arena,
                         waiters,
                         slots,
+                        seats: count,
                     },
                     seats,
                 })

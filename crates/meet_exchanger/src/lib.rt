@@ -4,12 +4,18 @@
 //! when a thread parks, and who wakes it. `specs/Tries` defines how an exchange ends, and what it did before.
 #![tactic(auto)]
 
+mod at;
 mod attempts;
+mod chairs;
+mod crews;
 mod exchanger;
 mod exchanging;
+mod start;
 mod waiters;
 mod watching;
 
+pub use chairs::{ExchangeChair, Unmet};
+pub use crews::{ExchangeCrew, ExchangesDone, at_exchanger};
 pub use exchanger::{Exchanger, ExchangerFault};
 pub use meet_exchange::{
     Back, Closed, Exchanged, LeftIn, Part, Pending, Round, RoundEnd, Seat, SlotDeed, Standing,

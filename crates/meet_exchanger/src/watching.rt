@@ -32,8 +32,8 @@ const POSTED: u64 = 2;
 /// That of a slot where the answer lies.
 const ANSWERED: u64 = 4;
 
-/// How many looks an offer stands in the slot 0 before its thread parks.
-const LOOKS: u64 = 256;
+/// How many looks an offer stands in the slot 0 before its thread parks: some milliseconds of the processor at most.
+const LOOKS: u64 = 4_096;
 
 /// How many looks an offer stands in another slot.
 const PATIENCE: u64 = 1_000;
@@ -110,7 +110,8 @@ impl<T: Marked> Exchanger<T> {
         code(self.arena.word(slot)) == ANSWERED
     }
 
-    /// Looks for an answer, `looks` times at most: whether one is there.
+    /// Looks for an answer, `looks` times at most: whether one is there. In a slot above 0 it lets another thread run
+    /// after each 65th look alone: if nobody comes, these looks are to be over soon.
     fn look(&self, slot: usize, looks: u64) -> bool
         requires { slot < self.now.slots }
     {
@@ -118,7 +119,7 @@ impl<T: Marked> Exchanger<T> {
             if self.is_answered(slot) {
                 return true;
             }
-            pass(look);
+            pass(if slot == 0 { look } else { look % (PAUSES + 1) });
         }
         false
     }

@@ -1,0 +1,281 @@
+//! Crews: threads that share an exchanger which is made for them, each with a chair there.
+
+ghost use Rattle.std.specs.Prelude.{◌≡◌, ◌≤◌, [], None, IfSome, IfOk, IfErr, MatchResult, vec_len};
+ghost use Rattle.std.specs.Vec.{vec_capacity};
+ghost use Rattle.meet_tickets.specs.declared.refusals.Refusal.TheVariants.{Memory};
+ghost use Rattle.meet_exchange.specs.Seats.{AreNew, sizes_refusal};
+ghost use Rattle.meet_exchange.specs.Closed.{AreOf};
+ghost use Rattle.meet_exchanger.specs.Chairs.{IsClosed, IsCrewWhy};
+
+use crate::at::{At, Placed, Site, give_back, place_all};
+use crate::chairs::ExchangeChair;
+use crate::exchanger::Exchanger;
+use crate::start::Start;
+use meet_exchange::{Back, Closed, Seat};
+use meet_tickets::{Marked, Refusal};
+use std::alloc::Global;
+use std::marker::Brand;
+use std::sync::Wait;
+use std::thread;
+use std::thread::{JoinHandle, Threads};
+use std::time::Clock;
+
+/// What the threads of a crew do at their exchanger.
+pub trait ExchangeCrew<T: Marked> {
+    /// What each thread returns.
+    type Told;
+
+    /// What the thread with this chair does.
+    fn work<C: ExchangeChair<T>>(&self, chair: &mut C) -> Self::Told;
+}
+
+/// What a crew leaves.
+#[derive(Debug, Drop)]
+pub struct ExchangesDone<T, A> {
+    /// The result of each thread, in the order of their seats.
+    pub told: Vec<A>,
+    /// What the exchanger left: the rounds of its slots, and what each seat did. Memory if it couldn't be closed, and
+    /// then it is dropped.
+    pub closed: Result<Closed<T>, Refusal>,
+}
+
+/// What a thread returns: its seat, and its result, or None if it left before it began to work.
+#[derive(Drop)]
+struct Sat<T, N: Site, A> {
+    placed: Placed<T, N>,
+    told: Option<A>,
+}
+
+/// Room for the seats of the threads, for the threads, and for what they return.
+#[derive(Drop)]
+struct Room<T, N: Site, A> {
+    seats: Vec<Placed<T, N>>,
+    threads: Vec<JoinHandle<Sat<T, N, A>>>,
+    ended: Vec<Placed<T, N>>,
+    told: Vec<A>,
+    backs: Vec<Back<T>>,
+    ghost idle: { (seats.items ≡ []) × (threads.items ≡ []) },
+    ghost empty: { (ended.items ≡ []) × (told.items ≡ []) × (backs.items ≡ []) },
+}
+
+impl<T: Drop, N: Site, A: Drop> Room<T, N, A> {
+    /// Makes room for `count` threads. None if an allocation fails.
+    fn new(alloc: Global, count: usize) -> Option<Self>
+        ensures seats { IfSome result (λ room. count ≤ vec_capacity room.seats) }
+        ensures threads { IfSome result (λ room. count ≤ vec_capacity room.threads) }
+        ensures ended { IfSome result (λ room. count ≤ vec_capacity room.ended) }
+        ensures told { IfSome result (λ room. count ≤ vec_capacity room.told) }
+        ensures backs { IfSome result (λ room. count ≤ vec_capacity room.backs) }
+    {
+        Some(Room {
+            seats: Vec::with_capacity(alloc, count).ok()?,
+            threads: Vec::with_capacity(alloc, count).ok()?,
+            ended: Vec::with_capacity(alloc, count).ok()?,
+            told: Vec::with_capacity(alloc, count).ok()?,
+            backs: Vec::with_capacity(alloc, count).ok()?,
+        })
+    }
+}
+
+/// What one thread does with its seat, after all threads are there.
+fn sit<T, N, R, V>(
+    rt: &R,
+    exchanger: &Exchanger<T>,
+    crew: &V,
+    start: &Start,
+    placed: Placed<T, N>,
+) -> Sat<T, N, V::Told>
+where
+    T: Marked,
+    N: Site,
+    R: Wait + Clock,
+    V: ExchangeCrew<T>,
+    requires { exchanger.now ≡ N.site }
+{
+    if !start.begins(rt) {
+        return Sat { placed, told: None };
+    }
+    let mut chair = At::new(rt, exchanger, placed);
+    let told = crew.work(&mut chair);
+    Sat {
+        placed: chair.into_placed(),
+        told: Some(told),
+    }
+}
+
+/// Starts a thread for each seat, from the last seat of the list to the first, waits until each has ended, and returns
+/// their handles; None if one couldn't be started, and then no thread began to work. The empty list has room for them.
+fn seated<T, N, R, V>(
+    rt: &R,
+    exchanger: &Exchanger<T>,
+    crew: &V,
+    start: &Start,
+    seats: Vec<Placed<T, N>>,
+    empty: Vec<JoinHandle<Sat<T, N, V::Told>>>,
+) -> Option<Vec<JoinHandle<Sat<T, N, V::Told>>>>
+where
+    T: Marked + Drop + Send,
+    N: Site + Send,
+    R: Threads + Wait + Clock + Sync,
+    V: ExchangeCrew<T> + Sync,
+    V::Told: Send + Drop,
+    requires here { exchanger.now ≡ N.site }
+    requires empty { empty.items ≡ [] }
+    requires room { vec_len seats ≤ vec_capacity empty }
+    ensures { IfSome result (λ threads. vec_len threads ≡ vec_len seats) }
+{
+    thread::scope(
+        thread::scope_env(),
+        rt,
+        |scope| -> Option<Vec<JoinHandle<Sat<T, N, V::Told>>>>
+            requires here { exchanger.now ≡ N.site }
+            requires empty { empty.items ≡ [] }
+            requires room { vec_len seats ≤ vec_capacity empty }
+            ensures { IfSome result (λ threads. vec_len threads ≡ vec_len seats) }
+        {
+            let mut seats = seats;
+            let mut threads = empty;
+            while let Some(placed) = seats.pop() {
+                let job = move || -> Sat<T, N, V::Told>
+                    requires { exchanger.now ≡ N.site }
+                { sit(rt, exchanger, crew, start, placed) };
+                let Ok(thread) = scope.spawn(job) else {
+                    start.tell(rt, false);
+                    return None;
+                };
+                threads.push_reserved(thread);
+            }
+            start.tell(rt, true);
+            Some(threads)
+        },
+    )
+}
+
+/// Joins these threads, and returns their seats and their results, in the order of the threads; None if one left before
+/// it began to work. The empty lists have room for them.
+fn joined<T: Drop, N: Site, A: Drop, R: Threads>(
+    rt: &R,
+    threads: Vec<JoinHandle<Sat<T, N, A>>>,
+    ended: Vec<Placed<T, N>>,
+    told: Vec<A>,
+) -> Option<(Vec<Placed<T, N>>, Vec<A>)>
+    requires no_seat { ended.items ≡ [] }
+    requires nothing_told { told.items ≡ [] }
+    requires ended { vec_len threads ≤ vec_capacity ended }
+    requires told { vec_len threads ≤ vec_capacity told }
+    ensures seats { IfSome result (λ ended. vec_len ended.0 ≡ vec_len threads) }
+    ensures told { IfSome result (λ ended. vec_len ended.1 ≡ vec_len threads) }
+{
+    let mut ended = ended;
+    let mut all_told = told;
+    for thread in threads {
+        let Sat { placed, told } = thread.join(rt);
+        let Some(told) = told else {
+            return None;
+        };
+        ended.push_reserved(placed);
+        all_told.push_reserved(told);
+    }
+    Some((ended, all_told))
+}
+
+/// Ends a crew's exchanger with all its seats.
+fn closed<T: Marked + Drop>(
+    alloc: Global,
+    exchanger: Exchanger<T>,
+    seats: Vec<Back<T>>,
+) -> Result<Closed<T>, Refusal>
+    requires place { AreOf exchanger.id seats.items }
+    requires all { vec_len seats ≡ exchanger.seats }
+    requires start { exchanger.start ≡ 0 }
+    ensures { MatchResult result (IsClosed T.mark_of exchanger.seats) (λ why. why ≡ Memory) }
+{
+    match exchanger.close(alloc, seats) {
+        Ok(closed) => Ok(closed),
+        Err(fault) => Err(fault.into_why()),
+    }
+}
+
+/// A crew at this exchanger.
+fn at_site<T, N, R, V>(
+    rt: &R,
+    alloc: Global,
+    exchanger: Exchanger<T>,
+    list: Vec<Seat<T>>,
+    crew: &V,
+) -> Result<ExchangesDone<T, V::Told>, Refusal>
+where
+    T: Marked + Drop + Send,
+    N: Site + Send,
+    R: Threads + Wait + Clock + Sync,
+    V: ExchangeCrew<T> + Sync,
+    V::Told: Send + Drop,
+    requires here { exchanger ≡ N.site }
+    requires new { AreNew N.site.id 0 list.items }
+    requires all { vec_len list ≡ N.site.seats }
+    requires start { N.site.start ≡ 0 }
+    requires fits { sizes_refusal 1 N.site.seats ≡ None }
+    ensures told { IfOk result (λ done. vec_len done.told ≡ N.site.seats) }
+    ensures history { IfOk result (λ done. MatchResult done.closed (IsClosed T.mark_of N.site.seats)
+        (λ why. why ≡ Memory)) }
+    ensures why { IfErr result (IsCrewWhy N.site.seats) }
+{
+    let Some(room) = Room::<T, N, V::Told>::new(alloc, list.len()) else {
+        return Err(Refusal::Memory);
+    };
+    let Room {
+        seats,
+        threads,
+        ended,
+        told,
+        backs,
+    } = room;
+    let start = Start::new();
+    let seats = place_all(list, seats);
+    let Some(threads) = seated(rt, &exchanger, crew, &start, seats, threads) else {
+        return Err(Refusal::NoThread);
+    };
+    let Some((ended, told)) = joined(rt, threads, ended, told) else {
+        return Err(Refusal::NoThread);
+    };
+    Ok(ExchangesDone {
+        told,
+        closed: closed(alloc, exchanger, give_back(ended, backs)),
+    })
+}
+
+/// Starts `seats` threads at a new exchanger, each with a chair, waits until all have ended, for ever if one never ends,
+/// and closes the exchanger. What it leaves is a history for each slot, and for each seat its part in it.
+///
+/// It stands for an `Exchanger` of java.util.concurrent (JDK 21) that threads share.
+///
+/// # Errors
+/// - BadSizes, exactly if `seats` is 0 or more than 65,536.
+/// - Memory, if an allocation fails before the first thread is started.
+/// - NoThread, if a thread can't be started; then no thread has begun to work.
+///
+/// # Example
+/// ```
+/// let done = at_exchanger(&rt, rt.alloc(), 2, &Buffers)?;
+/// ```
+pub fn at_exchanger<T, R, V>(
+    rt: &R,
+    alloc: Global,
+    seats: u64,
+    crew: &V,
+) -> Result<ExchangesDone<T, V::Told>, Refusal>
+where
+    T: Marked + Drop + Send,
+    R: Threads + Wait + Clock + Sync,
+    V: ExchangeCrew<T> + Sync,
+    V::Told: Send + Drop,
+    ensures told { IfOk result (λ done. vec_len done.told ≡ seats) }
+    ensures history { IfOk result (λ done. MatchResult done.closed (IsClosed T.mark_of seats) (λ why. why ≡ Memory)) }
+    ensures sizes { IfOk result (λ _. sizes_refusal 1 seats ≡ None) }
+    ensures why { IfErr result (IsCrewWhy seats) }
+{
+    match Exchanger::new(alloc, seats) {
+        Ok((exchanger, list)) => at_site::<T, Brand, R, V>(rt, alloc, exchanger, list, crew),
+        Err(why) => Err(why),
+    }
+}
