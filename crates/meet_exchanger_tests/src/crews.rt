@@ -43,7 +43,7 @@ fn two_threads_of_a_crew_swap(rt: HostRuntime) {
     let Ok(done) = at_exchanger(&rt, rt.alloc(), 2, &Once { limit: 60_000 }) else {
         panic!(&rt; "no crew")
     };
-    assert_eq!(&rt; done.told.as_slice(), &[(1, true), (0, true)]);
+    assert_eq!(&rt; done.told.as_slice(), [(1u64, true), (0, true)].as_slice());
     let Ok(closed) = done.closed else {
         panic!(&rt; "not closed")
     };
@@ -56,7 +56,7 @@ fn two_threads_swap_often(rt: HostRuntime) {
     let Ok(done) = at_exchanger(&rt, rt.alloc(), 2, &Often) else {
         panic!(&rt; "no crew")
     };
-    assert_eq!(&rt; done.told.as_slice(), &[1, 0]);
+    assert_eq!(&rt; done.told.as_slice(), [1u64, 0].as_slice());
 }
 
 /// Of five threads with a limit an even number got another's item; each item is there once, in the end.

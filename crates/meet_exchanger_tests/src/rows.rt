@@ -23,7 +23,10 @@ fn two_threads_swap(rt: HostRuntime) {
     let Ok(closed) = exchanger.close(alloc, backs) else {
         panic!(&rt; "not closed")
     };
-    assert_eq!(&rt; (closed.slots.len(), closed.slots[0].len(), closed.left.len()), (1, 1, 0));
+    assert_eq!(&rt;
+        (closed.slots.len(), closed.slots[0].len(), closed.left.len()),
+        (1, 1, 0)
+    );
     assert_eq!(&rt; closed.lists[0].len() + closed.lists[1].len(), 3);
 }
 
