@@ -17,8 +17,8 @@ impl ExchangeCrew<u64> for Swapping {
 }
 
 fn main(rt: HostRuntime) -> Result<(), Refusal> {
-    for (seat, got) in at_exchanger(&rt, rt.alloc(), 2, &Swapping)?.told.iter().enumerate() {
-        println!(rt; "seat {seat} got {got}").map_err(|_| Refusal::WriteFault)?;
+    for got in at_exchanger(&rt, rt.alloc(), 2, &Swapping)?.told {
+        println!(rt; "got {got}").map_err(|_| Refusal::WriteFault)?;
     }
     Ok(())
 }
