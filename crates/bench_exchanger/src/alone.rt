@@ -1,4 +1,4 @@
-//! A thread that waits alone.
+//! A thread that waits MILLISECONDS for a partner, and none comes. A line says that its item was returned.
 
 use meet_exchanger::{Exchanged, Exchanger};
 use meet_tickets::Refusal;

@@ -4,13 +4,7 @@
 //!     bench_exchanger exchange THREADS EACH ROUNDS
 //!     bench_exchanger alone MILLISECONDS
 //!
-//! `exchange`: THREADS threads, each of which has an item, exchange what they have EACH times at one exchanger, ROUNDS
-//! times, each time at a new one. The item of a thread is its number, from 1. A thread ends early if no other is still
-//! at work that could come. A line per round on standard output says how many items the threads have in the end, and
-//! their sum. Two on standard error say how many exchanges there were, each counted at both of its threads, and how many
-//! nanoseconds they took.
-//!
-//! `alone`: one thread waits this long for a partner, and none comes. A line says that its item was returned.
+//! What each of these does and prints is said in `race` and `alone`.
 #![tactic(auto)]
 
 mod alone;

@@ -1,4 +1,10 @@
 //! Threads that exchange items at one exchanger.
+//!
+//! THREADS threads, each of which has an item, exchange what they have EACH times, ROUNDS times, each time at a new
+//! exchanger. The item of a thread is its number, from 1. A thread ends early if no other is still at work that could
+//! come. A line per round on standard output says how many items the threads have in the end, and their sum. Two on
+//! standard error say how many exchanges there were, each counted at both of its threads, and after how many nanoseconds
+//! the last thread but one had made its last.
 
 use meet_exchanger::{ExchangeChair, ExchangeCrew, Unmet, at_exchanger};
 use meet_tickets::Refusal;

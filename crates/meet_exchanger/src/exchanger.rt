@@ -43,7 +43,7 @@ impl<T: Marked> Model for Exchanger<T> {
 /// How many slots there are at most.
 const MOST_SLOTS: u64 = 8;
 
-/// How many slots an exchanger of so many seats has: one for each pair, and one at least.
+/// Returns how many slots an exchanger with this number of seats has: one for each pair, and one at least.
 fn slots_for(seats: u64) -> usize
     ensures { 0 < result }
 {

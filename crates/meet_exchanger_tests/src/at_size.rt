@@ -1,6 +1,6 @@
 //! Exchanges at size: many threads, some of which park and are woken for earlier offers too.
 
-use meet_exchanger::{ExchangeChair, ExchangeCrew, at_exchanger};
+use meet_exchanger::{ExchangeChair, ExchangeCrew, ExchangesDone, at_exchanger};
 use std::test::*;
 
 /// How often each thread exchanges.
@@ -31,12 +31,13 @@ fn each_item_is_there_once(rt: HostRuntime) {
         panic!(&rt; "no crew")
     };
     let mut seen = [false; 16];
-    for item in done.told {
+    let ExchangesDone { told, closed } = done;
+    for item in told {
         assert!(&rt; item < 16 && !seen[item as usize]);
         seen[item as usize] = true;
     }
     assert!(&rt; seen.iter().all(|it| *it));
-    let Ok(closed) = done.closed else {
+    let Ok(closed) = closed else {
         panic!(&rt; "not closed")
     };
     assert_eq!(&rt; closed.left.len(), 0);

@@ -1,6 +1,6 @@
 //! Crews at an exchanger.
 
-use meet_exchanger::{ExchangeChair, ExchangeCrew, at_exchanger};
+use meet_exchanger::{ExchangeChair, ExchangeCrew, ExchangesDone, at_exchanger};
 use meet_tickets::Refusal;
 use std::test::*;
 
@@ -43,8 +43,9 @@ fn two_threads_of_a_crew_swap(rt: HostRuntime) {
     let Ok(done) = at_exchanger(&rt, rt.alloc(), 2, &Once { limit: 60_000 }) else {
         panic!(&rt; "no crew")
     };
-    assert_eq!(&rt; done.told.as_slice(), [(1u64, true), (0, true)].as_slice());
-    let Ok(closed) = done.closed else {
+    let ExchangesDone { told, closed } = done;
+    assert_eq!(&rt; told.as_slice(), [(1u64, true), (0, true)].as_slice());
+    let Ok(closed) = closed else {
         panic!(&rt; "not closed")
     };
     assert_eq!(&rt; (closed.lists.len(), closed.left.len()), (2, 0));
