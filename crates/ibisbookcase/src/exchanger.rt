@@ -1,7 +1,28 @@
-//! The exchanger: an arena of slots, in which two seats exchange items.
+//! Exchangers: two threads exchange their items.
+//!
+//! The shortest way is `at_exchanger`, which starts threads at an exchanger that it makes, each with a chair there:
+//!
+//! ```
+//! impl ExchangeCrew<u64> for Swapping {
+//!     type Told = u64;
+//!
+//!     fn work<C: ExchangeChair<u64>>(&self, chair: &mut C) -> u64 {
+//!         match chair.exchange_for(chair.number(), 60_000) { // milliseconds
+//!             Ok(other) => other,
+//!             Err(unmet) => unmet.into_item(),
+//!         }
+//!     }
+//! }
+//! let done = at_exchanger(&rt, rt.alloc(), 2, &Swapping)?;
+//! ```
+//!
+//! `Exchanger` is for a program that holds its seats itself. `Arena` has the single steps of an exchange.
 
 pub use meet_exchange::{
     Arena, Back, CloseFault, Closed, Exchanged, Gathered, LeftIn, Offered, Part, Pending, Round,
     RoundEnd, Seat, SlotDeed, Standing, TakenBack,
+};
+pub use meet_exchanger::{
+    ExchangeChair, ExchangeCrew, Exchanger, ExchangerFault, ExchangesDone, Unmet, at_exchanger,
 };
 pub use meet_tickets::{Marked, Refusal, SeatNo};
