@@ -21,7 +21,7 @@ need_rt() {
 # Prints a crate and the crates of the repository that it depends on, the lowest first, as crates.txt lists them.
 stack_of() {
     awk -F ': *' -v crate="$1" '
-        /^[a-z]/ { uses[$1] = $2; names[++count] = $1 }
+        /^[a-z]/ { sub(/ .*/, "", $1); uses[$1] = $2; names[++count] = $1 }
         END {
             needed[crate]
             for (at = count; at > 0; at--)
