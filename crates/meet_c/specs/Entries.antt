@@ -1,5 +1,6 @@
 -- Records as plain numbers, and the records that plain numbers stand for.
-use Rattle.std.specs.Prelude.{◌≡◌, ℕ, ◌+◌, ◌-◌, ◌<◌, ◌≤◌, min, nat_eq, List, length, slice_get, Option, Some, None, option_map}
+use Rattle.std.specs.Prelude.{◌≡◌, ℕ, ◌+◌, ◌-◌, ◌<◌, ◌≤◌, min, nat_eq, List, length, slice_get, Option, Some, None}
+use Rattle.std.specs.Prelude.{option_map}
 use Rattle.std.specs.Prelude.{option_and_then, if◌then◌else◌}
 use Rattle.meet_tickets.specs.declared.places.Side.{Side}
 use Rattle.meet_tickets.specs.declared.places.Side.TheVariants.{Giver, Taker}
@@ -107,5 +108,6 @@ deed_of deed mark other =
 -- the record that C tells
 unfoldable pub record_of : PlainRecord → Option (Record Deed)
 record_of r =
-    option_and_then (λ seat. option_and_then (λ ticket. option_map (λ deed. record { seat = seat; ticket = ticket; deed = deed })
+    option_and_then (λ seat. option_and_then (λ ticket. option_map
+    (λ deed. record { seat = seat; ticket = ticket; deed = deed })
     (deed_of r.deed r.mark r.other)) (ticket_in r.ticket)) (seat_in r.seat)

@@ -1,5 +1,6 @@
 -- What a checker takes in, and what a caller in C is told of it.
-use Rattle.std.specs.Prelude.{◌≡◌, ◌≢◌, ◌⊎◌, ℕ, ◌+◌, ◌-◌, ◌^◌, ◌<◌, ◌≤◌, Bool, true, false, List, ◌++◌, take, drop, map, length}
+use Rattle.std.specs.Prelude.{◌≡◌, ◌≢◌, ◌⊎◌, ℕ, ◌+◌, ◌-◌, ◌^◌, ◌<◌, ◌≤◌, Bool, true, false, List, ◌++◌, take, drop}
+use Rattle.std.specs.Prelude.{map, length}
 use Rattle.std.specs.Prelude.{slice_get, Option, Some, None}
 use Rattle.meet_tickets.specs.declared.records.Record.{Record}
 use Rattle.meet_tickets.specs.declared.records.Deed.{Deed}
@@ -83,8 +84,10 @@ pub record TakesMany (old : Follower) (entries : List PlainRecord) (found : Foun
 
 -- where the tickets and items are after what a checker has seen; or the fault that was found
 pub record StandsAs (f : Follower) (found : Found) : Type 0 where
-  pub sound : found.status ≡ 0 → (f.checker.fault ≡ None) × (s : Standing) × IsStandingOf f.checker s × (found ≡ stands s f.taken)
-  pub fault : found.status ≢ 0 → (fault : CheckFault) × (f.checker.fault ≡ Some fault) × (found ≡ fault_with fault f.taken)
+  pub sound : found.status ≡ 0 → (f.checker.fault ≡ None) × (s : Standing) × IsStandingOf f.checker s
+      × (found ≡ stands s f.taken)
+  pub fault : found.status ≢ 0 → (fault : CheckFault) × (f.checker.fault ≡ Some fault)
+      × (found ≡ fault_with fault f.taken)
 
 -- a checker takes records in: all of them, or as many as there was memory for
 pub record Follows (old : Follower) (records : List (Record Deed)) (all : Bool) (new : Follower) : Type 0 where
@@ -117,6 +120,7 @@ pub record Checks (old : QueueBook) (was : Follower) (found : Found) (new : Queu
       × (found ≡ status_with found.status now.taken)
 
 -- what comes of a queue's new records: a checker that is apart takes none in, and nothing has changed
-pub record ChecksNew (old : QueueBook) (was : Follower) (found : Found) (new : QueueBook) (now : Follower) : Type 0 where
+pub record ChecksNew (old : QueueBook) (was : Follower) (found : Found) (new : QueueBook) (now : Follower)
+    : Type 0 where
   pub apart : IsApart old was → (found ≡ status_with 42 was.taken) × (new ≡ old) × (now ≡ was)
   pub checks : (IsApart old was → ⊥) → Checks old was found new now

@@ -55,7 +55,8 @@ HoldsNewChecker order bound held = (kind : Kind) × (f : Follower) × (held ≡ 
     × (f.checker.fault ≡ None) × (f.taken ≡ 0)
 
 -- the call was made or refused
-pub record BookSteps (old : QueueBook) (seat : ℕ) (call : QueueCall ℕ) (answer : Answer) (new : QueueBook) : Type 0 where
+pub record BookSteps (old : QueueBook) (seat : ℕ) (call : QueueCall ℕ) (answer : Answer) (new : QueueBook)
+    : Type 0 where
   pub made : answer.status ≡ 0 → HasStepped old seat call answer new
   pub refused : answer.status ≢ 0 → WasRefused old seat call answer new
 
@@ -63,7 +64,8 @@ pub record BookSteps (old : QueueBook) (seat : ℕ) (call : QueueCall ℕ) (answ
 abbrev pub StepsRead : QueueBook → Option (QueueCall ℕ) → Option ℕ → Answer → Held → Type 0
 StepsRead old None seat answer new = (answer ≡ failed 41) × (new ≡ Queue old)
 StepsRead old (Some call) None answer new = (answer ≡ failed 41) × (new ≡ Queue old)
-StepsRead old (Some call) (Some seat) answer new = (after : QueueBook) × (new ≡ Queue after) × BookSteps old seat call answer after
+StepsRead old (Some call) (Some seat) answer new = (after : QueueBook) × (new ≡ Queue after)
+    × BookSteps old seat call answer after
 
 abbrev pub StepsHeld : Held → (verb seat value : ℕ) → Answer → Held → Type 0
 StepsHeld (Queue old) verb seat value answer new = StepsRead old (call_of verb value) (seat_in seat) answer new
@@ -72,7 +74,8 @@ StepsHeld (Checker old) verb seat value answer new = (answer ≡ failed 40) × (
 -- a queue is held, or it is 40
 abbrev pub Steps : Option Held → (verb seat value : ℕ) → Answer → Option Held → Type 0
 Steps None verb seat value answer new = (answer ≡ failed 40) × (new ≡ None)
-Steps (Some old) verb seat value answer new = (after : Held) × (new ≡ Some after) × StepsHeld old verb seat value answer after
+Steps (Some old) verb seat value answer new = (after : Held) × (new ≡ Some after)
+    × StepsHeld old verb seat value answer after
 
 -- a queue is looked at, or it is 40 and what was there stays
 abbrev pub Looks : Option Held → Look → (status : ℕ) → Look → Type 0
@@ -111,7 +114,8 @@ Cuts (Some old) status gone new = (after : Held) × (new ≡ Some after) × Cuts
 
 -- plain records are pushed on a checker, or it is 40
 abbrev pub PushesHeld : Held → List PlainRecord → Found → Held → Type 0
-PushesHeld (Checker old) entries found new = (after : Follower) × (new ≡ Checker after) × TakesMany old entries found after
+PushesHeld (Checker old) entries found new = (after : Follower) × (new ≡ Checker after)
+    × TakesMany old entries found after
 PushesHeld (Queue old) entries found new = (found ≡ status_with 40 0) × (new ≡ Queue old)
 
 abbrev pub Pushes : Option Held → List PlainRecord → Found → Option Held → Type 0

@@ -33,7 +33,8 @@ abbrev pub IsBesidesWake : (told answer : Answer) → Type 0
 IsBesidesWake told answer = answer ≡ record told { wake = answer.wake }
 
 -- the call made the queue's own step, the answer is that step's, and the call's record is the last one, if it has one
-pub record HasStepped (old : QueueBook) (seat : ℕ) (call : QueueCall ℕ) (answer : Answer) (new : QueueBook) : Type 0 where
+pub record HasStepped (old : QueueBook) (seat : ℕ) (call : QueueCall ℕ) (answer : Answer) (new : QueueBook)
+    : Type 0 where
   pub made : QueueAnswer ℕ
   pub step : QueueStep (λ mark. mark) old.object.kind old.object.queue seat call made new.object.queue
   pub kind : new.object.kind ≡ old.object.kind
@@ -45,7 +46,8 @@ pub record HasStepped (old : QueueBook) (seat : ℕ) (call : QueueCall ℕ) (ans
 
 -- the call was refused for the first reason that applies, or for Memory, and nothing but room has changed; an ending
 -- that the queue admits isn't refused, nor is a call for which there is room
-pub record WasRefused (old : QueueBook) (seat : ℕ) (call : QueueCall ℕ) (answer : Answer) (new : QueueBook) : Type 0 where
+pub record WasRefused (old : QueueBook) (seat : ℕ) (call : QueueCall ℕ) (answer : Answer) (new : QueueBook)
+    : Type 0 where
   pub why : Refusal
   pub is_why : IsWhy (refusal_in old seat call) why
   pub told : answer ≡ failed (number_of why)

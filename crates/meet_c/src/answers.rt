@@ -1,7 +1,8 @@
 //! Answers of calls, as structs of numbers.
 
 ghost use Rattle.std.specs.Prelude.{◌≡◌};
-ghost use Rattle.meet_c.specs.Answers.{told_gave, told_put, told_offered, told_took, told_polled, told_followed, told_back};
+ghost use Rattle.meet_c.specs.Answers.{told_gave, told_put, told_offered, told_took, told_polled, told_followed};
+ghost use Rattle.meet_c.specs.Answers.{told_back};
 ghost use Rattle.meet_c.specs.Answers.{told_interrupted, told, done, failed, item_of};
 
 use meet_core::{Followed, Gave, Interrupted, Offered, Polled, Put, QueueAnswer, TakenBack, Took};

@@ -1,7 +1,8 @@
 //! The exports of a checker, and of every handle. Each calls the library's function, and states its clauses again.
 
 ghost use Rattle.std.specs.Prelude.{◌≡◌, ◌≢◌, ◌⊎◌, None};
-ghost use Rattle.meet_c.specs.Handled.{HoldsNewChecker, IsNoPlace, Pushes, PushesHeld, Stands, ChecksHeld, ChecksAt, ChecksBoth};
+ghost use Rattle.meet_c.specs.Handled.{HoldsNewChecker, IsNoPlace, Pushes, PushesHeld, Stands, ChecksHeld, ChecksAt};
+ghost use Rattle.meet_c.specs.Handled.{ChecksBoth};
 
 use crate::entries::PlainRecord;
 use crate::followers::{Found, check, new_follower, standing, status_with, take_many};
@@ -14,7 +15,8 @@ use std::alloc::Global;
 /// held is dropped.
 ///
 /// # Errors
-/// Returns 1 if memory runs out, and 41 if no place has these numbers. The handle holds what it held then.
+/// - 1 if memory runs out. The handle holds what it held then.
+/// - 41 if no place has these numbers. The handle holds what it held then.
 #[unsafe(no_mangle)]
 pub extern "C" fn ibis_checker_new(
     alloc: Global,
@@ -60,9 +62,10 @@ fn push_held(held: &mut Held, entries: &[PlainRecord]) -> Found
 /// were pushed are legal after those before.
 ///
 /// # Errors
-/// Returns 1 if memory runs out: those that were taken in count, and the next may be pushed again. Returns 30 if a
-/// record's numbers are those of none: it isn't taken in. Returns 31 if a record can't stand: it is taken in, and with it
-/// its number and why; each later push finds the same. Returns 40 if no checker is held.
+/// - 1 if memory runs out: those that were taken in count, and the next may be pushed again.
+/// - 30 if a record's numbers are those of none: it isn't taken in.
+/// - 31 if a record can't stand, with its number and why: it is taken in, and each later push finds the same.
+/// - 40 if no checker is held.
 #[unsafe(no_mangle)]
 pub extern "C" fn ibis_checker_push(
     alloc: Global,
@@ -89,7 +92,8 @@ pub extern "C" fn ibis_checker_push(
 /// Finds where a checker's records leave the place, or what was found against them: the verdict. It takes no memory.
 ///
 /// # Errors
-/// Returns 31 if a record can't stand, and 40 if no checker is held.
+/// - 31 if a record can't stand, with its number and why.
+/// - 40 if no checker is held.
 #[unsafe(no_mangle)]
 pub extern "C" fn ibis_checker_standing(
     alloc: Global,
@@ -143,14 +147,16 @@ fn check_at(alloc: Global, held: &mut Held, checker: &mut Handle) -> Found
     }
 }
 
-/// Pushes all new records of a queue on a checker, and folds them away if they are legal. New are those that the checker
-/// hasn't taken in. Returns the finding's status, 0 if all records since the first are legal, with where they leave the
-/// queue.
+/// Pushes all new records of a queue on a checker, and folds them away if they are legal. New are those that the
+/// checker hasn't taken in. Returns the finding's status, 0 if all records since the first are legal, with where they
+/// leave the queue.
 ///
 /// # Errors
-/// Returns 31 if a record can't stand: nothing is folded away. Returns 1 or 2 as a cut does, and 1 if memory runs out for
-/// the checker: the call may be repeated. Returns 40 if the handles hold no queue and no checker. Returns 42 if the checker
-/// has taken in fewer records than were folded away, or more than there are. Nothing has changed then.
+/// - 31 if a record can't stand: nothing is folded away.
+/// - 1 or 2 as a cut does, and 1 if memory runs out for the checker: the call may be repeated.
+/// - 40 if the handles don't hold a queue and a checker. Nothing has changed then.
+/// - 42 if the checker has taken in fewer records than were folded away, or more than there are. Nothing has changed
+///   then.
 #[unsafe(no_mangle)]
 pub extern "C" fn ibis_queue_check(
     alloc: Global,

@@ -7,8 +7,8 @@ ghost use Rattle.meet_c.specs.Entries.{deed_of, record_of, side_in, cause_in, re
 use crate::names::{seat_in, ticket_in};
 use meet_tickets::{Cause, Deed, Record, SeatNo, Side, Ticket};
 
-/// A record: its seat, its ticket, the number of its deed, 1 to 12, the deed's mark, and the deed's partner, side, cause
-/// or target. What the deed hasn't is 0.
+/// A record: its seat, its ticket, the number of its deed, 1 to 12, the deed's mark, and the deed's partner, side,
+/// cause or target. What the deed hasn't is 0.
 #[repr(C)]
 #[derive(Clone, Copy, PartialEq, Eq, Debug)]
 pub struct PlainRecord {

@@ -4,7 +4,8 @@ ghost use Rattle.std.specs.Prelude.{◌≡◌, ◌≢◌, ◌<◌, ◌+◌, ◌^
 ghost use Rattle.meet_tickets.specs.Bases.{no_base};
 ghost use Rattle.meet_history.specs.Pushing.{HasSeen};
 ghost use Rattle.meet_c.specs.Entries.{record_of};
-ghost use Rattle.meet_c.specs.Followed.{status_with, fault_with, found_with, number_of_why, TakesNext, TakesRead, TakesMany};
+ghost use Rattle.meet_c.specs.Followed.{status_with, fault_with, found_with, number_of_why, TakesNext, TakesRead};
+ghost use Rattle.meet_c.specs.Followed.{TakesMany};
 ghost use Rattle.meet_c.specs.Followed.{StandsAs, Follows, ChecksNew};
 
 use crate::entries::{PlainRecord, read_record};
@@ -22,9 +23,9 @@ pub struct Follower {
     pub taken: u64,
 }
 
-/// What a checker found: a status, 0 if the records so far are legal; how many records it has taken in; the number of the
-/// first record that can't stand, from 1, and why, 1 to 4; and how many open tickets wait, how many were met or cut and
-/// await their follow-up, and how many items are kept.
+/// What a checker found: a status, 0 if the records so far are legal; how many records it has taken in; the number of
+/// the first record that can't stand, from 1, and why, 1 to 4; and how many open tickets wait, how many were met or cut
+/// and await their follow-up, and how many items are kept.
 #[repr(C)]
 #[derive(Clone, Copy, PartialEq, Eq, Debug)]
 pub struct Found {

@@ -1,7 +1,8 @@
 //! The exports of a queue. Each calls the library's function, and states its clauses again.
 
 ghost use Rattle.std.specs.Prelude.{◌≡◌, ◌≢◌, ◌⊎◌, Some, None, IfSome};
-ghost use Rattle.meet_c.specs.Handled.{HoldsNewQueue, IsPlace, IsNoPlace, Steps, StepsHeld, Looks, Opens, Copies, Cuts, CutsHeld};
+ghost use Rattle.meet_c.specs.Handled.{HoldsNewQueue, IsPlace, IsNoPlace, Steps, StepsHeld, Looks, Opens, Copies};
+ghost use Rattle.meet_c.specs.Handled.{Cuts, CutsHeld};
 
 use crate::answers::{Answer, failed};
 use crate::entries::{PlainRecord, copy_records};
@@ -25,11 +26,14 @@ pub(crate) fn read_setup(order: u64, bound: u64, seats: u64, first: u64, cap: u6
 }
 
 /// Creates a queue of this order (1 fair, 2 unfair, 3 transfer), with this bound on the items that a transfer queue
-/// keeps, 0 for none, with 1 to 65,536 seats, this first ticket, 1 to 2^63 - 1, and at most this many records at a time,
-/// 1 to 1,048,576. The handle holds it then, and what it held is dropped. `SynchronousQueue`, `LinkedTransferQueue`.
+/// keeps, 0 for none, with 1 to 65,536 seats, this first ticket, 1 to 2^63 - 1, and at most this many records at a
+/// time, 1 to 1,048,576. The handle holds it then, and what it held is dropped.
 ///
 /// # Errors
-/// Returns 1 if memory runs out, and 41 if a number is out of its limits. The handle holds what it held then.
+/// - 1 if memory runs out. The handle holds what it held then.
+/// - 41 if a number is out of its limits. The handle holds what it held then.
+///
+/// `SynchronousQueue`, `LinkedTransferQueue`.
 #[unsafe(no_mangle)]
 pub extern "C" fn ibis_queue_new(
     alloc: Global,
@@ -81,8 +85,10 @@ fn step_held(held: &mut Held, verb: u64, seat: u64, value: u64) -> Answer
 /// that isn't matched is pending, and its seat asks by a follow-up. Returns the answer's status.
 ///
 /// # Errors
-/// Returns the number of the refusal, which is 1 Memory, 2 HistoryFull, 3 TicketsSpent, 4 SeatOpen, 5 NoSuchSeat or 6
-/// NotOpen; 40 if no queue is held; 41 if the numbers are no call and seat. Nothing has changed then.
+/// Nothing has changed then.
+/// - 1 Memory, 2 HistoryFull, 3 TicketsSpent, 4 SeatOpen, 5 NoSuchSeat or 6 NotOpen: the queue refuses the call.
+/// - 40 if no queue is held.
+/// - 41 if the numbers are no call and seat.
 #[unsafe(no_mangle)]
 pub extern "C" fn ibis_queue_step(
     alloc: Global,
@@ -111,7 +117,7 @@ pub extern "C" fn ibis_queue_step(
 /// Looks at a queue: its probes, and the counts of its log. It takes no memory.
 ///
 /// # Errors
-/// Returns 40 if no queue is held.
+/// - 40 if no queue is held.
 #[unsafe(no_mangle)]
 pub extern "C" fn ibis_queue_look(alloc: Global, handle: &mut Handle, seen: &mut Look) -> u64
     ensures looks { Looks handle.old.loose.value seen.old result seen.new }
@@ -143,7 +149,8 @@ fn look_held(held: &Held, seen: &mut Look) -> u64
 /// Finds a seat's open ticket, 0 for none, also of a seat that the queue hasn't. It takes no memory.
 ///
 /// # Errors
-/// Returns 40 if no queue is held, and 41 if the number is no seat's.
+/// - 40 if no queue is held.
+/// - 41 if the number is no seat's.
 #[unsafe(no_mangle)]
 pub extern "C" fn ibis_queue_open(
     alloc: Global,
@@ -180,11 +187,11 @@ fn open_held(held: &Held, seat: u64, ticket: &mut u64) -> u64
     }
 }
 
-/// Copies the queue's records since the last cut, from this index on, from 0, as many as there are and as have room, and
-/// sets how many. It takes no memory.
+/// Copies the queue's records since the last cut, from this index on, from 0, as many as there are and as have room,
+/// and sets how many. It takes no memory.
 ///
 /// # Errors
-/// Returns 40 if no queue is held.
+/// - 40 if no queue is held.
 #[unsafe(no_mangle)]
 pub extern "C" fn ibis_queue_records(
     alloc: Global,
@@ -225,12 +232,14 @@ fn copy_held(held: &Held, from: usize, into: &mut [PlainRecord], count: &mut usi
     }
 }
 
-/// Folds the records away (a checkpoint): from then on the queue's base stands for them, and there is room for as many as
-/// at first. Sets how many records were folded away since the first.
+/// Folds the records away (a checkpoint): from then on the queue's base stands for them, and there is room for as many
+/// as at first. Sets how many records were folded away since the first.
 ///
 /// # Errors
-/// Returns 1 if memory runs out, 2 if more than 2^63 - 1 records would be folded away, and 40 if no queue is held.
 /// Nothing has changed then.
+/// - 1 if memory runs out.
+/// - 2 if more than 2^63 - 1 records would be folded away.
+/// - 40 if no queue is held.
 #[unsafe(no_mangle)]
 pub extern "C" fn ibis_queue_cut(alloc: Global, handle: &mut Handle, gone: &mut u64) -> u64
     ensures { Cuts handle.old.loose.value result gone.new handle.new.loose.value }
