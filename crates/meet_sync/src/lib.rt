@@ -1,3 +1,4 @@
+#![tactic(auto)]
 //! The queues of `java.util.concurrent` for threads: each is a queue of one thread under a lock, with a seat for each
 //! thread that calls it. It knows how a call waits, and nothing of what the queue does.
 //!
@@ -13,7 +14,6 @@
 //! `#[inline(always)]` stands where a call passes on its way from `ask` to the place below, so that a call is one function
 //! from where a program makes it. It doesn't stand on `turn` and `await_end`: the compiler drops the attribute of a
 //! function that has grown too large, and says nothing. `dev/measure/instructions` does.
-#![tactic(auto)]
 
 mod asked;
 mod chapters;
@@ -38,12 +38,15 @@ pub use asked::{
 pub use chapters::Chapter;
 pub use closing::{Chronicle, QueueFault};
 pub use draining::DrainedItems;
-pub use laws::closed_queues_keep_their_promise;
+pub use laws::{
+    closed_queues_keep_order, closed_queues_keep_their_promise,
+    receipts_of_closed_queues_tell_places,
+};
 pub use making::NewQueue;
 pub use meet_core::{Left, LeftStanding};
 pub use meet_laws::Tally;
 pub use meet_line::{FairLine, StackLine};
-pub use meet_place::{Back, Blanks, Gate, Ledgers, Pending, Seat, Turn};
+pub use meet_place::{Back, Blanks, Gate, Ledgers, Moment, Pending, Seat, Turn};
 pub use queue::Queue;
 pub use sync_queue::SyncQueue;
 pub use transfer_queue::TransferQueue;
