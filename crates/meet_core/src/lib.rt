@@ -1,3 +1,4 @@
+#![tactic(auto)]
 //! The queue of one thread: who meets whom, what each seat learns of it, and the record of each call; and with it the
 //! synchronous queue, `java.util.concurrent.SynchronousQueue`, each waiting call split into its request and its ending.
 //! It knows neither threads nor locks, nor which line it stands over.
@@ -11,7 +12,6 @@
 //!
 //! `#[inline(always)]` stands where a put or a take passes on its way from `step` to the line and the seats. So a call is
 //! one function from where a program makes it, and nine matches on its kind fall away. The other calls are called.
-#![tactic(auto)]
 
 mod answers;
 mod calls;

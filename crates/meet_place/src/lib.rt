@@ -1,3 +1,4 @@
+#![tactic(auto)]
 //! A place that threads share: a book under a lock, a seat for each thread, and a gate at which each seat waits. It
 //! names no queue.
 //!
@@ -11,7 +12,6 @@
 //!
 //! `#[inline(always)]` stands where a call passes on its way down to the book, so that a call is one function from where
 //! a program makes it; and where the lock is tried first. A thread that finds it taken goes on out of line.
-#![tactic(auto)]
 
 mod backs;
 mod chapters;

@@ -1,3 +1,4 @@
+#![tactic(auto)]
 //! The queues of `java.util.concurrent` for threads: each is a queue of one thread under a lock, with a seat for each
 //! thread that calls it. It knows how a call waits, and nothing of what the queue does.
 //!
@@ -13,7 +14,6 @@
 //! `#[inline(always)]` stands where a call passes on its way from `ask` to the place below, so that a call is one function
 //! from where a program makes it. It doesn't stand on `turn` and `await_end`: the compiler drops the attribute of a
 //! function that has grown too large, and says nothing. `dev/measure/instructions` does.
-#![tactic(auto)]
 
 mod asked;
 mod chapters;
