@@ -1,5 +1,5 @@
-/* Ibisbookcase for programs in C, and in all languages that call C: a synchronous or transfer queue with its log, and
-   a checker of logs. docs/FROM_C.md has a program in ten minutes.
+/* Ibisbookcase for programs in C, and in all languages that call C: a synchronous or transfer queue with its log, a
+   checker of logs, and the checkers of texts. docs/FROM_C.md has a program in ten minutes.
 
    The library starts no thread, takes no lock and never waits. A program adds a mutex and its own way of waiting.
 
@@ -39,8 +39,10 @@ enum {
     IBIS_SEAT_OPEN = 4,     /* the seat has a pending request */
     IBIS_NO_SUCH_SEAT = 5,  /* the queue has no such seat */
     IBIS_NOT_OPEN = 6,      /* the ticket isn't the seat's pending one */
+    IBIS_BAD_LINE = 14,     /* a line of calls can't be read */
+    IBIS_BAD_TRACE = 15,    /* a line of a trace can't be read */
     IBIS_BAD_RECORD = 30,   /* these numbers are no record */
-    IBIS_ILLEGAL = 31,      /* a record can't stand */
+    IBIS_ILLEGAL = 31,      /* a record can't stand; of calls: no history explains them */
     IBIS_NOT_HELD = 40,     /* the handle holds nothing, or something else */
     IBIS_BAD_NUMBERS = 41,  /* these numbers are no place, call or seat */
     IBIS_APART = 42         /* the checker hasn't just seen the records that were folded away */
@@ -177,6 +179,32 @@ uint64_t ibis_checker_standing(ibis_handle *handle, ibis_found *found);
 
 /* Frees what the handle holds, if anything. It holds nothing then. */
 void ibis_free(ibis_handle *handle);
+
+/* What was found of the text of a trace (docs/TRACES.md). What it hasn't is 0. */
+typedef struct ibis_verdict {
+    uint64_t status;                     /* as returned */
+    uint64_t line;                       /* of IBIS_BAD_TRACE: the line that can't be read, from 1 */
+    uint64_t records;                    /* how many there are, if they are legal */
+    uint64_t place, why;                 /* as in ibis_found */
+    uint64_t waiting, uncollected, kept; /* where the records leave the queue, as in ibis_look */
+} ibis_verdict;
+
+/* What came of a text that is answered by a text. */
+typedef struct ibis_written {
+    uint64_t status; /* as returned */
+    uint64_t line;   /* the line that can't be read, from 1 */
+    uint64_t length; /* of all that is to be written; of these bytes, as many as have room stand in `out` */
+} ibis_written;
+
+/* Checks the text of a trace. */
+uint64_t ibis_check(const uint8_t *text, size_t length, ibis_verdict *verdict);
+
+/* Judges the text of a concurrent history (docs/JUDGE.md): IBIS_OK, and the trace of a history that explains it; or
+   IBIS_ILLEGAL, and the reason why none does. IBIS_HISTORY_FULL: a search was given up, which is no verdict. */
+uint64_t ibis_judge(const uint8_t *text, size_t length, uint8_t *out, size_t room, ibis_written *written);
+
+/* Checks the text of a trace, and explains why a record can't stand. */
+uint64_t ibis_explain(const uint8_t *text, size_t length, uint8_t *out, size_t room, ibis_written *written);
 
 #ifdef __cplusplus
 }

@@ -307,7 +307,7 @@ fn run_at<N, R>(
 where
     N: Ledgers,
     R: Wait + Clock,
-    requires ledgers { AreOf N.name N.folds N.parts parts.blanks }
+    requires ledgers { AreOf N.name N.folds N.moments N.parts parts.blanks }
     requires one_each { N.parts ≡ vec_len parts.gates }
     requires cap { N.cap ≡ most_records }
 {

@@ -9,12 +9,10 @@ mod running;
 
 ghost use Rattle.std.specs.Prelude.{◌≡◌, ◌+◌, vec_len};
 
-use meet_cells::ParkGate;
-use meet_place::Blanks;
-use meet_tickets::Refusal;
-use pool_core::{Policy, PoolDeed, PoolQueue, Sizes};
-use pool_threads::{NewPool, PoolChronicle, ThreadStarter};
-use pool_uses::{Boxed, JobFn};
+use ibisbookcase::pools::{
+    Blanks, Boxed, JobFn, NewPool, ParkGate, Policy, PoolChronicle, PoolDeed, PoolQueue, Refusal,
+    Sizes, ThreadStarter,
+};
 use running::{Ran, run_all};
 use std::alloc::Global;
 use std::marker::Brand;

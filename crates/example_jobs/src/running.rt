@@ -1,15 +1,14 @@
 //! A pool that runs jobs, and is closed behind them.
 
 ghost use Rattle.std.specs.Prelude.{◌≡◌, ◌+◌, IfOk, vec_len};
-ghost use Rattle.meet_place.specs.Ledgers.{AreOf};
-ghost use Rattle.pool_core.specs.Histories.{IsLegalOn};
-ghost use Rattle.meet_tickets.specs.Limits.{most_records};
+ghost use Rattle.ibisbookcase.specs.Histories.{IsLegalOn};
+ghost use Rattle.ibisbookcase.specs.Ledgers.{AreOf};
+ghost use Rattle.ibisbookcase.specs.Limits.{most_records};
 
-use meet_cells::ParkGate;
-use meet_place::Back;
-use meet_tickets::Refusal;
-use pool_threads::{Job, NewPool, Pool, PoolChronicle, PoolLedgers, ThreadStarter};
-use pool_uses::{Boxed, ItsTag};
+use ibisbookcase::pools::{
+    Back, Boxed, ItsTag, Job, NewPool, ParkGate, Pool, PoolChronicle, PoolLedgers, Refusal,
+    ThreadStarter,
+};
 use std::alloc::Global;
 use std::sync::Wait;
 use std::thread::Threads;
@@ -35,7 +34,7 @@ pub fn run_all<N, R>(
 where
     N: PoolLedgers + Send + Sync + 'static,
     R: Threads + Wait + Clock + Copy + Send + 'static,
-    requires ledgers { AreOf N.name N.folds N.parts parts.blanks }
+    requires ledgers { AreOf N.name N.folds N.moments N.parts parts.blanks }
     requires one_each { N.parts ≡ parts.sizes.callers + parts.sizes.maximum }
     requires cap { N.cap ≡ most_records }
     requires gates { vec_len parts.gates ≡ parts.sizes.maximum }

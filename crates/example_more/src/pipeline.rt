@@ -6,8 +6,9 @@ ghost use Rattle.std.specs.Prelude.{◌≡◌, vec_len};
 ghost use Rattle.ibisbookcase.specs.Ledgers.{AreOf};
 ghost use Rattle.ibisbookcase.specs.Limits.{most_records};
 
-use self::stages::{Numbers, Sitting, add, make, square};
-use ibisbookcase::queues::{Back, Ledgers, NewQueue, ParkGate, Refusal};
+use self::stages::{add, make, square};
+use crate::pairs::{Numbers, Sitting, closed, opened};
+use ibisbookcase::queues::{Ledgers, NewQueue, ParkGate, Refusal};
 use std::alloc::Global;
 use std::marker::Brand;
 use std::sync::Wait;
@@ -20,33 +21,6 @@ use std::time::Clock;
 pub struct Piped {
     pub sum: u64,
     pub left: usize,
-}
-
-/// The two seats of a queue, the first and the second.
-fn pair<N: Ledgers>(made: Vec<Sitting<N>>) -> Result<(Sitting<N>, Sitting<N>), Refusal> {
-    let mut seats = made;
-    match (seats.pop(), seats.pop()) {
-        (Some(second), Some(first)) => Ok((first, second)),
-        _ => Err(Refusal::SeatMissing),
-    }
-}
-
-/// Closes a queue with the seats of its two threads: how many items are left.
-fn closed<N: Ledgers>(
-    alloc: Global,
-    queue: Numbers<N>,
-    first: Sitting<N>,
-    second: Sitting<N>,
-) -> Result<usize, Refusal> {
-    let Ok(mut backs) = Vec::with_capacity(alloc, 2) else {
-        return Err(Refusal::Memory);
-    };
-    backs.push_reserved(Back::Free(first));
-    backs.push_reserved(Back::Free(second));
-    match queue.close(alloc, backs) {
-        Ok(chronicle) => Ok(chronicle.left.len()),
-        Err(fault) => Err(fault.into_why()),
-    }
 }
 
 /// What the stages hand back: the seats of each queue's two threads, and the sum.
@@ -119,21 +93,18 @@ where
     M: Ledgers + Send + Sync,
     N: Ledgers + Send + Sync,
     R: Threads + Wait + Clock + Sync,
-    requires ledgers { AreOf N.name N.folds N.parts parts.blanks }
+    requires ledgers { AreOf N.name N.folds N.moments N.parts parts.blanks }
     requires one_each { N.parts ≡ vec_len parts.gates }
     requires cap { N.cap ≡ most_records }
 {
-    let (squares, seats) = match Numbers::<N>::new(alloc, parts) {
-        Ok(made) => made,
-        Err(refused) => return Err(refused.into_why()),
-    };
+    let (squares, second) = opened::<N>(alloc, parts)?;
     let Stopped {
         maker,
         from,
         to,
         adder,
         sum,
-    } = run(rt, numbers, &squares, first, pair(seats)?)?;
+    } = run(rt, numbers, &squares, first, second)?;
     let left = closed(alloc, squares, to, adder)?;
     Ok((maker, from, Piped { sum, left }))
 }
@@ -149,15 +120,12 @@ where
     M: Ledgers + Send + Sync,
     N: Ledgers + Send + Sync,
     R: Threads + Wait + Clock + Sync,
-    requires first { AreOf M.name M.folds M.parts first.blanks × (M.parts ≡ vec_len first.gates) }
-    requires second { AreOf N.name N.folds N.parts second.blanks × (N.parts ≡ vec_len second.gates) }
+    requires first { AreOf M.name M.folds M.moments M.parts first.blanks × (M.parts ≡ vec_len first.gates) }
+    requires second { AreOf N.name N.folds N.moments N.parts second.blanks × (N.parts ≡ vec_len second.gates) }
     requires caps { (M.cap ≡ most_records) × (N.cap ≡ most_records) }
 {
-    let (numbers, seats) = match Numbers::<M>::new(alloc, first) {
-        Ok(made) => made,
-        Err(refused) => return Err(refused.into_why()),
-    };
-    let (maker, from, piped) = run_to::<M, N, R>(rt, alloc, &numbers, pair(seats)?, second)?;
+    let (numbers, seats) = opened::<M>(alloc, first)?;
+    let (maker, from, piped) = run_to::<M, N, R>(rt, alloc, &numbers, seats, second)?;
     let left = closed(alloc, numbers, maker, from)?;
     Ok(Piped {
         sum: piped.sum,

@@ -59,7 +59,7 @@ fn open_server<N, R>(rt: &R, alloc: Global, parts: NewQueue<ParkGate>) -> Result
 where
     N: Ledgers + Send + Sync,
     R: Threads + Wait + Clock + Sync,
-    requires ledgers { AreOf N.name N.folds N.parts parts.blanks }
+    requires ledgers { AreOf N.name N.folds N.moments N.parts parts.blanks }
     requires one_each { N.parts ≡ vec_len parts.gates }
     requires cap { N.cap ≡ most_records }
 {

@@ -188,7 +188,7 @@ pub fn pass<N, R>(
 where
     N: Ledgers + Send + Sync,
     R: Threads + Wait + Clock + Sync,
-    requires ledgers { AreOf N.name N.folds N.parts parts.blanks }
+    requires ledgers { AreOf N.name N.folds N.moments N.parts parts.blanks }
     requires one_each { N.parts ≡ vec_len parts.gates }
     requires cap { N.cap ≡ plan.cap }
     requires two { vec_len parts.gates ≡ 2 }

@@ -1,11 +1,11 @@
 //! The pool of threads, `ThreadPoolExecutor`.
 
 pub use meet_cells::{ParkGate, SpinGate};
-pub use meet_place::{Back, Blanks, Gate, Ledgers, Seat};
+pub use meet_place::{Back, Blanks, Gate, Ledgers, Moment, Seat};
 pub use meet_tickets::{Record, Refusal, Ticket};
 pub use pool_core::{Counters, Policy, PoolDeed, PoolQueue, Settings, Sizes};
 pub use pool_history::{PoolChecker, PoolFault as IllegalPool, PoolWhy, check_pool};
 pub use pool_threads::{
-    Call, Job, NewPool, Outcome, Pool, PoolChapter, PoolChronicle, PoolFault, PoolLedgers,
-    PoolRefused, SeatRefused, Starter, ThreadStarter, Work, Worker,
+    Boxed, Call, ItsTag, Job, JobFn, NewPool, Outcome, Pool, PoolChapter, PoolChronicle, PoolFault,
+    PoolLedgers, PoolRefused, SeatRefused, Starter, ThreadStarter, Work, Worker,
 };

@@ -5,7 +5,7 @@ pub use meet_chosen::{ChosenBook, ChosenQueue};
 pub use meet_desk::Desk;
 pub use meet_sync::{
     Answer, Asked, Back, Blanks, Chapter, Chronicle, DrainedItems, End, Ended, FairLine, Followed,
-    Gate, Interrupted, Ledgers, Left, LeftStanding, NewQueue, Pending, Queue, QueueFault, Request,
-    Seat, SeatRefused, StackLine, SyncQueue, TakenBack, Tally, TransferQueue, Turn,
+    Gate, Interrupted, Ledgers, Left, LeftStanding, Moment, NewQueue, Pending, Queue, QueueFault,
+    Request, Seat, SeatRefused, StackLine, SyncQueue, TakenBack, Tally, TransferQueue, Turn,
 };
 pub use meet_tickets::{Deed, Marked, Order, Record, Refusal, Refused, SeatNo, Ticket};

@@ -1,2 +1,3 @@
 pub mod Draining
 pub mod Listing
+pub mod Standing

@@ -1,13 +1,13 @@
 -- The steps of a comparison: a record more, a receipt more, a seat more.
-use Rattle.std.proofs.Common.{◌≡◌, ◌≢◌, ℕ, suc, ◌+◌, ◌<◌, ◌≤◌, List, [], ◌∷◌, ◌++◌, length, take, drop, get_or, Bool, true, false, Option, None, refl, sym, ap, ◌∙◌, subst, arith, cond, length-append, ◌==◌, MatchOption}
+use Rattle.std.proofs.Common.{◌≡◌, ◌≢◌, ℕ, zero, suc, ◌+◌, ◌<◌, ◌≤◌, List, [], ◌∷◌, ◌++◌, length, take, drop, get_or, Bool, true, false, Option, None, refl, sym, ap, ◌∙◌, subst, arith, cond, length-append, ◌==◌, MatchOption}
 use Rattle.std.specs.Prelude.{slice_get, filter, map, nat_lt}
 use Rattle.std.proofs.lemmas.Bool.{eq-eqb, lt-ltb, le-ltb}
 use Rattle.std.proofs.lemmas.Bool.Decides.{nat_tests}
-use Rattle.std.proofs.lemmas.List.{take-take, take-append-drop, drop_more, map-append, append-nil, nil_from_length}
+use Rattle.std.proofs.lemmas.List.{take-take, take-append-drop, drop_more, append-nil, nil_from_length, length-map}
 use Rattle.std.proofs.lemmas.List.Elements.{filter_more, filter-append}
 use Rattle.std.proofs.Math.ListN.{get_or-eq_default}
 use Rattle.meet_tickets.specs.declared.records.Record.{Record}
-use Rattle.meet_book.specs.Listed.{is_of, of_seat, is_since, entries_since, IsListed, DifferAt, FewerOrThese}
+use Rattle.meet_book.specs.Listed.{is_of, of_seat, is_since, since, numbered, is_own, own_of, IsListed, DifferAt, FewerOrThese}
 use Rattle.meet_book.specs.Received.{Received}
 
 apart : (a b : ℕ) → a ≢ b → (a == b) ≡ false
@@ -41,54 +41,80 @@ pub fewer_all : {A : Type 0} (p : A → Bool) (some xs : List A) (n : ℕ) → F
 fewer_all p some xs n fewer =
     subst (FewerOrThese some) (sym (filter-append p (take n xs) (drop n xs)) ∙ ap (filter p) (take-append-drop n xs)) (fewer_more some (filter p (take n xs)) (filter p (drop n xs)) fewer)
 
--- one record more, of the seat or not
-pub of_own : {D : Type 0} (seat : ℕ) (records : List (Record D)) (i : ℕ) (r : Record D) → i < length records → r ≡ get_or records i r → r.seat ≡ seat → of_seat seat (take (i + 1) records) ≡ of_seat seat (take i records) ++ r ∷ []
-of_own seat records i r lt is own =
-    let hit : is_of seat (get_or records i r) ≡ true = ap (is_of seat) (sym is) ∙ eq-eqb _ _ own in
-    filter_more (is_of seat) records i r lt ∙ (λ j. of_seat seat (take i records) ++ cond (hit j) (sym is j ∷ []) [])
+-- one element more, which passes or not
+pub of_own : {A : Type 0} (p : A → Bool) (xs : List A) (i : ℕ) (r : A) → i < length xs → r ≡ get_or xs i r → p r ≡ true → filter p (take (i + 1) xs) ≡ filter p (take i xs) ++ r ∷ []
+of_own p xs i r lt is own =
+    let hit : p (get_or xs i r) ≡ true = ap p (sym is) ∙ own in
+    filter_more p xs i r lt ∙ (λ j. filter p (take i xs) ++ cond (hit j) (sym is j ∷ []) [])
 
-pub of_other : {D : Type 0} (seat : ℕ) (records : List (Record D)) (i : ℕ) (r : Record D) → i < length records → r ≡ get_or records i r → r.seat ≢ seat → of_seat seat (take (i + 1) records) ≡ of_seat seat (take i records)
-of_other seat records i r lt is other =
-    let miss : is_of seat (get_or records i r) ≡ false = ap (is_of seat) (sym is) ∙ apart _ _ other in
-    filter_more (is_of seat) records i r lt ∙ (λ j. of_seat seat (take i records) ++ cond (miss j) (get_or records i r ∷ []) []) ∙ append-nil (of_seat seat (take i records))
+pub of_other : {A : Type 0} (p : A → Bool) (xs : List A) (i : ℕ) (r : A) → i < length xs → r ≡ get_or xs i r → p r ≡ false → filter p (take (i + 1) xs) ≡ filter p (take i xs)
+of_other p xs i r lt is other =
+    let miss : p (get_or xs i r) ≡ false = ap p (sym is) ∙ other in
+    filter_more p xs i r lt ∙ (λ j. filter p (take i xs) ++ cond (miss j) (get_or xs i r ∷ []) []) ∙ append-nil (filter p (take i xs))
 
--- a record of the seat that stands behind those looked at
-pub of_next : {D : Type 0} (seat : ℕ) (records : List (Record D)) (some : List (Record D)) (n i : ℕ) (r : Record D) → n ≤ i → i < length records → r ≡ get_or records i r → r.seat ≡ seat → FewerOrThese some (of_seat seat (take n records)) → FewerOrThese (some ++ r ∷ []) (of_seat seat (take (i + 1) records))
-of_next seat records some n i r le lt is own fewer =
-    let so_far = subst (FewerOrThese some) (sym (filter_later (is_of seat) records n i le)) (fewer_more some (of_seat seat (take n records)) (of_seat seat (drop n (take i records))) fewer) in
-    subst (FewerOrThese (some ++ r ∷ [])) (sym (of_own seat records i r lt is own)) (fewer_last some (of_seat seat (take i records)) r so_far)
+-- one that passes, and stands behind those looked at
+pub of_next : {A : Type 0} (p : A → Bool) (xs : List A) (some : List A) (n i : ℕ) (r : A) → n ≤ i → i < length xs → r ≡ get_or xs i r → p r ≡ true → FewerOrThese some (filter p (take n xs)) → FewerOrThese (some ++ r ∷ []) (filter p (take (i + 1) xs))
+of_next p xs some n i r le lt is own fewer =
+    let so_far = subst (FewerOrThese some) (sym (filter_later p xs n i le)) (fewer_more some (filter p (take n xs)) (filter p (drop n (take i xs))) fewer) in
+    subst (FewerOrThese (some ++ r ∷ [])) (sym (of_own p xs i r lt is own)) (fewer_last some (filter p (take i xs)) r so_far)
 
--- one receipt more
-pub since_next : {D : Type 0} (gone : ℕ) (list : List (Received D)) (at : ℕ) (receipt : Received D) → at < length list → receipt ≡ get_or list at receipt → gone < receipt.place → entries_since gone (take (at + 1) list) ≡ entries_since gone (take at list) ++ receipt.entry ∷ []
-since_next gone list at receipt lt is later =
-    let hit : is_since gone (get_or list at receipt) ≡ true = ap (is_since gone) (sym is) ∙ lt-ltb _ _ later in
-    ap (map (λ t. t.entry)) (filter_more (is_since gone) list at receipt lt ∙ (λ j. filter (is_since gone) (take at list) ++ cond (hit j) (sym is j ∷ []) [])) ∙ map-append (λ t. t.entry) (filter (is_since gone) (take at list)) (receipt ∷ [])
+-- one that passes at the head of what is left, or one that doesn't
+pub of_first : {A : Type 0} (p : A → Bool) (xs : List A) (i : ℕ) (r : A) → i < length xs → r ≡ get_or xs i r → p r ≡ true → filter p (drop i xs) ≡ r ∷ filter p (drop (i + 1) xs)
+of_first p xs i r lt is hit =
+    ap (filter p) (drop_more xs i r lt ∙ ap (λ x. x ∷ drop (i + 1) xs) (sym is)) ∙ (λ j. cond (hit j) (r ∷ filter p (drop (i + 1) xs)) (filter p (drop (i + 1) xs)))
 
-pub since_passed : {D : Type 0} (gone : ℕ) (list : List (Received D)) (at : ℕ) (receipt : Received D) → at < length list → receipt ≡ get_or list at receipt → receipt.place ≤ gone → entries_since gone (take (at + 1) list) ≡ entries_since gone (take at list)
-since_passed gone list at receipt lt is earlier =
-    let miss : is_since gone (get_or list at receipt) ≡ false = ap (is_since gone) (sym is) ∙ le-ltb _ _ earlier in
-    ap (map (λ t. t.entry)) (filter_more (is_since gone) list at receipt lt ∙ (λ j. filter (is_since gone) (take at list) ++ cond (miss j) (get_or list at receipt ∷ []) []) ∙ append-nil (filter (is_since gone) (take at list)))
+pub of_passed : {A : Type 0} (p : A → Bool) (xs : List A) (i : ℕ) (r : A) → i < length xs → r ≡ get_or xs i r → p r ≡ false → filter p (drop i xs) ≡ filter p (drop (i + 1) xs)
+of_passed p xs i r lt is miss =
+    ap (filter p) (drop_more xs i r lt ∙ ap (λ x. x ∷ drop (i + 1) xs) (sym is)) ∙ (λ j. cond (miss j) (r ∷ filter p (drop (i + 1) xs)) (filter p (drop (i + 1) xs)))
 
-pub since_drop : {D : Type 0} (gone : ℕ) (list : List (Received D)) (at : ℕ) (receipt : Received D) → at < length list → receipt ≡ get_or list at receipt → gone < receipt.place → entries_since gone (drop at list) ≡ receipt.entry ∷ entries_since gone (drop (at + 1) list)
-since_drop gone list at receipt lt is later =
-    let hit : is_since gone receipt ≡ true = lt-ltb _ _ later in
-    ap (entries_since gone) (drop_more list at receipt lt ∙ ap (λ t. t ∷ drop (at + 1) list) (sym is)) ∙ (λ j. map (λ t. t.entry) (cond (hit j) (receipt ∷ filter (is_since gone) (drop (at + 1) list)) (filter (is_since gone) (drop (at + 1) list))))
+-- what passes is what passes before this one, this one, and what passes behind it
+pub of_here : {A : Type 0} (p : A → Bool) (xs : List A) (i : ℕ) (r : A) → i < length xs → r ≡ get_or xs i r → p r ≡ true → filter p xs ≡ filter p (take i xs) ++ r ∷ filter p (drop (i + 1) xs)
+of_here p xs i r lt is own =
+    ap (filter p) (sym (take-append-drop i xs)) ∙ filter-append p (take i xs) (drop i xs) ∙ ap (λ l. filter p (take i xs) ++ l) (of_first p xs i r lt is own)
 
-pub since_drop_passed : {D : Type 0} (gone : ℕ) (list : List (Received D)) (at : ℕ) (receipt : Received D) → at < length list → receipt ≡ get_or list at receipt → receipt.place ≤ gone → entries_since gone (drop at list) ≡ entries_since gone (drop (at + 1) list)
-since_drop_passed gone list at receipt lt is earlier =
-    let miss : is_since gone receipt ≡ false = le-ltb _ _ earlier in
-    ap (entries_since gone) (drop_more list at receipt lt ∙ ap (λ t. t ∷ drop (at + 1) list) (sym is)) ∙ (λ j. map (λ t. t.entry) (cond (miss j) (receipt ∷ filter (is_since gone) (drop (at + 1) list)) (filter (is_since gone) (drop (at + 1) list))))
+-- whether a receipt is since
+pub is_later : {D : Type 0} (gone : ℕ) (receipt : Received D) → gone < receipt.place → is_since gone receipt ≡ true
+is_later gone receipt later = lt-ltb _ _ later
+
+pub is_earlier : {D : Type 0} (gone : ℕ) (receipt : Received D) → receipt.place ≤ gone → is_since gone receipt ≡ false
+is_earlier gone receipt earlier = le-ltb _ _ earlier
+
+-- whether a receipt is a seat's own
+pub is_own_of : {D : Type 0} (seat : ℕ) (receipt : Received D) → receipt.entry.seat ≡ seat → is_own seat receipt ≡ true
+is_own_of seat receipt own = eq-eqb _ _ own
+
+pub isn't_own_of : {D : Type 0} (seat : ℕ) (receipt : Received D) → receipt.entry.seat ≢ seat → is_own seat receipt ≡ false
+isn't_own_of seat receipt other = apart _ _ other
+
+-- the receipts for some records are as many, and each has its record and the number of that
+pub numbered_many : {D : Type 0} (gone : ℕ) (records : List (Record D)) → length (numbered gone records) ≡ length records
+numbered_many gone [] = refl
+numbered_many gone (r ∷ records) = ap suc (numbered_many (gone + 1) records)
+
+pub numbered_at : {D : Type 0} (gone : ℕ) (records : List (Record D)) (i : ℕ) (r : Record D) (receipt : Received D) → i < length records → r ≡ get_or records i r → r ≡ receipt.entry → receipt.place ≡ gone + i + 1 → receipt ≡ get_or (numbered gone records) i receipt
+numbered_at gone [] i r receipt lt is same at = absurd (omega (arith, lt))
+numbered_at gone (x ∷ records) zero r receipt lt is same at = let here : receipt.place ≡ gone + 1 = omega (arith, at) in λ j. record { place = here j; entry = (sym same ∙ is) j }
+numbered_at gone (x ∷ records) (suc i) r receipt lt is same at = numbered_at (gone + 1) records i r receipt (omega (arith, lt)) is same (omega (arith, at))
+
+-- a seat's receipts are for its records
+pub own_entries : {D : Type 0} (gone : ℕ) (records : List (Record D)) (seat : ℕ) → map (λ receipt. receipt.entry) (own_of gone records seat) ≡ of_seat seat records
+own_entries gone [] seat = refl
+own_entries gone (r ∷ records) seat = one (is_of seat r) (own_entries (gone + 1) records seat)
+  where
+    one : (b : Bool) → map (λ receipt. receipt.entry) (own_of (gone + 1) records seat) ≡ of_seat seat records → map (λ receipt. receipt.entry) (cond b (record { place = gone + 1; entry = r } ∷ own_of (gone + 1) records seat) (own_of (gone + 1) records seat)) ≡ cond b (r ∷ of_seat seat records) (of_seat seat records)
+    one true e = ap (λ l. r ∷ l) e
+    one false e = e
+
+pub own_many : {D : Type 0} (gone : ℕ) (records : List (Record D)) (seat : ℕ) → length (own_of gone records seat) ≡ length (of_seat seat records)
+own_many gone records seat = sym (length-map (own_of gone records seat) (λ receipt. receipt.entry)) ∙ ap length (own_entries gone records seat)
+
+pub own_none : {D : Type 0} (gone : ℕ) (records : List (Record D)) (seat : ℕ) → of_seat seat records ≡ [] → own_of gone records seat ≡ []
+own_none gone records seat none = nil_from_length (own_of gone records seat) (own_many gone records seat ∙ ap length none)
 
 -- behind what they begin with in common, lists differ where their rests differ at once
 pub differ_behind : {A : Type 0} (prefix xs ys : List A) → slice_get xs 0 ≢ slice_get ys 0 → DifferAt (prefix ++ xs) (prefix ++ ys) (length prefix)
 differ_behind [] xs ys h = (refl, h)
 differ_behind (x ∷ prefix) xs ys h = let rest = differ_behind prefix xs ys h in (ap (λ l. x ∷ l) rest.0, rest.1)
-
--- the seat's records are those before this one, this one, and those behind it
-pub of_here : {D : Type 0} (seat : ℕ) (records : List (Record D)) (i : ℕ) (r : Record D) → i < length records → r ≡ get_or records i r → r.seat ≡ seat → of_seat seat records ≡ of_seat seat (take i records) ++ r ∷ of_seat seat (drop (i + 1) records)
-of_here seat records i r lt is own =
-    let hit : is_of seat r ≡ true = eq-eqb _ _ own in
-    ap (of_seat seat) (sym (take-append-drop i records)) ∙ filter-append (is_of seat) (take i records) (drop i records) ∙ ap (λ l. of_seat seat (take i records) ++ of_seat seat l) (drop_more records i r lt ∙ ap (λ x. x ∷ drop (i + 1) records) (sym is)) ∙ (λ j. of_seat seat (take i records) ++ cond (hit j) (r ∷ of_seat seat (drop (i + 1) records)) (of_seat seat (drop (i + 1) records)))
 
 -- the records of the seats below this number
 abbrev pub below : {D : Type 0} → (number : ℕ) → List (Record D) → List (Record D)
@@ -124,7 +150,7 @@ below_and number seat (r ∷ records) le = one (nat_lt r.seat number) (r.seat ==
 
 -- a seat without a list is listed where no record is its own
 pub listed_past : {D : Type 0} (gone : ℕ) (records : List (Record D)) (lists : List (List (Received D))) (seat : ℕ) → length lists ≤ seat → of_seat seat records ≡ [] → IsListed gone records lists seat
-listed_past gone records lists seat past none = none ∙ ap (entries_since gone) (sym (get_or-eq_default lists [] past))
+listed_past gone records lists seat past none = own_none gone records seat none ∙ ap (since gone) (sym (get_or-eq_default lists [] past))
 
 -- the least seat from this number that a record is of
 abbrev pub IsLeast : {D : Type 0} → (from : ℕ) → List (Record D) → Option ℕ → Type 0

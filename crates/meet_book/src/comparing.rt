@@ -3,7 +3,7 @@
 ghost use Rattle.std.specs.Prelude.{◌≡◌, ◌≢◌, ◌↔◌, ◌+◌, ◌<◌, ◌≤◌, ℕ, List, [], ◌∷◌, length, map, drop, slice_get};
 ghost use Rattle.std.specs.Prelude.{Some, IsTrue, MatchOption, IfNone, IfSome};
 ghost use Rattle.meet_tickets.specs.Limits.{most_seats};
-ghost use Rattle.meet_book.specs.Listed.{of_seat, entries_since, DifferAt, FewerOrThese};
+ghost use Rattle.meet_book.specs.Listed.{of_seat, own_of, since, DifferAt, FewerOrThese};
 ghost use Rattle.meet_book.specs.Listed.{AreListed, FirstDiffer};
 ghost use Rattle.meet_book.specs.Received.{Received};
 
@@ -49,6 +49,15 @@ fn is_same<D: Same>(one: &Record<D>, other: &Record<D>) -> bool
         && one.deed.same(&other.deed)
 }
 
+/// Whether a receipt is for this record: its entry and its number. Ahead of the record stand the first `gone`, which were
+/// folded away, and `before` more.
+fn is_for<D: Same>(receipt: &Receipt<D>, gone: u64, before: u64, entry: &Record<D>) -> bool
+    requires { gone < receipt.now.place }
+    ensures { IsTrue result ↔ (receipt.now ≡ record { place = gone + before + 1; entry = entry.now }) }
+{
+    receipt.place() - gone - 1 == before && is_same(&receipt.entry(), entry)
+}
+
 /// Counts the receipts of a seat's list down from `all`, where each is the record of its number, of this seat, and
 /// their numbers rise. Receipts for records that were folded away, the first `gone`, don't count.
 fn count_in_order<D: Same>(
@@ -58,8 +67,8 @@ fn count_in_order<D: Same>(
     list: &[Receipt<D>],
     all: usize,
 ) -> Option<usize>
-    ensures count { IfSome result (λ unseen. unseen + length (entries_since gone list.now) ≡ all) }
-    ensures fewer { IfSome result (λ _. FewerOrThese (entries_since gone list.now) (of_seat seat records.now)) }
+    ensures count { IfSome result (λ unseen. unseen + length (since gone list.now) ≡ all) }
+    ensures fewer { IfSome result (λ _. FewerOrThese (since gone list.now) (own_of gone records.now seat)) }
 {
     let mut unseen = all;
     let mut next = 0;
@@ -100,10 +109,10 @@ fn is_whole<D: Same, H: Holds<D>>(gone: u64, records: &[Record<D>], seats: &[H])
 
 /// The next receipt, from this index, for a record that wasn't folded away.
 fn next_since<D: Copy>(gone: u64, list: &[Receipt<D>], from: usize) -> Option<usize>
-    ensures none { IfNone result (entries_since gone (drop from list.now) ≡ []) }
+    ensures none { IfNone result (since gone (drop from list.now) ≡ []) }
     ensures within { IfSome result (λ at. (from ≤ at) × (at < length list.now)) }
     ensures some { IfSome result (λ at. (receipt : Received D) → slice_get list.now at ≡ Some receipt
-        → entries_since gone (drop from list.now) ≡ receipt.entry ∷ entries_since gone (drop (at + 1) list.now)) }
+        → (gone < receipt.place) × (since gone (drop from list.now) ≡ receipt ∷ since gone (drop (at + 1) list.now))) }
 {
     for at in from..list.len() {
         if gone < list[at].place() {
@@ -113,32 +122,34 @@ fn next_since<D: Copy>(gone: u64, list: &[Receipt<D>], from: usize) -> Option<us
     None
 }
 
-/// The first index at which a seat's records and those of its receipts differ.
+/// The first index at which a seat's receipts and those for its records differ, in the record or in its number.
 fn first_difference<D: Same>(
     gone: u64,
     records: &[Record<D>],
     seat: SeatNo,
     list: &[Receipt<D>],
 ) -> Option<u64>
-    ensures { MatchOption result (of_seat seat records.now ≡ entries_since gone list.now)
-        (λ index. DifferAt (of_seat seat records.now) (entries_since gone list.now) index) }
+    ensures { MatchOption result (own_of gone records.now seat ≡ since gone list.now)
+        (λ index. DifferAt (own_of gone records.now seat) (since gone list.now) index) }
 {
     let own = seat.number();
     let all = list.len();
     let mut index = 0;
     let mut at = 0;
+    let mut before: u64 = 0;
     for entry in records {
         if entry.seat.number() == own {
             let found = match next_since(gone, list, at) {
                 Some(found) => found,
                 None => return Some(index),
             };
-            if !is_same(&list[found].entry(), entry) {
+            if !is_for(&list[found], gone, before, entry) {
                 return Some(index);
             }
             at = found + 1;
             index += 1;
         }
+        before += 1;
     }
     match next_since(gone, list, at) {
         Some(_) => Some(index),
@@ -165,9 +176,9 @@ fn least_from<D: Copy>(records: &[Record<D>], from: u64) -> Option<SeatNo>
     least
 }
 
-/// Whether each seat's receipts are its records: none exactly where, for every seat, its records are those of its
-/// receipts, in order; else the least seat whose aren't, with the first index at which they differ, from 0 among the
-/// seat's records. Lists are by seat number, and a seat without one has no receipts. Receipts for the first `gone`
+/// Whether each seat's receipts are those for its records: none exactly where they are, for every seat, in order, each
+/// with its record's number; else the least seat whose aren't, with the first index at which they differ, from 0 among
+/// the seat's records. Lists are by seat number, and a seat without one has no receipts. Receipts for the first `gone`
 /// records, which were folded away, don't count. It takes no memory. Where nothing differs it looks at each receipt
 /// once.
 pub fn compare<D: Same, H: Holds<D>>(

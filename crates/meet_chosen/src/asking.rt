@@ -45,21 +45,21 @@ impl<T: Marked, G: Gate, N: Ledgers> ChosenQueue<T, G, N> {
 
     /// Follows an open ticket up: how it ended, or NotYet while it stands in the line. It is never refused.
     pub fn follow_up<R: Wait>(&self, rt: &R, pending: Pending<Deed, N>) -> Followed<T, N>
-        ensures { FollowedAs T.mark_of pending result }
+        ensures { FollowedAs (kind_of self.now) T.mark_of pending result }
     {
         whichever!(self, queue => queue.follow_up(rt, pending))
     }
 
     /// Takes an open ticket back, or answers Late where it was met or cut before. It is never refused.
     pub fn cancel<R: Wait>(&self, rt: &R, pending: Pending<Deed, N>) -> TakenBack<T, N>
-        ensures { TakenBackAs T.mark_of pending Cancelled result }
+        ensures { TakenBackAs (kind_of self.now) T.mark_of pending Cancelled result }
     {
         whichever!(self, queue => queue.cancel(rt, pending))
     }
 
     /// The same, told as an expiry: the ticket's time ran out.
     pub fn expire<R: Wait>(&self, rt: &R, pending: Pending<Deed, N>) -> TakenBack<T, N>
-        ensures { TakenBackAs T.mark_of pending Expired result }
+        ensures { TakenBackAs (kind_of self.now) T.mark_of pending Expired result }
     {
         whichever!(self, queue => queue.expire(rt, pending))
     }

@@ -89,7 +89,7 @@ impl<T: Marked, G: Drop, N: Ledgers> ChosenQueue<T, G, N> {
         parts: NewQueue<G>,
         cap: u64,
     ) -> Result<(Self, Vec<Seat<Deed, N>>), Refused<NewQueue<G>>>
-        requires ledgers { AreOf N.name N.folds N.parts parts.blanks }
+        requires ledgers { AreOf N.name N.folds N.moments N.parts parts.blanks }
         requires one_each { N.parts ≡ vec_len parts.gates }
         requires cap { N.cap ≡ cap }
         ensures order { IfOk result (λ made. order_of made.0 ≡ order) }
@@ -122,7 +122,7 @@ impl<T: Marked, G: Drop, N: Ledgers> ChosenQueue<T, G, N> {
         order: Order,
         parts: NewQueue<G>,
     ) -> Result<(Self, Vec<Seat<Deed, N>>), Refused<NewQueue<G>>>
-        requires ledgers { AreOf N.name N.folds N.parts parts.blanks }
+        requires ledgers { AreOf N.name N.folds N.moments N.parts parts.blanks }
         requires one_each { N.parts ≡ vec_len parts.gates }
         requires cap { N.cap ≡ most_records }
         ensures order { IfOk result (λ made. order_of made.0 ≡ order) }

@@ -1,6 +1,6 @@
 //! A chair at a queue of any kind.
 
-ghost use Rattle.std.specs.Prelude.{◌≡◌, ◌<◌, ◌≤◌, ℕ, None, true, false, [], ◌∷◌, IsOk, IsSome, IsErrAnd, IfSome, IfOk, IfErr, length};
+ghost use Rattle.std.specs.Prelude.{◌≡◌, ◌<◌, ◌≤◌, ℕ, Some, None, true, false, [], ◌∷◌, IsOk, IsSome, IsErrAnd, IfSome, IfOk, IfErr, length, max};
 ghost use Rattle.meet_tickets.specs.declared.refusals.Refusal.TheVariants.{NoSuchSeat};
 ghost use Rattle.meet_place.specs.Tending.{Tends, is_to_look, may_lie};
 ghost use Rattle.meet_sync.specs.Asking.{item_of};
@@ -13,7 +13,7 @@ use crate::refused::{CallRefused, ended_apart, refused_apart};
 use meet_book::Bases;
 use meet_cells::ParkGate;
 use meet_core::QueuePlace;
-use meet_sync::{End, Ledgers, Queue, Request, Seat};
+use meet_sync::{End, Ledgers, Moment, Queue, Request, Seat};
 use meet_tickets::{Deed, Marked, Refusal, SeatNo};
 use std::sync::Wait;
 use std::time::Clock;
@@ -52,6 +52,10 @@ where
 {
     type Handle = R;
 
+    type Moment = Moment<N>;
+
+    ghost written_by = { λ moment. moment };
+
     ghost kind = { O.kind };
 
     ghost count = { N.parts };
@@ -73,6 +77,24 @@ where
         ensures { result ≡ N.parts }
     {
         self.queue.seats()
+    }
+
+    fn moment(&self) -> Moment<N>
+        ensures { IfSome self.now.seat (λ seat. result ≡ seat.moment) }
+    {
+        match &self.seat {
+            Some(seat) => seat.moment(),
+            None => unreachable!(), // a chair at work has its seat
+        }
+    }
+
+    fn learn(&mut self, moment: &Moment<N>)
+        ensures { IfSome self.old.seat (λ seat. self.new.seat
+            ≡ Some (record seat { moment = max seat.moment moment.now })) }
+    {
+        let mut seat = self.seat.take().unwrap();
+        seat.learn(moment);
+        self.seat = Some(seat);
     }
 
     fn ask(&mut self, request: Request<T>, limit: Option<u64>) -> Result<End<T>, CallRefused<T>>

@@ -1,6 +1,6 @@
 //! Chairs: what a thread has in its hand at a queue.
 
-ghost use Rattle.std.specs.Prelude.{◌≡◌, ◌<◌, ◌≤◌, ⊤, ℕ, Option, true, false, IsOk, IsErrAnd, IfSome, IfOk, IfErr, None, ◌∷◌, [], length};
+ghost use Rattle.std.specs.Prelude.{◌≡◌, ◌<◌, ◌≤◌, ⊤, ℕ, Option, true, false, IsOk, IsErrAnd, IfSome, IfOk, IfErr, Some, None, ◌∷◌, [], length, max};
 ghost use Rattle.meet_tickets.specs.declared.refusals.Refusal.TheVariants.{NoSuchSeat};
 ghost use Rattle.meet_place.specs.Tending.{Tends, is_to_look, may_lie};
 ghost use Rattle.meet_tickets.specs.declared.places.Kind.{Kind};
@@ -25,6 +25,12 @@ pub trait Chair<T: Marked> {
     /// By what it waits.
     type Handle: Wait + Clock;
 
+    /// A moment of its queue: how many records had been written by then. It takes no bytes.
+    type Moment;
+
+    /// The number of records that a moment tells.
+    ghost written_by: { Self.Moment → ℕ };
+
     /// The kind of its queue.
     ghost kind: { Kind };
 
@@ -44,6 +50,16 @@ pub trait Chair<T: Marked> {
     /// How many seats its queue has.
     fn seats(&self) -> u64
         ensures { result ≡ count };
+
+    /// Returns the moment that its seat knows of (`Seat::moment`): all records that the seat wrote, and all that it was
+    /// shown, stand up to there. It can be copied, and sent to another thread, whose chair is shown it by `learn`.
+    fn moment(&self) -> Self::Moment
+        ensures { IfSome (seat_of self.now) (λ seat. written_by result ≡ seat.moment) };
+
+    /// Shows the seat a moment of its queue: all calls that the chair makes from now on stand behind that in the history.
+    fn learn(&mut self, moment: &Self::Moment)
+        ensures { IfSome (seat_of self.old) (λ seat. seat_of self.new
+            ≡ Some (record seat { moment = max seat.moment (written_by moment.now) })) };
 
     /// A whole call of the queue: a request, and the wait for its ending, for so many milliseconds where there is a
     /// limit. It refuses Memory, HistoryFull or TicketsSpent, and the item comes back.

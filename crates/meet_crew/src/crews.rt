@@ -62,7 +62,7 @@ where
 {
     /// Creates a queue of these parts, and room for a thread at each of its seats. The only error is Memory.
     fn new(alloc: Global, parts: NewQueue<ParkGate>) -> Result<Self, Refusal>
-        requires ledgers { AreOf N.name N.folds N.parts parts.blanks }
+        requires ledgers { AreOf N.name N.folds N.moments N.parts parts.blanks }
         requires one_each { N.parts ≡ vec_len parts.gates }
         requires cap { N.cap ≡ most_records }
         requires sizes { making_refusal N.parts most_records ≡ None }
@@ -125,7 +125,7 @@ where
     R: Threads + Wait + Clock + Sync,
     V: Crew<T> + Sync,
     V::Told: Send + Drop,
-    requires ledgers { AreOf N.name N.folds N.parts parts.blanks }
+    requires ledgers { AreOf N.name N.folds N.moments N.parts parts.blanks }
     requires one_each { N.parts ≡ vec_len parts.gates }
     requires cap { N.cap ≡ most_records }
     requires sizes { making_refusal N.parts most_records ≡ None }
@@ -166,7 +166,7 @@ where
     R: Threads + Wait + Clock + Sync,
     V: Crew<T> + Sync,
     V::Told: Send + Drop,
-    requires ledgers { AreOf N.name N.folds N.parts parts.blanks }
+    requires ledgers { AreOf N.name N.folds N.moments N.parts parts.blanks }
     requires one_each { N.parts ≡ vec_len parts.gates }
     requires cap { N.cap ≡ most_records }
     requires sizes { making_refusal N.parts most_records ≡ None }
@@ -207,7 +207,7 @@ where
     R: Threads + Wait + Clock + Sync,
     V: Crew<T> + Sync,
     V::Told: Send + Drop,
-    requires ledgers { AreOf N.name N.folds N.parts parts.blanks }
+    requires ledgers { AreOf N.name N.folds N.moments N.parts parts.blanks }
     requires one_each { N.parts ≡ vec_len parts.gates }
     requires cap { N.cap ≡ most_records }
     requires sizes { making_refusal N.parts most_records ≡ None }

@@ -6,6 +6,8 @@ mod growth;
 #[cfg(test)]
 mod limits;
 #[cfg(test)]
+mod moments;
+#[cfg(test)]
 mod numbers;
 #[cfg(test)]
 mod stops;

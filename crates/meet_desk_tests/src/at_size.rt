@@ -19,7 +19,7 @@ fn filled<N: Ledgers, R: Wait>(
     alloc: Global,
     parts: NewQueue<ParkGate>,
 ) -> Result<(usize, usize), Refusal>
-    requires ledgers { AreOf N.name N.folds N.parts parts.blanks }
+    requires ledgers { AreOf N.name N.folds N.moments N.parts parts.blanks }
     requires one_each { N.parts ≡ vec_len parts.gates }
     requires cap { N.cap ≡ most_records }
 {

@@ -79,7 +79,7 @@ fn hundred<N, R>(
 where
     N: Ledgers + Send + Sync,
     R: Threads + Wait + Clock + Sync,
-    requires ledgers { AreOf N.name N.folds N.parts parts.blanks }
+    requires ledgers { AreOf N.name N.folds N.moments N.parts parts.blanks }
     requires one_each { N.parts ≡ vec_len parts.gates }
     requires cap { N.cap ≡ most_records }
 {

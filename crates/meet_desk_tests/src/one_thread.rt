@@ -27,7 +27,7 @@ fn looked<N: Ledgers, R: Wait>(
     alloc: Global,
     parts: NewQueue<ParkGate>,
 ) -> Result<(Vec<u64>, Option<u64>, Option<u64>, usize), Refusal>
-    requires ledgers { AreOf N.name N.folds N.parts parts.blanks }
+    requires ledgers { AreOf N.name N.folds N.moments N.parts parts.blanks }
     requires one_each { N.parts ≡ vec_len parts.gates }
     requires cap { N.cap ≡ most_records }
 {

@@ -46,7 +46,7 @@ fn made<N: Ledgers>(
     parts: NewQueue<ParkGate>,
     day: Day<'_>,
 ) -> (Shop<ParkGate, N>, Vec<Seat<Deed, N>>)
-    requires ledgers { AreOf N.name N.folds N.parts parts.blanks }
+    requires ledgers { AreOf N.name N.folds N.moments N.parts parts.blanks }
     requires one_each { N.parts ≡ vec_len parts.gates }
     requires cap { N.cap ≡ day.cap }
 {
@@ -208,7 +208,7 @@ fn lives<N: Ledgers, R: Abort + Wait>(
     parts: NewQueue<ParkGate>,
     day: Day<'_>,
 ) -> Chronicle<u64>
-    requires ledgers { AreOf N.name N.folds N.parts parts.blanks }
+    requires ledgers { AreOf N.name N.folds N.moments N.parts parts.blanks }
     requires one_each { N.parts ≡ vec_len parts.gates }
     requires cap { N.cap ≡ day.cap }
 {

@@ -261,7 +261,7 @@ fn dealing<G: Fresh + Sync, N: Ledgers + Send + Sync, R: Abort + Threads + Wait 
     parts: NewQueue<G>,
     dealt: Deal<'_>,
 ) -> Result<Came, &'static str>
-    requires ledgers { AreOf N.name N.folds N.parts parts.blanks }
+    requires ledgers { AreOf N.name N.folds N.moments N.parts parts.blanks }
     requires one_each { N.parts ≡ vec_len parts.gates }
     requires cap { N.cap ≡ 1048576 }
 {

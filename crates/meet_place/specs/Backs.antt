@@ -38,13 +38,13 @@ module _ {D N : Type 0} where
   abbrev pub folded_in : List (Back D N) → ℕ
   folded_in seats = sum_by folded_of seats
 
-  -- the seat of this number, with this behind it, these receipts and so much room; held, where a ticket is open,
-  -- with that and its mark
-  abbrev pub back_of : ℕ → Past → List (Received D) → ℕ → Option (ℕ × Option ℕ) → Back D N
-  back_of number past list room None =
-      Free (record { number = number; past = past; list = list; room = room })
-  back_of number past list room (Some held) =
-      Held (record { number = number; past = past; list = list; ticket = held.0; mark = held.1 })
+  -- the seat of this number, with this behind it, this moment, these receipts and so much room; held, where a ticket
+  -- is open, with that and its mark
+  abbrev pub back_of : ℕ → Past → (moment : ℕ) → List (Received D) → ℕ → Option (ℕ × Option ℕ) → Back D N
+  back_of number past moment list room None =
+      Free (record { number = number; past = past; moment = moment; list = list; room = room })
+  back_of number past moment list room (Some held) =
+      Held (record { number = number; past = past; moment = moment; list = list; ticket = held.0; mark = held.1 })
 
   -- these are the same seats, in the order of their numbers
   pub record AreOrdered (seats ordered : List (Back D N)) : Type 0 where

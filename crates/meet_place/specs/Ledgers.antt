@@ -13,7 +13,8 @@ pub record Totalled : Type 0 where
   pub total : ℕ
   pub folds : ℕ
 
--- the two new ledgers have these names, and each is cut into so many parts
-abbrev pub AreOf : (name folds parts : ℕ) → Blanks → Type 0
-AreOf name folds parts blanks = (blanks.records.name ≡ name) × (blanks.folds.name ≡ folds)
+-- the two new ledgers and the new counter have these names, and each ledger is cut into so many parts
+abbrev pub AreOf : (name folds moments parts : ℕ) → Blanks → Type 0
+AreOf name folds moments parts blanks = (blanks.records.name ≡ name) × (blanks.folds.name ≡ folds)
+    × (blanks.moments ≡ moments)
     × (blanks.records.parts ≡ parts) × (blanks.folds.parts ≡ parts)

@@ -4,11 +4,11 @@ ghost use Rattle.std.specs.Prelude.{◌≡◌, ◌+◌, ◌<◌, ◌≤◌, ◌^
 ghost use Rattle.std.specs.Vec.{vec_capacity};
 ghost use Rattle.meet_place.specs.Backs.{list_of, share_of, shares_in, folded_of, folded_in, AreOrdered};
 
-use crate::ledgers::{Ledgers, Stake};
+use crate::ledgers::{Ledgers, Moment, Stake};
 use crate::seats::{Back, Past, Pending, Seat};
 use meet_book::{Holds, Receipt};
 use meet_tickets::{SeatNo, Ticket};
-use std::marker::{Model, PhantomData};
+use std::marker::Model;
 
 /// A seat that was given back, without its share; held with the ticket that is open and its mark.
 #[derive(Drop)]
@@ -17,7 +17,7 @@ pub(crate) struct BareSeat<D: Copy, N: Ledgers> {
     past: Past,
     list: Vec<Receipt<D>>,
     held: Option<(Ticket, Option<u64>)>,
-    of: PhantomData<N>,
+    moment: Moment<N>,
 }
 
 impl<D: Copy, N: Ledgers> Model for BareSeat<D, N> {
@@ -28,7 +28,7 @@ impl<D: Copy, N: Ledgers> Model for BareSeat<D, N> {
 
     ghost Value = { Back D N };
 
-    ghost view = { λ s. back_of s.number s.past s.list.items (vec_capacity s.list - vec_len s.list) s.held };
+    ghost view = { λ s. back_of s.number s.past s.moment s.list.items (vec_capacity s.list - vec_len s.list) s.held };
 
     ghost invariant = { λ s. (s.number < N.parts)
         × (vec_len s.list + length (option_to_list s.held) ≤ vec_capacity s.list) };
@@ -45,13 +45,14 @@ impl<D: Copy, N: Ledgers> BareSeat<D, N> {
             past,
             list,
             held,
-            of: _,
+            moment,
         } = self;
         let seat = Seat {
             number,
             past,
             list,
             share,
+            moment,
         };
         match held {
             None => Back::Free(seat),
@@ -68,7 +69,7 @@ impl<D: Copy, N: Ledgers> BareSeat<D, N> {
             past: _,
             list,
             held: _,
-            of: _,
+            moment: _,
         } = self;
         list
     }
@@ -109,6 +110,7 @@ fn part<D: Copy, N: Ledgers>(back: Back<D, N>) -> (BareSeat<D, N>, Stake<N>)
         past,
         list,
         share,
+        moment,
         ..
     } = seat;
     let bare = BareSeat {
@@ -116,7 +118,7 @@ fn part<D: Copy, N: Ledgers>(back: Back<D, N>) -> (BareSeat<D, N>, Stake<N>)
         past,
         list,
         held,
-        of: PhantomData,
+        moment,
     };
     (bare, share)
 }

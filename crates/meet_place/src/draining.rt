@@ -7,8 +7,8 @@ ghost use Rattle.meet_tickets.specs.Refusals.{IsWhy};
 ghost use Rattle.meet_tickets.specs.declared.refusals.Refusal.TheVariants.{Memory};
 ghost use Rattle.meet_book.specs.Booked.{Booked};
 ghost use Rattle.meet_book.specs.Draining.{TakingPolls, AreNumbered, book_drain_refusal};
-ghost use Rattle.meet_place.specs.Holds.{IsBookOf};
-ghost use Rattle.meet_place.specs.Seats.{DrainedAs};
+ghost use Rattle.meet_place.specs.Holds.{IsBookOf, IsSince};
+ghost use Rattle.meet_place.specs.Seats.{DrainedAs, IsLater};
 
 use crate::ledgers::Ledgers;
 use crate::place::Place;
@@ -77,6 +77,7 @@ impl<O: Drains, N: Ledgers> Shared<O, N> {
             (λ o. O.refusal_of o seat.old.number O.poll) O.available_of O.unspent_of O.owed_of
             self.old.object got self.new.object × AreNumbered (O.gone_of self.old.base + length self.old.records) got)
             seat.old.list seat.new.list answers.items) }
+        ensures later { IsLater seat.old.moment seat.new.moment seat.old.list seat.new.list }
         ensures why { IfErr result (λ refused. IsWhy (book_drain_refusal
             (O.refusal_of self.old.object seat.old.number O.poll) (O.unspent_of self.old.object)
             (O.owed_of self.old.object) self.old
@@ -93,6 +94,7 @@ impl<O: Drains, N: Ledgers> Shared<O, N> {
             number,
             list,
             share,
+            moment,
             ..
         } = seat;
         let Shared { book, total, .. } = self;
@@ -110,7 +112,7 @@ impl<O: Drains, N: Ledgers> Shared<O, N> {
                 });
             }
         };
-        total.add(share, got.len() as u64);
+        total.add(share, moment, got.len() as u64);
         Ok(hand_out(got, list, answers))
     }
 }
@@ -186,9 +188,10 @@ impl<O: Drains, G: Gate, N: Ledgers> Place<O, G, N> {
             × DrainedAs (λ got. TakingPolls (λ before answer after. O.steps before seat.old.number O.poll answer after)
             (O.record_of seat.old.number O.poll) (λ o. O.refusal_of o seat.old.number O.poll) O.available_of
             O.unspent_of O.owed_of old got new × AreNumbered last got) seat.old.list seat.new.list answers.items) }
+        ensures later { IsLater seat.old.moment seat.new.moment seat.old.list seat.new.list }
         ensures why { IfErr result (λ why. (why ≡ Memory) ⊎ ((book : Booked O O.Base O.Deed) × (k : ℕ) × (k ≤ max)
-            × IsBookOf O.seat_count_of N.parts N.cap book × (seat.old.number < N.parts)
-            × IsWhy (book_drain_refusal (O.refusal_of book.object seat.old.number O.poll) (O.unspent_of book.object)
+            × IsBookOf O.seat_count_of N.parts N.cap book × IsSince O.leads O.gone_of seat.old.moment book
+            × (seat.old.number < N.parts) × IsWhy (book_drain_refusal (O.refusal_of book.object seat.old.number O.poll) (O.unspent_of book.object)
             (O.owed_of book.object) book k) why)) }
         ensures same { IfErr result (λ _. seat.new.list ≡ seat.old.list) }
     {
@@ -224,9 +227,10 @@ impl<O: Drains, G: Gate, N: Ledgers> Place<O, G, N> {
             × DrainedAs (λ got. TakingPolls (λ before answer after. O.steps before seat.old.number O.poll answer after)
             (O.record_of seat.old.number O.poll) (λ o. O.refusal_of o seat.old.number O.poll) O.available_of
             O.unspent_of O.owed_of old got new × AreNumbered last got) seat.old.list seat.new.list answers.items) }
+        ensures later { IsLater seat.old.moment seat.new.moment seat.old.list seat.new.list }
         ensures why { IfErr result (λ why. (why ≡ Memory) ⊎ ((book : Booked O O.Base O.Deed) × (k : ℕ) × (k ≤ max)
-            × IsBookOf O.seat_count_of N.parts N.cap book × (seat.old.number < N.parts)
-            × IsWhy (book_drain_refusal (O.refusal_of book.object seat.old.number O.poll) (O.unspent_of book.object)
+            × IsBookOf O.seat_count_of N.parts N.cap book × IsSince O.leads O.gone_of seat.old.moment book
+            × (seat.old.number < N.parts) × IsWhy (book_drain_refusal (O.refusal_of book.object seat.old.number O.poll) (O.unspent_of book.object)
             (O.owed_of book.object) book k) why)) }
         ensures same { IfErr result (λ _. seat.new.list ≡ seat.old.list) }
     {
@@ -237,7 +241,7 @@ impl<O: Drains, G: Gate, N: Ledgers> Place<O, G, N> {
             room.destroy_empty();
             return Err(Refusal::Memory);
         }
-        let mut shared = self.hold(rt);
+        let mut shared = self.hold_since(rt, &seat.moment());
         match shared.drain(seat, max, room, watch) {
             Ok(answers) => Ok(answers),
             Err(refused) => {

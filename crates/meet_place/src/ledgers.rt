@@ -1,9 +1,10 @@
 //! The two ledgers of a place: of its records, and of those that were folded away. They go together in all that
-//! follows.
+//! follows. Beside them is the counter of its records, and what a seat knows of it.
 
-ghost use Rattle.std.specs.Prelude.{◌≡◌, ◌+◌, ◌<◌, ◌≤◌, ℕ};
+ghost use Rattle.std.specs.Prelude.{◌≡◌, ◌+◌, ◌<◌, ◌≤◌, ℕ, max};
 ghost use Rattle.meet_place.specs.Ledgers.{AreOf};
 
+use meet_moments::{self as moments, Counter};
 use std::marker::{Brand, Model, PhantomData};
 use std::sync::ledger;
 use std::sync::ledger::{Blank, Ledger, Share};
@@ -14,12 +15,17 @@ pub trait Ledgers: Ledger {
     /// The name of the ledger of what was folded away.
     ghost folds: { ℕ };
 
+    /// The name of the counter of the records.
+    ghost moments: { ℕ };
+
     /// How many records the place has at most at a time.
     ghost cap: { ℕ };
 }
 
 impl Ledgers for Brand {
     ghost folds = { 0 };
+
+    ghost moments = { 0 };
 
     ghost cap = { 0 };
 }
@@ -35,11 +41,37 @@ impl<N: Ledgers> Ledger for Folds<N> {
     ghost parts = { N.parts };
 }
 
-/// Two new ledgers, which no type stands for yet, with a part for each seat.
+/// A counter at 0, for which no type stands yet. A contract sees its name.
+#[derive(Drop)]
+pub struct NewCounter {
+    counter: Counter,
+}
+
+impl Model for NewCounter {
+    ghost use Rattle.std.specs.Prelude.{◌≡◌, ℕ};
+
+    ghost Value = { ℕ };
+
+    ghost view = { λ f. f.counter.name };
+
+    ghost invariant = { λ f. f.counter.now ≡ 0 };
+}
+
+impl NewCounter {
+    /// Creates a counter at 0.
+    fn new() -> Self {
+        NewCounter {
+            counter: Counter::new(),
+        }
+    }
+}
+
+/// Two new ledgers, which no type stands for yet, with a part for each seat, and a new counter.
 #[derive(Drop)]
 pub struct Blanks {
     pub records: Blank,
     pub folds: Blank,
+    pub moments: NewCounter,
 }
 
 impl Blanks {
@@ -50,21 +82,28 @@ impl Blanks {
         Blanks {
             records: Blank::new(seats),
             folds: Blank::new(seats),
+            moments: NewCounter::new(),
         }
     }
 
     /// The totals of both, and a share that has all parts.
     pub(crate) fn open<N: Ledgers>(self) -> (Totals<N>, Stake<N>)
-        requires { AreOf N.name N.folds N.parts self }
+        requires { AreOf N.name N.folds N.moments N.parts self }
         ensures totals { (result.0.total ≡ 0) × (result.0.folds ≡ 0) }
         ensures share { (result.1.parts ≡ N.parts) × (result.1.amount ≡ 0) × (result.1.folds ≡ 0) }
     {
-        let Blanks { records, folds } = self;
+        let Blanks {
+            records,
+            folds,
+            moments,
+        } = self;
         let (total, share) = records.open::<N>();
         let (gone, part) = folds.open::<Folds<N>>();
+        let NewCounter { counter } = moments;
         let totals = Totals {
             records: total,
             gone,
+            counter,
         };
         let stake = Stake {
             records: share,
@@ -124,29 +163,95 @@ impl<N: Ledgers> Stake<N> {
     }
 }
 
+/// A moment of a place: the number of the records that had been written by then. It takes no bytes, and what it states
+/// stays true, so it can be copied and sent to other threads. It is of the one place whose ledgers are `N`. A contract
+/// sees the number.
+#[derive(Drop)]
+pub struct Moment<N: Ledgers> {
+    at: moments::Moment,
+    of: PhantomData<N>,
+}
+
+impl<N: Ledgers> Model for Moment<N> {
+    ghost use Rattle.std.specs.Prelude.{◌≡◌, ℕ};
+
+    ghost Value = { ℕ };
+
+    ghost view = { λ m. m.at.at };
+
+    ghost invariant = { λ m. m.at.name ≡ N.moments };
+}
+
+impl<N: Ledgers> Moment<N> {
+    /// Returns a copy. It takes no memory, and can be sent to another thread.
+    pub fn again(&self) -> Self
+        ensures { result ≡ self.now }
+    {
+        Moment {
+            at: self.at.again(),
+            of: PhantomData,
+        }
+    }
+
+    /// Becomes the later of both.
+    pub fn learn(&mut self, other: &Moment<N>)
+        ensures { self.new ≡ max self.old other.now }
+    {
+        self.at.learn(&other.at);
+    }
+}
+
 /// How many records all shares count together, and how many of these were folded away.
 #[derive(Drop)]
 pub struct Totals<N: Ledgers> {
     records: ledger::Book<N>,
     gone: ledger::Book<Folds<N>>,
+    counter: Counter,
 }
 
 impl<N: Ledgers> Model for Totals<N> {
+    ghost use Rattle.std.specs.Prelude.{◌≡◌};
     ghost use Rattle.meet_place.specs.Ledgers.{Totalled};
 
     ghost Value = { Totalled };
 
     ghost view = { λ t. record { total = t.records.total; folds = t.gone.total } };
+
+    ghost invariant = { λ t. (t.counter.name ≡ N.moments) × (t.counter.now ≡ t.records.total) };
 }
 
 impl<N: Ledgers> Totals<N> {
-    /// Counts so many records more, and adds them to a share.
-    pub(crate) fn add(&mut self, share: &mut Stake<N>, amount: u64)
+    /// Returns the moment behind all records.
+    pub(crate) fn moment(&mut self) -> Moment<N>
+        ensures moment { result ≡ self.old.total }
+        ensures same { self.new ≡ self.old }
+    {
+        Moment {
+            at: self.counter.moment(),
+            of: PhantomData,
+        }
+    }
+
+    /// Changes nothing, and states that no moment is ahead of the records.
+    pub(crate) fn audit_moment(&mut self, moment: &Moment<N>)
+        ensures totals { self.new ≡ self.old }
+        ensures bound { moment.now ≤ self.old.total }
+    {
+        let mut copy = moment.again();
+        self.counter.advance(&mut copy.at, 0);
+    }
+
+    /// Counts `amount` more records, and adds them to a share. The moment wasn't ahead of the records before, and is
+    /// behind these then.
+    pub(crate) fn add(&mut self, share: &mut Stake<N>, moment: &mut Moment<N>, amount: u64)
         requires { 0 < share.old.parts }
         ensures totals { self.new ≡ record self.old { total = self.old.total + amount } }
         ensures share { share.new ≡ record share.old { amount = share.old.amount + amount } }
+        ensures before { moment.old ≤ self.old.total }
+        ensures moment { moment.new ≡ self.old.total + amount }
     {
         self.records.add(&mut share.records, amount);
+        self.counter.advance(&mut moment.at, amount);
     }
 
     /// Counts so many more that were folded away, and adds them to a share.

@@ -28,7 +28,7 @@ mod tending;
 
 pub use close::{CloseFault, Closed};
 pub use draining::DrainRoom;
-pub use ledgers::{Blanks, Folds, Ledgers, Stake, Totals};
+pub use ledgers::{Blanks, Folds, Ledgers, Moment, NewCounter, Stake, Totals};
 pub use meet_cells::{Gate, Turn};
 pub use missing::missing_seats;
 pub use opening::{hold, hold_patiently, open_seats};

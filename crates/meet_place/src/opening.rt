@@ -66,7 +66,7 @@ pub fn open_seats<D: Copy, N: Ledgers>(
     mut seats: Vec<Seat<D, N>>,
 ) -> (Totals<N>, Stake<N>, Vec<Seat<D, N>>)
     requires limit { count ≤ most_seats }
-    requires ledgers { AreOf N.name N.folds N.parts blanks }
+    requires ledgers { AreOf N.name N.folds N.moments N.parts blanks }
     requires one_each { N.parts ≡ count }
     requires empty { seats.items ≡ [] }
     requires room { count ≤ vec_capacity seats }
@@ -75,10 +75,11 @@ pub fn open_seats<D: Copy, N: Ledgers>(
     ensures count { vec_len result.2 ≡ count }
     ensures numbers { AreFresh result.2.items }
 {
-    let (total, mut rest) = blanks.open::<N>();
+    let (mut total, mut rest) = blanks.open::<N>();
+    let first = total.moment();
     for at in 0..count {
         let number = seat_of(at);
-        seats.push_reserved(Seat::new(alloc, number, rest.split_off(1, 0, 0)));
+        seats.push_reserved(Seat::new(alloc, number, rest.split_off(1, 0, 0), first.again()));
     }
     (total, rest, seats)
 }

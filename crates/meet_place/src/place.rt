@@ -10,10 +10,10 @@ ghost use Rattle.meet_tickets.specs.Refusals.{IsWhy};
 ghost use Rattle.meet_book.specs.Booked.{Booked};
 ghost use Rattle.meet_book.specs.Booking.{book_refusal, cut_refusal};
 ghost use Rattle.meet_place.specs.Ledgers.{AreOf};
-ghost use Rattle.meet_place.specs.Seats.{Adds, AreFresh, Trims, TrimsPending, Checkpoints, share_in};
-ghost use Rattle.meet_place.specs.Holds.{BookRefuses, IsBookOf, sizes_refusal};
+ghost use Rattle.meet_place.specs.Seats.{Adds, AreFresh, IsLater, Trims, TrimsPending, Checkpoints, share_in};
+ghost use Rattle.meet_place.specs.Holds.{BookRefuses, IsBookOf, IsSince, sizes_refusal};
 
-use crate::ledgers::{Blanks, Ledgers};
+use crate::ledgers::{Blanks, Ledgers, Moment};
 use crate::opening::hold;
 use crate::seats::{Pending, Seat};
 use crate::shared::Shared;
@@ -76,7 +76,7 @@ impl<O: Object, G: Drop, N: Ledgers> Place<O, G, N> {
     ) -> Result<(Self, Vec<Seat<O::Deed, N>>), Refused<NewPlace<O, G>>>
         requires fresh { O.gone_of parts.book.base + length parts.book.records ≡ 0 }
         requires first { parts.book.base ≡ O.no_base }
-        requires ledgers { AreOf N.name N.folds N.parts parts.blanks }
+        requires ledgers { AreOf N.name N.folds N.moments N.parts parts.blanks }
         requires one_each { N.parts ≡ vec_len parts.gates }
         requires seats { O.seat_count_of parts.book.object ≡ vec_len parts.gates }
         requires cap { parts.book.cap ≡ N.cap }
@@ -116,7 +116,7 @@ impl<O: Object, G: Drop, N: Ledgers> Place<O, G, N> {
         requires fresh { O.gone_of parts.book.base + length parts.book.records ≡ 0 }
         requires first { parts.book.base ≡ O.no_base }
         requires limit { vec_len parts.gates ≤ most_seats }
-        requires ledgers { AreOf N.name N.folds N.parts parts.blanks }
+        requires ledgers { AreOf N.name N.folds N.moments N.parts parts.blanks }
         requires one_each { N.parts ≡ vec_len parts.gates }
         requires seats { O.seat_count_of parts.book.object ≡ vec_len parts.gates }
         requires cap { parts.book.cap ≡ N.cap }
@@ -131,11 +131,12 @@ impl<O: Object, G: Drop, N: Ledgers> Place<O, G, N> {
             gates,
             blanks,
         } = parts;
-        let (total, mut rest) = blanks.open::<N>();
+        let (mut total, mut rest) = blanks.open::<N>();
+        let first = total.moment();
         for gate in gates {
             let number = seat_of(padded.len());
             padded.push_reserved(CachePadded::new(gate));
-            seats.push_reserved(Seat::new(alloc, number, rest.split_off(1, 0, 0)));
+            seats.push_reserved(Seat::new(alloc, number, rest.split_off(1, 0, 0), first.again()));
         }
         let place = Place {
             gates: padded,
@@ -162,12 +163,38 @@ impl<O: Object, G, N: Ledgers> Place<O, G, N> {
         hold(rt, &self.shared)
     }
 
+    /// Takes the lock as `hold`, and states that what it guards isn't older than a moment.
+    #[inline(always)]
+    pub fn hold_since<R: Wait>(&self, rt: &R, since: &Moment<N>) -> MutexGuard<'_, Shared<O, N>>
+        ensures since { IsSince O.leads O.gone_of since.now (mutex_guard_value result) }
+    {
+        let mut shared = self.hold(rt);
+        shared.audit_moment(since);
+        shared
+    }
+
     /// What this closure answers of the place as it is at some time, under one hold of the lock.
     pub fn look<R: Wait, A, F: FnOnce(&O) -> A>(&self, rt: &R, look: F) -> A
         requires { F.IsAlwaysCallable look }
         ensures { (object : O) × (O.seat_count_of object ≡ N.parts) × FnOnceReturnsAt F.FnOnce look object result }
     {
         let shared = self.hold(rt);
+        look(shared.probe())
+    }
+
+    /// Looks at the place as `look`, at a state that isn't older than a moment: a legal history, in which all records up
+    /// to the moment stand, leads to the object that the closure is given.
+    pub fn look_since<R: Wait, A, F: FnOnce(&O) -> A>(
+        &self,
+        rt: &R,
+        since: &Moment<N>,
+        look: F,
+    ) -> A
+        requires { F.IsAlwaysCallable look }
+        ensures { (book : Booked O O.Base O.Deed) × (O.seat_count_of book.object ≡ N.parts)
+            × IsSince O.leads O.gone_of since.now book × FnOnceReturnsAt F.FnOnce look book.object result }
+    {
+        let shared = self.hold_since(rt, since);
         look(shared.probe())
     }
 
@@ -263,18 +290,20 @@ impl<O: Wakes, G, N: Ledgers> Place<O, G, N> {
         ensures room { length seat.new.list + seat.new.room ≡ length seat.old.list + seat.old.room }
         ensures adds { IfOk result (λ made. Adds seat.old.list seat.new.list
             (option_to_list (O.record_of seat.old.number call made.0))) }
+        ensures later { IsLater seat.old.moment seat.new.moment seat.old.list seat.new.list }
         ensures step { IfOk result (λ made. (book : Booked O O.Base O.Deed) × (new : O)
             × IsBookOf O.seat_count_of N.parts N.cap book
+            × IsSince O.leads O.gone_of seat.old.moment book
             × (book_refusal (O.refusal_of book.object seat.old.number call) (O.owed_of book.object) (O.need_of call)
             book ≡ None) × O.steps book.object seat.old.number call made.0 new) }
         ensures why { IfErr result (λ refused. (book : Booked O O.Base O.Deed)
-            × IsBookOf O.seat_count_of N.parts N.cap book
+            × IsBookOf O.seat_count_of N.parts N.cap book × IsSince O.leads O.gone_of seat.old.moment book
             × BookRefuses (O.refusal_of book.object seat.old.number call) (O.owed_of book.object) (O.need_of call)
             (O.spare book.object) (O.room_of call) book refused.why) }
         ensures back { IfErr result (λ refused. refused.back ≡ call) }
         ensures same { IfErr result (λ _. seat.new ≡ seat.old) }
     {
-        let mut shared = self.hold(rt);
+        let mut shared = self.hold_since(rt, &seat.moment());
         match shared.step(seat, call) {
             Ok(answer) => {
                 let woken = shared.probe().wakes(&answer);

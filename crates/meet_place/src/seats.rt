@@ -1,6 +1,6 @@
 //! Seats, and seats whose ticket is open.
 
-ghost use Rattle.std.specs.Prelude.{◌≡◌, ◌<◌, ◌≤◌, ◌+◌, ◌^◌, [], length, filter, vec_len, IsOk, IfErr, OnOk};
+ghost use Rattle.std.specs.Prelude.{◌≡◌, ◌<◌, ◌≤◌, ◌+◌, ◌^◌, [], length, filter, max, vec_len, IsOk, IfErr, OnOk};
 ghost use Rattle.std.specs.Vec.{vec_capacity};
 ghost use Rattle.meet_tickets.specs.declared.refusals.Refusal.TheVariants.{Memory};
 ghost use Rattle.meet_place.specs.Backs.{number_of, list_of};
@@ -8,7 +8,7 @@ ghost use Rattle.meet_book.specs.Listed.{is_since};
 ghost use Rattle.meet_place.specs.Seats.{SeatView, PendingView, Trims, share_in};
 ghost use Rattle.meet_place.specs.Tending.{is_to_look, last_place};
 
-use crate::ledgers::{Ledgers, Stake};
+use crate::ledgers::{Ledgers, Moment, Stake};
 use meet_book::Receipt;
 use meet_tickets::{Refusal, SeatNo, Ticket};
 use std::alloc::Global;
@@ -30,13 +30,15 @@ pub struct Past {
 /// A seat of a place: its number, its receipts, and its share of the number of records, which is the number of the
 /// receipts that it ever got, and of the number of those that were folded away, which is how many its own checkpoints
 /// did. Receipts for records that were folded away can be dropped (`trim` of its place), and are then counted alone. It
-/// is of the one place whose ledgers are `N`, which alone makes its seats, each number once.
+/// is of the one place whose ledgers are `N`, which alone makes its seats, each number once. It has a moment, which is
+/// no earlier than its last record, nor than any other that it was shown: what it calls stands behind it.
 #[derive(Drop)]
 pub struct Seat<D: Copy, N: Ledgers> {
     pub(crate) number: SeatNo,
     pub(crate) past: Past,
     pub(crate) list: Vec<Receipt<D>>,
     pub(crate) share: Stake<N>,
+    pub(crate) moment: Moment<N>,
 }
 
 impl<D: Copy, N: Ledgers> Model for Seat<D, N> {
@@ -49,6 +51,7 @@ impl<D: Copy, N: Ledgers> Model for Seat<D, N> {
     ghost view = { λ s. record {
       number = s.number;
       past = s.past;
+      moment = s.moment;
       list = s.list.items;
       room = vec_capacity s.list - vec_len s.list;
     } };
@@ -66,7 +69,7 @@ impl<D: Copy, N: Ledgers> Debug for Seat<D, N> {
 
 impl<D: Copy, N: Ledgers> Seat<D, N> {
     /// A new seat, which has no receipt.
-    pub(crate) fn new(alloc: Global, number: SeatNo, share: Stake<N>) -> Self
+    pub(crate) fn new(alloc: Global, number: SeatNo, share: Stake<N>, moment: Moment<N>) -> Self
         requires share { (share.parts ≡ 1) × (share.amount ≡ 0) × (share.folds ≡ 0) }
         requires number { number < N.parts }
         ensures number { result.number ≡ number }
@@ -82,6 +85,7 @@ impl<D: Copy, N: Ledgers> Seat<D, N> {
             },
             list: Vec::new(alloc),
             share,
+            moment,
         }
     }
 
@@ -98,6 +102,21 @@ impl<D: Copy, N: Ledgers> Seat<D, N> {
         ensures { result.now ≡ self.now.list }
     {
         self.list.as_slice()
+    }
+
+    /// Returns the moment that it knows of. Its records so far stand up to there, and so does all that it was shown. A
+    /// seat that is shown this moment (`learn`) makes its further calls behind all of that.
+    pub fn moment(&self) -> Moment<N>
+        ensures { result ≡ self.now.moment }
+    {
+        self.moment.again()
+    }
+
+    /// Shows it a moment: the records of its further calls stand behind that.
+    pub fn learn(&mut self, moment: &Moment<N>)
+        ensures { self.new ≡ record self.old { moment = max self.old.moment moment.now } }
+    {
+        self.moment.learn(moment);
     }
 
     /// How many receipts were dropped.
@@ -157,6 +176,7 @@ impl<D: Copy, N: Ledgers> Seat<D, N> {
         ensures more { self.old.room ≤ self.new.room }
         ensures number { self.new.number ≡ self.old.number }
         ensures past { self.new.past ≡ self.old.past }
+        ensures moment { self.new.moment ≡ self.old.moment }
         ensures list { self.new.list ≡ self.old.list }
         ensures memory { IfErr result (λ why. why ≡ Memory) }
         ensures unchanged { IfErr result (λ _. self.new ≡ self.old) }
@@ -208,6 +228,7 @@ impl<D: Copy, N: Ledgers> Model for Pending<D, N> {
     ghost view = { λ p. record {
       number = p.seat.number;
       past = p.seat.past;
+      moment = p.seat.moment;
       list = p.seat.list;
       ticket = p.ticket;
       mark = p.mark;
@@ -231,6 +252,7 @@ impl<D: Copy, N: Ledgers> Pending<D, N> {
         ensures { result ≡ record {
           number = seat.number;
           past = seat.past;
+          moment = seat.moment;
           list = seat.list;
           ticket = ticket;
           mark = mark;
@@ -268,11 +290,26 @@ impl<D: Copy, N: Ledgers> Pending<D, N> {
         self.seat.receipts()
     }
 
+    /// The moment that the seat knows of, as `Seat::moment`.
+    pub fn moment(&self) -> Moment<N>
+        ensures { result ≡ self.now.moment }
+    {
+        self.seat.moment()
+    }
+
+    /// Is shown a moment, as `Seat::learn`: the ending of the ticket stands behind that.
+    pub fn learn(&mut self, moment: &Moment<N>)
+        ensures { self.new ≡ record self.old { moment = max self.old.moment moment.now } }
+    {
+        self.seat.learn(moment);
+    }
+
     /// The seat, which has room for the receipt of the ending; the ticket, and the mark.
     pub fn into_parts(self) -> (Seat<D, N>, Ticket, Option<u64>)
         ensures room { 0 < result.0.room }
         ensures number { result.0.number ≡ self.number }
         ensures past { result.0.past ≡ self.past }
+        ensures moment { result.0.moment ≡ self.moment }
         ensures list { result.0.list ≡ self.list }
         ensures ticket { result.1 ≡ self.ticket }
         ensures mark { result.2 ≡ self.mark }

@@ -4,11 +4,11 @@ ghost use Rattle.std.specs.Prelude.{◌≡◌, ◌+◌, ◌<◌, ◌≤◌, ◌+
 ghost use Rattle.meet_book.specs.Booked.{Booked};
 ghost use Rattle.meet_book.specs.Booking.{book_refusal, cut_refusal};
 ghost use Rattle.meet_tickets.specs.Refusals.{IsWhy};
-ghost use Rattle.meet_place.specs.Seats.{Adds, Checkpoints, share_in};
-ghost use Rattle.meet_place.specs.Holds.{BookRefuses, IsBookOf};
+ghost use Rattle.meet_place.specs.Seats.{Adds, Checkpoints, IsLater, share_in};
+ghost use Rattle.meet_place.specs.Holds.{BookRefuses, IsBookOf, IsSince};
 ghost use Rattle.meet_place.specs.Tending.{is_half_full};
 
-use crate::ledgers::{Ledgers, Stake, Totals};
+use crate::ledgers::{Ledgers, Moment, Stake, Totals};
 use crate::seats::Seat;
 use meet_book::{Bases, Book, Object};
 use meet_tickets::{Refusal, Refused};
@@ -73,6 +73,16 @@ impl<O: Object, N: Ledgers> Shared<O, N> {
         self.book.probe()
     }
 
+    /// Changes nothing, and states that the book isn't older than a moment.
+    pub fn audit_moment(&mut self, moment: &Moment<N>)
+        ensures since { IsSince O.leads O.gone_of moment.now self.old }
+        ensures same { self.new ≡ self.old }
+    {
+        let Shared { book, total, .. } = self;
+        total.audit_moment(moment);
+        let _legal = book.records();
+    }
+
     /// How many records the book may hold.
     pub(crate) fn cap(&self) -> u64
         ensures { result ≡ N.cap }
@@ -119,6 +129,9 @@ impl<O: Object, N: Ledgers> Shared<O, N> {
         ensures room { length seat.new.list + seat.new.room ≡ length seat.old.list + seat.old.room }
         ensures adds { IfOk result (λ answer. Adds seat.old.list seat.new.list
             (option_to_list (O.record_of seat.old.number call answer))) }
+        ensures later { IsLater seat.old.moment seat.new.moment seat.old.list seat.new.list }
+        ensures still { IfOk result (λ answer. O.record_of seat.old.number call answer ≡ None
+            → seat.new.moment ≡ seat.old.moment) }
         ensures step { IfOk result (λ answer. O.steps self.old.object seat.old.number call answer self.new.object) }
         ensures records { IfOk result (λ answer. self.new.records
             ≡ self.old.records ++ option_to_list (O.record_of seat.old.number call answer)) }
@@ -143,6 +156,7 @@ impl<O: Object, N: Ledgers> Shared<O, N> {
             number,
             list,
             share,
+            moment,
             ..
         } = seat;
         let Shared { book, total, .. } = self;
@@ -154,7 +168,7 @@ impl<O: Object, N: Ledgers> Shared<O, N> {
             Some(receipt) => receipt,
             None => return Ok(answer),
         };
-        total.add(share, 1);
+        total.add(share, moment, 1);
         list.push_reserved(receipt);
         Ok(answer)
     }

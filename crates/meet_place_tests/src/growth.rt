@@ -22,7 +22,7 @@ fn made<N: Ledgers>(
     parts: NewPlace<Till, ParkGate>,
 ) -> (Shop<N>, Vec<Seat<Amount, N>>)
     requires fresh { (parts.book.base ≡ 0) × (parts.book.records ≡ []) }
-    requires ledgers { AreOf N.name N.folds N.parts parts.blanks }
+    requires ledgers { AreOf N.name N.folds N.moments N.parts parts.blanks }
     requires one_each { N.parts ≡ vec_len parts.gates }
     requires seats { parts.book.object.seats ≡ vec_len parts.gates }
     requires cap { N.cap ≡ parts.book.cap }
@@ -112,7 +112,7 @@ fn has_one(rt: &impl Abort, whole: &Closed<Till>) {
 /// A place of one seat is made, used and closed.
 fn lives<N: Ledgers, R: Abort + Wait>(rt: &R, alloc: Global, parts: NewPlace<Till, ParkGate>)
     requires fresh { (parts.book.base ≡ 0) × (parts.book.records ≡ []) }
-    requires ledgers { AreOf N.name N.folds N.parts parts.blanks }
+    requires ledgers { AreOf N.name N.folds N.moments N.parts parts.blanks }
     requires one_each { N.parts ≡ vec_len parts.gates }
     requires seats { parts.book.object.seats ≡ vec_len parts.gates }
     requires cap { N.cap ≡ parts.book.cap }

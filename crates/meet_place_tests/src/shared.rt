@@ -163,7 +163,7 @@ fn refusal<N: Ledgers>(
     gates: Vec<ParkGate>,
     blanks: Blanks,
 ) -> Option<(Refusal, usize)>
-    requires ledgers { AreOf N.name N.folds N.parts blanks }
+    requires ledgers { AreOf N.name N.folds N.moments N.parts blanks }
     requires one_each { N.parts ≡ vec_len gates }
     requires cap { N.cap ≡ 100 }
 {
@@ -247,7 +247,7 @@ fn of_two<N: Ledgers>(
     alloc: Global,
     blanks: Blanks,
 ) -> (Shop<N>, Seat<Amount, N>, Seat<Amount, N>)
-    requires ledgers { AreOf N.name N.folds N.parts blanks }
+    requires ledgers { AreOf N.name N.folds N.moments N.parts blanks }
     requires two { N.parts ≡ 2 }
     requires cap { N.cap ≡ 1000000 }
 {
@@ -296,7 +296,7 @@ fn meeting<N: Ledgers + Send + Sync, R: Abort + Threads + Wait + Clock + Sync>(
     times: u64,
     given: usize,
 ) -> (u64, bool, Ending)
-    requires ledgers { AreOf N.name N.folds N.parts blanks }
+    requires ledgers { AreOf N.name N.folds N.moments N.parts blanks }
     requires two { N.parts ≡ 2 }
     requires cap { N.cap ≡ 1000000 }
 {

@@ -235,7 +235,7 @@ fn playing<N: Ledgers, R: Wait>(
     parts: NewQueue<Idle>,
     story: Story<'_>,
 ) -> Result<Chronicle<u64>, Unlike>
-    requires ledgers { AreOf N.name N.folds N.parts parts.blanks }
+    requires ledgers { AreOf N.name N.folds N.moments N.parts parts.blanks }
     requires one_each { N.parts ≡ vec_len parts.gates }
     requires cap { N.cap ≡ story.cap }
 {

@@ -224,7 +224,7 @@ fn stepping<N: Ledgers, R: Wait + Clock>(
     parts: NewQueue<Idle>,
     steps: &[Step<'_>],
 ) -> Result<Chronicle<u64>, Unlike>
-    requires ledgers { AreOf N.name N.folds N.parts parts.blanks }
+    requires ledgers { AreOf N.name N.folds N.moments N.parts parts.blanks }
     requires one_each { N.parts ≡ vec_len parts.gates }
     requires cap { N.cap ≡ 100 }
 {

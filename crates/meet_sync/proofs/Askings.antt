@@ -22,7 +22,7 @@ use Rattle.meet_core.specs.declared.calls.queue_calls.QueueAnswer.TheVariants.{O
 use Rattle.meet_core.specs.declared.calls.queue_calls.QueueAnswer.TheVariants.{Polled as ToPoll}
 use Rattle.meet_core.specs.QueueRecords.{made, queue_record}
 use Rattle.meet_core.specs.QueueSteps.{QueueStep, item_in}
-use Rattle.meet_place.specs.Seats.{SeatView, PendingView, Adds}
+use Rattle.meet_place.specs.Seats.{SeatView, PendingView, Adds, IsLater}
 use Rattle.meet_sync.specs.Asking.{item_of, brought, call_of, settled_deed, waiting_deed, HandsBack, IsToRequest, told}
 use Rattle.meet_sync.specs.Asking.{waiting_ticket, AnsweredBy, AskedAs}
 use Rattle.meet_sync.specs.Told.{IsAnswer, IsRefusalOf, IsRequestWhy}
@@ -161,15 +161,20 @@ told_request k mark seats seat request answer (old, new, count, there, admitted,
 module _ {T N : Type 0} (k : Kind) (mark : T → ℕ) where
   -- so a request leaves one receipt of its own form
   pub asked_as : (seats : ℕ) (seat roomy after : SeatView Deed) (request : Request T) (answer : QueueAnswer T)
-      (asked : Asked T N) → roomy.number ≡ seat.number → roomy.past ≡ seat.past → roomy.list ≡ seat.list
-      → after.number ≡ roomy.number → after.past ≡ roomy.past
+      (asked : Asked T N) → roomy.number ≡ seat.number → roomy.past ≡ seat.past → roomy.moment ≡ seat.moment
+      → roomy.list ≡ seat.list → after.number ≡ roomy.number → after.past ≡ roomy.past
+      → IsLater roomy.moment after.moment roomy.list after.list
       → Adds roomy.list after.list (option_to_list (queue_record mark roomy.number (call_of request) answer))
       → IsAnswer k mark seats roomy.number (call_of request) answer
       → AnsweredBy after (brought mark request) answer asked → AskedAs k mark seat request asked
-  asked_as seats seat roomy after request answer (Settled s said) number past list number' past' adds
+  asked_as seats seat roomy after request answer (Settled s said) number past moment list number' past' later adds
       (old, new, count, there, admitted, step) (same, is) =
       let by = settled k mark old new roomy.number request answer said step is in (
-        (ap (λ (s : SeatView Deed). s.number) same ∙ number' ∙ number, ap (λ (s : SeatView Deed). s.past) same ∙ past' ∙ past),
+        (
+          ap (λ (s : SeatView Deed). s.number) same ∙ number' ∙ number,
+          ap (λ (s : SeatView Deed). s.past) same ∙ past' ∙ past,
+          rw (same, ← moment, ← list) later,
+        ),
         (
           by.0,
           (
@@ -180,12 +185,13 @@ module _ {T N : Type 0} (k : Kind) (mark : T → ℕ) where
           ),
         ),
       )
-  asked_as seats seat roomy after request answer (Parked p) number past list number' past' adds
+  asked_as seats seat roomy after request answer (Parked p) number past moment list number' past' later adds
       (old, new, count, there, admitted, step) (is, same) =
       let by = waiting k mark old new roomy.number request answer p.ticket step is in (
         (
           ap (λ (p : PendingView Deed). p.number) same ∙ number' ∙ number,
           ap (λ (p : PendingView Deed). p.past) same ∙ past' ∙ past,
+          rw (ap (λ (p : PendingView Deed). p.moment) same, ap (λ (p : PendingView Deed). p.list) same, ← moment, ← list) later,
         ),
         ap (λ (p : PendingView Deed). p.mark) same,
         (

@@ -4,6 +4,7 @@ use Rattle.std.specs.Prelude.{not, nat_eq}
 use Rattle.std.proofs.lemmas.List.{append_assoc, map-append}
 use Rattle.meet_tickets.specs.declared.records.Record.{Record}
 use Rattle.meet_tickets.specs.declared.records.Deed.{Deed}
+use Rattle.meet_place.proofs.Later.{later_both}
 use Rattle.meet_place.proofs.Numbered.{passes, falls}
 use Rattle.meet_place.specs.Seats.{SeatView}
 use Rattle.meet_sync.specs.Asking.{InterruptedAs}
@@ -27,9 +28,13 @@ together number (target ∷ first) second (x ∷ xs) ys (here, p) q = (here, tog
 -- those that were interrupted, and then others
 interrupted_then : (seat between after : SeatView Deed) (first second : List ℕ) → Interrupts seat between first
     → Interrupts between after second → Interrupts seat after (first ++ second)
-interrupted_then seat between after first second ((number, past), xs, (made, list, entries), p)
-    ((number2, past2), ys, (made2, list2, entries2), q) = (
-      (number2 ∙ number, past2 ∙ past),
+interrupted_then seat between after first second ((number, past, later), xs, (made, list, entries), p)
+    ((number2, past2, later2), ys, (made2, list2, entries2), q) = (
+      (
+        number2 ∙ number,
+        past2 ∙ past,
+        later_both seat.moment between.moment after.moment seat.list between.list after.list later later2,
+      ),
       xs ++ ys,
       (
         made ++ made2,

@@ -1,5 +1,6 @@
 pub mod Askings
 pub mod Awaited
+pub mod Looked
 pub mod Histories
 pub mod Reasons
 pub mod Interrupting

@@ -174,14 +174,14 @@ drain_why_by false false false left zero full why there e = rw e tt
 drain_why_by false false false left (suc k) full why there e = last_why (nat_lt left (suc k)) full why e
 
 pub drain_why : {O T B D : Type 0} (queue_of : O → Queue T) (seat_count_of unspent_of owed_of : O → ℕ)
-    (refusal_of : O → Option Refusal) (seats cap i most : ℕ) (why : Refusal)
+    (refusal_of : O → Option Refusal) (Since : Booked O B D → Type 0) (seats cap i most : ℕ) (why : Refusal)
     → ((o : O) → seat_count_of o ≡ count_of (queue_of o)) → ((o : O) → refusal_of o ≡ queue_refusal (queue_of o) i Poll)
-    → (why ≡ Memory) ⊎ ((book : Booked O B D) × (k : ℕ) × (k ≤ most) × IsBookOf seat_count_of seats cap book × (i < seats)
-    × IsWhy (book_drain_refusal (refusal_of book.object) (unspent_of book.object) (owed_of book.object) book k) why)
+    → (why ≡ Memory) ⊎ ((book : Booked O B D) × (k : ℕ) × (k ≤ most) × IsBookOf seat_count_of seats cap book × Since book
+    × (i < seats) × IsWhy (book_drain_refusal (refusal_of book.object) (unspent_of book.object) (owed_of book.object) book k) why)
     → IsRequestWhy why
-drain_why queue_of seat_count_of unspent_of owed_of refusal_of seats cap i most why is_count is_refusal (inl e) = rw e tt
-drain_why queue_of seat_count_of unspent_of owed_of refusal_of seats cap i most why is_count is_refusal
-    (inr (book, k, few, of, there, e)) =
+drain_why queue_of seat_count_of unspent_of owed_of refusal_of Since seats cap i most why is_count is_refusal (inl e) = rw e tt
+drain_why queue_of seat_count_of unspent_of owed_of refusal_of Since seats cap i most why is_count is_refusal
+    (inr (book, k, few, of, since, there, e)) =
     let o = book.object in
     let q = queue_of o in
     drain_why_by (nat_le (count_of q) i) (is_open ((seats_of q).holds i)) (nat_lt last_ticket q.next)

@@ -1,13 +1,14 @@
 -- A request that waits and its ending make a whole call.
-use Rattle.std.proofs.Common.{◌≡◌, ℕ, ap, ◌∙◌, Option, Some, None, List, [], ◌∷◌, ◌++◌, append_assoc}
+use Rattle.std.proofs.Common.{◌≡◌, ℕ, ◌+◌, ◌<◌, ◌≤◌, ap, sym, ◌∙◌, Option, Some, None, List, [], ◌∷◌, ◌++◌, append_assoc, length, length-append, arith}
 use Rattle.std.proofs.Common.{inr}
-use Rattle.std.specs.Prelude.{⊤, IfNone}
-use Rattle.std.proofs.lemmas.List.{map-append}
+use Rattle.std.specs.Prelude.{⊤, IfNone, option_to_list}
+use Rattle.std.proofs.lemmas.List.{map-append, length-map, nil_from_length, append-nil}
 use Rattle.meet_tickets.specs.declared.places.Kind.{Kind}
 use Rattle.meet_tickets.specs.declared.records.Record.{Record}
 use Rattle.meet_tickets.specs.declared.records.Deed.{Deed}
 use Rattle.meet_book.specs.Received.{Received}
 use Rattle.meet_core.specs.QueueRecords.{made}
+use Rattle.meet_place.proofs.Later.{later_both}
 use Rattle.meet_place.specs.Seats.{SeatView, PendingView, Adds, entries}
 use Rattle.meet_sync.specs.Asking.{AskedAs, waiting_deed, brought}
 use Rattle.meet_sync.specs.Ending.{MayRunOut, EndedAs, EndsAs, WaitedAs, OutcomeOf, NotExpired, MarksBack, last_deed}
@@ -25,6 +26,22 @@ adds_both a b c xs ys (one, is, same) (two, is', same') = (
   is' ∙ ap (λ l. l ++ two) is ∙ append_assoc a one two,
   map-append (λ r. r.entry) one two ∙ ap (λ l. l ++ entries two) same ∙ ap (λ l. xs ++ l) same',
 )
+
+-- a record at most takes one of two rooms
+pub room_left : {D : Type 0} (old new : List (Received D)) (r : Option (Record D)) (a b : ℕ) → Adds old new (option_to_list r)
+    → length new + b ≡ length old + a → 2 ≤ a → 0 < b
+room_left old new None a b (made, is, same) room two =
+    let few = ap length same in let many = length-map made (λ r. r.entry) in let all = ap length is in
+    let both = length-append old made in omega (arith, few, many, all, both, room, two)
+room_left old new (Some r) a b (made, is, same) room two =
+    let few = ap length same in let many = length-map made (λ r. r.entry) in let all = ap length is in
+    let both = length-append old made in omega (arith, few, many, all, both, room, two)
+
+-- no record leaves the list as it was
+pub adds_nothing : {D : Type 0} (old new : List (Received D)) → Adds old new [] → new ≡ old
+adds_nothing old new (made, is, same) =
+    let none : made ≡ [] = nil_from_length made (sym (length-map made (λ r. r.entry)) ∙ ap length same) in
+    is ∙ ap (λ l. old ++ l) none ∙ append-nil old
 
 waited_with : {T : Type 0} (k : Kind) (mark : T → ℕ) (seat : SeatView Deed) (p : PendingView Deed) (after : SeatView Deed)
     (request : Request T) (first last : Deed) → p.number ≡ seat.number → waiting_deed k mark request ≡ Some first
@@ -79,7 +96,11 @@ pub waited : {T N : Type 0} (k : Kind) (limit : Option ℕ) (mark : T → ℕ) (
     (request : Request T) (ended : Ended T N) → AskedAs {N = N} k mark seat request (Parked p) → OutcomeOf mark p ended
     → IfNone limit (NotExpired ended.end) → EndedAs k (MayRunOut limit) mark seat request ended
 waited k limit mark seat p request ended (number, own, (first, is, one)) (number', back, (last, is', two)) not = (
-  (number'.0 ∙ number.0, number'.1 ∙ number.1),
+  (
+    number'.0 ∙ number.0,
+    number'.1 ∙ number.1,
+    later_both seat.moment p.moment ended.seat.moment seat.list p.list ended.seat.list number.2 number'.2,
+  ),
   limited k limit mark seat ended.seat request ended.end last is'
       (waited_with k mark seat p ended.seat request first last number.0 is one two)
       (same_mark mark p.mark (brought mark request) ended.end own back) not,

@@ -20,14 +20,20 @@ use Rattle.meet_core.specs.declared.answers.Offered.TheVariants.{Meets as OfferM
 use Rattle.meet_core.specs.declared.answers.Took.TheVariants.{Waits as TakerWaits, Meets as TakerMeets}
 use Rattle.meet_core.specs.declared.answers.Took.TheVariants.{EntryInterrupted as TakerInterrupted}
 use Rattle.meet_core.specs.declared.answers.Polled.TheVariants.{Meets as PollMeets, Fails as PollFails}
+use Rattle.meet_core.specs.declared.answers.Followed.TheVariants.{NotYet as StandsYet}
+use Rattle.meet_core.specs.declared.answers.TakenBack.TheVariants.{Late as CameLate}
 use Rattle.meet_core.specs.declared.calls.queue_calls.QueueCall.{QueueCall}
 use Rattle.meet_core.specs.declared.calls.queue_calls.QueueCall.TheVariants.{Put as PutCall, Give as GiveCall}
 use Rattle.meet_core.specs.declared.calls.queue_calls.QueueCall.TheVariants.{Offer as OfferCall, Take as TakeCall}
 use Rattle.meet_core.specs.declared.calls.queue_calls.QueueCall.TheVariants.{Poll as PollCall}
+use Rattle.meet_core.specs.declared.calls.queue_calls.QueueCall.TheVariants.{FollowUp as FollowUpCall}
+use Rattle.meet_core.specs.declared.calls.queue_calls.QueueCall.TheVariants.{Cancel as CancelCall, Expire as ExpireCall}
 use Rattle.meet_core.specs.declared.calls.queue_calls.QueueAnswer.{QueueAnswer}
 use Rattle.meet_core.specs.declared.calls.queue_calls.QueueAnswer.TheVariants.{Put as ToPut, Gave as ToGive}
 use Rattle.meet_core.specs.declared.calls.queue_calls.QueueAnswer.TheVariants.{Offered as ToOffer, Took as ToTake}
 use Rattle.meet_core.specs.declared.calls.queue_calls.QueueAnswer.TheVariants.{Polled as ToPoll}
+use Rattle.meet_core.specs.declared.calls.queue_calls.QueueAnswer.TheVariants.{Followed as ToFollowUp}
+use Rattle.meet_core.specs.declared.calls.queue_calls.QueueAnswer.TheVariants.{TakenBack as ToTakeBack}
 use Rattle.meet_core.specs.QueueRecords.{made}
 use Rattle.meet_place.specs.Seats.{SeatView, PendingView, Adds, SameSeat, ParksSeat, FreesSeat}
 use Rattle.meet_sync.specs.declared.queue.Ending.{Ending}
@@ -46,6 +52,7 @@ use Rattle.meet_sync.specs.declared.asked.TakenBack.TheVariants.{Back, Late}
 use Rattle.meet_sync.specs.declared.asked.SeatRefused.{SeatRefused}
 use Rattle.meet_sync.specs.declared.asked.Interrupted.{Interrupted}
 use Rattle.meet_sync.specs.declared.asked.Interrupted.TheVariants.{Cut, Flagged}
+use Rattle.meet_sync.specs.Told.{LookedAt}
 
 module _ {T : Type 0} where
   -- the item that a request brings
@@ -67,6 +74,11 @@ module _ {T : Type 0} where
   call_of (Offer item) = OfferCall item
   call_of Take = TakeCall
   call_of Poll = PollCall
+
+  -- the call that takes a ticket back for this cause
+  abbrev pub taking_back : Cause → (ticket : ℕ) → QueueCall T
+  taking_back Expired t = ExpireCall t
+  taking_back cause t = CancelCall t
 
   -- the deed of a request that was settled so in a queue of this kind; none where it can't be. A put is kept or, with a
   -- bound, fails, where the queue keeps items (LinkedTransferQueue.put); else it is a give (SynchronousQueue.put)
@@ -141,6 +153,7 @@ module _ {T N : Type 0} where
   AnsweredBy seat mark answer (Parked p) = (waiting_ticket answer ≡ Some p.ticket) × (p ≡ record {
     number = seat.number;
     past = seat.past;
+    moment = seat.moment;
     list = seat.list;
     ticket = p.ticket;
     mark = mark;
@@ -162,27 +175,29 @@ module _ {T N : Type 0} where
       × (refused.item ≡ item) × IsReason refused.why
 
   -- a follow-up ended the ticket with one receipt, whose deed is its answer's, and what comes back has the mark that
-  -- the request brought; or nothing was written
-  abbrev pub FollowedAs : (T → ℕ) → PendingView Deed → Followed T N → Type 0
-  FollowedAs mark p (Done s) = FreesSeat p s × Adds p.list s.list (made p.number p.ticket DoneDeed ∷ [])
-  FollowedAs mark p (HasGot s u item) =
+  -- the request brought; or nothing was written, and the ticket stands in a queue that isn't older than the seat's moment
+  abbrev pub FollowedAs : Kind → (T → ℕ) → PendingView Deed → Followed T N → Type 0
+  FollowedAs k mark p (Done s) = FreesSeat p s × Adds p.list s.list (made p.number p.ticket DoneDeed ∷ [])
+  FollowedAs k mark p (HasGot s u item) =
       FreesSeat p s × Adds p.list s.list (made p.number p.ticket (GotDeed (mark item) u) ∷ [])
-  FollowedAs mark p (WasCut s back) = FreesSeat p s × (option_map mark back ≡ p.mark)
+  FollowedAs k mark p (WasCut s back) = FreesSeat p s × (option_map mark back ≡ p.mark)
       × Adds p.list s.list (made p.number p.ticket (WithdrawnDeed ByInterrupt) ∷ [])
-  FollowedAs mark p (NotYet q) = q ≡ p
+  FollowedAs k mark p (NotYet q) = (q ≡ p)
+      × LookedAt k mark p.moment p.number p.ticket p.mark (FollowUpCall p.ticket) (ToFollowUp StandsYet)
 
   -- the ticket was withdrawn for this cause, with one receipt, and what comes back has the mark that the request
-  -- brought; or nothing was written
-  abbrev pub TakenBackAs : (T → ℕ) → PendingView Deed → Cause → TakenBack T N → Type 0
-  TakenBackAs mark p cause (Back s back) = FreesSeat p s × (option_map mark back ≡ p.mark)
+  -- brought; or nothing was written, and it was too late in a queue that isn't older than the seat's moment
+  abbrev pub TakenBackAs : Kind → (T → ℕ) → PendingView Deed → Cause → TakenBack T N → Type 0
+  TakenBackAs k mark p cause (Back s back) = FreesSeat p s × (option_map mark back ≡ p.mark)
       × Adds p.list s.list (made p.number p.ticket (WithdrawnDeed cause) ∷ [])
-  TakenBackAs mark p cause (Late q) = q ≡ p
+  TakenBackAs k mark p cause (Late q) = (q ≡ p)
+      × LookedAt k mark p.moment p.number p.ticket p.mark (taking_back cause p.ticket) (ToTakeBack CameLate)
 
   -- by this ending, which is no follow-up
-  abbrev pub TakenBackBy : (T → ℕ) → PendingView Deed → Ending → TakenBack T N → Type 0
-  TakenBackBy mark p ToFollow result = ⊥
-  TakenBackBy mark p ToCancel result = TakenBackAs mark p Cancelled result
-  TakenBackBy mark p ToExpire result = TakenBackAs mark p Expired result
+  abbrev pub TakenBackBy : Kind → (T → ℕ) → PendingView Deed → Ending → TakenBack T N → Type 0
+  TakenBackBy k mark p ToFollow result = ⊥
+  TakenBackBy k mark p ToCancel result = TakenBackAs k mark p Cancelled result
+  TakenBackBy k mark p ToExpire result = TakenBackAs k mark p Expired result
 
 module _ {N : Type 0} where
   -- an interrupt left one receipt, with its target and the ticket that it cut, a number above 0, or 0 where it cut none

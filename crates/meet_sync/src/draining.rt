@@ -2,6 +2,7 @@
 
 ghost use Rattle.std.specs.Prelude.{◌≡◌, ◌⊎◌, Some, None, [], ◌≤◌, length, min, vec_len, IfOk, IfErr, IsSome};
 ghost use Rattle.std.specs.Vec.{vec_capacity};
+ghost use Rattle.meet_place.specs.Seats.{IsLater};
 ghost use Rattle.meet_sync.specs.Drained.{DrainedTo, IsLeastFor, AllBring, AreItemsOf, item_told};
 ghost use Rattle.meet_sync.specs.Asking.{RefusedAs};
 ghost use Rattle.meet_sync.specs.Told.{IsRequestWhy};
@@ -80,6 +81,7 @@ impl<O: QueueDrains, G: Gate, N: Ledgers> Queue<O, G, N> {
         ensures past { seat.new.past ≡ seat.old.past }
         ensures count { IfOk result (λ items. IsLeastFor O.Item N.parts max (length items.items)) }
         ensures drained { IfOk result (λ items. DrainedTo O.Item.mark_of seat.old seat.new items.items) }
+        ensures later { IsLater seat.old.moment seat.new.moment seat.old.list seat.new.list }
         ensures why { IfErr result IsRequestWhy }
         ensures same { IfErr result (λ _. seat.new.list ≡ seat.old.list) }
     {
@@ -111,6 +113,7 @@ impl<O: QueueDrains, G: Gate, N: Ledgers> Queue<O, G, N> {
         ensures past { IfOk result (λ drained. drained.seat.past ≡ seat.past) }
         ensures count { IfOk result (λ drained. IsLeastFor O.Item N.parts max (length drained.items.items)) }
         ensures drained { IfOk result (λ drained. DrainedTo O.Item.mark_of seat drained.seat drained.items.items) }
+        ensures later { IfOk result (λ drained. IsLater seat.moment drained.seat.moment seat.list drained.seat.list) }
         ensures refused { IfErr result (RefusedAs IsRequestWhy seat None) }
     {
         match self.take_all(rt, alloc, &mut seat, max) {

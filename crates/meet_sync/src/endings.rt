@@ -16,7 +16,7 @@ impl<O: QueuePlace, G: Gate, N: Ledgers> Queue<O, G, N> {
     /// is never refused.
     #[inline(always)]
     pub fn follow_up<R: Wait>(&self, rt: &R, pending: Pending<Deed, N>) -> Followed<O::Item, N>
-        ensures { FollowedAs O.Item.mark_of pending result }
+        ensures { FollowedAs O.kind O.Item.mark_of pending result }
     {
         let (mut seat, ticket, mark) = pending.into_parts();
         let Some(answer) = self.end(rt, &mut seat, (ticket, mark), Ending::FollowUp) else {
@@ -36,14 +36,14 @@ impl<O: QueuePlace, G: Gate, N: Ledgers> Queue<O, G, N> {
     /// Takes an open ticket back, or answers Late where it was met or cut before, and stays open. It waits for the lock
     /// alone, and is never refused.
     pub fn cancel<R: Wait>(&self, rt: &R, pending: Pending<Deed, N>) -> TakenBack<O::Item, N>
-        ensures { TakenBackAs O.Item.mark_of pending Cancelled result }
+        ensures { TakenBackAs O.kind O.Item.mark_of pending Cancelled result }
     {
         self.withdraw(rt, pending, Ending::Cancel)
     }
 
     /// The same, told as an expiry: the ticket's time ran out.
     pub fn expire<R: Wait>(&self, rt: &R, pending: Pending<Deed, N>) -> TakenBack<O::Item, N>
-        ensures { TakenBackAs O.Item.mark_of pending Expired result }
+        ensures { TakenBackAs O.kind O.Item.mark_of pending Expired result }
     {
         self.withdraw(rt, pending, Ending::Expire)
     }
@@ -56,7 +56,7 @@ impl<O: QueuePlace, G: Gate, N: Ledgers> Queue<O, G, N> {
         ending: Ending,
     ) -> TakenBack<O::Item, N>
         requires withdrawal { IsWithdrawal ending }
-        ensures { TakenBackBy O.Item.mark_of pending ending result }
+        ensures { TakenBackBy O.kind O.Item.mark_of pending ending result }
     {
         let (mut seat, ticket, mark) = pending.into_parts();
         let Some(answer) = self.end(rt, &mut seat, (ticket, mark), ending) else {

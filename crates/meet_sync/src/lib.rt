@@ -38,12 +38,15 @@ pub use asked::{
 pub use chapters::Chapter;
 pub use closing::{Chronicle, QueueFault};
 pub use draining::DrainedItems;
-pub use laws::closed_queues_keep_their_promise;
+pub use laws::{
+    closed_queues_keep_order, closed_queues_keep_their_promise,
+    receipts_of_closed_queues_tell_places,
+};
 pub use making::NewQueue;
 pub use meet_core::{Left, LeftStanding};
 pub use meet_laws::Tally;
 pub use meet_line::{FairLine, StackLine};
-pub use meet_place::{Back, Blanks, Gate, Ledgers, Pending, Seat, Turn};
+pub use meet_place::{Back, Blanks, Gate, Ledgers, Moment, Pending, Seat, Turn};
 pub use queue::Queue;
 pub use sync_queue::SyncQueue;
 pub use transfer_queue::TransferQueue;

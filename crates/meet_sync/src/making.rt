@@ -88,7 +88,7 @@ impl<O: QueuePlace, G: Drop, N: Ledgers> Queue<O, G, N> {
         requires seats { count_of (O.queue_of book.object) ≡ vec_len parts.gates }
         requires book_cap { book.cap ≡ N.cap }
         requires gates { making_refusal (vec_len parts.gates) N.cap ≡ None }
-        requires ledgers { AreOf N.name N.folds N.parts parts.blanks }
+        requires ledgers { AreOf N.name N.folds N.moments N.parts parts.blanks }
         requires one_each { N.parts ≡ vec_len parts.gates }
         ensures count { IfOk result (λ made. made.0 ≡ vec_len parts.gates) }
         ensures seats { IfOk result (λ made. vec_len made.1 ≡ vec_len parts.gates) }
@@ -128,7 +128,7 @@ impl<O: QueuePlace, G: Drop, N: Ledgers> Queue<O, G, N> {
         parts: NewQueue<G>,
         cap: u64,
     ) -> Result<(Self, Vec<Seat<Deed, N>>), Refused<NewQueue<G>>>
-        requires ledgers { AreOf N.name N.folds N.parts parts.blanks }
+        requires ledgers { AreOf N.name N.folds N.moments N.parts parts.blanks }
         requires one_each { N.parts ≡ vec_len parts.gates }
         requires cap { N.cap ≡ cap }
         ensures count { IfOk result (λ made. made.0 ≡ vec_len parts.gates) }
@@ -157,7 +157,7 @@ impl<O: QueuePlace, G: Drop, N: Ledgers> Queue<O, G, N> {
         alloc: Global,
         parts: NewQueue<G>,
     ) -> Result<(Self, Vec<Seat<Deed, N>>), Refused<NewQueue<G>>>
-        requires ledgers { AreOf N.name N.folds N.parts parts.blanks }
+        requires ledgers { AreOf N.name N.folds N.moments N.parts parts.blanks }
         requires one_each { N.parts ≡ vec_len parts.gates }
         requires cap { N.cap ≡ most_records }
         ensures count { IfOk result (λ made. made.0 ≡ vec_len parts.gates) }

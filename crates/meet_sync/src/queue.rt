@@ -1,10 +1,11 @@
 //! A queue for threads: a queue of one thread under a lock. A call is one step under one hold of it, and whom the step
 //! should wake is woken once the lock is free.
 
-ghost use Rattle.std.specs.Prelude.{◌≡◌, ◌+◌, ◌<◌, ◌≤◌, length, option_to_list, IfOk, IfErr, IfSome, IfNone};
+ghost use Rattle.std.specs.Prelude.{◌≡◌, ◌+◌, ◌<◌, ◌≤◌, None, length, option_to_list, IfOk, IfErr, IfSome, IfNone, MatchOption};
 ghost use Rattle.meet_core.specs.QueueRecords.{queue_record};
-ghost use Rattle.meet_place.specs.Seats.{Adds};
-ghost use Rattle.meet_sync.specs.Told.{IsAnswer, IsEnding, IsRefusalOf, ending_call};
+ghost use Rattle.meet_place.specs.Seats.{Adds, IsLater};
+ghost use Rattle.meet_sync.specs.Told.{IsAnswer, IsEnding, IsRefusalOf, LookedAt, RefusedSince, ending_call};
+ghost use Rattle.meet_core.specs.declared.calls.queue_calls.QueueAnswer.{QueueAnswer};
 ghost use Rattle.meet_tickets.specs.Limits.{most_seats};
 
 use meet_core::{QueueAnswer, QueueCall, QueuePlace};
@@ -77,8 +78,11 @@ impl<O: QueuePlace, G: Gate, N: Ledgers> Queue<O, G, N> {
         ensures room { length seat.new.list + seat.new.room ≡ length seat.old.list + seat.old.room }
         ensures adds { IfOk result (λ answer. Adds seat.old.list seat.new.list
             (option_to_list (queue_record O.Item.mark_of seat.old.number call answer))) }
+        ensures later { IsLater seat.old.moment seat.new.moment seat.old.list seat.new.list }
         ensures step { IfOk result (λ answer. IsAnswer O.kind O.Item.mark_of N.parts seat.old.number call answer) }
         ensures why { IfErr result (λ refused. IsRefusalOf N.parts seat.old.number call refused.why) }
+        ensures since { IfErr result (λ refused. RefusedSince O.kind O.Item.mark_of seat.old.moment seat.old.number
+            call refused.why) }
         ensures back { IfErr result (λ refused. refused.back ≡ call) }
         ensures same { IfErr result (λ _. seat.new ≡ seat.old) }
     {
@@ -108,12 +112,19 @@ impl<O: QueuePlace, G: Gate, N: Ledgers> Queue<O, G, N> {
         ensures room { length seat.new.list + seat.new.room ≡ length seat.old.list + seat.old.room }
         ensures adds { IfSome result (λ answer. Adds seat.old.list seat.new.list
             (option_to_list (queue_record O.Item.mark_of seat.old.number (ending_call ending awaited.0) answer))) }
+        ensures later { IsLater seat.old.moment seat.new.moment seat.old.list seat.new.list }
+        ensures still { IfSome result (λ answer. queue_record O.Item.mark_of seat.old.number
+            (ending_call ending awaited.0) answer ≡ None → seat.new.moment ≡ seat.old.moment) }
         ensures step { IfSome result (λ answer. IsEnding O.kind O.Item.mark_of seat.old.number awaited.0 awaited.1
+            (ending_call ending awaited.0) answer) }
+        ensures looked { MatchOption result ((answer : QueueAnswer O.Item) → LookedAt O.kind O.Item.mark_of
+            seat.old.moment seat.old.number awaited.0 awaited.1 (ending_call ending awaited.0) answer)
+            (λ answer. LookedAt O.kind O.Item.mark_of seat.old.moment seat.old.number awaited.0 awaited.1
             (ending_call ending awaited.0) answer) }
         ensures same { IfNone result (seat.new ≡ seat.old) }
     {
         let (ticket, mark) = awaited;
-        let mut shared = self.place.hold(rt);
+        let mut shared = self.place.hold_since(rt, &seat.moment());
         if !shared.probe().awaits(seat.number(), ticket, mark) {
             return None;
         }

@@ -2,8 +2,8 @@
 
 ghost use Rattle.std.specs.Prelude.{◌≡◌, ◌<◌, None, IfOk, IfErr};
 ghost use Rattle.meet_core.specs.QueueSteps.{item_in};
-ghost use Rattle.meet_sync.specs.Asking.{item_of, RefusedAs, AskedAs, InterruptedAs, AnsweredBy, IsToRequest};
-ghost use Rattle.meet_sync.specs.Told.{IsRequestWhy, IsInterruptWhy};
+ghost use Rattle.meet_sync.specs.Asking.{call_of, item_of, RefusedAs, AskedAs, InterruptedAs, AnsweredBy, IsToRequest};
+ghost use Rattle.meet_sync.specs.Told.{IsRequestWhy, IsInterruptWhy, RefusedSince};
 
 use crate::asked::{Answer, Asked, Interrupted, Request, SeatRefused};
 use crate::queue::Queue;
@@ -84,6 +84,8 @@ impl<O: QueuePlace, G: Gate, N: Ledgers> Queue<O, G, N> {
     ) -> Result<Asked<O::Item, N>, SeatRefused<O::Item, N>>
         ensures asked { IfOk result (λ asked. AskedAs O.kind O.Item.mark_of seat request asked) }
         ensures refused { IfErr result (RefusedAs IsRequestWhy seat (item_of request)) }
+        ensures since { IfErr result (λ refused. RefusedSince O.kind O.Item.mark_of seat.moment seat.number
+            (call_of request) refused.why) }
     {
         if seat.reserve(2).is_err() {
             return Err(SeatRefused {

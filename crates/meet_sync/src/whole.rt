@@ -1,9 +1,9 @@
 //! The whole calls of a queue: a request, and where it waits, the wait for its ending.
 
 ghost use Rattle.std.specs.Prelude.{◌≡◌, ◌<◌, ⊤, None, IfOk, IfErr, IfNone};
-ghost use Rattle.meet_sync.specs.Asking.{item_of, RefusedAs};
+ghost use Rattle.meet_sync.specs.Asking.{call_of, item_of, RefusedAs};
 ghost use Rattle.meet_sync.specs.Ending.{EndedAs, MayRunOut, OutcomeOf, NotExpired};
-ghost use Rattle.meet_sync.specs.Told.{IsRequestWhy};
+ghost use Rattle.meet_sync.specs.Told.{IsRequestWhy, RefusedSince};
 ghost use Rattle.meet_sync.specs.declared.asked.Request.TheVariants.{Give, Offer, Take, Poll};
 
 use crate::asked::{Asked, End, Ended, Followed, Request, SeatRefused, TakenBack};
@@ -137,6 +137,8 @@ impl<O: QueuePlace, G: Gate, N: Ledgers> Queue<O, G, N> {
     ) -> Result<Ended<O::Item, N>, SeatRefused<O::Item, N>>
         ensures ended { IfOk result (λ ended. EndedAs O.kind (MayRunOut limit) O.Item.mark_of seat request ended) }
         ensures refused { IfErr result (RefusedAs IsRequestWhy seat (item_of request)) }
+        ensures since { IfErr result (λ refused. RefusedSince O.kind O.Item.mark_of seat.moment seat.number
+            (call_of request) refused.why) }
     {
         let asked = match self.request(rt, seat, request) {
             Ok(asked) => asked,

@@ -193,7 +193,7 @@ fn made<N: Ledgers>(
     alloc: Global,
     parts: NewQueue<Idle>,
 ) -> (Fair<N>, Vec<Seat<Deed, N>>)
-    requires ledgers { AreOf N.name N.folds N.parts parts.blanks }
+    requires ledgers { AreOf N.name N.folds N.moments N.parts parts.blanks }
     requires one_each { N.parts ≡ vec_len parts.gates }
     requires cap { N.cap ≡ 8 }
 {
@@ -222,7 +222,7 @@ fn of_two_seats<N: Ledgers, R: Abort + Wait>(
     alloc: Global,
     parts: NewQueue<Idle>,
 ) -> Chronicle<u64>
-    requires ledgers { AreOf N.name N.folds N.parts parts.blanks }
+    requires ledgers { AreOf N.name N.folds N.moments N.parts parts.blanks }
     requires one_each { N.parts ≡ vec_len parts.gates }
     requires cap { N.cap ≡ 8 }
 {
@@ -282,7 +282,7 @@ fn without_seat_1<N: Ledgers, R: Abort + Wait>(
     alloc: Global,
     parts: NewQueue<Idle>,
 ) -> Vec<SeatNo>
-    requires ledgers { AreOf N.name N.folds N.parts parts.blanks }
+    requires ledgers { AreOf N.name N.folds N.moments N.parts parts.blanks }
     requires one_each { N.parts ≡ vec_len parts.gates }
     requires cap { N.cap ≡ 8 }
 {

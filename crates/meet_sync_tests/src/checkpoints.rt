@@ -123,7 +123,7 @@ fn five_records<N: Ledgers, R: Abort + Wait>(
     parts: NewQueue<Idle>,
     early: bool,
 ) -> Result<Chronicle<u64>, Unlike>
-    requires ledgers { AreOf N.name N.folds N.parts parts.blanks }
+    requires ledgers { AreOf N.name N.folds N.moments N.parts parts.blanks }
     requires one_each { N.parts ≡ vec_len parts.gates }
     requires cap { N.cap ≡ 5 }
 {
@@ -155,7 +155,7 @@ fn whole<N: Ledgers, R: Wait>(
     alloc: Global,
     parts: NewQueue<Idle>,
 ) -> Result<Chronicle<u64>, &'static str>
-    requires ledgers { AreOf N.name N.folds N.parts parts.blanks }
+    requires ledgers { AreOf N.name N.folds N.moments N.parts parts.blanks }
     requires one_each { N.parts ≡ vec_len parts.gates }
     requires cap { N.cap ≡ 5 }
     ensures { IfOk result (λ chronicle. chronicle.base ≡ no_base) }

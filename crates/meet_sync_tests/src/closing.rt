@@ -196,7 +196,7 @@ fn falls_short<N: Ledgers, R: Abort + Wait>(
     parts: NewQueue<Idle>,
     story: Story<'_>,
 ) -> Late
-    requires ledgers { AreOf N.name N.folds N.parts parts.blanks }
+    requires ledgers { AreOf N.name N.folds N.moments N.parts parts.blanks }
     requires one_each { N.parts ≡ vec_len parts.gates }
     requires cap { N.cap ≡ story.cap }
 {

@@ -152,7 +152,7 @@ fn a_day<N: Ledgers, R: Abort + Wait>(
     parts: NewQueue<Idle>,
     gives: bool,
 ) -> Day
-    requires ledgers { AreOf N.name N.folds N.parts parts.blanks }
+    requires ledgers { AreOf N.name N.folds N.moments N.parts parts.blanks }
     requires one_each { N.parts ≡ vec_len parts.gates }
     requires cap { N.cap ≡ most_records }
 {
@@ -233,7 +233,7 @@ fn in_vain<N: Ledgers, R: Abort + Wait>(
     alloc: Global,
     parts: NewQueue<Idle>,
 ) -> [Refusal; 2]
-    requires ledgers { AreOf N.name N.folds N.parts parts.blanks }
+    requires ledgers { AreOf N.name N.folds N.moments N.parts parts.blanks }
     requires one_each { N.parts ≡ vec_len parts.gates }
     requires cap { N.cap ≡ 3 }
 {

@@ -231,7 +231,7 @@ fn passing<L: Line<Seal>, N: Ledgers, R: Abort + Wait>(
     rows: &[Row],
     left: &[Found],
 )
-    requires ledgers { AreOf N.name N.folds N.parts parts.blanks }
+    requires ledgers { AreOf N.name N.folds N.moments N.parts parts.blanks }
     requires one_each { N.parts ≡ vec_len parts.gates }
     requires cap { N.cap ≡ 100 }
 {

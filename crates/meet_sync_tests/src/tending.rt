@@ -96,7 +96,7 @@ fn tried<N: Ledgers, R: Abort + Wait>(
     cap: u64,
     trial: Trial,
 ) -> Result<(Chronicle<u64>, u64), &'static str>
-    requires ledgers { AreOf N.name N.folds N.parts parts.blanks }
+    requires ledgers { AreOf N.name N.folds N.moments N.parts parts.blanks }
     requires one_each { N.parts ≡ vec_len parts.gates }
     requires cap { N.cap ≡ cap }
 {

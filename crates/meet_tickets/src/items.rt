@@ -19,3 +19,39 @@ impl Marked for u64 {
         *self
     }
 }
+
+/// A number is its own mark.
+impl Marked for u8 {
+    ghost mark_of = { λ item. item };
+
+    fn mark(&self) -> u64 {
+        u64::from(*self)
+    }
+}
+
+/// A number is its own mark.
+impl Marked for u16 {
+    ghost mark_of = { λ item. item };
+
+    fn mark(&self) -> u64 {
+        u64::from(*self)
+    }
+}
+
+/// A number is its own mark.
+impl Marked for u32 {
+    ghost mark_of = { λ item. item };
+
+    fn mark(&self) -> u64 {
+        u64::from(*self)
+    }
+}
+
+/// A number is its own mark.
+impl Marked for usize {
+    ghost mark_of = { λ item. item };
+
+    fn mark(&self) -> u64 {
+        (*self) as u64
+    }
+}

@@ -72,7 +72,7 @@ fn walking<N: Ledgers + Send + Sync, R: Threads + Wait + Sync>(
     order: Order,
     parts: NewQueue<Idle>,
 ) -> Result<Walked, &'static str>
-    requires ledgers { AreOf N.name N.folds N.parts parts.blanks }
+    requires ledgers { AreOf N.name N.folds N.moments N.parts parts.blanks }
     requires one_each { N.parts ≡ vec_len parts.gates }
     requires cap { N.cap ≡ 1048576 }
 {

@@ -83,7 +83,7 @@ fn dealing<N: Ledgers + Send + Sync, R: Abort + Threads + Wait + Clock + Sync>(
     flags: &Flags,
     timed: Timed,
 ) -> Result<Chronicle<u64>, &'static str>
-    requires ledgers { AreOf N.name N.folds N.parts parts.blanks }
+    requires ledgers { AreOf N.name N.folds N.moments N.parts parts.blanks }
     requires one_each { N.parts ≡ vec_len parts.gates }
     requires cap { N.cap ≡ 100 }
 {

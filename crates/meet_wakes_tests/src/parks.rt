@@ -78,7 +78,7 @@ fn dealing<N: Ledgers, R: Abort + Wait + Clock>(
     order: Order,
     parts: NewQueue<ParkGate>,
 ) -> Result<Waited, &'static str>
-    requires ledgers { AreOf N.name N.folds N.parts parts.blanks }
+    requires ledgers { AreOf N.name N.folds N.moments N.parts parts.blanks }
     requires one_each { N.parts ≡ vec_len parts.gates }
     requires cap { N.cap ≡ 100 }
 {

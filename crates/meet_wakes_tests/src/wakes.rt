@@ -56,7 +56,7 @@ fn dealing<N: Ledgers, R: Abort + Wait>(
     parts: NewQueue<FlagGate>,
     day: Day<'_>,
 ) -> Result<Chronicle<u64>, &'static str>
-    requires ledgers { AreOf N.name N.folds N.parts parts.blanks }
+    requires ledgers { AreOf N.name N.folds N.moments N.parts parts.blanks }
     requires one_each { N.parts ≡ vec_len parts.gates }
     requires cap { N.cap ≡ 100 }
 {

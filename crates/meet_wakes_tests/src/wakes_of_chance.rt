@@ -229,7 +229,7 @@ fn walking<N: Ledgers, R: Abort + Wait>(
     parts: NewQueue<CountGate>,
     all: &mut Vec<Watched>,
 ) -> Result<Chronicle<u64>, &'static str>
-    requires ledgers { AreOf N.name N.folds N.parts parts.blanks }
+    requires ledgers { AreOf N.name N.folds N.moments N.parts parts.blanks }
     requires one_each { N.parts ≡ vec_len parts.gates }
     requires cap { N.cap ≡ 100000 }
 {

@@ -11,4 +11,5 @@ pub mod Lying
 pub mod Rising
 pub mod Unstarted
 pub mod Worthy
+pub mod Reasons
 pub mod Stepping

@@ -1,7 +1,7 @@
 -- The seats that lie in a pool, and the one of a worker that is started.
 use Rattle.std.proofs.Common.{◌≡◌, ◌≤◌, ℕ, zero, suc, List, [], ◌∷◌, Option, Some, None, refl, sym, ap, subst, ◌∙◌, ⊎_elim}
 use Rattle.std.specs.Prelude.{slice_get, slice_set, slice_index_or, is_none, IfSome, option_to_list}
-use Rattle.meet_place.specs.Seats.{SeatView, Adds}
+use Rattle.meet_place.specs.Seats.{SeatView, Adds, IsLater}
 use Rattle.pool_core.specs.Bases.{tagged_deed}
 use Rattle.pool_core.specs.Calls.{execute_deed}
 use Rattle.pool_core.specs.Moves.{IsMade}
@@ -51,17 +51,18 @@ tagged_same tag (executed.DroppedOldest u b) = refl
 
 -- the seat after its job was answered so
 pub handed_as : (old new : SeatView (PoolDeed ℕ)) (tag given t : ℕ) (a : PoolAnswer ℕ) (e told : ExecuteAnswer ℕ)
-    → new.number ≡ old.number → new.past ≡ old.past → a ≡ answer.Executed t e → given ≡ tag → told ≡ e
+    → new.number ≡ old.number → new.past ≡ old.past → IsLater old.moment new.moment old.list new.list
+    → a ≡ answer.Executed t e → given ≡ tag → told ≡ e
     → Adds old.list new.list (option_to_list (pool_record (λ x. x) old.number (call.Execute given) a))
     → Handed old new tag told
-handed_as old new tag given t a e told number past is same tell adds =
+handed_as old new tag given t a e told number past later is same tell adds =
     let one : Adds old.list new.list (record { seat = old.number; ticket = t; deed = tagged_deed (λ x. x) (execute_deed tag e) } ∷ []) =
     subst (λ b. Adds old.list new.list (option_to_list (pool_record (λ x. x) old.number (call.Execute tag) b))) is
     (subst (λ k. Adds old.list new.list (option_to_list (pool_record (λ x. x) old.number (call.Execute k) a))) same adds) in
     let two : Adds old.list new.list (record { seat = old.number; ticket = t; deed = execute_deed tag e } ∷ []) =
     subst (λ (d : PoolDeed ℕ). Adds old.list new.list (record { seat = old.number; ticket = t; deed = d } ∷ [])) (tagged_same tag e) one in
     record {
-      same = (number, past);
+      same = (number, past, later);
       adds = (t, subst (λ (b : ExecuteAnswer ℕ). Adds old.list new.list (record { seat = old.number; ticket = t; deed = execute_deed tag b } ∷ [])) (sym tell) two);
     }
 

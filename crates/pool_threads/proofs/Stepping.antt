@@ -46,3 +46,9 @@ pub failed_moves : (v w t : ℕ) (first : Option ℕ) (said : PoolAnswer ℕ) (j
 failed_moves v w t first said jobs old new e is same m =
     subst (λ j. FailMoves v first j new) (sym same)
     (subst (λ u. FailMoves u first old new) (sym e) (subst (λ s. Moves w core.StartFailed s old new) is m))
+
+-- what a step did to the jobs, as it is told of the worker and the jobs that were found there
+pub moved : (call : PoolCall ℕ) (said told : PoolAnswer ℕ) (w at : ℕ) (was found now : Jobs ℕ) → said ≡ told → w ≡ at → was ≡ found
+    → Moves w call said was now → Moves at call told found now
+moved call said told w at was found now is worker same moves =
+    subst (λ a. Moves at call a found now) is (subst (λ jobs. Moves at call said jobs now) same (subst (λ v. Moves v call said was now) worker moves))

@@ -5,6 +5,7 @@ pub mod Stepped
 pub mod Mirrored
 pub mod NextFits
 pub mod Outcomes
+pub mod Parts
 pub mod Told
 pub mod Working
 pub mod Worthy

@@ -5,11 +5,13 @@
 //! from where a thread makes it, and which kind of call it is, is asked once.
 #![tactic(auto)]
 
+mod boxed;
 mod chapters;
 mod checkpoints;
 mod closing;
 mod home;
 mod jobs;
+mod laws;
 mod ledgers;
 mod making;
 mod moving;
@@ -22,10 +24,12 @@ mod steps;
 mod workers;
 mod worth;
 
+pub use boxed::{Boxed, ItsTag, JobFn};
 pub use chapters::PoolChapter;
 pub use closing::PoolChronicle;
 pub use home::Home;
 pub use jobs::{Call, Executed, Job, Work};
+pub use laws::{closed_pools_keep_order, receipts_of_closed_pools_tell_places};
 pub use ledgers::PoolLedgers;
 pub use making::NewPool;
 pub use outcomes::Outcome;

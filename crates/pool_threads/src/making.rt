@@ -103,7 +103,7 @@ impl<W: Work, C: Drop, G: Drop, S: Drop, N: PoolLedgers> Pool<W, C, G, S, N> {
         alloc: Global,
         parts: NewPool<G, S>,
     ) -> Result<(Self, Vec<Seat<PoolDeed<u64>, N>>), Refusal>
-        requires ledgers { AreOf N.name N.folds N.parts parts.blanks }
+        requires ledgers { AreOf N.name N.folds N.moments N.parts parts.blanks }
         requires one_each { N.parts ≡ parts.sizes.callers + parts.sizes.maximum }
         requires cap { N.cap ≡ most_records }
         requires gates { vec_len parts.gates ≡ parts.sizes.maximum }

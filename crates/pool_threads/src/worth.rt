@@ -113,6 +113,7 @@ impl<W: Work, N: Ledgers> WorkerSeat<W, N> {
         ensures room { OnOk result (receipts ≤ self.new.room) }
         ensures number { self.new.number ≡ self.old.number }
         ensures past { self.new.past ≡ self.old.past }
+        ensures moment { self.new.moment ≡ self.old.moment }
         ensures list { self.new.list ≡ self.old.list }
         ensures memory { IfErr result (λ why. why ≡ Memory) }
         ensures unchanged { IfErr result (λ _. self.new ≡ self.old) }

@@ -106,7 +106,7 @@ fn play_long<N, R>(
 where
     N: PoolLedgers + Send + Sync + 'static,
     R: Abort + Threads + Wait + Clock + Copy + Send + 'static,
-    requires ledgers { AreOf N.name N.folds N.parts parts.blanks }
+    requires ledgers { AreOf N.name N.folds N.moments N.parts parts.blanks }
     requires one_each { N.parts ≡ parts.sizes.callers + parts.sizes.maximum }
     requires cap { N.cap ≡ most_records }
     requires gates { vec_len parts.gates ≡ parts.sizes.maximum }

@@ -248,7 +248,7 @@ fn made<N: PoolLedgers>(
     alloc: Global,
     parts: Parts,
 ) -> Option<(Ours<N>, Vec<OurSeat<N>>)>
-    requires ledgers { AreOf N.name N.folds N.parts parts.blanks }
+    requires ledgers { AreOf N.name N.folds N.moments N.parts parts.blanks }
     requires one_each { N.parts ≡ parts.sizes.callers + parts.sizes.maximum }
     requires cap { N.cap ≡ most_records }
     requires gates { vec_len parts.gates ≡ parts.sizes.maximum }
@@ -284,7 +284,7 @@ fn lives<N, R>(rt: &R, alloc: Global, parts: Parts) -> Option<u64>
 where
     N: PoolLedgers + Send + Sync + 'static,
     R: Abort + Threads + Wait + Clock + Copy + Send + 'static,
-    requires ledgers { AreOf N.name N.folds N.parts parts.blanks }
+    requires ledgers { AreOf N.name N.folds N.moments N.parts parts.blanks }
     requires one_each { N.parts ≡ parts.sizes.callers + parts.sizes.maximum }
     requires cap { N.cap ≡ most_records }
     requires gates { vec_len parts.gates ≡ parts.sizes.maximum }

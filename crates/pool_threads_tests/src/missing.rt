@@ -117,7 +117,7 @@ fn play_lost<N, R>(rt: &R, alloc: Global, parts: Parts, flag: &Arc<AtomicBool>) 
 where
     N: PoolLedgers + Send + Sync + 'static,
     R: Abort + Threads + Wait + Clock + Copy + Send + Sync + 'static,
-    requires ledgers { AreOf N.name N.folds N.parts parts.blanks }
+    requires ledgers { AreOf N.name N.folds N.moments N.parts parts.blanks }
     requires one_each { N.parts ≡ parts.sizes.callers + parts.sizes.maximum }
     requires cap { N.cap ≡ most_records }
     requires gates { vec_len parts.gates ≡ parts.sizes.maximum }
@@ -220,7 +220,7 @@ fn play_busy<N, R>(rt: &R, alloc: Global, parts: Parts, flag: &Arc<AtomicBool>) 
 where
     N: PoolLedgers + Send + Sync + 'static,
     R: Abort + Threads + Wait + Clock + Copy + Send + 'static,
-    requires ledgers { AreOf N.name N.folds N.parts parts.blanks }
+    requires ledgers { AreOf N.name N.folds N.moments N.parts parts.blanks }
     requires one_each { N.parts ≡ parts.sizes.callers + parts.sizes.maximum }
     requires cap { N.cap ≡ most_records }
     requires gates { vec_len parts.gates ≡ parts.sizes.maximum }

@@ -127,7 +127,7 @@ pub(crate) fn made<N, R>(
 where
     N: PoolLedgers,
     R: Clock + Drop,
-    requires ledgers { AreOf N.name N.folds N.parts parts.blanks }
+    requires ledgers { AreOf N.name N.folds N.moments N.parts parts.blanks }
     requires one_each { N.parts ≡ parts.sizes.callers + parts.sizes.maximum }
     requires cap { N.cap ≡ most_records }
     requires gates { vec_len parts.gates ≡ parts.sizes.maximum }

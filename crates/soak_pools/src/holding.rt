@@ -4,7 +4,7 @@
 ghost use Rattle.std.specs.Prelude.{◌≡◌, ◌+◌, vec_len};
 ghost use Rattle.meet_place.specs.Ledgers.{AreOf};
 ghost use Rattle.meet_tickets.specs.Limits.{most_records};
-ghost use Rattle.pool_uses.specs.Parts.{IsOneEach};
+ghost use Rattle.pool_threads.specs.Parts.{IsOneEach};
 
 use crate::accounts::{Account, Tally};
 use crate::callers::{OurSeat, Ours, Task, calls};
@@ -185,7 +185,7 @@ fn held<N, R>(
 where
     N: PoolLedgers + Send + Sync + 'static,
     R: Threads + Wait + Clock + Copy + Send + Sync + 'static,
-    requires ledgers { AreOf N.name N.folds N.parts parts.blanks }
+    requires ledgers { AreOf N.name N.folds N.moments N.parts parts.blanks }
     requires one_each { N.parts ≡ parts.sizes.callers + parts.sizes.maximum }
     requires cap { N.cap ≡ most_records }
     requires gates { vec_len parts.gates ≡ parts.sizes.maximum }

@@ -1,7 +1,6 @@
 //! Jobs of a round: each notes that it ran, and answers its tag. A timed one works for a while first.
 
-use pool_threads::Call;
-use pool_uses::ItsTag;
+use pool_threads::{Call, ItsTag};
 use std::alloc::Global;
 use std::sync::Arc;
 use std::sync::atomic::{AtomicU64, Ordering};

@@ -274,7 +274,7 @@ fn held<G: Fresh + Sync, N: Ledgers + Send + Sync, R: Threads + Wait + Clock + S
     parts: NewQueue<G>,
     round: Round,
 ) -> Result<Account, Fault>
-    requires ledgers { AreOf N.name N.folds N.parts parts.blanks }
+    requires ledgers { AreOf N.name N.folds N.moments N.parts parts.blanks }
     requires one_each { N.parts ≡ vec_len parts.gates }
     requires cap { N.cap ≡ round.cap }
 {

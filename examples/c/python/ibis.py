@@ -1,7 +1,7 @@
 """The names of ibisbookcase.h for Python. The variable IBISBOOKCASE is the folder of libibisbookcase.so, by default what
 bin/build_c makes. The calling convention isn't proved: this file and the header must say the same."""
 import os
-from ctypes import CDLL, POINTER, Structure, c_bool, c_size_t, c_uint64, c_void_p
+from ctypes import CDLL, POINTER, Structure, c_bool, c_char_p, c_size_t, c_uint64, c_void_p, create_string_buffer
 
 OK, HISTORY_FULL, ILLEGAL = 0, 2, 31
 FAIR, UNFAIR, TRANSFER = 1, 2, 3
@@ -26,9 +26,11 @@ def numbers(name, words):
 Answer = numbers("Answer", "status outcome ticket partner has_item item wake")
 Record = numbers("Record", "seat ticket deed mark other")
 Found = numbers("Found", "status records place why waiting uncollected kept")
+Verdict = numbers("Verdict", "status line records place why waiting uncollected kept")
+Written = numbers("Written", "status line length")
 
 LIB = CDLL(os.path.join(os.environ.get("IBISBOOKCASE", f"{os.path.dirname(__file__)}/../../../out/c/lib"), "libibisbookcase.so"))
-number, handle = c_uint64, POINTER(Handle)
+number, handle, text = c_uint64, POINTER(Handle), [c_char_p, c_size_t]
 for call, words in {
     "queue_new": [handle, number, number, number, number, number],
     "queue_step": [handle, number, number, number, POINTER(Answer)],
@@ -36,6 +38,9 @@ for call, words in {
     "checker_new": [handle, number, number],
     "checker_push": [handle, POINTER(Record), c_size_t, POINTER(Found)],
     "checker_standing": [handle, POINTER(Found)],
+    "check": [*text, POINTER(Verdict)],
+    "judge": [*text, *text, POINTER(Written)],
+    "explain": [*text, *text, POINTER(Written)],
 }.items():
     getattr(LIB, f"ibis_{call}").argtypes, getattr(LIB, f"ibis_{call}").restype = words, c_uint64
 LIB.ibis_free.argtypes, LIB.ibis_free.restype = [handle], None
@@ -48,3 +53,25 @@ def check_records(order, records, bound=0):
     rows = (Record * len(records))(*records)
     LIB.ibis_checker_push(checker, rows, len(records), found) or LIB.ibis_checker_standing(checker, found)
     return found
+
+
+def check(trace):
+    """Returns what is found of the text of a trace."""
+    verdict = Verdict()
+    LIB.ibis_check(trace, len(trace), verdict)
+    return verdict
+
+
+def written(call, given, room=65536):
+    """Returns the status of `judge` or `explain` for this text, and what it writes."""
+    out, told = create_string_buffer(room), Written()
+    call(given, len(given), out, room, told)
+    return told.status, out.raw[: min(told.length, room)].decode()
+
+
+def judge(calls):
+    return written(LIB.ibis_judge, calls)
+
+
+def explain(trace):
+    return written(LIB.ibis_explain, trace)

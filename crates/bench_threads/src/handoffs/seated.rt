@@ -141,7 +141,7 @@ where
     G: Gate + Drop + Send + Sync,
     N: Ledgers + Send + Sync,
     R: Threads + Wait + Clock + Sync,
-    requires ledgers { AreOf N.name N.folds N.parts parts.blanks }
+    requires ledgers { AreOf N.name N.folds N.moments N.parts parts.blanks }
     requires one_each { N.parts ≡ vec_len parts.gates }
     requires cap { N.cap ≡ race.cap }
 {

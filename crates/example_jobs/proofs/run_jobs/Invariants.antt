@@ -1,5 +1,5 @@
 -- What stays true from turn to turn of `run_jobs`, src/main.rt.
-use Rattle.meet_tickets.specs.Limits.{most_records}
+use Rattle.ibisbookcase.specs.Limits.{most_records}
 use Rattle.example_jobs.proofs.run_jobs.Given as goal
 
 -- the ledgers of the pool that is made
@@ -7,7 +7,7 @@ abbrev pub ghosts-run_all-N-Ledger : goal.ghosts-run_all-N-Ledger
 ghosts-run_all-N-Ledger g a = record { name = a.parts.blanks.records.name; parts = a.parts.blanks.records.parts }
 
 abbrev pub ghosts-run_all-N-Ledgers : goal.ghosts-run_all-N-Ledgers
-ghosts-run_all-N-Ledgers g a = record { folds = a.parts.blanks.folds.name; cap = most_records }
+ghosts-run_all-N-Ledgers g a = record { folds = a.parts.blanks.folds.name; moments = a.parts.blanks.moments; cap = most_records }
 
 -- what it is made with
 abbrev pub ghosts-run_all-N-PoolLedgers : goal.ghosts-run_all-N-PoolLedgers

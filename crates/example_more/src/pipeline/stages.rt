@@ -1,15 +1,9 @@
 //! The three stages.
 
-use ibisbookcase::queues::{
-    Deed, End, Ledgers, ParkGate, Refusal, Seat, SeatRefused, TransferQueue,
-};
+use crate::pairs::{Numbers, Sitting};
+use ibisbookcase::queues::{End, Ledgers, Refusal, SeatRefused};
 use std::sync::Wait;
 use std::time::Clock;
-
-/// A transfer queue of numbers, and who sits there.
-pub type Numbers<N> = TransferQueue<u64, ParkGate, N>;
-
-pub type Sitting<N> = Seat<Deed, N>;
 
 /// Puts the numbers from 1 up to this one, and interrupts who takes them: it takes what is there, and then ends.
 pub fn make<N: Ledgers, R: Wait + Clock>(

@@ -49,7 +49,7 @@ fn cuts<N: Ledgers, R: Abort + Wait>(
     parts: NewQueue<ParkGate>,
     day: Day<'_>,
 ) -> Chronicle<u64>
-    requires ledgers { AreOf N.name N.folds N.parts parts.blanks }
+    requires ledgers { AreOf N.name N.folds N.moments N.parts parts.blanks }
     requires one_each { N.parts ≡ vec_len parts.gates }
     requires cap { N.cap ≡ day.cap }
 {

@@ -19,7 +19,7 @@ type Store<N> = TransferQueue<u64, ParkGate, N>;
 /// A queue with a seat for each of two gates, at the second try where there was no memory at first: then the gates and
 /// the blank ledgers came back.
 fn is_made<N: Ledgers>(rt: &impl Abort, alloc: Global, parts: NewQueue<ParkGate>)
-    requires ledgers { AreOf N.name N.folds N.parts parts.blanks }
+    requires ledgers { AreOf N.name N.folds N.moments N.parts parts.blanks }
     requires one_each { N.parts ≡ vec_len parts.gates }
     requires cap { N.cap ≡ most_records }
 {

@@ -7,4 +7,4 @@ abbrev pub ghosts-run_at-N-Ledger : goal.ghosts-run_at-N-Ledger
 ghosts-run_at-N-Ledger g a = record { name = a.parts.blanks.records.name; parts = a.parts.blanks.records.parts }
 
 abbrev pub ghosts-run_at-N-Ledgers : goal.ghosts-run_at-N-Ledgers
-ghosts-run_at-N-Ledgers g a = record { folds = a.parts.blanks.folds.name; cap = most_records }
+ghosts-run_at-N-Ledgers g a = record { folds = a.parts.blanks.folds.name; moments = a.parts.blanks.moments; cap = most_records }

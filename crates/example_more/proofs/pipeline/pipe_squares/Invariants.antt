@@ -7,10 +7,10 @@ abbrev pub ghosts-pipe-M-Ledger : goal.ghosts-pipe-M-Ledger
 ghosts-pipe-M-Ledger g a = record { name = a.first.blanks.records.name; parts = a.first.blanks.records.parts }
 
 abbrev pub ghosts-pipe-M-Ledgers : goal.ghosts-pipe-M-Ledgers
-ghosts-pipe-M-Ledgers g a = record { folds = a.first.blanks.folds.name; cap = most_records }
+ghosts-pipe-M-Ledgers g a = record { folds = a.first.blanks.folds.name; moments = a.first.blanks.moments; cap = most_records }
 
 abbrev pub ghosts-pipe-N-Ledger : goal.ghosts-pipe-N-Ledger
 ghosts-pipe-N-Ledger g a = record { name = a.second.blanks.records.name; parts = a.second.blanks.records.parts }
 
 abbrev pub ghosts-pipe-N-Ledgers : goal.ghosts-pipe-N-Ledgers
-ghosts-pipe-N-Ledgers g a = record { folds = a.second.blanks.folds.name; cap = most_records }
+ghosts-pipe-N-Ledgers g a = record { folds = a.second.blanks.folds.name; moments = a.second.blanks.moments; cap = most_records }

@@ -7,4 +7,4 @@ abbrev pub ghosts-open_server-N-Ledger : goal.ghosts-open_server-N-Ledger
 ghosts-open_server-N-Ledger g a = record { name = a.parts.blanks.records.name; parts = a.parts.blanks.records.parts }
 
 abbrev pub ghosts-open_server-N-Ledgers : goal.ghosts-open_server-N-Ledgers
-ghosts-open_server-N-Ledgers g a = record { folds = a.parts.blanks.folds.name; cap = most_records }
+ghosts-open_server-N-Ledgers g a = record { folds = a.parts.blanks.folds.name; moments = a.parts.blanks.moments; cap = most_records }

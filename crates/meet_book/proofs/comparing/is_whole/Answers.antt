@@ -4,8 +4,8 @@ use Rattle.std.proofs.Common.{◌≡◌, ◌+◌, ◌<◌, ◌≤◌, [], ◌∙
 use Rattle.std.proofs.lemmas.Grind.{common_steps}
 use Rattle.std.proofs.lemmas.Bool.{cases_lt}
 use Rattle.std.proofs.lemmas.List.{get_or-map, length-map, nil_from_length}
-use Rattle.meet_book.specs.Listed.{of_seat, entries_since, IsListed, FewerOrThese}
-use Rattle.meet_book.proofs.Listing.{below, below_more, below_and, listed_past}
+use Rattle.meet_book.specs.Listed.{of_seat, own_of, since, IsListed, FewerOrThese}
+use Rattle.meet_book.proofs.Listing.{below, below_more, below_and, listed_past, own_many}
 use Rattle.meet_book.proofs.comparing.is_whole.Goals as goal
 
 pub loop-number-preserved : goal.loop-number-preserved
@@ -20,14 +20,15 @@ loop-number-preserved g c =
     let more = below_more number records in
     let counted = c.in-Some.ensures.count in
     let seat : c.unwrap-seat.result ≡ number = grind (arith, common_steps) in
-    let few = subst (λ s. FewerOrThese (entries_since gone held) (of_seat s records)) seat c.in-Some.ensures.fewer in
+    let few = subst (λ s. FewerOrThese (since gone held) (own_of gone records s)) seat c.in-Some.ensures.fewer in
     let list : get_or lists number [] ≡ held = get_or-map g.H.Holds.held seats number c.index-seats-number.result [] (omega arith) ∙ ap g.H.Holds.held (sym c.index-seats-number.is) ∙ sym c.receipts.ensures in
-    let at_number : entries_since gone held ≡ of_seat number records → IsListed gone records lists number = λ these. sym these ∙ ap (entries_since gone) (sym list) in
+    let at_number : since gone held ≡ own_of gone records number → IsListed gone records lists number = λ these. sym these ∙ ap (since gone) (sym list) in
+    let many = own_many gone records number in
     record {
-      fewer = omega (arith, so_far.fewer, more, counted, few.0);
+      fewer = omega (arith, so_far.fewer, more, many, counted, few.0);
       these = λ same other lt.
-          let before : length records ≡ c.loop-number.unseen + length (below number records) = omega (arith, same, so_far.fewer, more, counted, few.0) in
-          let all : length (entries_since gone held) ≡ length (of_seat number records) = omega (arith, same, so_far.fewer, more, counted, few.0) in
+          let before : length records ≡ c.loop-number.unseen + length (below number records) = omega (arith, same, so_far.fewer, more, many, counted, few.0) in
+          let all : length (since gone held) ≡ length (own_of gone records number) = omega (arith, same, so_far.fewer, more, many, counted, few.0) in
           ⊎_elim (λ (less : other < number). so_far.these before other less) (λ (at_least : number ≤ other).
           let this : number ≡ other = omega (arith, lt, at_least) in
           subst (IsListed gone records lists) this (at_number (few.1 all))) (cases_lt other number);

@@ -7,4 +7,4 @@ abbrev pub ghosts-at_transfer-N-Ledger : goal.ghosts-at_transfer-N-Ledger
 ghosts-at_transfer-N-Ledger g a = record { name = a.parts.blanks.records.name; parts = a.parts.blanks.records.parts }
 
 abbrev pub ghosts-at_transfer-N-Ledgers : goal.ghosts-at_transfer-N-Ledgers
-ghosts-at_transfer-N-Ledgers g a = record { folds = a.parts.blanks.folds.name; cap = most_records }
+ghosts-at_transfer-N-Ledgers g a = record { folds = a.parts.blanks.folds.name; moments = a.parts.blanks.moments; cap = most_records }

@@ -7,4 +7,4 @@ abbrev pub ghosts-filled-N-Ledger : goal.ghosts-filled-N-Ledger
 ghosts-filled-N-Ledger g a = record { name = a.parts.blanks.records.name; parts = a.parts.blanks.records.parts }
 
 abbrev pub ghosts-filled-N-Ledgers : goal.ghosts-filled-N-Ledgers
-ghosts-filled-N-Ledgers g a = record { folds = a.parts.blanks.folds.name; cap = most_records }
+ghosts-filled-N-Ledgers g a = record { folds = a.parts.blanks.folds.name; moments = a.parts.blanks.moments; cap = most_records }

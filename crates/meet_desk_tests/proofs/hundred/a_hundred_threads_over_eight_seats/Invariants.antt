@@ -7,4 +7,4 @@ abbrev pub ghosts-hundred-N-Ledger : goal.ghosts-hundred-N-Ledger
 ghosts-hundred-N-Ledger g a = record { name = a.parts.blanks.records.name; parts = a.parts.blanks.records.parts }
 
 abbrev pub ghosts-hundred-N-Ledgers : goal.ghosts-hundred-N-Ledgers
-ghosts-hundred-N-Ledgers g a = record { folds = a.parts.blanks.folds.name; cap = most_records }
+ghosts-hundred-N-Ledgers g a = record { folds = a.parts.blanks.folds.name; moments = a.parts.blanks.moments; cap = most_records }

@@ -7,4 +7,4 @@ abbrev pub ghosts-looked-N-Ledger : goal.ghosts-looked-N-Ledger
 ghosts-looked-N-Ledger g a = record { name = a.parts.blanks.records.name; parts = a.parts.blanks.records.parts }
 
 abbrev pub ghosts-looked-N-Ledgers : goal.ghosts-looked-N-Ledgers
-ghosts-looked-N-Ledgers g a = record { folds = a.parts.blanks.folds.name; cap = most_records }
+ghosts-looked-N-Ledgers g a = record { folds = a.parts.blanks.folds.name; moments = a.parts.blanks.moments; cap = most_records }

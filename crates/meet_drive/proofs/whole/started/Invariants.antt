@@ -6,4 +6,4 @@ abbrev pub ghosts-driving-N-Ledger : goal.ghosts-driving-N-Ledger
 ghosts-driving-N-Ledger g a = record { name = a.parts.blanks.records.name; parts = a.parts.blanks.records.parts }
 
 abbrev pub ghosts-driving-N-Ledgers : goal.ghosts-driving-N-Ledgers
-ghosts-driving-N-Ledgers g a = record { folds = a.parts.blanks.folds.name; cap = a.cap }
+ghosts-driving-N-Ledgers g a = record { folds = a.parts.blanks.folds.name; moments = a.parts.blanks.moments; cap = a.cap }

@@ -5,4 +5,4 @@ abbrev pub ghosts-lives-N-Ledger : goal.ghosts-lives-N-Ledger
 ghosts-lives-N-Ledger a call = record { name = call.parts.blanks.records.name; parts = call.parts.blanks.records.parts }
 
 abbrev pub ghosts-lives-N-Ledgers : goal.ghosts-lives-N-Ledgers
-ghosts-lives-N-Ledgers a call = record { folds = call.parts.blanks.folds.name; cap = call.parts.book.cap }
+ghosts-lives-N-Ledgers a call = record { folds = call.parts.blanks.folds.name; moments = call.parts.blanks.moments; cap = call.parts.book.cap }

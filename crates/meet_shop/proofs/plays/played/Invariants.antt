@@ -5,4 +5,4 @@ abbrev pub ghosts-playing-N-Ledger : goal.ghosts-playing-N-Ledger
 ghosts-playing-N-Ledger a call = record { name = call.parts.blanks.records.name; parts = call.parts.blanks.records.parts }
 
 abbrev pub ghosts-playing-N-Ledgers : goal.ghosts-playing-N-Ledgers
-ghosts-playing-N-Ledgers a call = record { folds = call.parts.blanks.folds.name; cap = call.story.cap }
+ghosts-playing-N-Ledgers a call = record { folds = call.parts.blanks.folds.name; moments = call.parts.blanks.moments; cap = call.story.cap }

@@ -5,4 +5,4 @@ abbrev pub ghosts-without_seat_1-N-Ledger : goal.ghosts-without_seat_1-N-Ledger
 ghosts-without_seat_1-N-Ledger a call = record { name = call.parts.blanks.records.name; parts = call.parts.blanks.records.parts }
 
 abbrev pub ghosts-without_seat_1-N-Ledgers : goal.ghosts-without_seat_1-N-Ledgers
-ghosts-without_seat_1-N-Ledgers a call = record { folds = call.parts.blanks.folds.name; cap = 8 }
+ghosts-without_seat_1-N-Ledgers a call = record { folds = call.parts.blanks.folds.name; moments = call.parts.blanks.moments; cap = 8 }

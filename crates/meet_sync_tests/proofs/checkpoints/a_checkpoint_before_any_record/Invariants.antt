@@ -5,4 +5,4 @@ abbrev pub ghosts-five_records-N-Ledger : goal.ghosts-five_records-N-Ledger
 ghosts-five_records-N-Ledger a call = record { name = call.parts.blanks.records.name; parts = call.parts.blanks.records.parts }
 
 abbrev pub ghosts-five_records-N-Ledgers : goal.ghosts-five_records-N-Ledgers
-ghosts-five_records-N-Ledgers a call = record { folds = call.parts.blanks.folds.name; cap = 5 }
+ghosts-five_records-N-Ledgers a call = record { folds = call.parts.blanks.folds.name; moments = call.parts.blanks.moments; cap = 5 }

@@ -5,4 +5,4 @@ abbrev pub ghosts-whole-N-Ledger : goal.ghosts-whole-N-Ledger
 ghosts-whole-N-Ledger a call = record { name = call.parts.blanks.records.name; parts = call.parts.blanks.records.parts }
 
 abbrev pub ghosts-whole-N-Ledgers : goal.ghosts-whole-N-Ledgers
-ghosts-whole-N-Ledgers a call = record { folds = call.parts.blanks.folds.name; cap = 5 }
+ghosts-whole-N-Ledgers a call = record { folds = call.parts.blanks.folds.name; moments = call.parts.blanks.moments; cap = 5 }

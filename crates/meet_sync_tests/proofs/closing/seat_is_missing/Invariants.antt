@@ -5,4 +5,4 @@ abbrev pub ghosts-falls_short-N-Ledger : goal.ghosts-falls_short-N-Ledger
 ghosts-falls_short-N-Ledger a call = record { name = call.parts.blanks.records.name; parts = call.parts.blanks.records.parts }
 
 abbrev pub ghosts-falls_short-N-Ledgers : goal.ghosts-falls_short-N-Ledgers
-ghosts-falls_short-N-Ledgers a call = record { folds = call.parts.blanks.folds.name; cap = call.story.cap }
+ghosts-falls_short-N-Ledgers a call = record { folds = call.parts.blanks.folds.name; moments = call.parts.blanks.moments; cap = call.story.cap }

@@ -6,4 +6,4 @@ abbrev pub ghosts-a_day-N-Ledger : goal.ghosts-a_day-N-Ledger
 ghosts-a_day-N-Ledger a call = record { name = call.parts.blanks.records.name; parts = call.parts.blanks.records.parts }
 
 abbrev pub ghosts-a_day-N-Ledgers : goal.ghosts-a_day-N-Ledgers
-ghosts-a_day-N-Ledgers a call = record { folds = call.parts.blanks.folds.name; cap = most_records }
+ghosts-a_day-N-Ledgers a call = record { folds = call.parts.blanks.folds.name; moments = call.parts.blanks.moments; cap = most_records }

@@ -5,4 +5,4 @@ abbrev pub ghosts-in_vain-N-Ledger : goal.ghosts-in_vain-N-Ledger
 ghosts-in_vain-N-Ledger a call = record { name = call.parts.blanks.records.name; parts = call.parts.blanks.records.parts }
 
 abbrev pub ghosts-in_vain-N-Ledgers : goal.ghosts-in_vain-N-Ledgers
-ghosts-in_vain-N-Ledgers a call = record { folds = call.parts.blanks.folds.name; cap = 3 }
+ghosts-in_vain-N-Ledgers a call = record { folds = call.parts.blanks.folds.name; moments = call.parts.blanks.moments; cap = 3 }

@@ -5,4 +5,4 @@ abbrev pub ghosts-passing-N-Ledger : goal.ghosts-passing-N-Ledger
 ghosts-passing-N-Ledger a call = record { name = call.parts.blanks.records.name; parts = call.parts.blanks.records.parts }
 
 abbrev pub ghosts-passing-N-Ledgers : goal.ghosts-passing-N-Ledgers
-ghosts-passing-N-Ledgers a call = record { folds = call.parts.blanks.folds.name; cap = 100 }
+ghosts-passing-N-Ledgers a call = record { folds = call.parts.blanks.folds.name; moments = call.parts.blanks.moments; cap = 100 }

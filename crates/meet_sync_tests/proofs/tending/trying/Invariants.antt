@@ -5,4 +5,4 @@ abbrev pub ghosts-tried-N-Ledger : goal.ghosts-tried-N-Ledger
 ghosts-tried-N-Ledger a call = record { name = call.parts.blanks.records.name; parts = call.parts.blanks.records.parts }
 
 abbrev pub ghosts-tried-N-Ledgers : goal.ghosts-tried-N-Ledgers
-ghosts-tried-N-Ledgers a call = record { folds = call.parts.blanks.folds.name; cap = call.cap }
+ghosts-tried-N-Ledgers a call = record { folds = call.parts.blanks.folds.name; moments = call.parts.blanks.moments; cap = call.cap }

@@ -5,4 +5,4 @@ abbrev pub ghosts-walking-N-Ledger : goal.ghosts-walking-N-Ledger
 ghosts-walking-N-Ledger a call = record { name = call.parts.blanks.records.name; parts = call.parts.blanks.records.parts }
 
 abbrev pub ghosts-walking-N-Ledgers : goal.ghosts-walking-N-Ledgers
-ghosts-walking-N-Ledgers a call = record { folds = call.parts.blanks.folds.name; cap = 1048576 }
+ghosts-walking-N-Ledgers a call = record { folds = call.parts.blanks.folds.name; moments = call.parts.blanks.moments; cap = 1048576 }

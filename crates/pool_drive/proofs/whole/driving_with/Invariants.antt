@@ -7,7 +7,7 @@ abbrev pub ghosts-driving-N-Ledger : goal.ghosts-driving-N-Ledger
 ghosts-driving-N-Ledger g a = record { name = a.parts.blanks.records.name; parts = a.parts.blanks.records.parts }
 
 abbrev pub ghosts-driving-N-Ledgers : goal.ghosts-driving-N-Ledgers
-ghosts-driving-N-Ledgers g a = record { folds = a.parts.blanks.folds.name; cap = most_records }
+ghosts-driving-N-Ledgers g a = record { folds = a.parts.blanks.folds.name; moments = a.parts.blanks.moments; cap = most_records }
 
 -- what it is made with
 abbrev pub ghosts-driving-N-PoolLedgers : goal.ghosts-driving-N-PoolLedgers

@@ -7,7 +7,7 @@ abbrev pub ghosts-lives-N-Ledger : goal.ghosts-lives-N-Ledger
 ghosts-lives-N-Ledger g a = record { name = a.parts.blanks.records.name; parts = a.parts.blanks.records.parts }
 
 abbrev pub ghosts-lives-N-Ledgers : goal.ghosts-lives-N-Ledgers
-ghosts-lives-N-Ledgers g a = record { folds = a.parts.blanks.folds.name; cap = most_records }
+ghosts-lives-N-Ledgers g a = record { folds = a.parts.blanks.folds.name; moments = a.parts.blanks.moments; cap = most_records }
 
 -- what it is made with
 abbrev pub ghosts-lives-N-PoolLedgers : goal.ghosts-lives-N-PoolLedgers

@@ -7,7 +7,7 @@ abbrev pub ghosts-play_lost-N-Ledger : goal.ghosts-play_lost-N-Ledger
 ghosts-play_lost-N-Ledger g a = record { name = a.parts.blanks.records.name; parts = a.parts.blanks.records.parts }
 
 abbrev pub ghosts-play_lost-N-Ledgers : goal.ghosts-play_lost-N-Ledgers
-ghosts-play_lost-N-Ledgers g a = record { folds = a.parts.blanks.folds.name; cap = most_records }
+ghosts-play_lost-N-Ledgers g a = record { folds = a.parts.blanks.folds.name; moments = a.parts.blanks.moments; cap = most_records }
 
 -- what it is made with
 abbrev pub ghosts-play_lost-N-PoolLedgers : goal.ghosts-play_lost-N-PoolLedgers

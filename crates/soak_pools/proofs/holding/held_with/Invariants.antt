@@ -7,7 +7,7 @@ abbrev pub ghosts-held-N-Ledger : goal.ghosts-held-N-Ledger
 ghosts-held-N-Ledger g a = record { name = a.parts.blanks.records.name; parts = a.parts.blanks.records.parts }
 
 abbrev pub ghosts-held-N-Ledgers : goal.ghosts-held-N-Ledgers
-ghosts-held-N-Ledgers g a = record { folds = a.parts.blanks.folds.name; cap = most_records }
+ghosts-held-N-Ledgers g a = record { folds = a.parts.blanks.folds.name; moments = a.parts.blanks.moments; cap = most_records }
 
 -- what it is made with
 abbrev pub ghosts-held-N-PoolLedgers : goal.ghosts-held-N-PoolLedgers

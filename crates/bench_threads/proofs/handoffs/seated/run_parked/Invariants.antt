@@ -6,4 +6,4 @@ abbrev pub ghosts-run_over-N-Ledger : goal.ghosts-run_over-N-Ledger
 ghosts-run_over-N-Ledger g a = record { name = a.parts.blanks.records.name; parts = a.parts.blanks.records.parts }
 
 abbrev pub ghosts-run_over-N-Ledgers : goal.ghosts-run_over-N-Ledgers
-ghosts-run_over-N-Ledgers g a = record { folds = a.parts.blanks.folds.name; cap = a.race.cap }
+ghosts-run_over-N-Ledgers g a = record { folds = a.parts.blanks.folds.name; moments = a.parts.blanks.moments; cap = a.race.cap }

@@ -5,4 +5,4 @@ abbrev pub ghosts-cuts-N-Ledger : goal.ghosts-cuts-N-Ledger
 ghosts-cuts-N-Ledger a call = record { name = call.parts.blanks.records.name; parts = call.parts.blanks.records.parts }
 
 abbrev pub ghosts-cuts-N-Ledgers : goal.ghosts-cuts-N-Ledgers
-ghosts-cuts-N-Ledgers a call = record { folds = call.parts.blanks.folds.name; cap = call.day.cap }
+ghosts-cuts-N-Ledgers a call = record { folds = call.parts.blanks.folds.name; moments = call.parts.blanks.moments; cap = call.day.cap }

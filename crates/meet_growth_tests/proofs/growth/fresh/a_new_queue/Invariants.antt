@@ -7,4 +7,4 @@ abbrev pub ghosts-is_made-N-Ledger : goal.ghosts-is_made-N-Ledger
 ghosts-is_made-N-Ledger a call = record { name = call.parts.blanks.records.name; parts = call.parts.blanks.records.parts }
 
 abbrev pub ghosts-is_made-N-Ledgers : goal.ghosts-is_made-N-Ledgers
-ghosts-is_made-N-Ledgers a call = record { folds = call.parts.blanks.folds.name; cap = most_records }
+ghosts-is_made-N-Ledgers a call = record { folds = call.parts.blanks.folds.name; moments = call.parts.blanks.moments; cap = most_records }

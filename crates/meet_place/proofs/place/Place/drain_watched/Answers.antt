@@ -3,6 +3,7 @@ use Rattle.std.proofs.Common.{ap, subst, ◌∙◌, ◌<◌, ◌+◌, ◌++◌, 
 use Rattle.std.proofs.Math.Nat.{min-eq_left}
 use Rattle.meet_tickets.specs.Refusals.{IsWhy}
 use Rattle.meet_book.specs.Draining.{TakingPolls, book_drain_refusal}
+use Rattle.meet_place.proofs.Later.{since_same}
 use Rattle.meet_place.proofs.place.Place.drain_watched.Goals as goal
 
 pub returns-in-Ok-clause-polls : goal.returns-in-Ok-clause-polls
@@ -31,4 +32,10 @@ returns-clause-why g c =
     let k = min (min c.args.max (vec_capacity c.in-Some.room.polled)) (d.available_of book.object) in
     let few : k ≤ c.args.max = grind arith in
     let why = subst (λ n. IsWhy (book_drain_refusal (o.refusal_of book.object n d.poll) (d.unspent_of book.object) (o.owed_of book.object) book k) c.in-Err.refused.why) c.reserve.ensures.number c.in-Err.ensures.why in
-    inr (book, k, few, c.drain.ensures.place, subst (λ n. n < g.N.Ledger.parts) c.reserve.ensures.number c.drain.ensures.within, why)
+    inr (book, k, few, c.drain.ensures.place, since_same o.leads o.gone_of c.moment.result c.args.seat.now.moment _ book (c.moment.ensures ∙ c.reserve.ensures.moment) c.deref_mut.ensures.value c.hold_since-shared.ensures.since, subst (λ n. n < g.N.Ledger.parts) c.reserve.ensures.number c.drain.ensures.within, why)
+
+pub returns-in-Ok-clause-later : goal.returns-in-Ok-clause-later
+returns-in-Ok-clause-later g c = rw (← c.reserve.ensures.moment, ← c.reserve.ensures.list) c.drain.ensures.later
+
+pub returns-clause-later : goal.returns-clause-later
+returns-clause-later g c = rw (← c.reserve.ensures.moment, ← c.reserve.ensures.list) c.drain.ensures.later

@@ -4,6 +4,7 @@ use Rattle.std.proofs.Common.{◌≡◌, ap, subst, ◌∙◌, ◌+◌, ◌++◌
 use Rattle.std.proofs.lemmas.List.{length-append, length-map}
 use Rattle.meet_book.specs.Draining.{TakingPolls, AreNumbered}
 use Rattle.meet_place.proofs.Kept.{polls_keep}
+use Rattle.meet_place.proofs.Later.{later_equal, later_numbered}
 use Rattle.meet_place.proofs.shared.Shared.drain.Goals as goal
 
 pub returns-clause-polls : goal.returns-clause-polls
@@ -40,3 +41,23 @@ invariant_of-self-2 g c =
       was.5,
       (stay ∙ was.6.0, c.drain_into.ensures.cap ∙ was.6.1),
     )
+
+-- nobody has seen more than there was, and the polls are numbered on from there
+pub returns-clause-later : goal.returns-clause-later
+returns-clause-later g c =
+    let o = g.O.Object in
+    let last = o.gone_of c.self.inside.book.base + length c.self.inside.book.records in
+    let got = c.in-Ok.got.items in
+    let was = c.self.invariant.0 in
+    let before = c.add.ensures.before in
+    let after = c.add.ensures.moment in
+    let many = c.len.ensures in
+    let moment = ap (λ s. s.moment) c.seat.view_is in
+    later_numbered c.args.seat.now.moment last c.add.new.moment c.args.seat.now.list c.hand_out.new.list.items got
+    (c.hand_out.ensures.receipts ∙ ap (λ s. s.list ++ map (λ one. one.1) got) c.seat.view_is) c.in-Ok.ensures.places
+    (omega (arith, was, before, moment)) (omega (arith, was, after, many))
+
+pub returns-in-Err-clause-later : goal.returns-in-Err-clause-later
+returns-in-Err-clause-later g c =
+    later_equal c.args.seat.now.moment c.seat.inside.moment c.args.seat.now.list c.seat.inside.list.items
+    (ap (λ s. s.moment) c.seat.view_is) (ap (λ s. s.list) c.seat.view_is)

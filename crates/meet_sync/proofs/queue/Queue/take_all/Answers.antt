@@ -2,6 +2,7 @@
 use Rattle.std.proofs.Common.{ap, sym, ◌∙◌, min, refl}
 use Rattle.meet_core.specs.declared.calls.queue_calls.QueueCall.TheVariants.{Poll}
 use Rattle.meet_sync.proofs.Takings.{place_takes, all_bring, all_drained, least_of, drain_why}
+use Rattle.meet_place.specs.Holds.{IsSince}
 use Rattle.meet_sync.proofs.queue.Queue.take_all.Goals as goal
 
 pub items_of-requires-clause-items : goal.items_of-requires-clause-items
@@ -56,5 +57,5 @@ returns-in-Err-clause-why g c =
     let laws = g.met.O.QueuePlace in
     let i = c.args.seat.now.number in
     drain_why g.O.QueuePlace.queue_of g.O.Object.seat_count_of g.O.Drains.unspent_of g.O.Object.owed_of
-    (λ o. g.O.Object.refusal_of o i g.O.Drains.poll) g.N.Ledger.parts g.N.Ledgers.cap i c.room_for-there.result c.in-Err.why
+    (λ o. g.O.Object.refusal_of o i g.O.Drains.poll) (IsSince g.O.Object.leads g.O.Object.gone_of c.args.seat.now.moment) g.N.Ledger.parts g.N.Ledgers.cap i c.room_for-there.result c.in-Err.why
     laws.is_count (λ o. ap (g.O.Object.refusal_of o i) g.met.O.QueueDrains.is_poll ∙ laws.is_refusal o i Poll) c.in-Err.ensures.why

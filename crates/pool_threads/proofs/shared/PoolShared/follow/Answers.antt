@@ -1,12 +1,14 @@
 -- Proof of `PoolShared::follow`, src/steps.rt. A worker's `follow`.
-use Rattle.std.proofs.Common.{subst, ap, inr}
+use Rattle.std.proofs.Common.{◌≡◌, ◌∙◌, sym, subst, ap, inr}
 use Rattle.std.specs.Prelude.{option_to_list}
 use Rattle.meet_place.specs.Seats.{Adds}
 use Rattle.pool_core.specs.Placed.{pool_record}
 use Rattle.pool_core.specs.declared.calls.PoolCall.TheVariants.{Follow}
 use Rattle.pool_threads.proofs.Fitting.{refused_fits, follow_fits}
 use Rattle.pool_threads.specs.declared.steps.Next.TheVariants as next
-use Rattle.pool_threads.proofs.Stepping.{works}
+use Rattle.pool_threads.proofs.Stepping.{works, moved}
+use Rattle.pool_core.specs.Moves.{jobs_of}
+use Rattle.pool_core.specs.Pools.{worker_of}
 use Rattle.pool_threads.proofs.shared.PoolShared.follow.Goals as goal
 use Rattle.pool_threads.proofs.shared.PoolShared.follow.Goals.{in-Err, in-Ok+in-Followed}
 
@@ -25,3 +27,18 @@ returns-clause-step g c = elim c.match-step.branch [
   | in-Ok+in-Followed b ↦ rw (b.result-is, b.self-inside-is, ← c.self.view_is)
       (works _ _ c.args.seat c.step.new.self _ b.in-Ok.answer _ _ b.in-Followed.is b.in-Ok.ensures.made c.step.ensures.number b.in-Ok.ensures.adds b.after_follow.ensures.next)
 ]
+
+pub invariant_of-self : goal.invariant_of-self
+invariant_of-self g c =
+    let number = c.number.ensures in
+    let looked = c.probe.ensures.object in
+    let found = c.worker_of-w.ensures in
+    let worker : worker_of c.self.inside.shared.object.settings c.args.seat.number ≡ c.worker_of-w.result = cc in
+    elim c.match-step.branch [
+      | in-Err b ↦ rw (b.self-inside-is, b.in-Err.ensures.same.1) (c.self.invariant.0, c.step.ensures.settings ∙ c.self.invariant.1)
+      | in-Ok+in-Followed b ↦ rw b.self-inside-is (
+        b.after_follow.ensures.moves (jobs_of c.step.new.shared.object.pool)
+            (moved Follow b.in-Ok.answer _ _ _ _ _ _ b.in-Followed.is worker (sym c.self.invariant.0) b.in-Ok.ensures.moves),
+        c.step.ensures.settings ∙ c.self.invariant.1,
+      )
+    ]

@@ -1,0 +1,15 @@
+-- What stays true from turn to turn of `stopped_at_once`, src/ends.rt.
+use Rattle.meet_tickets.specs.Limits.{most_records}
+use Rattle.pool_uses_tests.proofs.ends.stopped_at_once.Given as goal
+
+-- the ledgers of the pool that is made
+abbrev pub ghosts-play_stopped-N-Ledger : goal.ghosts-play_stopped-N-Ledger
+ghosts-play_stopped-N-Ledger g a = record { name = a.parts.blanks.records.name; parts = a.parts.blanks.records.parts }
+
+abbrev pub ghosts-play_stopped-N-Ledgers : goal.ghosts-play_stopped-N-Ledgers
+ghosts-play_stopped-N-Ledgers g a = record { folds = a.parts.blanks.folds.name; moments = a.parts.blanks.moments; cap = most_records }
+
+-- what it is made with
+abbrev pub ghosts-play_stopped-N-PoolLedgers : goal.ghosts-play_stopped-N-PoolLedgers
+ghosts-play_stopped-N-PoolLedgers g a =
+    record { settings = record { sizes = a.parts.sizes; queue = a.parts.queue; policy = a.parts.policy } }
