@@ -28,7 +28,7 @@ pub trait Chair<T: Marked> {
     /// A moment of its queue: how many records had been written by then. It takes no bytes.
     type Moment;
 
-    /// The number of records that a moment tells.
+    /// The number of records that a moment states.
     ghost written_by: { Self.Moment → ℕ };
 
     /// The kind of its queue.
@@ -56,7 +56,8 @@ pub trait Chair<T: Marked> {
     fn moment(&self) -> Self::Moment
         ensures { IfSome (seat_of self.now) (λ seat. written_by result ≡ seat.moment) };
 
-    /// Shows the seat a moment of its queue: all calls that the chair makes from now on stand behind that in the history.
+    /// Raises the seat's moment to this one of its queue, if that is later. Each later call of the chair stands behind
+    /// it in the history.
     fn learn(&mut self, moment: &Self::Moment)
         ensures { IfSome (seat_of self.old) (λ seat. seat_of self.new
             ≡ Some (record seat { moment = max seat.moment (written_by moment.now) })) };

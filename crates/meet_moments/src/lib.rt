@@ -1,4 +1,4 @@
-//! Moments of what only grows. They take no bytes, and their functions do nothing at run time.
+//! Moments: what is known of a count that only grows. They take no bytes, and their functions do nothing at run time.
 #![tactic(auto)]
 
 ghost use Rattle.std.specs.Prelude.{◌≡◌, ◌+◌, ◌≤◌, ℕ, max};
@@ -7,7 +7,7 @@ ghost use Rattle.meet_moments.specs.Kept.{counter_owns, moment_owns};
 
 use std::marker::{Model, PhantomData};
 
-/// How far something has come that only grows. There is one of a name.
+/// A count that only grows, such as the number of records in a log. Each name has one counter.
 pub struct Counter {
     marker: PhantomData<()>,
     pub ghost name: { ℕ },
@@ -18,7 +18,8 @@ impl Model for Counter {
     ghost also_owns = { λ c. counter_owns c.name c.now };
 }
 
-/// The counter of this name has come so far: known for good, and copied as often as one likes.
+/// The knowledge that the counter of this name has reached at least this count. It stays true, so it may be copied and
+/// sent to any thread.
 pub struct Moment {
     marker: PhantomData<()>,
     pub ghost name: { ℕ },
@@ -32,7 +33,7 @@ impl Model for Moment {
 }
 
 impl Counter {
-    /// A new one, at 0.
+    /// Makes a counter with a name of its own, at 0.
     pub fn new() -> Counter
         ensures { result.now ≡ 0 }
     {
@@ -41,7 +42,7 @@ impl Counter {
         }
     }
 
-    /// This moment.
+    /// Returns the moment at which the counter stands.
     pub fn moment(&mut self) -> Moment
         ensures moment { (result.name ≡ self.old.name) × (result.at ≡ self.old.now) }
         ensures same { self.new ≡ self.old }
@@ -51,7 +52,8 @@ impl Counter {
         }
     }
 
-    /// Goes on by so many. Who has seen a moment hasn't seen more than there was before, and sees this one then.
+    /// Raises the counter by `by`, and the moment to the counter's new count. No moment was above the old count, so
+    /// whatever is recorded now stands behind all that the moment's owner has seen.
     pub fn advance(&mut self, moment: &mut Moment, by: u64)
         requires { moment.old.name ≡ self.old.name }
         ensures before { moment.old.at ≤ self.old.now }
@@ -61,7 +63,7 @@ impl Counter {
 }
 
 impl Moment {
-    /// A copy.
+    /// Returns a copy.
     pub fn again(&self) -> Moment
         ensures { result ≡ self.now }
     {
@@ -70,7 +72,7 @@ impl Moment {
         }
     }
 
-    /// Afterwards it knows what both knew.
+    /// Raises this moment to the other one, if that is later.
     pub fn learn(&mut self, other: &Moment)
         requires { other.now.name ≡ self.old.name }
         ensures name { self.new.name ≡ self.old.name }

@@ -193,7 +193,7 @@ impl<N: Ledgers> Moment<N> {
         }
     }
 
-    /// Becomes the later of both.
+    /// Raises this moment to the other one, if that is later.
     pub fn learn(&mut self, other: &Moment<N>)
         ensures { self.new ≡ max self.old other.now }
     {

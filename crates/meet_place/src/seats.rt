@@ -104,15 +104,15 @@ impl<D: Copy, N: Ledgers> Seat<D, N> {
         self.list.as_slice()
     }
 
-    /// Returns the moment that it knows of. Its records so far stand up to there, and so does all that it was shown. A
-    /// seat that is shown this moment (`learn`) makes its further calls behind all of that.
+    /// Returns the seat's moment: the number of records up to which all that it wrote stands in the log, and all that
+    /// it was shown. A seat that is shown this moment (`learn`) makes its later calls behind all of that.
     pub fn moment(&self) -> Moment<N>
         ensures { result ≡ self.now.moment }
     {
         self.moment.again()
     }
 
-    /// Shows it a moment: the records of its further calls stand behind that.
+    /// Raises the seat's moment to this one, if that is later. The records of its later calls stand behind it.
     pub fn learn(&mut self, moment: &Moment<N>)
         ensures { self.new ≡ record self.old { moment = max self.old.moment moment.now } }
     {
@@ -290,14 +290,14 @@ impl<D: Copy, N: Ledgers> Pending<D, N> {
         self.seat.receipts()
     }
 
-    /// The moment that the seat knows of, as `Seat::moment`.
+    /// Returns the seat's moment, as `Seat::moment` does.
     pub fn moment(&self) -> Moment<N>
         ensures { result ≡ self.now.moment }
     {
         self.seat.moment()
     }
 
-    /// Is shown a moment, as `Seat::learn`: the ending of the ticket stands behind that.
+    /// Raises the seat's moment, as `Seat::learn` does. The ending of the ticket stands behind it.
     pub fn learn(&mut self, moment: &Moment<N>)
         ensures { self.new ≡ record self.old { moment = max self.old.moment moment.now } }
     {

@@ -39,7 +39,10 @@ pub fn hand<N: PoolLedgers, R: Wait>(
 {
     let job = Job::new::<ItsTag>(Boxed::new(tag, call));
     let mut shared = lock.lock(rt);
-    shared.execute(seat, job).is_ok()
+    match shared.execute(seat, job) {
+        Ok(_) => true,
+        Err(_) => false,
+    }
 }
 
 /// Runs a boxed function.
