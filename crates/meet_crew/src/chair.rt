@@ -161,7 +161,7 @@ pub trait Chair<T: Marked> {
     /// until the item is taken.
     ///
     /// # Errors
-    /// Those of `ask`.
+    /// - Memory, HistoryFull, TicketsSpent or SeatOpen, as `ask`.
     ///
     /// # Example
     /// From `crates/meet_crew_tests/src/moments.rt`:
@@ -184,7 +184,7 @@ pub trait Chair<T: Marked> {
     /// Gives an item, and waits until it is taken.
     ///
     /// # Errors
-    /// Those of `ask`.
+    /// - Memory, HistoryFull, TicketsSpent or SeatOpen, as `ask`.
     ///
     /// Java: `TransferQueue.transfer`.
     final fn transfer(&mut self, item: T) -> Result<End<T>, CallRefused<T>>
@@ -200,7 +200,7 @@ pub trait Chair<T: Marked> {
     /// Gives an item to a consumer that waits, or returns `End::Failed` with the item.
     ///
     /// # Errors
-    /// Those of `ask`.
+    /// - Memory, HistoryFull, TicketsSpent or SeatOpen, as `ask`.
     ///
     /// Java: `TransferQueue.tryTransfer`, `SynchronousQueue.offer`.
     final fn try_transfer(&mut self, item: T) -> Result<End<T>, CallRefused<T>>
@@ -217,7 +217,7 @@ pub trait Chair<T: Marked> {
     /// `try_transfer`.
     ///
     /// # Errors
-    /// Those of `ask`.
+    /// - Memory, HistoryFull, TicketsSpent or SeatOpen, as `ask`.
     ///
     /// # Example
     /// From `crates/example_words/src/main.rt`:
@@ -246,7 +246,7 @@ pub trait Chair<T: Marked> {
     /// Takes an item, and waits until there is one.
     ///
     /// # Errors
-    /// Those of `ask`.
+    /// - Memory, HistoryFull, TicketsSpent or SeatOpen, as `ask`.
     ///
     /// Java: `BlockingQueue.take`.
     final fn take(&mut self) -> Result<End<T>, CallRefused<T>>
@@ -261,7 +261,7 @@ pub trait Chair<T: Marked> {
     /// Takes an item from a producer that is there, or returns `End::Failed`.
     ///
     /// # Errors
-    /// Those of `ask`.
+    /// - Memory, HistoryFull, TicketsSpent or SeatOpen, as `ask`.
     ///
     /// # Example
     /// From `crates/meet_crew_tests/src/moments.rt`:
@@ -281,7 +281,7 @@ pub trait Chair<T: Marked> {
     /// Takes an item, and waits for one for `limit` milliseconds at most. With a limit of 0 it is `poll`.
     ///
     /// # Errors
-    /// Those of `ask`.
+    /// - Memory, HistoryFull, TicketsSpent or SeatOpen, as `ask`.
     ///
     /// # Example
     /// From `crates/example_words/src/main.rt`:
