@@ -6,8 +6,8 @@ ghost use Rattle.meet_book.specs.Listed.{AreListed, StandsBefore, StandsIn, list
 ghost use Rattle.meet_book.specs.Received.{Received};
 ghost use Rattle.pool_core.specs.declared.deeds.PoolDeed.{PoolDeed};
 
-/// States that receipts tell places. If a record of a closed pool wasn't folded away, it stands in the history at the
-/// number that its receipt has. It does nothing.
+/// States that a receipt's number is its record's place in the log. If a record of a closed pool wasn't compacted, it
+/// stands in the history at the number that its receipt has. It does nothing.
 pub fn receipts_of_closed_pools_tell_places()
     ensures { (gone : ℕ) (records : List (Record (PoolDeed ℕ))) (lists : List (List (Received (PoolDeed ℕ))))
         → AreListed gone records lists → (seat k : ℕ) (receipt : Received (PoolDeed ℕ))
