@@ -186,8 +186,8 @@ impl<O: Object, G, N: Ledgers> Place<O, G, N> {
         look(shared.probe())
     }
 
-    /// Looks at the place as `look`, at a state that isn't older than a moment: a legal history, in which all records up
-    /// to the moment stand, leads to the object that the closure is given.
+    /// Returns what this closure returns of the place, as `look` does, at a state that isn't older than a moment: a
+    /// legal history, in which all records up to the moment stand, leads to the object that the closure is given.
     pub fn look_since<R: Wait, A, F: FnOnce(&O) -> A>(
         &self,
         rt: &R,
