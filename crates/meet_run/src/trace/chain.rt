@@ -1,4 +1,4 @@
-//! What is found of the chapters of a chain, one after another.
+//! The check of the chapters of a chain, one after another.
 
 ghost use Rattle.std.specs.Prelude.{◌≡◌, ◌<◌, ◌+◌, ◌^◌, ◌∷◌, [], ◌++◌, List, IfOk, IfErr, OnOk};
 ghost use Rattle.meet_tickets.specs.declared.refusals.Refusal.TheVariants.{Memory};
@@ -12,14 +12,15 @@ use meet_history::{CheckFault, Checker, Why};
 use meet_tickets::{Kind, Refusal};
 use std::alloc::{AllocError, Global};
 
-/// What is wrong with a chapter behind those before it.
+/// What is wrong with a chapter after those before it.
 #[derive(Clone, Copy, PartialEq, Eq, Debug)]
 pub enum ChapterFault {
     /// Its trace names another place.
     OtherPlace,
     /// Its base doesn't stand for those before it.
     OtherBase,
-    /// The record of this number, from 1 and with those of the base, is its first that can't stand, for this reason.
+    /// The record of number `place`, from 1 and with those of the base, is its first that can't stand, for the reason
+    /// `why`.
     Illegal { place: u64, why: Why },
 }
 

@@ -1,4 +1,4 @@
-//! The records of a trace that is read, where they are wanted behind the check.
+//! The records of a trace that is read, if they are needed after the check.
 
 ghost use Rattle.std.specs.Prelude.{◌≡◌, ◌↔◌, [], ◌∷◌, ◌++◌, List, Bool, true, false, Err, IsTrue, OnOk, IfErr};
 ghost use Rattle.meet_tickets.specs.declared.records.Deed.{Deed};
