@@ -1,4 +1,4 @@
-//! A line whose entries are linked to their neighbours, and found in buckets by their tickets.
+//! A wait queue whose nodes are linked to their neighbours, and found in buckets by their tickets.
 
 ghost use Rattle.std.specs.Prelude.{◌≡◌, ◌≢◌, ◌+◌, ◌*◌, ◌<◌, ◌≤◌, ◌==◌, ◌⊎◌, [], ◌∷◌, ◌++◌, length, map, find};
 ghost use Rattle.std.specs.Prelude.{All, AllPairs, IsOk, IfOk, IfErr, OnOk, OnErr, None};
