@@ -56,7 +56,7 @@ impl<T: Marked> Display for CloseFault<T> {
     }
 }
 
-/// The reason alone: what comes back need not be such as can be shown.
+/// The reason alone: what is returned need not be one that can be shown.
 impl<T: Marked> Debug for CloseFault<T> {
     fn fmt<W: Write>(&self, f: &mut Formatter<W>) -> fmt::Result {
         write!(f, "CloseFault({})", self.why)
@@ -116,7 +116,7 @@ fn gather<T: Marked>(
     seats.destroy_empty();
 }
 
-/// An empty list for each seat, or none where memory is short.
+/// An empty list for each seat, or none if an allocation fails.
 fn empty_lists(alloc: Global, seats: u64) -> Option<Vec<Vec<Part>>>
     ensures count { IfSome result (λ lists. length lists.items ≡ seats) }
     ensures empty { IfSome result (λ lists. map (λ list. list.items) lists.items ≡ replicate seats []) }
@@ -136,7 +136,7 @@ struct Room<T> {
     left: Vec<LeftIn<T>>,
 }
 
-/// Room for what the seats will have come to, or none where memory is short.
+/// Room for what the seats will have come to, or none if an allocation fails.
 fn room_for<T>(alloc: Global, slots: usize, seats: u64, backs: &[Back<T>]) -> Option<Room<T>>
     ensures slots { IfSome result (λ room. length room.slots.items ≡ slots) }
     ensures blank { IfSome result (λ room. (k : ℕ) → k < slots

@@ -110,7 +110,7 @@ impl<O: Object, G, N: Ledgers> Display for CloseFault<O, G, N> {
     }
 }
 
-/// The reason alone: what comes back need not be such as can be shown.
+/// The reason alone: what is returned need not be one that can be shown.
 impl<O: Object, G, N: Ledgers> Debug for CloseFault<O, G, N> {
     fn fmt<W: Write>(&self, f: &mut Formatter<W>) -> fmt::Result {
         write!(f, "CloseFault({})", self.why())

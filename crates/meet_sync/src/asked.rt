@@ -77,7 +77,7 @@ impl<T, N: Ledgers> Display for SeatRefused<T, N> {
     }
 }
 
-/// The reason alone: what comes back need not be such as can be shown.
+/// The reason alone: what is returned need not be one that can be shown.
 impl<T, N: Ledgers> Debug for SeatRefused<T, N> {
     fn fmt<W: Write>(&self, f: &mut Formatter<W>) -> fmt::Result {
         write!(f, "SeatRefused({})", self.why)

@@ -109,7 +109,7 @@ impl<Q, B, N: Ledgers> Display for QueueFault<Q, B, N> {
     }
 }
 
-/// The reason alone: what comes back need not be such as can be shown.
+/// The reason alone: what is returned need not be one that can be shown.
 impl<Q, B, N: Ledgers> Debug for QueueFault<Q, B, N> {
     fn fmt<W: Write>(&self, f: &mut Formatter<W>) -> fmt::Result {
         write!(f, "QueueFault({})", self.why())

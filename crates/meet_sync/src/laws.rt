@@ -30,9 +30,9 @@ pub fn receipts_of_closed_queues_tell_places<T>()
 {}
 
 /// States that a closed queue kept the order that its threads could observe. A record whose number is at most some
-/// moment stands in the history before each record whose number is above that moment. What a seat called before it
-/// gave a moment away has numbers up to that; what a seat calls once it was shown a moment has numbers above that. It
-/// does nothing.
+/// moment stands in the history before each record whose number is above that moment. What a seat called before it gave
+/// a moment away has numbers up to that; what a seat calls after it was shown a moment has numbers above that. It does
+/// nothing.
 pub fn closed_queues_keep_order<T>()
     ensures { (mark : T → ℕ) (kind : Kind) (base : Based) (records : List (Record Deed))
         (lists : List (List (Received Deed))) (items : List (Left T))

@@ -13,7 +13,7 @@ use meet_transfer::Unbounded;
 use std::sync::Wait;
 
 impl<T: Marked, L: Line<T>, G, N: Ledgers> Queue<Dual<T, L>, G, N> {
-    /// Returns true, whoever waits.
+    /// Returns true, even if requests wait.
     ///
     /// Java: `SynchronousQueue.isEmpty`.
     pub fn is_empty(&self) -> bool
@@ -22,7 +22,7 @@ impl<T: Marked, L: Line<T>, G, N: Ledgers> Queue<Dual<T, L>, G, N> {
         true
     }
 
-    /// Returns 0, whoever waits.
+    /// Returns 0, even if requests wait.
     ///
     /// Java: `SynchronousQueue.size`.
     pub fn size(&self) -> u64

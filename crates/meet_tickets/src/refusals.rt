@@ -138,7 +138,7 @@ impl<I> Display for Refused<I> {
     }
 }
 
-/// The reason alone: what comes back need not be one that can be shown.
+/// The reason alone: what is returned need not be one that can be shown.
 impl<I> Debug for Refused<I> {
     fn fmt<W: Write>(&self, f: &mut Formatter<W>) -> fmt::Result {
         write!(f, "Refused({})", self.why)

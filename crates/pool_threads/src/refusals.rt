@@ -41,7 +41,7 @@ impl<C, N: Ledgers> Display for PoolRefused<C, N> {
     }
 }
 
-/// The reason alone: what comes back need not be such as can be shown.
+/// The reason alone: what is returned need not be one that can be shown.
 impl<C, N: Ledgers> Debug for PoolRefused<C, N> {
     fn fmt<O: Write>(&self, f: &mut Formatter<O>) -> fmt::Result {
         write!(f, "PoolRefused({})", self.why)
@@ -178,7 +178,7 @@ impl<W: Work, C, G, S, N: PoolLedgers> Display for PoolFault<W, C, G, S, N> {
     }
 }
 
-/// The reason alone: what comes back need not be such as can be shown.
+/// The reason alone: what is returned need not be one that can be shown.
 impl<W: Work, C, G, S, N: PoolLedgers> Debug for PoolFault<W, C, G, S, N> {
     fn fmt<O: Write>(&self, f: &mut Formatter<O>) -> fmt::Result {
         write!(f, "PoolFault({})", self.why())

@@ -115,7 +115,10 @@ impl<W: Work, C: Call<W> + Drop, G: Gate + Drop, N: PoolLedgers> Desk<W, C, G, N
     }
 }
 
-/// Makes a thread, and then hands it its worker. If the thread can't be made, the worker is returned.
+/// Makes a thread, and then hands it its worker.
+///
+/// # Errors
+/// - The worker, if the thread can't be made.
 pub fn start<R, W, C, G, N, S>(
     rt: &R,
     alloc: Global,

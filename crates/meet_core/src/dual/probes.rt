@@ -7,7 +7,7 @@ use meet_line::Line;
 use meet_tickets::Marked;
 
 impl<T: Marked, L: Line<T>> Dual<T, L> {
-    /// Returns true, whoever waits.
+    /// Returns true, even if requests wait.
     ///
     /// Java: `SynchronousQueue.isEmpty`.
     pub fn is_empty(&self) -> bool
@@ -16,7 +16,7 @@ impl<T: Marked, L: Line<T>> Dual<T, L> {
         true
     }
 
-    /// Returns 0, whoever waits.
+    /// Returns 0, even if requests wait.
     ///
     /// Java: `SynchronousQueue.size`.
     pub fn size(&self) -> u64

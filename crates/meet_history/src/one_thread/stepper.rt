@@ -47,7 +47,7 @@ impl Model for Stepper {
         × (s.book.cap ≡ s.setup.cap) };
 }
 
-/// The reply to a call that was refused; want of memory has none.
+/// The reply to a call that was refused; a failed allocation has none.
 fn refused_unless_memory(seat: SeatNo, why: Refusal) -> Result<Reply, Refusal>
     ensures reply { IfOk result (λ reply. reply ≡ record { seat = seat; outcome = Outcome.Refused why }) }
     ensures other { IfOk result (λ _. why ≢ Memory) }

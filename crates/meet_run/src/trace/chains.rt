@@ -43,7 +43,7 @@ fn is_head(line: &[u8]) -> bool
     read_head(line).is_some() || read_based_head(line).is_some()
 }
 
-/// Appends a line and its end. The only refusal is Memory.
+/// Appends a line and its end. Fails only if an allocation fails.
 fn keep_line(text: &mut Vec<u8>, line: &[u8]) -> Result<(), RunFault>
     ensures kept { OnOk result (text.new.items ≡ text.old.items ++ (line.now ++ codes "\n")) }
     ensures memory { IfErr result (λ fault. fault ≡ record { why = Memory; line = None }) }
