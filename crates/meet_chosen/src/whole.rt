@@ -143,7 +143,7 @@ impl<T: Marked, G: Gate, N: Ledgers> ChosenQueue<T, G, N> {
     /// Nothing is taken. The first that applies:
     /// - Memory, if a list can't grow.
     /// - SeatOpen, if the seat has a pending request (an open ticket).
-    /// - TicketsSpent, if all 2^63 - 1 request ids (tickets) are used.
+    /// - TicketsSpent, if fewer request ids (tickets) are left than items to take.
     /// - HistoryFull, if the log has no room for the records.
     /// - Memory, if the queue can't grow.
     ///

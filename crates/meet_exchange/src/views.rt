@@ -5,17 +5,17 @@ use std::collections::LinkedList;
 
 /// What a seat has in hand at a slot. The number is a mark: of the item that was posted, or given.
 pub enum Duty {
-    /// The slot, which it has claimed.
+    /// It has claimed the slot.
     Claimed,
-    /// Its offer, which stands.
+    /// Its offer of the item with this mark stands.
     Offering(u64),
-    /// Its offer, whose answer it saw.
+    /// It saw the answer to its offer of the item with this mark.
     Ready(u64),
-    /// The item that it took, before it answers.
+    /// It took a posted item, and is to answer it by the item with this mark.
     Took(u64),
-    /// The item that it collected, before it clears the slot.
+    /// It collected the other item, and is to clear the slot.
     Gathered,
-    /// Its own item, which it took back, before it clears the slot.
+    /// It took its own item back, and is to clear the slot.
     TookBack,
 }
 

@@ -106,7 +106,7 @@ impl<O: QueueDrains, G: Gate, N: Ledgers> Queue<O, G, N> {
     /// The seat is returned, and nothing is taken. The first that applies:
     /// - Memory, if a list can't grow.
     /// - SeatOpen, if the seat has a pending request (an open ticket).
-    /// - TicketsSpent, if all 2^63 - 1 request ids (tickets) are used.
+    /// - TicketsSpent, if fewer request ids (tickets) are left than items to take.
     /// - HistoryFull, if the log has no room for the records.
     /// - Memory, if the queue can't grow.
     ///

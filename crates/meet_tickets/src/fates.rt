@@ -28,7 +28,7 @@ pub enum Fate {
     Kept,
     /// It waits in the wait queue.
     Waiting,
-    /// It came before the base, and is none of its nodes'.
+    /// It came before the base, which has no entry for it.
     Past,
 }
 

@@ -41,7 +41,7 @@ pub fn bases_are_one()
         → base ≡ no_base }
 {}
 
-/// States that each node of a well-formed base shows its ticket's fate, and any other ticket up to its last is past,
+/// States that each entry of a well-formed base shows its ticket's fate, and any other ticket up to its last is past,
 /// and stays so. It does nothing.
 pub fn bases_show_fates()
     ensures { (k : Kind) (base : Based) → IsWellFormed k base → ShowsFates base }

@@ -79,7 +79,7 @@ impl<W: Work, C: Drop, N: PoolLedgers> PoolShared<W, C, N> {
     /// # Errors
     /// Nothing has changed, and the job is returned.
     /// - Memory, if an allocation fails.
-    /// - NoSuchSeat, TicketsSpent or HistoryFull, as the core.
+    /// - NoSuchSeat, TicketsSpent or HistoryFull, as the core and its log (`Pool::execute`).
     #[inline(always)]
     pub fn execute(
         &mut self,

@@ -17,10 +17,10 @@ use meet_tickets::{Cause, Marked, Refusal, SeatNo};
 ///
 /// # Errors
 /// The first that applies:
-/// - NoSuchSeat, if the queue has no such seat, or no such target of an interrupt.
-/// - SeatOpen, if the seat has a pending request (an open ticket), of a request.
-/// - TicketsSpent, if all tickets are used, of a request.
-/// - NotOpen, if the ticket isn't the open one of that seat, of a completion.
+/// - NoSuchSeat, of a request or an interrupt, if the queue has no such seat or target.
+/// - SeatOpen, of a request, if the seat has a pending request (an open ticket).
+/// - TicketsSpent, of a request, if all tickets are used.
+/// - NotOpen, of a completion, if the ticket isn't the open one of that seat.
 #[inline(always)]
 pub fn admit_call<T: Marked, L: Line<T>>(
     queue: &Meetings<T, L>,
