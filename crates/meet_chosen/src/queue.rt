@@ -92,6 +92,11 @@ impl<T: Marked, G: Drop, N: Ledgers> ChosenQueue<T, G, N> {
     /// The parts are returned.
     /// - BadSizes, exactly if there is no gate or more than 65,536, or `cap` is 0 or more than 1,048,576.
     /// - Memory, if an allocation fails.
+    ///
+    /// # Example
+    /// From `crates/meet_java_tests/src/whole.rt`, where `Shop` is a `ChosenQueue` of numbers:
+    ///
+    ///     match Shop::<G, N>::with_cap(alloc, order, parts, 1_048_576) {
     pub fn with_cap(
         alloc: Global,
         order: Order,

@@ -29,6 +29,11 @@ impl<T: Marked, L: Line<T>, G: Gate, N: Ledgers> Queue<Dual<T, L>, G, N> {
     /// # Errors
     /// - Memory, SeatOpen, TicketsSpent or HistoryFull, as `request`.
     ///
+    /// # Example
+    /// From `crates/meet_shop/src/calls.rt`:
+    ///
+    ///     Call::Put(item) => whole(queue.put(rt, seat, item)),
+    ///
     /// Java: `SynchronousQueue.put`.
     pub fn put<R: Wait + Clock>(
         &self,
@@ -47,6 +52,11 @@ impl<T: Marked, L: Line<T>, G: Gate, N: Ledgers> Queue<Dual<T, L>, G, N> {
     ///
     /// # Errors
     /// - Memory, SeatOpen, TicketsSpent or HistoryFull, as `request`.
+    ///
+    /// # Example
+    /// From `crates/meet_shop/src/calls.rt`:
+    ///
+    ///     Call::Offer(item) => whole(queue.offer(rt, seat, item)),
     ///
     /// Java: `SynchronousQueue.offer`.
     pub fn offer<R: Wait + Clock>(

@@ -318,6 +318,11 @@ impl<W: Work, C: Drop, G: Gate + Drop, S: Drop, N: PoolLedgers> Pool<W, C, G, S,
 
     /// Waits until the pool is shut down and has no worker, which may be never.
     ///
+    /// # Example
+    /// From `crates/example_jobs/src/running.rt`:
+    ///
+    ///     pool.await_end(rt); // no more jobs, no more workers
+    ///
     /// Java: `ThreadPoolExecutor.awaitTermination` without a limit.
     pub fn await_end<R: Wait>(&self, rt: &R) {
         let guard = self.home.moved.wait_while(
