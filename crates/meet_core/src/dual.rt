@@ -193,9 +193,9 @@ impl<T: Marked, L: Line<T>> Dual<T, L> {
         self.meetings.poll(seat)
     }
 
-    /// Returns true if the seat's open ticket is this one, with this mark: while its item lies here, since it waits or
-    /// was interrupted, the item has this mark, or there is none if this is none. A ticket that waits is looked for in
-    /// the wait queue.
+    /// Returns true if the seat's open ticket is this one, with this mark. While its item lies here, since it waits or
+    /// was interrupted, the item has to have this mark, or there has to be none if this is none. A ticket that waits is
+    /// looked for in the wait queue.
     pub fn awaits(&self, seat: SeatNo, ticket: Ticket, mark: Option<u64>) -> bool
         ensures { IsTrue result ↔ AwaitsAs T.mark_of (seats_of self.now) seat ticket mark }
     {

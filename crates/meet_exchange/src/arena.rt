@@ -151,8 +151,8 @@ impl<T: Marked> Arena<T> {
         Ok((arena, list))
     }
 
-    /// Returns the word of a slot, of which nothing is promised: the sum of its code, 0 to 4, of 8 times the seat that
-    /// claimed the round, and of 2^19 times the round.
+    /// Returns the word of a slot, of which nothing is promised. It is the sum of its code (0 to 4), of 8 times the
+    /// seat that claimed the round, and of 2^19 times the round.
     pub fn word(&self, slot: usize) -> u64
         requires { slot < self.now.slots }
     {

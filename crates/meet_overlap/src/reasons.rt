@@ -91,8 +91,8 @@ pub enum Reason {
         /// The call that had put it.
         giver: usize,
     },
-    /// `caller` found no counterpart, though `waiting`, a call of the other side, waited all the time: it was seen to
-    /// wait before `caller` began, and no call can have met it by the end of that.
+    /// `caller` found no counterpart, though `waiting`, a call of the other side, waited all the time. `waiting` was
+    /// seen to wait before `caller` began, and no call can have met it by the end of `caller`.
     Missed {
         /// The mark of the item that `waiting` gives, if it gives one.
         item: Option<u64>,
@@ -101,9 +101,9 @@ pub enum Reason {
         /// The call that waited.
         waiting: usize,
     },
-    /// `caller` met a call with the item though `waiting`, a call of the same side as that one, waited all the time,
-    /// and its turn came first: in front, or on top if the last one is met first. No call can have met `waiting` by the
-    /// end of `caller`.
+    /// `caller` met a call with the item though `waiting`, a call of the same side as that one, waited all the time.
+    /// The turn of `waiting` came first: it was in front, or on top if the last one is met first. No call can have met
+    /// `waiting` by the end of `caller`.
     Passed {
         /// The mark of the item.
         item: u64,

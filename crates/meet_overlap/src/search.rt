@@ -1,5 +1,5 @@
-//! The search for an order in which calls make their records: depth first, each search step (move) the next record of
-//! one call (Wing and Gong 1993), with a memory of what leads nowhere (Lowe 2017).
+//! The search for an order in which calls make their records (Wing and Gong 1993), with a memory of what leads nowhere
+//! (Lowe 2017). It is depth first; each search step (move) is the next record of one call.
 //!
 //! - A call has at most one next record at a known place, so a move is a call (`next`, `moving`).
 //! - A call that was matched or interrupted ends at once, since no other call sees that (`settling`).

@@ -186,7 +186,7 @@ impl<O: Object, G, N: Ledgers> Place<O, G, N> {
         look(shared.probe())
     }
 
-    /// Returns what this closure returns of the place, as `look` does, at a state that isn't older than a moment: a
+    /// Returns what this closure returns of the place, as `look` does, at a state that isn't older than a moment. A
     /// legal history, in which all records up to the moment stand, leads to the object that the closure is given.
     pub fn look_since<R: Wait, A, F: FnOnce(&O) -> A>(
         &self,

@@ -150,7 +150,7 @@ impl<D: Copy, N: Ledgers> Seat<D, N> {
         past.seen = gone;
     }
 
-    /// Returns true if this seat should take the lock to compact: its list has more than cap / seats / 4 receipts, and
+    /// Returns true if this seat should take the lock to compact. Its list has more than cap / seats / 4 receipts, and
     /// its last record stands more than half of `cap` after those that it saw compacted. Then the log may be more than
     /// half full.
     pub fn is_to_look(&self, cap: u64, seats: u64) -> bool

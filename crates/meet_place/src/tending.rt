@@ -87,9 +87,9 @@ where
         shared.look_after(seat)
     }
 
-    /// Compacts the log if it is more than half full. It first looks at the seat's own list: only if that has more
-    /// receipts than may lie there, and the log may be more than half full by the last of them (`is_to_look`), it takes
-    /// the lock, once. Then the seat's receipts for all that is compacted are dropped. Otherwise it does nothing. It
+    /// Compacts the log if it is more than half full. It takes the lock, once, only on two conditions: the seat's own
+    /// list has more receipts than may lie there, and the last of them shows that the log may be more than half full
+    /// (`is_to_look`). Then the seat's receipts for all that is compacted are dropped. Otherwise it does nothing. It
     /// allocates only for the base.
     ///
     /// # Errors

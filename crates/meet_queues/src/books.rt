@@ -48,8 +48,8 @@ pub fn queue_book<T: Marked, L: Line<T>>(
     Ok(Book::new(alloc, queue, cap))
 }
 
-/// Creates the log of a new transfer queue with this many seats, at most 65,536, this first ticket, 1 to 2^63 - 1, and
-/// this bound on the items that it buffers, or none. `cap` is its capacity in records, 1 to 1,048,576.
+/// Creates the log of a new transfer queue with this many seats, at most 65,536, and this first ticket, 1 to 2^63 - 1.
+/// `bound` is the most items that it buffers, if there is a bound. `cap` is its capacity in records, 1 to 1,048,576.
 ///
 /// # Errors
 /// - Memory, if an allocation fails.

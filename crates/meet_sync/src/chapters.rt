@@ -68,9 +68,10 @@ where
 
 impl<O: QueuePlace + Bases, G, N: Ledgers> Queue<O, G, N> {
     /// Compacts the log if it is more than half full. The log doesn't fill if each seat calls this after each of its
-    /// calls (tested, not proved). Most calls do nothing, and take no lock: the lock is taken only if the seat's list
-    /// has more receipts than a quarter of its share of the capacity, and the last of them shows that the log may be
-    /// more than half full (`is_to_look`). Then the seat's receipts for all that is compacted are dropped.
+    /// calls (tested, not proved). Most calls do nothing, and take no lock. The lock is taken only on two conditions:
+    /// the seat's list has more receipts than a quarter of its share of the capacity, and the last of them shows that
+    /// the log may be more than half full (`is_to_look`). Then the seat's receipts for all that is compacted are
+    /// dropped.
     ///
     /// # Errors
     /// The records stay; the seat's receipts for what was compacted before are dropped.

@@ -11,8 +11,8 @@ ghost use Rattle.meet_book.specs.Received.{Received};
 ghost use Rattle.meet_laws.specs.Promise.{KeepsPromise};
 ghost use Rattle.meet_sync.specs.Chronicles.{IsChronicle};
 
-/// States that a closed queue kept its promise: in its one history each ticket was matched at most once, in the queue's
-/// order, and never after it was withdrawn, however the threads' calls interleaved. It does nothing.
+/// States that a closed queue kept its promise, however the threads' calls interleaved. In its one history each ticket
+/// was matched at most once, in the queue's order, and never after it was withdrawn. It does nothing.
 pub fn closed_queues_keep_their_promise<T>()
     ensures { (mark : T → ℕ) (kind : Kind) (base : Based) (records : List (Record Deed))
         (lists : List (List (Received Deed))) (items : List (Left T))

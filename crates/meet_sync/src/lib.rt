@@ -4,7 +4,7 @@
 //!
 //! - A request is one step under the lock. If it finds its counterpart, the counterpart's gate (parker) is woken after
 //!   the lock is free.
-//! - If it finds none, its seat waits at its gate with the lock free, and follows its ticket up each time that it is
+//! - If it finds none, its seat waits at its gate with the lock free. It follows its ticket up each time that it is
 //!   woken: a wake states nothing, only the queue does. A gate keeps one wake, so one that comes between the request
 //!   and the wait isn't lost. A limit is checked once more after each wake.
 //! - A completion is one step too: the request is completed if it was matched or interrupted, or taken back if its time

@@ -56,16 +56,16 @@ pub fn bases_stand()
         → StandsOn k base records seats }
 {}
 
-/// States that after a well-formed base and legal records a place holds what was asked: the item of a node, or of a
-/// ticket that was interrupted, is the one that its own request brought, and that of two that met the one that the
-/// producer's did. It does nothing.
+/// States that after a well-formed base and legal records a place holds what was asked. The item of a node, or of a
+/// ticket that was interrupted, is the one that its own request brought. That of two that met is the one that the
+/// producer's request brought. It does nothing.
 pub fn requests_are_remembered()
     ensures { (k : Kind) (base : Based) (records : List (Record Deed)) → IsWellFormed k base → IsLegalOn k base records
         → Remembers (request_on base records) (moment_of k (moment_of_base base) records).seats }
 {}
 
 /// States that after a well-formed base and legal records the fates of the tickets are what the place holds, ticket by
-/// ticket: each node of the wait queue, each seat's ticket that was matched or interrupted, and no other ticket waits,
+/// ticket. Each node of the wait queue, each seat's ticket that was matched or interrupted, and no other ticket waits,
 /// is buffered or awaits its completion. It does nothing.
 pub fn fates_are_placed()
     ensures { (k : Kind) (base : Based) (records : List (Record Deed)) → IsWellFormed k base → IsLegalOn k base records

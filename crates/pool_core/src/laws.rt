@@ -18,8 +18,8 @@ use crate::pool::PoolCore;
 use meet_book::{Book, Receipt};
 use meet_tickets::{Marked, SeatNo};
 
-/// States that after a well-formed base and legal records the job of each ticket has as many statuses as jobs of it
-/// were on the base or were executed since, and never more than one. It does nothing.
+/// States that after a well-formed base and legal records each job has one status at most. The job of a ticket has as
+/// many statuses as jobs of it were on the base or were executed since. It does nothing.
 pub fn jobs_have_one_standing()
     ensures count { (s : Made) (b : Based) (records : List (Entered (Told ℕ))) → IsWellFormed s b
         → IsLegalOn s b records → (ticket : ℕ) → standing_count (standings s b records) ticket
@@ -28,8 +28,8 @@ pub fn jobs_have_one_standing()
         → (ticket : ℕ) → standing_count (standings s b records) ticket ≤ 1 }
 {}
 
-/// States that each result that is recorded follows a record of the same seat that it runs the job of this ticket, with
-/// none of that seat in between; or the base states that it runs it. It does nothing.
+/// States that each result that is recorded follows a record of the same seat that it runs the job of this ticket. No
+/// record of that seat is in between. Or else the base states that it runs it. It does nothing.
 pub fn answers_follow_starts()
     ensures { (s : Made) (b : Based) (front : List (Entered (Told ℕ))) (seat ticket answer : ℕ)
         (rest : List (Entered (Told ℕ)))

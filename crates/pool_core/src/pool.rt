@@ -24,8 +24,8 @@ mod leaving;
 mod waking;
 mod working;
 
-/// The core of a pool: its wait queue, its workers' stages, its counts and its next ticket; how many more jobs may be
-/// buffered without an allocation, and a list for those that `shutdown_now` returns.
+/// The core of a pool: its wait queue, its workers' stages, its counts and its next ticket. It has room for some more
+/// buffered jobs, and a list for those that `shutdown_now` returns.
 #[derive(Drop)]
 pub struct PoolCore<J> {
     alloc: Global,

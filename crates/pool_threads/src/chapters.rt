@@ -162,9 +162,9 @@ fn copy<W: Work, C: Drop, N: PoolLedgers>(
 
 impl<W: Work, C: Drop, G: Gate + Drop, S: Drop, N: PoolLedgers> Pool<W, C, G, S, N> {
     /// Compacts the log if it is more than half full. The log doesn't fill if each caller calls this after each of its
-    /// calls (tested, not proved). Most calls do nothing, and take no lock: the lock is taken only if the seat's list
-    /// has more receipts than a quarter of its share of 1,048,576, and the last of them shows that the log may be more
-    /// than half full (`is_to_look`). Then the seat's receipts for all that is compacted are dropped.
+    /// calls (tested, not proved). Most calls do nothing, and take no lock. The lock is taken only on two conditions:
+    /// the seat's list has more receipts than a quarter of its share of 1,048,576, and the last of them shows that the
+    /// log may be more than half full (`is_to_look`). Then the seat's receipts for all that is compacted are dropped.
     ///
     /// # Errors
     /// The records stay; the seat's receipts for what was compacted before are dropped.

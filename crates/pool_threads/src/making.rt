@@ -113,9 +113,13 @@ impl<W: Work, C: Drop, G: Drop, S: Drop, N: PoolLedgers> Pool<W, C, G, S, N> {
     /// Creates a pool without a job, and a seat for each caller, numbered from 0.
     ///
     /// # Errors
-    /// - BadSizes, exactly if `settings_refusal` states it: there are no callers, no workers, a core size above the
-    ///   maximum, more than 1,024 callers and workers together, core workers that time out after 0 milliseconds, a
-    ///   bound of 0 or above 1,048,576, or a queue that hands jobs over in the order of a transfer queue.
+    /// - BadSizes, exactly if one of these is so (`settings_refusal`):
+    ///   - there are no callers, or the maximum of workers is 0;
+    ///   - the core size is above the maximum;
+    ///   - callers and maximum are more than 1,024 together;
+    ///   - core workers time out, and the keep-alive time is 0;
+    ///   - a bound is 0 or above 1,048,576;
+    ///   - the queue hands jobs over in the order of a transfer queue.
     /// - PolicyNeedsBuffer, exactly if the sizes fit, and the policy drops the oldest job of a queue that buffers none.
     /// - Memory, if an allocation fails.
     ///

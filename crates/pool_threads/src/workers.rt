@@ -46,8 +46,9 @@ impl<W: Work, C, G, N: PoolLedgers> Worker<W, C, G, N> {
 }
 
 impl<W: Work, C: Call<W> + Drop, G: Gate + Drop, N: PoolLedgers> Worker<W, C, G, N> {
-    /// Works, from its start to its end: it runs jobs, and between them waits at its gate, until the pool is shut down
-    /// and no job is left, or its keep-alive time ran out and it isn't needed. Then it drops its part of the pool.
+    /// Works, from its start to its end: it runs jobs, and between them waits at its gate. It ends if the pool is shut
+    /// down and no job is left, or if its keep-alive time ran out and it isn't needed. Then it drops its part of the
+    /// pool.
     pub fn run<R: Wait + Clock>(self, rt: &R) {
         let Worker { home, seat } = self;
         home.serve(rt, seat);

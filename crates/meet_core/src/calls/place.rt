@@ -54,8 +54,8 @@ pub trait QueuePlace: Object<
         ensures history { IfOk result (λ queue. Self.leads Self.no_base [] queue) }
         ensures memory { IfErr result (λ why. why ≡ Memory) };
 
-    /// Returns true if the seat's open ticket is this one, with this mark: while its item lies here, since it waits or
-    /// was interrupted, the item has this mark, or there is none if this is none.
+    /// Returns true if the seat's open ticket is this one, with this mark. While its item lies here, since it waits or
+    /// was interrupted, the item has to have this mark, or there has to be none if this is none.
     fn awaits(&self, seat: SeatNo, ticket: Ticket, mark: Option<u64>) -> bool
         ensures { IsTrue result ↔ AwaitsAs Self.Item.mark_of (seats_of (queue_of self.now)) seat ticket mark };
 

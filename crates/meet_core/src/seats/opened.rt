@@ -107,9 +107,9 @@ fn by_seat<T: Marked>(alloc: Global, table: &SeatTable<T>) -> Result<Opened, Ref
     Ok(Opened { pairs, cut, flags })
 }
 
-/// Returns what a table of seats holds outside the wait queue, as a base names it: the pending requests that were
-/// matched and those that were interrupted, each by rising ticket, and the flagged seats, rising. An item is named by
-/// its mark. It looks at every seat.
+/// Returns what a table of seats holds outside the wait queue, as a base names it. These are the pending requests that
+/// were matched and those that were interrupted, each by rising ticket, and the flagged seats, rising. An item is named
+/// by its mark. It looks at every seat.
 ///
 /// # Errors
 /// - Memory, if an allocation fails.

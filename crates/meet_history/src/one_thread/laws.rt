@@ -33,9 +33,9 @@ pub fn calls_have_one_deed()
         → (turn_of setup p seat verb).records ≡ record { seat = seat; ticket = ticket; deed = deed } ∷ [] }
 {}
 
-/// States that each legal history is one that calls write, record by record the call for its deed (`calls_for`), on
-/// three conditions: it names seats of the place, the tickets of its requests go up by one from the first, and the cap
-/// leaves room beside its records for one of each seat and two more. The place has all these calls. So the
+/// States that each legal history is one that calls write, record by record the call for its deed (`calls_for`). There
+/// are three conditions: the history names seats of the place; the tickets of its requests go up by one from the first;
+/// and the cap leaves room beside its records for one of each seat and two more. The place has all these calls. So the
 /// specification calls nothing legal that no call can do. It does nothing.
 pub fn legal_histories_are_made()
     ensures made { (setup : Setup) (history : List (Record Deed)) → IsLegal setup.kind history

@@ -211,9 +211,12 @@ fn find_chapters<R: Read>(
 /// none of its records. A read takes one byte; `turns` is the most reads.
 ///
 /// If they are one legal history on the first one's base it writes the line that a check of it as one trace would, and
-/// returns true. Otherwise it writes one line that names the first trace, from 1, that can't follow, with the reason,
-/// and returns false: it names another place (`chapter 2 OtherPlace`), its base doesn't stand for those before it
-/// (`chapter 2 OtherBase`), or a record of it can't stand (`chapter 2 illegal 7 WrongReply`).
+/// returns true. Otherwise it writes one line and returns false. The line names the first trace, from 1, that can't
+/// follow:
+///
+/// - it names another place (`chapter 2 OtherPlace`);
+/// - its base doesn't stand for those before it (`chapter 2 OtherBase`);
+/// - or a record of it can't stand (`chapter 2 illegal 7 WrongReply`).
 ///
 /// # Errors
 /// - BadTrace, with the line's number in the whole text, from 1: the line can't be read, or it stands after a trace's

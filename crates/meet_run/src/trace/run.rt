@@ -234,9 +234,9 @@ fn trace_calls<R: Read, W: Write>(
     }
 }
 
-/// Runs the script that this reader gives, and writes the trace of its records: a first line that names the place, the
-/// base if a checkpoint was made, and a line for each record since. It is written after the script has ended. Returns
-/// true. A read takes one byte; `turns` is the most reads.
+/// Runs the script that this reader gives, and writes the trace of its records after the script has ended: a first line
+/// that names the place, the base if a checkpoint was made, and a line for each record since. Returns true. A read
+/// takes one byte; `turns` is the most reads.
 ///
 /// # Errors
 /// A prefix of the trace is written, but for BadLine.

@@ -17,14 +17,14 @@ pub fn heads_have_one_spelling()
 {}
 
 /// States that a text reads as a whole trace exactly if it is the text that would be written of it, and all is in its
-/// limits; only the end of the last line may be missing. So two texts of the same history are the same but for that
+/// limits. Only the end of the last line may be missing. So two texts of the same history are the same but for that
 /// end.
 pub fn traces_have_one_text()
     ensures { TracesHaveOneText }
 {}
 
-/// States that a text reads as a whole trace with a base exactly if it is the text that would be written of it, the
-/// base is well formed, and all is in its limits; only the end of the last line may be missing.
+/// States that a text reads as a whole trace with a base on three conditions, and only then: it is the text that would
+/// be written of it, the base is well formed, and all is in its limits. Only the end of the last line may be missing.
 pub fn based_traces_have_one_text()
     ensures { BasedTracesHaveOneText }
 {}

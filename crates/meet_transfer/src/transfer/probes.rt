@@ -84,9 +84,9 @@ impl<T: Marked> Transfer<T> {
         self.bound
     }
 
-    /// Returns true if the seat's open ticket is this one, with this mark: while its item lies here, since it waits or
-    /// was interrupted, the item has this mark, or there is none if this is none. A ticket that waits is looked for in
-    /// the wait queue.
+    /// Returns true if the seat's open ticket is this one, with this mark. While its item lies here, since it waits or
+    /// was interrupted, the item has to have this mark, or there has to be none if this is none. A ticket that waits is
+    /// looked for in the wait queue.
     pub fn awaits(&self, seat: SeatNo, ticket: Ticket, mark: Option<u64>) -> bool
         ensures { IsTrue result ↔ AwaitsAs T.mark_of (seats_of self.now.queue) seat ticket mark }
     {
@@ -166,9 +166,9 @@ impl<T: Marked> Transfer<T> {
         self.meetings.tickets_left()
     }
 
-    /// States what is always true of a queue: each node of its wait queue has a used ticket, and is what its seat holds
-    /// if it waits; if it is buffered it has an item, and no seat has its ticket open; no two share a ticket, and all
-    /// have one side. It does nothing.
+    /// States what is always true of a queue. Each node of its wait queue has a used ticket. A node that waits is what
+    /// its seat holds; one that is buffered has an item, and no seat has its ticket open. No two share a ticket, and
+    /// all have one side. It does nothing.
     pub fn stays_sound(&self)
         ensures { IsSound self.now.queue.line (seats_of self.now.queue).holds self.now.queue.next }
     {
