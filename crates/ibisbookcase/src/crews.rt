@@ -1,4 +1,4 @@
-//! Threads that share a queue which is made for them, each with a chair there: the shortest way.
+//! Scoped workers at a queue that is made for them, each with a handle (a chair): the shortest way.
 
 pub use crate::labels::{Labelled, Labels};
 pub use meet_crew::{

@@ -1,20 +1,18 @@
-//! Exchangers: two threads exchange their items.
+//! Exchangers: two threads exchange their items (`Exchanger`).
 //!
-//! The shortest way is `at_exchanger`, which starts threads at an exchanger that it makes, each with a chair there:
+//! The shortest way is `at_exchanger`, which starts threads at an exchanger that it makes, each with a handle (a
+//! chair). From `crates/example_exchanger/src/main.rt`:
 //!
-//! ```
-//! impl ExchangeCrew<u64> for Swapping {
-//!     type Told = u64;
+//!     impl ExchangeCrew<u64> for Swapping {
+//!         type Told = u64;
 //!
-//!     fn work<C: ExchangeChair<u64>>(&self, chair: &mut C) -> u64 {
-//!         match chair.exchange_for(chair.number(), 60_000) { // milliseconds
-//!             Ok(other) => other,
-//!             Err(unmet) => unmet.into_item(),
+//!         fn work<C: ExchangeChair<u64>>(&self, chair: &mut C) -> u64 {
+//!             match chair.exchange_for(chair.number(), 60_000) {
+//!                 Ok(other) => other,
+//!                 Err(unmet) => unmet.into_item(), // nobody came for a minute
+//!             }
 //!         }
 //!     }
-//! }
-//! let done = at_exchanger(&rt, rt.alloc(), 2, &Swapping)?;
-//! ```
 //!
 //! `Exchanger` is for a program that holds its seats itself. `Arena` has the single steps of an exchange.
 

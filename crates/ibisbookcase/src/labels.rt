@@ -1,4 +1,4 @@
-//! Items of any type, each with a number by which records name it.
+//! Items of any type, each with an item id (a mark), a number by which records name it.
 
 ghost use Rattle.std.specs.Prelude.{◌≡◌, ◌+◌, ◌%◌, ◌^◌};
 
@@ -7,13 +7,18 @@ use meet_tickets::Marked;
 /// By how much the numbers of one seat's labels rise: as many seats as a queue may have.
 const SEATS: u64 = 65_536;
 
-/// A value with a number, by which the records of a queue name it. So a `String`, a `Vec` or a struct of your own is an
-/// item of a queue without an impl of `Marked`.
+/// A value with an item id (a mark), by which the records of a queue name it. So a `String`, a `Vec` or a struct of
+/// your own is an item of a queue without an impl of `Marked`.
 ///
-/// In Java an item is any object, and nothing names it.
+/// # Example
+/// From `crates/example_words/src/main.rt`:
+///
+///     let Labelled { mark, value } = item;
+///
+/// Java: an item is any object, and nothing names it.
 #[derive(Clone, Copy, PartialEq, Eq, Debug, Drop)]
 pub struct Labelled<T> {
-    /// The number. `Labels` gives numbers of which no two are alike; two items may also have one.
+    /// The number. `Labels` gives numbers that differ; two items may also have the same.
     pub mark: u64,
     /// The value itself.
     pub value: T,
@@ -31,24 +36,24 @@ impl<T> Marked for Labelled<T> {
 /// of different seats, until a seat has labelled 2^48 of them; then the numbers begin again.
 ///
 /// # Example
-/// ```
-/// let mut labels = Labels::of_seat(chair.number());
-/// chair.put(labels.label(text))
-/// ```
+/// From `crates/example_words/src/main.rt`:
+///
+///     let text = format!(in self.alloc; "an ibis").map_err(|_| Refusal::Memory)?;
+///     let item = Labels::of_seat(0).label(text);
 #[derive(Clone, Copy, Debug)]
 pub struct Labels {
     next: u64,
 }
 
 impl Labels {
-    /// Begins with the number of this seat.
+    /// Creates the numbers of this seat; the first is its own number.
     pub fn of_seat(seat: u64) -> Labels
         ensures next { result.next ≡ seat }
     {
         Labels { next: seat }
     }
 
-    /// Gives a value the next number.
+    /// Labels a value with the next number.
     pub fn label<T>(&mut self, value: T) -> Labelled<T>
         ensures value { result.value ≡ value }
         ensures mark { result.mark ≡ self.old.next }

@@ -1,6 +1,14 @@
-//! The meeting places of `java.util.concurrent`, all names that a user needs in one crate, in modules where names meet:
-//! a queue's Seat and an arena's are two. A program lists this one in crates.txt, and the toolchain finds those below.
-//! What a name is, its own crate says.
+//! All names that a user of the library needs, in one crate: the rendezvous primitives of `java.util.concurrent`, with
+//! their logs and checkers. A program lists this crate in crates.txt, and the toolchain finds those below. Each name is
+//! documented in its own crate. The modules separate equal names: a queue's `Seat` and an arena's are two types.
+//!
+//! - `crews`: scoped workers at a queue, the shortest way (`SynchronousQueue`, `LinkedTransferQueue`).
+//! - `queues`: the queues for threads, with seats that the program holds, and seat pools.
+//! - `exchanger`: exchangers (`Exchanger`).
+//! - `pools`: the pool of threads (`ThreadPoolExecutor`).
+//! - `one_thread`: the queues of one thread, and their logs.
+//! - `records`: the log checker, traces and what can be computed from a log.
+//! - `overlapping`: the linearizability checker for concurrent histories.
 #![tactic(auto)]
 
 pub mod crews;

@@ -1,4 +1,4 @@
-//! The queues for one thread, alone or under a book that keeps their records.
+//! The queues for one thread, alone or with a log (a book) that keeps their records.
 
 pub use meet_book::{Book, Receipt};
 pub use meet_core::{

@@ -1,5 +1,5 @@
-//! A linearizability checker for concurrent histories of any program's synchronous or transfer queue: a legal history
-//! that explains the calls, or why there is none.
+//! A linearizability checker for concurrent histories of any program's synchronous or transfer queue: it returns a
+//! legal history that explains the calls, or the reason why there is none.
 
 pub use meet_judge::{MOST_MOVES, judge_calls, push_calls, read_calls};
 pub use meet_overlap::{

@@ -1,4 +1,4 @@
-//! The pool of threads, `ThreadPoolExecutor`.
+//! The pool of threads (`ThreadPoolExecutor`).
 
 pub use meet_cells::{ParkGate, SpinGate};
 pub use meet_place::{Back, Blanks, Gate, Ledgers, Moment, Seat};

@@ -1,4 +1,5 @@
-//! The queues for threads, for who holds seats, gates and ledgers in a hand of his own, and a desk for their seats.
+//! The queues for threads, for a program that holds seats, gates (parkers) and ledgers (ghost counters) itself, and a
+//! pool of their seats (a desk).
 
 pub use meet_cells::{ParkGate, SpinGate};
 pub use meet_chosen::{ChosenBook, ChosenQueue};

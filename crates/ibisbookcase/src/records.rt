@@ -1,4 +1,5 @@
-//! What a place leaves: records and what stands before them, the checker, laws, traces, pictures and sums.
+//! What a closed queue leaves, and what can be computed from it: records and snapshots (bases), the checker, laws,
+//! traces, drawings and counts.
 
 pub use meet_answers::{Attempt, Instead, answers, comes_instead, may_come};
 pub use meet_draw::{LEAST_WIDTH, MOST_WIDTH, Style, USUAL_WIDTH, Width, draw_trace};

@@ -1,4 +1,4 @@
-//! The book that a place keeps of its steps.
+//! The log (the book) that a place keeps of its steps.
 
 ghost use Rattle.std.specs.Prelude.{◌≡◌, ◌+◌, ◌-◌, ◌<◌, ◌≤◌, ◌^◌, Option, Some, None, [], ◌++◌, length};
 ghost use Rattle.std.specs.Prelude.{option_to_list, vec_len, ⊤, IfNone, IsOk, IfOk, IfErr, OnOk, OnErr, MatchOption};
@@ -19,9 +19,9 @@ use meet_tickets::{MOST_GONE, Record, Refusal, Refused, SeatNo};
 use std::alloc::Global;
 use std::marker::Model;
 
-/// A place, the base that stands for records that were folded away, and the records of all steps since. On the base
-/// the records are legal, and they leave the place as it is; there is room for those that its open tickets may still
-/// need.
+/// A bounded log of an object's steps: the object (the place), the snapshot (the base) of the compacted records, and
+/// the records of all steps since. On the base the records are legal, and they lead to the place as it is. There is
+/// room for those that its pending requests may still need.
 #[derive(Drop)]
 pub struct Book<O: Object> {
     object: O,
@@ -51,7 +51,7 @@ impl<O: Object> Model for Book<O> {
 }
 
 impl<O: Object> Book<O> {
-    /// The book of a place that has no history yet, with at most this many records at a time, 1 to 1,048,576.
+    /// Creates the log of a place that has no history yet. `cap` is its capacity in records, 1 to 1,048,576.
     pub fn new(alloc: Global, object: O, cap: u64) -> Self
         requires fresh { O.leads O.no_base [] object }
         requires cap_from { 0 < cap }
@@ -67,21 +67,28 @@ impl<O: Object> Book<O> {
         }
     }
 
-    /// The place itself, to be looked at.
+    /// Returns the place itself, to be read.
     pub fn probe(&self) -> &O
         ensures { result.now ≡ self.now.object }
     {
         &self.object
     }
 
-    /// What stands for the records that were folded away.
+    /// Returns the snapshot of the compacted records.
     pub fn base(&self) -> &O::Base
         ensures { result.now ≡ self.now.base }
     {
         &self.base
     }
 
-    /// The records since the book was cut last, in order. On its base they are legal, and leave the place as it is.
+    /// Returns the records since the book was compacted last, in order. On its base they are legal, and lead to the
+    /// place as it is.
+    ///
+    /// # Example
+    /// From `crates/example_one_thread/src/recorded.rt`:
+    ///
+    ///     let records = book.records(); // the records since the book was cut last
+    ///     println!(rt; "{} records", records.len())?;
     pub fn records(&self) -> &[Record<O::Deed>]
         ensures records { result.now ≡ self.now.records }
         ensures leads { O.leads self.now.base self.now.records self.now.object }
@@ -91,22 +98,25 @@ impl<O: Object> Book<O> {
         self.records.as_slice()
     }
 
-    /// How many records it may have at a time.
+    /// Returns its capacity, in records.
     pub fn cap(&self) -> u64
         ensures { result ≡ self.now.cap }
     {
         self.cap
     }
 
-    /// How many records were written since the first, those that were folded away included.
+    /// Returns how many records were written since the first, the compacted ones included.
     pub fn written(&self) -> u64
         ensures { result ≡ O.gone_of self.now.base + length self.now.records }
     {
         O::gone(&self.base) + self.records.len() as u64
     }
 
-    /// Makes room for this many records, beside those that are owed, and this much in the place: while it lasts, no
-    /// call is refused for memory. The only refusal is Memory; then nothing but the book's room has changed.
+    /// Makes room for `records` records, beside those that are reserved for pending requests, and `room` in the place.
+    /// While that lasts, no call fails with Memory.
+    ///
+    /// # Errors
+    /// - Memory, if an allocation fails: nothing but the book's room has changed.
     pub fn reserve(&mut self, records: u64, room: u64) -> Result<(), Refusal>
         requires few { records ≤ most_records }
         ensures room { OnOk result (O.owed_of self.old.object + records ≤ self.new.room) }
@@ -142,11 +152,21 @@ impl<O: Object> Book<O> {
         }
     }
 
-    /// Makes a seat's call, and writes its record, if it has one, with the next number, which counts the records that
-    /// were folded away. It refuses what the place's `admit` does; else HistoryFull exactly where the records, those
-    /// that are owed and those that this call may need are more than the book may have; else Memory, but never where
-    /// there is room for them and for the call in its place. Then nothing but room has changed, and the call comes
-    /// back. An admitted call that needs no record is never refused.
+    /// Makes a seat's call, and writes its record, if it has one, with the next number, which counts the compacted
+    /// records too. An admitted call that needs no record never fails.
+    ///
+    /// # Errors
+    /// Nothing but room has changed, and the call is returned. The first that applies:
+    /// - The place's own reason (`admit`).
+    /// - HistoryFull, exactly if the records, those that are reserved and those that this call may need are more than
+    ///   the capacity.
+    /// - Memory, if an allocation fails, and never if there is room for them and for the call in its place.
+    ///
+    /// # Example
+    /// From `crates/example_one_thread/src/recorded.rt`:
+    ///
+    ///     let given = book.step(seat, QueueCall::Give(item));
+    ///     let (_, receipt) = given.map_err(Refused::into_why)?; // QueueAnswer::Gave(..), Some(receipt)
     #[inline(always)]
     pub fn step(
         &mut self,
@@ -194,8 +214,7 @@ impl<O: Object> Book<O> {
         Ok((answer, receipt))
     }
 
-    /// The place, its base and its records, taken apart. On the base the records are legal, and leave the place as it
-    /// is.
+    /// Returns the place, its base and its records. On the base the records are legal, and lead to the place as it is.
     pub fn into_parts(self) -> (O, O::Base, Vec<Record<O::Deed>>)
         ensures object { result.0 ≡ self.object }
         ensures base { result.1 ≡ self.base }
@@ -210,9 +229,18 @@ impl<O: Bases> Book<O>
 where
     O::Base: Drop,
 {
-    /// Folds the records away: the base of the place as it is stands for them from now on. It writes no record, and
-    /// answers how many records were folded away since the first; their numbers go on rising. It refuses HistoryFull
-    /// exactly where these would be more than 2^63 - 1, then Memory; then nothing has changed.
+    /// Compacts the log (a checkpoint): the base of the place as it is stands for the records from now on. Returns how
+    /// many records were compacted since the first; their numbers go on rising. It writes no record.
+    ///
+    /// # Errors
+    /// Nothing has changed.
+    /// - HistoryFull, exactly if more than 2^63 - 1 records would be compacted.
+    /// - Memory, if the base can't grow.
+    ///
+    /// # Example
+    /// From `crates/example_one_thread/src/recorded.rt`:
+    ///
+    ///     let gone = book.cut()?; // folds them into book.base(): a book never fills for good
     pub fn cut(&mut self) -> Result<u64, Refusal>
         ensures gone { IfOk result (λ gone. gone ≡ O.gone_of self.old.base + length self.old.records) }
         ensures folded { IfOk result (λ gone. O.gone_of self.new.base ≡ gone) }
@@ -237,7 +265,10 @@ where
     }
 }
 
-/// Grows a list of records that has no room for `wanted` more. Fails only if an allocation fails.
+/// Grows a list of records that has no room for `wanted` more.
+///
+/// # Errors
+/// - Memory, if an allocation fails.
 #[cold]
 #[inline(never)]
 fn grow<D: Copy>(records: &mut Vec<Record<D>>, wanted: usize) -> Result<(), Refusal>

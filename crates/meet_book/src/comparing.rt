@@ -1,4 +1,4 @@
-//! The records of a book against the receipts that its seats hold.
+//! The comparison of a book's records with the receipts that its seats have.
 
 ghost use Rattle.std.specs.Prelude.{◌≡◌, ◌≢◌, ◌↔◌, ◌+◌, ◌<◌, ◌≤◌, ℕ, List, [], ◌∷◌, length, map, drop, slice_get};
 ghost use Rattle.std.specs.Prelude.{Some, IsTrue, MatchOption, IfNone, IfSome};
@@ -10,9 +10,9 @@ ghost use Rattle.meet_book.specs.Received.{Received};
 use crate::receipt::Receipt;
 use meet_tickets::{Deed, Record, SeatNo};
 
-/// What a record says of its step, where two of them can be told apart.
+/// What a record states of its step, if two of them can be compared.
 pub trait Same: Copy {
-    /// Whether the two are the same.
+    /// Returns true if the two are the same.
     fn same(&self, other: &Self) -> bool
         ensures { IsTrue result ↔ (self.now ≡ other.now) };
 }
@@ -23,11 +23,12 @@ impl Same for Deed {
     }
 }
 
-/// What holds the receipts of one seat.
+/// What has the receipts of one seat.
 pub trait Holds<D: Copy> {
+    /// The receipts, in order.
     ghost held: { Self → List (Received D) };
 
-    /// The receipts, in order.
+    /// Returns the receipts, in order.
     fn receipts(&self) -> &[Receipt<D>]
         ensures { result.now ≡ held self.now };
 }
@@ -49,8 +50,8 @@ fn is_same<D: Same>(one: &Record<D>, other: &Record<D>) -> bool
         && one.deed.same(&other.deed)
 }
 
-/// Whether a receipt is for this record: its entry and its number. Ahead of the record stand the first `gone`, which were
-/// folded away, and `before` more.
+/// Returns true if a receipt is for this record: its entry and its number. Ahead of the record stand the first `gone`,
+/// which were compacted, and `before` more.
 fn is_for<D: Same>(receipt: &Receipt<D>, gone: u64, before: u64, entry: &Record<D>) -> bool
     requires { gone < receipt.now.place }
     ensures { IsTrue result ↔ (receipt.now ≡ record { place = gone + before + 1; entry = entry.now }) }
@@ -176,11 +177,11 @@ fn least_from<D: Copy>(records: &[Record<D>], from: u64) -> Option<SeatNo>
     least
 }
 
-/// Whether each seat's receipts are those for its records: none exactly where they are, for every seat, in order, each
-/// with its record's number; else the least seat whose aren't, with the first index at which they differ, from 0 among
-/// the seat's records. Lists are by seat number, and a seat without one has no receipts. Receipts for the first `gone`
-/// records, which were folded away, don't count. It takes no memory. Where nothing differs it looks at each receipt
-/// once.
+/// Compares each seat's receipts with those for its records. Returns None exactly if they are the same, for every seat,
+/// in order, each with its record's number. Otherwise it returns the least seat whose aren't, with the first index at
+/// which they differ, from 0 among the seat's records. Lists are by seat number, and a seat without one has no
+/// receipts. Receipts for the first `gone` records, which were compacted, don't count. It doesn't allocate. If nothing
+/// differs it looks at each receipt once.
 pub fn compare<D: Same, H: Holds<D>>(
     gone: u64,
     records: &[Record<D>],

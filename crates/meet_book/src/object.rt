@@ -1,4 +1,4 @@
-//! What a book asks of a place: each of its calls is one step, which writes one record or none.
+//! What a book requires of a place: each of its calls is one step, which writes one record or none.
 
 ghost use Rattle.std.specs.Prelude.{◌≡◌, ◌≢◌, ℕ, ◌+◌, ◌<◌, ◌≤◌, Option, Some, None, List, [], ◌++◌, length};
 ghost use Rattle.std.specs.Prelude.{option_to_list, MatchOption, ⊤, IsOk, IfOk, IfErr, OnOk, OnErr};
@@ -11,45 +11,45 @@ ghost use Rattle.meet_book.specs.Draining.{TakesOne};
 use meet_tickets::{Record, Refusal, SeatNo};
 use std::alloc::Global;
 
-/// A place whose calls are atomic steps. `reserve` alone takes memory.
+/// A place (a shared object) whose calls are atomic steps. Only `reserve` allocates.
 pub trait Object {
-    /// What a seat asks.
+    /// A seat's call.
     type Call;
 
-    /// What it is answered.
+    /// Its result.
     type Answer;
 
-    /// What a record says of a step.
+    /// What a record states of a step.
     type Deed: Copy;
 
-    /// What stands for the records that were folded away.
+    /// The snapshot of the compacted records.
     type Base;
 
-    /// No record was folded away.
+    /// The base of no records.
     ghost no_base: { Self.Base };
 
-    /// How many records were folded away.
+    /// How many records were compacted.
     ghost gone_of: { Self.Base → ℕ };
 
-    /// These records are legal after this base, and leave the place as it is.
+    /// These records are legal after this base, and lead to the place as it is.
     ghost leads: { Self.Base → List (Record Self.Deed) → Self → Type 0 };
 
-    /// A seat's call makes this step: what it is answered, and what it leaves.
+    /// A seat's call makes this step: its result, and what it leaves.
     ghost steps: { Self → ℕ → Self.Call → Self.Answer → Self → Type 0 };
 
-    /// The record of a seat's call that was answered so, where one is written.
+    /// The record of a seat's call with this result, if one is written.
     ghost record_of: { ℕ → Self.Call → Self.Answer → Option (Record Self.Deed) };
 
-    /// Why a seat's call is refused, HistoryFull and Memory aside: the first that applies.
+    /// Why a seat's call fails, HistoryFull and Memory aside: the first reason that applies.
     ghost refusal_of: { Self → ℕ → Self.Call → Option Refusal };
 
-    /// How many records the open tickets may still need.
+    /// How many records the pending requests may still need (the reserved ones).
     ghost owed_of: { Self → ℕ };
 
-    /// How many records a call may need: its own, and those that it will owe.
+    /// How many records a call may need: its own, and those that it will reserve.
     ghost need_of: { Self.Call → ℕ };
 
-    /// How many seats the place has.
+    /// The number of seats of the place.
     ghost seat_count_of: { Self → ℕ };
 
     /// How much of the place's room a call may use up.
@@ -58,36 +58,42 @@ pub trait Object {
     /// How much room the place has.
     ghost spare: { Self → ℕ };
 
-    /// The same place with so much room.
+    /// The same place with this much room.
     ghost with_room: { Self → ℕ → Self };
 
-    /// The base of no records. It takes no memory.
+    /// Returns the base of no records. It doesn't allocate.
     fn empty_base(alloc: Global) -> Self::Base
         ensures { result ≡ no_base };
 
-    /// How many records were folded away. It takes no memory.
+    /// Returns how many records were compacted. It doesn't allocate.
     fn gone(base: &Self::Base) -> u64
         ensures { result ≡ gone_of base.now };
 
-    /// Whether this seat's call is admitted, or why it is refused: the first reason that applies. It takes no memory.
+    /// Returns whether this seat's call is admitted. It doesn't allocate.
+    ///
+    /// # Errors
+    /// - The first reason of the place that applies (`refusal_of`); never Memory or HistoryFull.
     fn admit(&self, seat: SeatNo, call: &Self::Call) -> Result<(), Refusal>
         ensures admitted { IfOk result (λ _. refusal_of self.now seat call.now ≡ None) }
         ensures why { IfErr result (λ why. refusal_of self.now seat call.now ≡ Some why) }
         ensures own { IfErr result (λ why. (why ≢ Memory) × (why ≢ HistoryFull)) };
 
-    /// How many records this call may need. It takes no memory.
+    /// Returns how many records this call may need. It doesn't allocate.
     fn need(call: &Self::Call) -> u64
         ensures { result ≡ need_of call.now };
 
-    /// How much of the place's room this call may use up. It takes no memory.
+    /// Returns how much of the place's room this call may use up. It doesn't allocate.
     fn room(call: &Self::Call) -> u64
         ensures { result ≡ room_of call.now };
 
-    /// How many records the open tickets may still need. It takes no memory.
+    /// Returns how many records the pending requests may still need. It doesn't allocate.
     fn owed(&self) -> u64
         ensures { result ≡ owed_of self.now };
 
-    /// Makes this much room. The only refusal is Memory, and never where there is so much.
+    /// Makes this much room.
+    ///
+    /// # Errors
+    /// - Memory, if an allocation fails, and never if there is this much.
     fn reserve(&mut self, room: u64) -> Result<(), Refusal>
         ensures same { self.new ≡ with_room self.old (spare self.new) }
         ensures room { OnOk result (room ≤ spare self.new) }
@@ -96,7 +102,7 @@ pub trait Object {
         ensures memory { IfErr result (λ why. why ≡ Memory) }
         ensures enough { room ≤ spare self.old → IsOk result };
 
-    /// Makes an admitted call, for which there is room: what it is answered, and its record. It takes no memory, and
+    /// Makes an admitted call, for which there is room, and returns its result and its record. It doesn't allocate, and
     /// uses up the call's room at most.
     fn step(&mut self, seat: SeatNo, call: Self::Call) -> (Self::Answer, Option<Record<Self::Deed>>)
         requires admitted { refusal_of self.old seat call ≡ None }
@@ -147,13 +153,16 @@ pub trait Object {
     ghost none_gone: { gone_of no_base ≡ 0 };
 }
 
-/// A place whose records can be folded away.
+/// A place whose records can be compacted.
 pub trait Bases: Object {
-    /// This base tells all that the place shows of itself, and that so many records were folded away.
+    /// This base states all that the place shows of itself, and how many records were compacted.
     ghost is_base: { Self → ℕ → Self.Base → Type 0 };
 
-    /// The base of the place as it is, where so many records were folded away. It stands for any base and records
-    /// that lead to the place. The only refusal is Memory.
+    /// Returns the base of the place as it is, after `gone` records were compacted. It stands for any base and records
+    /// that lead to the place.
+    ///
+    /// # Errors
+    /// - Memory, if an allocation fails.
     fn base(&self, alloc: Global, gone: u64) -> Result<Self::Base, Refusal>
         ensures base { IfOk result (is_base self.now gone) }
         ensures gone { IfOk result (λ new. Self.gone_of new ≡ gone) }
@@ -161,13 +170,16 @@ pub trait Bases: Object {
             → Self.leads base records self.now → Self.leads new [] self.now) }
         ensures memory { IfErr result (λ why. why ≡ Memory) };
 
-    /// The same base once more. The only refusal is Memory.
+    /// Copies a base.
+    ///
+    /// # Errors
+    /// - Memory, if an allocation fails.
     fn copy_base(alloc: Global, base: &Self::Base) -> Result<Self::Base, Refusal>
         ensures same { IfOk result (λ copy. copy ≡ base.now) }
         ensures memory { IfErr result (λ why. why ≡ Memory) };
 }
 
-/// A place whose items can be drained: one poll after another, all under one hold.
+/// A place whose items can be drained: one poll after another, all in one critical section.
 pub trait Drains: Object {
     /// The call that takes one item, if one is there.
     ghost poll: { Self.Call };
@@ -178,22 +190,26 @@ pub trait Drains: Object {
     /// How many tickets are left.
     ghost unspent_of: { Self → ℕ };
 
-    /// How many items are there to be taken. It takes no memory.
+    /// Returns how many items are there to be taken. It doesn't allocate.
     fn available(&self) -> u64
         ensures { result ≡ available_of self.now };
 
-    /// How many tickets are left. It takes no memory.
+    /// Returns how many tickets are left. It doesn't allocate.
     fn tickets_left(&self) -> u64
         ensures { result ≡ unspent_of self.now };
 
-    /// Whether this seat's poll is admitted, or why it is refused: the first reason that applies. It takes no memory.
+    /// Returns whether this seat's poll is admitted. It doesn't allocate.
+    ///
+    /// # Errors
+    /// - The first reason of the place that applies (`refusal_of`); never Memory or HistoryFull, and TicketsSpent only
+    ///   if no ticket is left.
     fn admit_poll(&self, seat: SeatNo) -> Result<(), Refusal>
         ensures admitted { IfOk result (λ _. Self.refusal_of self.now seat poll ≡ None) }
         ensures why { IfErr result (λ why. Self.refusal_of self.now seat poll ≡ Some why) }
         ensures own { IfErr result (λ why. (why ≢ Memory) × (why ≢ HistoryFull)) }
         ensures tickets { 0 < unspent_of self.now → Self.refusal_of self.now seat poll ≢ Some TicketsSpent };
 
-    /// The call that takes one item, if one is there. It takes no memory.
+    /// Returns the call that takes one item, if one is there. It doesn't allocate.
     fn poll_call(&self) -> Self::Call
         ensures call { result ≡ poll }
         ensures takes { (seat : ℕ) (answer : Self.Answer) (new : Self)
@@ -202,20 +218,20 @@ pub trait Drains: Object {
             → TakesOne available_of unspent_of Self.owed_of (λ o. Self.refusal_of o seat poll)
             (Self.record_of seat poll answer) self.now new };
 
-    /// The seat that may go on, now that a poll has taken its item. It is a hint: nothing is promised of it.
+    /// Returns the seat that may go on, now that a poll has taken its item. It is a hint: nothing is promised of it.
     fn met(&self) -> Option<SeatNo>;
 
     /// A poll uses no room.
     ghost poll_fits: { Self.room_of poll ≡ 0 };
 }
 
-/// Who is told of the seats that may go on after the polls of a drain. What it is told is a hint.
+/// A watch is notified of the seats that may go on after the polls of a drain. What it learns is a hint.
 pub trait Watch {
-    /// A poll was made, and this seat may go on.
+    /// Notifies it: a poll was made, and this seat may go on.
     fn tell(&mut self, seat: Option<SeatNo>);
 }
 
-/// Nobody, who is told nothing.
+/// A `Watch` that ignores all notifications.
 #[derive(Drop)]
 pub struct Unwatched {}
 
@@ -223,10 +239,10 @@ impl Watch for Unwatched {
     fn tell(&mut self, _seat: Option<SeatNo>) {}
 }
 
-/// A place whose answers tell whom a call should wake.
+/// A place whose results state whom a call should wake.
 pub trait Wakes: Object {
-    /// The seat that may go on, now that a call was answered so and has left the place like this. It is a hint: nothing
-    /// is promised of it.
+    /// Returns the seat that may go on, now that a call had this result and has left the place like this. It is a hint:
+    /// nothing is promised of it.
     fn wakes(&self, answer: &Self::Answer) -> Option<SeatNo>;
 }
 
@@ -241,11 +257,12 @@ pub trait Leaves: Object {
     /// What lies in a place to which these records lead after this base: these things, each once, and no other.
     ghost are_left: { Self.Base → List (Record Self.Deed) → List Self.Left → Type 0 };
 
-    /// How many things lie in the place. It takes no memory.
+    /// Returns how many things lie in the place. It doesn't allocate.
     fn left(&self) -> u64
         ensures { result ≡ left_count self.now };
 
-    /// Takes out what lies in the place, into this empty list, which has room for it. It takes no memory.
+    /// Moves what lies in the place into this empty list, which has room for it, and returns the list. It doesn't
+    /// allocate.
     fn leave(self, empty: Vec<Self::Left>) -> Vec<Self::Left>
         requires empty { empty.items ≡ [] }
         requires room { left_count self ≤ vec_capacity empty }

@@ -1,11 +1,11 @@
-//! What a book hands out for a record.
+//! Receipts: what a book returns for a record.
 
 ghost use Rattle.std.specs.Prelude.{◌≡◌};
 
 use meet_tickets::Record;
 use std::marker::Model;
 
-/// A receipt for one record of a book. A book alone makes one, and none is made from another.
+/// A receipt (a certificate) for one record of a book. Only a book makes one, and none is made from another.
 #[derive(Debug, Drop)]
 pub struct Receipt<D: Copy> {
     place: u64,
@@ -28,14 +28,19 @@ impl<D: Copy> Receipt<D> {
         Receipt { place, entry }
     }
 
-    /// The record's number in its book, from 1.
+    /// Returns the record's number in its book, from 1.
     pub fn place(&self) -> u64
         ensures { result ≡ self.now.place }
     {
         self.place
     }
 
-    /// The record.
+    /// Returns the record.
+    ///
+    /// # Example
+    /// From `crates/example_one_thread/src/recorded.rt`:
+    ///
+    ///     let entry = receipt.entry(); // the record; receipt.place() is its number
     pub fn entry(&self) -> Record<D>
         ensures { result ≡ self.now.entry }
     {

@@ -1,4 +1,5 @@
-//! Bells: each is of one ticket and rung once, with a verdict on that ticket, which who waits may read without a lock.
+//! Bells (one-shot flags): each is of one ticket and rung once, with a verdict on that ticket. The waiting thread may
+//! read it without a lock.
 
 ghost use Rattle.std.specs.Prelude.{◌≡◌, ◌≢◌, Some, None, IsSome, IfSome, IfNone, IfOk, IfErr, OnOk, OnErr};
 ghost use Rattle.once_cell.specs.Once.{Agrees};
@@ -10,12 +11,12 @@ use once_cell::race::{Note, OnceBox};
 use std::alloc::Global;
 use std::marker::Model;
 
-/// What became of a ticket that waited, as `SynchronousQueue`'s fulfilling thread leaves it in the waiter's node.
+/// The outcome of a request that waited, as `SynchronousQueue`'s fulfilling thread leaves it in the waiter's node.
 #[derive(Clone, Copy, PartialEq, Eq, Debug)]
 pub struct Verdict {
     /// The ticket.
     pub ticket: Ticket,
-    /// Whether it was paired, and not cut: a hint, of which nothing is promised.
+    /// Whether it was matched, and not interrupted: a hint, of which nothing is promised.
     pub met: bool,
 }
 
@@ -29,8 +30,8 @@ fn no_ticket() -> Ticket
     }
 }
 
-/// Memory for one verdict, which who waits makes before its request, so that who rings needs none. A contract sees it
-/// as the verdict that it holds.
+/// Memory for one verdict (an envelope). The thread that waits allocates it before its request, so that the thread that
+/// rings needs none. A contract sees it as the verdict that it holds.
 #[derive(Drop)]
 pub struct Envelope {
     paper: Box<Verdict>,
@@ -45,7 +46,10 @@ impl Model for Envelope {
 }
 
 impl Envelope {
-    /// A blank envelope, with a verdict on the ticket 0, which names none. The only refusal is Memory.
+    /// Creates a blank envelope, with a verdict on the ticket 0, which names none.
+    ///
+    /// # Errors
+    /// - Memory, if an allocation fails.
     pub fn new(alloc: Global) -> Result<Envelope, Refusal>
         ensures blank { IfOk result (λ envelope. envelope.ticket ≡ 0) }
         ensures memory { IfErr result (λ why. why ≡ Memory) }
@@ -60,14 +64,14 @@ impl Envelope {
         }
     }
 
-    /// The verdict that it holds.
+    /// Returns the verdict that it holds.
     pub fn verdict(&self) -> Verdict
         ensures { result ≡ self.now }
     {
         *self.paper
     }
 
-    /// Puts this verdict into it, in the place of the one that it held. It takes no memory.
+    /// Puts this verdict into it, in the place of the one that it held. It doesn't allocate.
     pub fn fill(&mut self, verdict: Verdict)
         ensures { self.new ≡ verdict }
     {
@@ -75,8 +79,9 @@ impl Envelope {
     }
 }
 
-/// A bell of one ticket. It is rung at most once, and never waited for: who waits does so at a gate. A bell is a hint,
-/// on which no answer rests. A contract sees it as its ticket and the name of its cell, by which its notes are known.
+/// A bell (a one-shot flag) of one ticket. It is rung at most once, and never waited for: a thread waits at a gate. A
+/// bell is a hint, on which no result rests. A contract sees it as its ticket and the name of its cell, by which its
+/// notes are known.
 #[derive(Drop)]
 pub struct Bell {
     ticket: Ticket,
@@ -93,7 +98,7 @@ impl Model for Bell {
 }
 
 impl Bell {
-    /// A bell of this ticket, which wasn't rung. It takes no memory.
+    /// Creates a bell of this ticket, which wasn't rung. It doesn't allocate.
     pub fn new(alloc: Global, ticket: Ticket) -> Bell
         ensures { result.ticket ≡ ticket }
     {
@@ -103,14 +108,14 @@ impl Bell {
         }
     }
 
-    /// Its ticket.
+    /// Returns its ticket.
     pub fn ticket(&self) -> Ticket
         ensures { result ≡ self.now.ticket }
     {
         self.ticket
     }
 
-    /// A note of this bell, which knows nothing yet.
+    /// Returns a note of this bell, which knows nothing yet.
     pub fn note(&self) -> Note<Verdict>
         ensures cell { result.cell ≡ self.now.cell }
         ensures known { result.known ≡ None }
@@ -118,9 +123,13 @@ impl Bell {
         self.cell.note()
     }
 
-    /// Rings the bell with the verdict in the envelope; the note knows it from then on. It takes no memory and waits
-    /// for nobody. The envelope comes back where its verdict is on another ticket, or where the bell was rung before;
-    /// then the note knows with what.
+    /// Rings the bell with the verdict in the envelope; the note knows it from then on. It doesn't allocate, and never
+    /// waits.
+    ///
+    /// # Errors
+    /// The envelope is returned
+    /// - if its verdict is on another ticket;
+    /// - if the bell was rung before: then the note knows with what.
     // That the ticket is the bell's own is looked at here, and not required: who rings has the ticket from its own step
     // and the bell from a hint, so it couldn't know it but by looking itself.
     pub fn ring(&self, envelope: Envelope, note: &mut Note<Verdict>) -> Result<(), Envelope>
@@ -143,8 +152,8 @@ impl Bell {
         }
     }
 
-    /// The verdict with which the bell was rung, on its own ticket; the note knows it from then on. None where the note
-    /// knows no verdict on that ticket even then, so never where it knew one before.
+    /// Returns the verdict with which the bell was rung, on its own ticket; the note knows it from then on. Returns
+    /// None if the note knows no verdict on that ticket even then, so never if it knew one before.
     pub fn read(&self, note: &mut Note<Verdict>) -> Option<Verdict>
         requires { note.old.cell ≡ self.now.cell }
         ensures own { IfSome result (λ verdict. verdict.ticket ≡ self.now.ticket) }
@@ -162,8 +171,8 @@ impl Bell {
     }
 }
 
-/// The law that notes of one bell that know a verdict know the same one, whichever threads made them. It does nothing;
-/// a caller that calls it has the law.
+/// States that notes of one bell that know a verdict know the same one, whichever threads made them. It does nothing; a
+/// caller that calls it has the law.
 pub fn notes_agree(one: &mut Note<Verdict>, other: &mut Note<Verdict>)
     requires { other.old.cell ≡ one.old.cell }
     ensures agree { IfSome other.old.known (Agrees one.old.known) }

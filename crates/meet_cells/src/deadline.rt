@@ -4,8 +4,8 @@ ghost use Rattle.std.specs.Prelude.{◌≡◌, None, IfNone};
 
 use std::time::{Clock, Duration, Instant};
 
-/// When a wait is over: so many milliseconds after it began, which isn't known where there is no clock. What it says is
-/// a hint: no clause says when a wait is over.
+/// When a wait is over: some milliseconds after it began, which isn't known if there is no clock. It is a hint: no
+/// clause states when a wait is over.
 #[derive(Clone, Copy, Debug)]
 pub struct Deadline {
     start: Option<Instant>,
@@ -13,7 +13,7 @@ pub struct Deadline {
 }
 
 impl Deadline {
-    /// So many milliseconds from now; none without a limit, where no clock is looked at.
+    /// Returns the deadline `limit` milliseconds from now; none without a limit, and then no clock is read.
     pub fn after<R: Clock>(rt: &R, limit: Option<u64>) -> Option<Deadline>
         ensures untimed { IfNone limit (result ≡ None) }
     {
@@ -37,8 +37,8 @@ impl Deadline {
         if rest.is_zero() { None } else { Some(rest) }
     }
 
-    /// How many milliseconds it is until then, a begun one counted whole: 0 where the time is up, and all where there
-    /// is no clock.
+    /// Returns how many milliseconds remain, a begun one counted whole: 0 if the time is up, and all if there is no
+    /// clock.
     pub fn remaining<R: Clock>(&self, rt: &R) -> u64 {
         match self.passed(rt) {
             None => self.limit,

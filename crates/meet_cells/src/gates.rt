@@ -1,4 +1,4 @@
-//! Gates, at which seats wait.
+//! Gates (parkers), at which seats wait.
 
 use std::sync::Wait;
 use std::time::Clock;
@@ -6,18 +6,19 @@ use std::time::Clock;
 /// Why a wait at a gate ended.
 #[derive(Clone, Copy, PartialEq, Eq, Debug)]
 pub enum Turn {
-    /// Somebody woke the gate.
+    /// Another thread woke the gate.
     Woken,
     /// The limit passed.
     Elapsed,
 }
 
-/// Where one seat waits. A gate is a hint: no clause says that a wait ends, nor why it did, so who waited looks at the
-/// place again. It keeps one wake for the next wait, as `LockSupport.unpark` does for the next `park`.
+/// Where one seat waits (a parker). A gate is a hint: no clause states that a wait ends, nor why it did, so the thread
+/// looks at the place again after a wait. It keeps one wake for the next wait, as `LockSupport.unpark` does for the
+/// next `park`.
 pub trait Gate {
-    /// Waits until somebody wakes the gate, or for this many milliseconds where there is a limit.
+    /// Waits until another thread wakes the gate, or for `limit` milliseconds if there is a limit.
     fn wait<R: Wait + Clock>(&self, rt: &R, limit: Option<u64>) -> Turn;
 
-    /// Wakes who waits here, or else the next that comes to wait.
+    /// Wakes the thread that waits here, or else the next that comes to wait.
     fn wake(&self);
 }

@@ -1,8 +1,9 @@
-//! Where threads wait, and what they are told while they wait: gates, bells that are rung once, and deadlines. It names no queue.
+//! Where threads wait, and what they learn while they wait: gates (parkers), bells (one-shot flags with a payload), and
+//! deadlines. The crate names no queue.
 //!
 //! A gate keeps one wake, as a permit of `LockSupport.park` and `unpark`: a wake that comes before the wait ends it.
-//! Both gates and bells are hints: who was woken, or wasn't, looks at the place, so no answer of any place rests on
-//! them.
+//! Both gates and bells are hints: a thread that was woken, or wasn't, looks at the place, so no result of any place
+//! rests on them.
 #![tactic(auto)]
 
 mod bells;

@@ -20,11 +20,12 @@ use std::time::Clock;
 /// 16, and more looks gained nothing.
 const TURNS: u64 = 16;
 
-/// A gate at which one thread at a time parks, as by `LockSupport.park` and `parkNanos`, and is let go by a wake, as by
-/// `LockSupport.unpark`. Before it parks it lets other threads run some times, as by `Thread.yield`: often one of them
-/// is who wakes it, and to park and be woken costs more than that. One wake is kept for the next wait, and a wakeup for
-/// no reason doesn't end one. A limit is in milliseconds of the machine's clock; where there is no clock, a wait with a
-/// limit answers Elapsed at once, unless a wake came by then.
+/// A gate at which one thread at a time parks, until it is woken. Before it parks it lets other threads run some times,
+/// as by `Thread.yield`: often one of them is the one that wakes it, and to park and be woken costs more than that. One
+/// wake is kept for the next wait, and a spurious wakeup doesn't end one. A limit is in milliseconds of the machine's
+/// clock. If there is no clock, a wait with a limit returns Elapsed at once, unless a wake came by then.
+///
+/// Java: `LockSupport.park`, `parkNanos`, `unpark`.
 #[derive(Drop)]
 pub struct ParkGate {
     parker: Parker,
@@ -32,7 +33,7 @@ pub struct ParkGate {
 }
 
 impl ParkGate {
-    /// A gate that nobody woke.
+    /// Creates a gate without a wake.
     pub fn new() -> ParkGate {
         ParkGate {
             parker: Parker::new(),
@@ -40,7 +41,15 @@ impl ParkGate {
         }
     }
 
-    /// So many gates that nobody woke, one for each seat of a place. The only refusal is Memory.
+    /// Creates `count` gates without a wake, one for each seat of a place.
+    ///
+    /// # Errors
+    /// - Memory, if an allocation fails.
+    ///
+    /// # Example
+    /// From `crates/example_jobs/src/main.rt`:
+    ///
+    ///     let gates = ParkGate::many(alloc, 2)?; // one for each worker
     pub fn many(alloc: Global, count: u64) -> Result<Vec<ParkGate>, Refusal>
         ensures count { IfOk result (λ gates. vec_len gates ≡ count) }
         ensures memory { IfErr result (λ why. why ≡ Memory) }
@@ -116,7 +125,8 @@ impl ParkGate {
 }
 
 impl Gate for ParkGate {
-    /// Parks until somebody wakes the gate, or until so many milliseconds passed. Without a limit only a wake ends it.
+    /// Parks until another thread wakes the gate, or until `limit` milliseconds passed. Without a limit only a wake
+    /// ends it.
     fn wait<R: Wait + Clock>(&self, rt: &R, limit: Option<u64>) -> Turn
         ensures { IfNone limit (result ≡ Woken) }
     {

@@ -11,9 +11,9 @@ use std::alloc::Global;
 use std::sync::Wait;
 use std::time::Clock;
 
-/// A gate at which a thread looks for a wake so many turns, as the transferers of `SynchronousQueue` spin before they
-/// park, and then parks as at a `ParkGate`. After each turn it lets another thread run, as by `Thread.yield`. The time
-/// of the turns counts towards the limit, which is looked at once they are over.
+/// A gate at which a thread looks for a wake some turns, and then parks as at a `ParkGate`: as the transferers of
+/// `SynchronousQueue` spin before they park. After each turn it lets another thread run, as by `Thread.yield`. The time
+/// of the turns counts towards the limit, which is checked after they are over.
 #[derive(Drop)]
 pub struct SpinGate {
     gate: ParkGate,
@@ -21,7 +21,7 @@ pub struct SpinGate {
 }
 
 impl SpinGate {
-    /// A gate that nobody woke, with so many turns before each wait parks; at 0 it parks at once.
+    /// Creates a gate without a wake. Each wait spins for `turns` turns before it parks; at 0 it parks at once.
     pub fn new(turns: u64) -> SpinGate {
         SpinGate {
             gate: ParkGate::new(),
@@ -29,8 +29,11 @@ impl SpinGate {
         }
     }
 
-    /// So many gates that nobody woke, one for each seat of a place, each with so many turns. The only refusal is
-    /// Memory.
+    /// Creates `count` gates without a wake, one for each seat of a place. Each wait spins for `turns` turns before it
+    /// parks.
+    ///
+    /// # Errors
+    /// - Memory, if an allocation fails.
     pub fn many(alloc: Global, count: u64, turns: u64) -> Result<Vec<SpinGate>, Refusal>
         ensures count { IfOk result (λ gates. vec_len gates ≡ count) }
         ensures memory { IfErr result (λ why. why ≡ Memory) }
@@ -46,8 +49,8 @@ impl SpinGate {
 }
 
 impl Gate for SpinGate {
-    /// Spins, and then parks until somebody wakes the gate, or until so many milliseconds passed. Without a limit only
-    /// a wake ends it.
+    /// Spins, and then parks until another thread wakes the gate, or until `limit` milliseconds passed. Without a limit
+    /// only a wake ends it.
     fn wait<R: Wait + Clock>(&self, rt: &R, limit: Option<u64>) -> Turn
         ensures { IfNone limit (result ≡ Woken) }
     {

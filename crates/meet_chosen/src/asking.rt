@@ -1,4 +1,4 @@
-//! The split calls: what a seat asks, how its ticket ends, and whom it interrupts.
+//! The split calls: requests, the completion of pending requests, and interrupts.
 
 ghost use Rattle.std.specs.Prelude.{◌<◌, None, IfOk, IfErr};
 ghost use Rattle.meet_tickets.specs.declared.records.Cause.TheVariants.{Cancelled, Expired};
@@ -13,9 +13,15 @@ use meet_tickets::{Deed, Marked, SeatNo};
 use std::sync::Wait;
 
 impl<T: Marked, G: Gate, N: Ledgers> ChosenQueue<T, G, N> {
-    /// Makes a request, as `Queue::request`: settled at once, or parked with its ticket open. It refuses Memory where
-    /// its seat's list can't grow, else SeatOpen, TicketsSpent, HistoryFull or Memory, the first that applies; then
-    /// nothing was written, and the seat and the item come back.
+    /// Makes a request, as `Queue::request`: it is settled at once, or it waits with its ticket pending (open).
+    ///
+    /// # Errors
+    /// Seat and item are returned, and nothing is logged. The first that applies:
+    /// - Memory, if the seat's list can't grow.
+    /// - SeatOpen, if the seat has a pending request (an open ticket).
+    /// - TicketsSpent, if all 2^63 - 1 request ids (tickets) are used.
+    /// - HistoryFull, if two records, for the request and its completion, can't be reserved.
+    /// - Memory, if the queue can't grow.
     pub fn request<R: Wait>(
         &self,
         rt: &R,
@@ -28,8 +34,16 @@ impl<T: Marked, G: Gate, N: Ledgers> ChosenQueue<T, G, N> {
         whichever!(self, queue => queue.request(rt, seat, request))
     }
 
-    /// `Thread.interrupt` of a target, as `Queue::interrupt`. It refuses Memory where its seat's list can't grow, else
-    /// NoSuchSeat where the queue has no such target, HistoryFull or Memory.
+    /// Interrupts a target by the number of its seat, as `Queue::interrupt`.
+    ///
+    /// # Errors
+    /// The seat is returned, and nothing is logged. The first that applies:
+    /// - Memory, if the seat's list can't grow.
+    /// - NoSuchSeat, if the queue has no seat of this number.
+    /// - HistoryFull, if the log has no room for the record.
+    /// - Memory, if the queue can't grow.
+    ///
+    /// Java: `Thread.interrupt`.
     pub fn interrupt<R: Wait>(
         &self,
         rt: &R,
@@ -43,21 +57,21 @@ impl<T: Marked, G: Gate, N: Ledgers> ChosenQueue<T, G, N> {
         whichever!(self, queue => queue.interrupt(rt, seat, target))
     }
 
-    /// Follows an open ticket up: how it ended, or NotYet while it stands in the line. It is never refused.
+    /// Follows a pending request up: returns how it ended, or NotYet while it waits in the wait queue. It can't fail.
     pub fn follow_up<R: Wait>(&self, rt: &R, pending: Pending<Deed, N>) -> Followed<T, N>
         ensures { FollowedAs (kind_of self.now) T.mark_of pending result }
     {
         whichever!(self, queue => queue.follow_up(rt, pending))
     }
 
-    /// Takes an open ticket back, or answers Late where it was met or cut before. It is never refused.
+    /// Takes a pending request back, or returns Late if it was matched or interrupted before. It can't fail.
     pub fn cancel<R: Wait>(&self, rt: &R, pending: Pending<Deed, N>) -> TakenBack<T, N>
         ensures { TakenBackAs (kind_of self.now) T.mark_of pending Cancelled result }
     {
         whichever!(self, queue => queue.cancel(rt, pending))
     }
 
-    /// The same, told as an expiry: the ticket's time ran out.
+    /// Takes a pending request back as `cancel` does, and logs an expiry: its time ran out. It can't fail.
     pub fn expire<R: Wait>(&self, rt: &R, pending: Pending<Deed, N>) -> TakenBack<T, N>
         ensures { TakenBackAs (kind_of self.now) T.mark_of pending Expired result }
     {

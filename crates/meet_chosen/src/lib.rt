@@ -1,6 +1,6 @@
-//! Queues for threads whose order is chosen while the program runs: `new SynchronousQueue(fair)` with a flag that is
-//! read from somewhere, or a `LinkedTransferQueue` in its place. It knows which queue it is, and nothing of what a
-//! queue does: each call is that queue's, with that queue's contract.
+//! Queues for threads whose order is chosen at run time: `new SynchronousQueue(fair)` with a flag that is read from
+//! somewhere, or a `LinkedTransferQueue` in its place. The crate knows which queue it is, and nothing of what a queue
+//! does: each call is that queue's, with that queue's contract.
 #![tactic(auto)]
 
 mod asking;

@@ -1,4 +1,4 @@
-//! What a queue does that lives long: checkpoints, and receipts that are dropped behind them.
+//! The calls for long-lived queues: compaction of the log, and of the seats' receipts.
 
 ghost use Rattle.std.specs.Prelude.{◌≡◌, ◌⊎◌, ◌≤◌, ℕ, None, true, false, length, IsOkAnd, IfOk, IfErr};
 ghost use Rattle.meet_tickets.specs.Limits.{most_gone};
@@ -13,12 +13,13 @@ use meet_tickets::{Deed, Marked};
 use std::sync::Wait;
 
 impl<T: Marked, G, N: Ledgers> ChosenQueue<T, G, N> {
-    /// Folds the records so far into the queue's base and returns how many were folded away since the queue was made, as
-    /// `Queue::checkpoint`.
+    /// Compacts the log, as `Queue::checkpoint`: the records so far are replaced by a snapshot (a base). Returns how
+    /// many records were compacted since the queue was created.
     ///
     /// # Errors
-    /// - HistoryFull, if more than 2^63 - 1 records would be folded away; nothing has changed.
-    /// - Memory, if the base can't grow; nothing has changed.
+    /// Nothing has changed.
+    /// - HistoryFull, if more than 2^63 - 1 records would be compacted.
+    /// - Memory, if the base can't grow.
     pub fn checkpoint<R: Wait>(
         &self,
         rt: &R,
@@ -34,10 +35,13 @@ impl<T: Marked, G, N: Ledgers> ChosenQueue<T, G, N> {
         whichever!(self, queue => queue.checkpoint(rt, seat))
     }
 
-    /// Keeps the history from filling, if each seat calls it after each of its calls, as `Queue::tend`.
+    /// Compacts the log if it is more than half full, as `Queue::tend`. The log doesn't fill if each seat calls this
+    /// after each of its calls (tested, not proved).
     ///
     /// # Errors
-    /// - HistoryFull, Memory: as `checkpoint`; the receipts for what was folded away before are dropped.
+    /// The records stay; the seat's receipts for what was compacted before are dropped.
+    /// - HistoryFull, if more than 2^63 - 1 records would be compacted.
+    /// - Memory, if the base can't grow.
     pub fn tend<R: Wait>(
         &self,
         rt: &R,
@@ -54,14 +58,14 @@ impl<T: Marked, G, N: Ledgers> ChosenQueue<T, G, N> {
         whichever!(self, queue => queue.tend(rt, seat))
     }
 
-    /// Drops the seat's receipts for the records that are folded away by now, and no other. It takes no memory.
+    /// Drops the seat's receipts for the records that are compacted by now, and no other. It doesn't allocate.
     pub fn trim<R: Wait>(&self, rt: &R, seat: Seat<Deed, N>) -> Seat<Deed, N>
         ensures { (gone : ℕ) × Trims gone seat result × (seat.past.folded ≤ gone) }
     {
         whichever!(self, queue => queue.trim(rt, seat))
     }
 
-    /// The same with a seat whose ticket is open, and stays open.
+    /// Drops the receipts of a seat whose request is pending, and stays so, as `trim` does.
     pub fn trim_pending<R: Wait>(&self, rt: &R, pending: Pending<Deed, N>) -> Pending<Deed, N>
         ensures { (gone : ℕ) × TrimsPending gone pending result × (pending.past.folded ≤ gone) }
     {

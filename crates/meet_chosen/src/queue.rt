@@ -1,5 +1,5 @@
-//! A queue of the order that was chosen: its beginning and its end. What lies between is written for all three orders
-//! at once (`whichever`).
+//! A queue of the order that was chosen: its creation and its end. The calls in between are written once for all three
+//! orders (`whichever`).
 
 ghost use Rattle.std.specs.Prelude.{◌≡◌, ℕ, ◌+◌, ◌<◌, ◌≤◌, ◌^◌, None, List, length, map, vec_len, IfOk, IfErr};
 ghost use Rattle.meet_tickets.specs.Limits.{most_records, most_seats};
@@ -37,8 +37,10 @@ macro_rules! whichever {
 
 pub(crate) use whichever;
 
-/// A queue for threads of the order that was chosen. What only some orders have, as `transfer`, the queue of that order
-/// has.
+/// A queue for threads of the order that was chosen. It has the calls that all three queues have; a call that only some
+/// have, such as `transfer`, is made at the queue in the variant.
+///
+/// Java: `new SynchronousQueue(fair)`, or `new LinkedTransferQueue()`.
 #[derive(Drop)]
 pub enum ChosenQueue<T: Marked, G, N: Ledgers> {
     /// `new SynchronousQueue(true)`.
@@ -49,16 +51,19 @@ pub enum ChosenQueue<T: Marked, G, N: Ledgers> {
     Transfer(TransferQueue<T, G, N>),
 }
 
-/// The book of a queue of the order that was chosen, out of its lock.
+/// The log (the book) of a queue of the order that was chosen, out of its lock.
 #[derive(Drop)]
 pub enum ChosenBook<T: Marked> {
+    /// The log of `new SynchronousQueue(true)`.
     Fair(Book<Dual<T, FairLine<T>>>),
+    /// The log of `new SynchronousQueue(false)`.
     Unfair(Book<Dual<T, StackLine<T>>>),
+    /// The log of `new LinkedTransferQueue()`.
     Transfer(Book<Unbounded<T>>),
 }
 
 impl<T: Marked, G, N: Ledgers> ChosenQueue<T, G, N> {
-    /// Its order.
+    /// Returns its order.
     pub fn order(&self) -> Order
         ensures { result ≡ order_of self.now }
     {
@@ -69,7 +74,7 @@ impl<T: Marked, G, N: Ledgers> ChosenQueue<T, G, N> {
         }
     }
 
-    /// How many seats there are.
+    /// Returns the number of its seats.
     pub fn seats(&self) -> u64
         ensures count { result ≡ seats_in self.now }
         ensures parts { result ≡ N.parts }
@@ -80,9 +85,18 @@ impl<T: Marked, G, N: Ledgers> ChosenQueue<T, G, N> {
 }
 
 impl<T: Marked, G: Drop, N: Ledgers> ChosenQueue<T, G, N> {
-    /// A queue of this order with a seat for each gate, numbered from 0, and at most so many records. It refuses
-    /// BadSizes where there is no gate or more than 65,536, or the records are none or more than 1,048,576; then
-    /// Memory. All comes back.
+    /// Creates a queue of this order with a seat for each gate, numbered from 0. `cap` is the capacity of its log, in
+    /// records.
+    ///
+    /// # Errors
+    /// The parts are returned.
+    /// - BadSizes, exactly if there is no gate or more than 65,536, or `cap` is 0 or more than 1,048,576.
+    /// - Memory, if an allocation fails.
+    ///
+    /// # Example
+    /// From `crates/meet_java_tests/src/whole.rt`, where `Shop` is a `ChosenQueue` of numbers:
+    ///
+    ///     match Shop::<G, N>::with_cap(alloc, order, parts, 1_048_576) {
     pub fn with_cap(
         alloc: Global,
         order: Order,
@@ -116,7 +130,14 @@ impl<T: Marked, G: Drop, N: Ledgers> ChosenQueue<T, G, N> {
         }
     }
 
-    /// The same with at most 1,048,576 records: `new SynchronousQueue(fair)`, or `new LinkedTransferQueue()`.
+    /// Creates a queue of this order with a seat for each gate, numbered from 0. Its log has 1,048,576 records.
+    ///
+    /// # Errors
+    /// The parts are returned.
+    /// - BadSizes, exactly if there is no gate or more than 65,536.
+    /// - Memory, if an allocation fails.
+    ///
+    /// Java: `new SynchronousQueue(fair)`, `new LinkedTransferQueue()`.
     pub fn new(
         alloc: Global,
         order: Order,
@@ -138,7 +159,7 @@ impl<T: Marked, G: Drop, N: Ledgers> ChosenQueue<T, G, N> {
 }
 
 impl<T: Marked, G: Gate, N: Ledgers> ChosenQueue<T, G, N> {
-    /// Waits at the gate of this seat, for this many milliseconds where there is a limit, as `Queue::wait`.
+    /// Waits at the gate (the parker) of this seat, for `limit` milliseconds if there is a limit, as `Queue::wait`.
     pub fn wait<R: Wait + Clock>(
         &self,
         rt: &R,
@@ -148,7 +169,7 @@ impl<T: Marked, G: Gate, N: Ledgers> ChosenQueue<T, G, N> {
         whichever!(self, queue => queue.wait(rt, pending, limit))
     }
 
-    /// Wakes who waits at the gate of this seat, or else the next that comes to wait, as `Queue::wake`.
+    /// Wakes the thread that waits at the gate of this seat, or else the next that comes to wait, as `Queue::wake`.
     pub fn wake(&self, seat: SeatNo) {
         whichever!(self, queue => queue.wake(seat))
     }
@@ -266,10 +287,13 @@ fn transfer_fault<T: Marked, G, N: Ledgers>(
 }
 
 impl<T: Marked, G: Drop, N: Ledgers> ChosenQueue<T, G, N> {
-    /// Ends the queue, as `Queue::close`: takes all seats back, free or with an open ticket, in whatever order,
-    /// compares the records with the seats' receipts, and takes out what is left. It refuses SeatMissing exactly where
-    /// fewer seats are given back than were made, then Memory, then Differs, at the least seat whose receipts aren't
-    /// its records.
+    /// Closes the queue, as `Queue::close`: takes all seats, free or with an open ticket, in any order, and returns the
+    /// final log (the chronicle) with the items that are left. It compares the records with the seats' receipts.
+    ///
+    /// # Errors
+    /// - SeatMissing, exactly if fewer seats are given back than were made; queue and seats are returned.
+    /// - Memory, if an allocation fails; queue and seats are returned.
+    /// - Differs, at the least seat whose receipts aren't its records; the log (the book) and the seats are returned.
     pub fn close(
         self,
         alloc: Global,

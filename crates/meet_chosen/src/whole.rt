@@ -1,4 +1,4 @@
-//! The whole calls, by the names that `BlockingQueue` has for them, and the drain.
+//! The whole calls, by the names that `BlockingQueue` has for them, and the bulk poll (the drain).
 
 ghost use Rattle.std.specs.Prelude.{◌≡◌, ◌<◌, ⊤, None, length, IfOk, IfErr, if◌then◌else◌};
 ghost use Rattle.meet_tickets.specs.Meeting.{keeps};
@@ -18,8 +18,11 @@ use std::sync::Wait;
 use std::time::Clock;
 
 impl<T: Marked, G: Gate, N: Ledgers> ChosenQueue<T, G, N> {
-    /// A whole call, as `Queue::ask`: a request, and the wait for its ending, for so many milliseconds where there is a
-    /// limit. Refuses as `request`.
+    /// Makes a whole call, as `Queue::ask`: a request, and the wait for its completion. `limit` is in milliseconds;
+    /// without one it may wait for ever.
+    ///
+    /// # Errors
+    /// - Memory, SeatOpen, TicketsSpent or HistoryFull, as `request`.
     pub fn ask<R: Wait + Clock>(
         &self,
         rt: &R,
@@ -34,8 +37,13 @@ impl<T: Marked, G: Gate, N: Ledgers> ChosenQueue<T, G, N> {
         whichever!(self, queue => queue.ask(rt, seat, request, limit))
     }
 
-    /// `BlockingQueue.put`: gives an item, and waits until it is taken, which may be never, where the queue keeps none.
-    /// It ends as that queue's `put`. Refuses as `request`.
+    /// Puts an item. If the queue buffers none, it waits until the item is taken, which may be never. It ends as that
+    /// queue's `put`.
+    ///
+    /// # Errors
+    /// - Memory, SeatOpen, TicketsSpent or HistoryFull, as `request`.
+    ///
+    /// Java: `BlockingQueue.put`.
     pub fn put<R: Wait + Clock>(
         &self,
         rt: &R,
@@ -48,8 +56,13 @@ impl<T: Marked, G: Gate, N: Ledgers> ChosenQueue<T, G, N> {
         self.ask(rt, seat, Request::Put(item), None)
     }
 
-    /// `BlockingQueue.offer`: gives an item to a taker that waits, or fails, where the queue keeps none; else it is
-    /// `put`. It doesn't wait. Refuses as `request`.
+    /// Gives an item to a consumer that waits, or returns `End::Failed` with it, if the queue buffers no items;
+    /// otherwise it is `put`. It doesn't wait.
+    ///
+    /// # Errors
+    /// - Memory, SeatOpen, TicketsSpent or HistoryFull, as `request`.
+    ///
+    /// Java: `BlockingQueue.offer`.
     pub fn offer<R: Wait + Clock>(
         &self,
         rt: &R,
@@ -68,8 +81,12 @@ impl<T: Marked, G: Gate, N: Ledgers> ChosenQueue<T, G, N> {
         self.ask(rt, seat, request, None)
     }
 
-    /// `BlockingQueue.take`: takes an item, and waits until there is one, which may be never. It ends as `Queue::take`.
-    /// Refuses as `request`.
+    /// Takes an item, and waits until there is one, which may be never. It ends as `Queue::take`.
+    ///
+    /// # Errors
+    /// - Memory, SeatOpen, TicketsSpent or HistoryFull, as `request`.
+    ///
+    /// Java: `BlockingQueue.take`.
     pub fn take<R: Wait + Clock>(
         &self,
         rt: &R,
@@ -81,7 +98,12 @@ impl<T: Marked, G: Gate, N: Ledgers> ChosenQueue<T, G, N> {
         self.ask(rt, seat, Request::Take, None)
     }
 
-    /// `Queue.poll`: takes an item from a giver that is there, or fails. It doesn't wait. Refuses as `request`.
+    /// Takes an item from a producer that is there, or returns `End::Failed`. It doesn't wait.
+    ///
+    /// # Errors
+    /// - Memory, SeatOpen, TicketsSpent or HistoryFull, as `request`.
+    ///
+    /// Java: `Queue.poll`.
     pub fn poll<R: Wait + Clock>(
         &self,
         rt: &R,
@@ -93,7 +115,12 @@ impl<T: Marked, G: Gate, N: Ledgers> ChosenQueue<T, G, N> {
         self.ask(rt, seat, Request::Poll, None)
     }
 
-    /// `BlockingQueue.poll` with a limit in milliseconds; with a limit of 0 it is `poll`. Refuses as `request`.
+    /// Takes an item, and waits for one for `limit` milliseconds at most. With a limit of 0 it is `poll`.
+    ///
+    /// # Errors
+    /// - Memory, SeatOpen, TicketsSpent or HistoryFull, as `request`.
+    ///
+    /// Java: `BlockingQueue.poll` with a timeout.
     pub fn poll_for<R: Wait + Clock>(
         &self,
         rt: &R,
@@ -110,9 +137,17 @@ impl<T: Marked, G: Gate, N: Ledgers> ChosenQueue<T, G, N> {
         self.ask(rt, seat, Request::Take, Some(limit))
     }
 
-    /// `BlockingQueue.drainTo`: takes up to `max` items that givers in the line brought, as `Queue::drain`. It refuses
-    /// Memory where a list can't grow, else SeatOpen, TicketsSpent, HistoryFull or Memory, the first that applies; then
-    /// nothing was taken.
+    /// Takes up to `max` items that producers in the wait queue brought, as `Queue::drain`.
+    ///
+    /// # Errors
+    /// Nothing is taken. The first that applies:
+    /// - Memory, if a list can't grow.
+    /// - SeatOpen, if the seat has a pending request (an open ticket).
+    /// - TicketsSpent, if fewer request ids (tickets) are left than items to take.
+    /// - HistoryFull, if the log has no room for the records.
+    /// - Memory, if the queue can't grow.
+    ///
+    /// Java: `BlockingQueue.drainTo`.
     pub fn drain<R: Wait>(
         &self,
         rt: &R,

@@ -1,88 +1,88 @@
-//! What a queue answers.
+//! The results of a queue's calls.
 
 ghost use Rattle.std.specs.Prelude.{◌≡◌};
 
 use meet_tickets::{Hold, Ticket};
 
-/// The answer to a give: the first ticket is its own.
+/// The result of a give: the first ticket is its own.
 #[derive(Debug, Drop)]
 pub enum Gave<T> {
-    /// The giver waits in the line.
+    /// The producer waits in the wait queue.
     Waits(Ticket),
-    /// The item went to the taker with the second ticket.
+    /// The item went to the consumer with the second ticket.
     Meets(Ticket, Ticket),
-    /// The giver would have waited, and was flagged: its item comes back.
+    /// The producer would have waited, and was flagged: its item is returned.
     EntryInterrupted(Ticket, T),
 }
 
-/// The answer to a put: the first ticket is its own.
+/// The result of a put: the first ticket is its own.
 #[derive(Debug, Drop)]
 pub enum Put<T> {
-    /// The item is kept in the line, and its giver goes on.
+    /// The item is buffered, and its producer goes on.
     Kept(Ticket),
-    /// The item went to the taker with the second ticket.
+    /// The item went to the consumer with the second ticket.
     Meets(Ticket, Ticket),
-    /// No taker was there, and no item more may be kept: the item comes back.
+    /// No consumer was there, and no more items may be buffered: the item is returned.
     Fails(Ticket, T),
 }
 
-/// The answer to a take: the first ticket is its own.
+/// The result of a take: the first ticket is its own.
 #[derive(Debug, Drop)]
 pub enum Took<T> {
-    /// The taker waits in the line.
+    /// The consumer waits in the wait queue.
     Waits(Ticket),
-    /// The item came from the giver with the second ticket.
+    /// The item came from the producer with the second ticket.
     Meets(Ticket, Ticket, T),
-    /// The taker would have waited, and was flagged.
+    /// The consumer would have waited, and was flagged.
     EntryInterrupted(Ticket),
 }
 
-/// The answer to an offer: the first ticket is its own.
+/// The result of an offer: the first ticket is its own.
 #[derive(Debug, Drop)]
 pub enum Offered<T> {
-    /// The item went to the taker with the second ticket.
+    /// The item went to the consumer with the second ticket.
     Meets(Ticket, Ticket),
-    /// No taker was there: the item comes back.
+    /// No consumer was there: the item is returned.
     Fails(Ticket, T),
 }
 
-/// The answer to a poll: the first ticket is its own.
+/// The result of a poll: the first ticket is its own.
 #[derive(Debug, Drop)]
 pub enum Polled<T> {
-    /// The item came from the giver with the second ticket.
+    /// The item came from the producer with the second ticket.
     Meets(Ticket, Ticket, T),
-    /// No giver was there.
+    /// No producer was there.
     Fails(Ticket),
 }
 
-/// The answer to a follow-up.
+/// The result of a follow-up.
 #[derive(Debug, Drop)]
 pub enum Followed<T> {
-    /// The giver was met.
+    /// The producer was matched.
     Done,
-    /// The taker was met: the item came from the giver with this ticket.
+    /// The consumer was matched: the item came from the producer with this ticket.
     Got(Ticket, T),
-    /// The ticket was cut; a giver's item comes back.
+    /// The request was interrupted; a producer's item is returned.
     Interrupted(Option<T>),
-    /// The ticket still stands in the line, and stays open.
+    /// The ticket still stands in the wait queue, and stays open.
     NotYet,
 }
 
-/// The answer to a cancel or an expiry.
+/// The result of a cancel or an expiry.
 #[derive(Debug, Drop)]
 pub enum TakenBack<T> {
-    /// The ticket left the line and ended; a giver's item comes back.
+    /// The ticket left the wait queue and ended; a producer's item is returned.
     Back(Option<T>),
-    /// The ticket was met or cut before, and stays open.
+    /// The ticket was matched or interrupted before, and stays open.
     Late,
 }
 
-/// The answer to an interrupt.
+/// The result of an interrupt.
 #[derive(Clone, Copy, PartialEq, Eq, Debug)]
 pub enum Interrupted {
-    /// This ticket of the target's left the line, and awaits its follow-up.
+    /// This ticket of the target's left the wait queue, and awaits its follow-up.
     Cut(Ticket),
-    /// The target doesn't stand in the line: it is flagged.
+    /// The target doesn't wait: its interrupt is pending (it is flagged).
     Flagged,
 }
 

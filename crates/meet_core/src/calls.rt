@@ -1,5 +1,5 @@
-//! What a seat asks of a queue, what it is answered, and the record of it: one call type for all queues, said once,
-//! over the meetings that they share. `QueuePlace` is what a queue for threads asks of a queue of one thread.
+//! A seat's calls of a queue, their results, and their records: one call type for all queues, defined once, over the
+//! meetings that they share. `QueuePlace` is what a queue for threads requires of a queue of one thread.
 
 mod laws;
 mod make;

@@ -1,4 +1,4 @@
-//! The dual queue: givers and takers that meet.
+//! The synchronous queue of one thread: producers and consumers that meet.
 
 ghost use Rattle.std.specs.Prelude.{◌+◌, ◌≡◌, ◌≤◌, ◌<◌, ◌-◌, Some, None, IsOk, IfOk, IfErr, OnOk, OnErr, ◌↔◌, IsTrue};
 ghost use Rattle.meet_tickets.specs.Meeting.{waiting_count, kept_count, count_on};
@@ -21,7 +21,10 @@ mod leaving;
 mod place;
 mod probes;
 
-/// A synchronous queue of one thread: over a `FairLine` in fair mode, over a `StackLine` in the default mode.
+/// A synchronous queue of one thread (a dual data structure): over a `FairLine` in fair mode, over a `StackLine` in the
+/// default mode.
+///
+/// Java: `SynchronousQueue`.
 #[derive(Drop)]
 pub struct Dual<T: Marked, L: Line<T>> {
     meetings: Meetings<T, L>,
@@ -46,8 +49,15 @@ impl<T: Marked, L: Line<T>> Dual<T, L> {
     ghost use Rattle.meet_core.specs.Steps.{GiveStep, TakeStep, OfferStep, PollStep};
     ghost use Rattle.meet_tickets.specs.declared.refusals.Refusal.TheVariants.{Memory, TicketsSpent};
 
-    /// A queue with no room yet, with this many seats, at most 65,536, and this first ticket, 1 to 2^63 - 1. The only
-    /// refusal is Memory.
+    /// Creates a queue with no room yet, with this many seats, at most 65,536, and this first ticket, 1 to 2^63 - 1.
+    ///
+    /// # Errors
+    /// - Memory, if an allocation fails.
+    ///
+    /// # Example
+    /// From `crates/example_one_thread/src/handoff.rt`:
+    ///
+    ///     let mut queue: Counter = Dual::new(rt.alloc(), 3, 1)?;
     pub fn new(alloc: Global, seats: u64, first: u64) -> Result<Self, Refusal>
         requires seats { seats ≤ most_seats }
         requires first_from { 0 < first }
@@ -63,8 +73,13 @@ impl<T: Marked, L: Line<T>> Dual<T, L> {
         Ok(Dual { meetings })
     }
 
-    /// The ticket that a request of this seat would use, or why it would be refused: NoSuchSeat, SeatOpen or
-    /// TicketsSpent, the first that applies.
+    /// Returns the ticket that a request of this seat would use.
+    ///
+    /// # Errors
+    /// The first that applies:
+    /// - NoSuchSeat, if the queue has no such seat.
+    /// - SeatOpen, if the seat has a pending request (an open ticket).
+    /// - TicketsSpent, if all tickets are used.
     pub fn admit(&self, seat: SeatNo) -> Result<Ticket, Refusal>
         ensures admitted { IfOk result (λ ticket. (admit_refusal self.now seat ≡ None) × (ticket ≡ self.now.next)) }
         ensures refused { IfErr result (λ why. admit_refusal self.now seat ≡ Some why) }
@@ -72,7 +87,10 @@ impl<T: Marked, L: Line<T>> Dual<T, L> {
         self.meetings.admit(seat)
     }
 
-    /// Makes room for this many requests that wait. The only refusal is Memory.
+    /// Makes room for this many pending requests.
+    ///
+    /// # Errors
+    /// - Memory, if an allocation fails: nothing has changed.
     pub fn reserve(&mut self, requests: u64) -> Result<(), Refusal>
         ensures same { self.new ≡ record self.old { room = self.new.room } }
         ensures room { OnOk result (requests ≤ self.new.room) }
@@ -84,9 +102,20 @@ impl<T: Marked, L: Line<T>> Dual<T, L> {
         self.meetings.reserve(requests)
     }
 
-    /// `SynchronousQueue.put` up to its wait: the item goes to the taker that is met, or its giver goes to the line,
-    /// or is refused at entry where it is flagged. Refuses what `admit` does, then Memory, never where there is room;
-    /// the item comes back.
+    /// Gives an item. It goes to the consumer that is met, or its producer goes to the wait queue, or the request is
+    /// refused at entry if the seat is flagged.
+    ///
+    /// # Errors
+    /// Nothing has changed, and the item is returned.
+    /// - NoSuchSeat, SeatOpen or TicketsSpent, as `admit`.
+    /// - Memory, if an allocation fails, and never if there is room.
+    ///
+    /// # Example
+    /// From `crates/example_one_thread/src/handoff.rt`:
+    ///
+    ///     let gave = queue.give(seat_0, item).map_err(Refused::into_why)?; // Gave::Waits(ticket), Gave::Meets(..), ..
+    ///
+    /// Java: `SynchronousQueue.put` up to its wait.
     pub fn give(&mut self, seat: SeatNo, item: T) -> Result<Gave<T>, Refused<T>>
         ensures step { IfOk result (λ answer. GiveStep T.mark_of L.end self.old seat item answer self.new) }
         ensures admitted { IfOk result (λ _. admit_refusal self.old seat ≡ None) }
@@ -99,9 +128,20 @@ impl<T: Marked, L: Line<T>> Dual<T, L> {
         self.meetings.give(seat, item)
     }
 
-    /// `SynchronousQueue.take` up to its wait: the item comes from the giver that is met, or the taker goes to the
-    /// line, or is refused at entry where it is flagged. Refuses what `admit` does, then Memory, never where there is
-    /// room.
+    /// Takes an item. It comes from the producer that is met, or the consumer goes to the wait queue, or the request is
+    /// refused at entry if the seat is flagged.
+    ///
+    /// # Errors
+    /// Nothing has changed.
+    /// - NoSuchSeat, SeatOpen or TicketsSpent, as `admit`.
+    /// - Memory, if an allocation fails, and never if there is room.
+    ///
+    /// # Example
+    /// From `crates/example_one_thread/src/handoff.rt`:
+    ///
+    ///     let took = queue.take(seat_1)?; // Took::Meets(ticket, with, item), Took::Waits(ticket), ..
+    ///
+    /// Java: `SynchronousQueue.take` up to its wait.
     pub fn take(&mut self, seat: SeatNo) -> Result<Took<T>, Refusal>
         ensures step { IfOk result (λ answer. TakeStep T.mark_of L.end self.old seat answer self.new) }
         ensures admitted { IfOk result (λ _. admit_refusal self.old seat ≡ None) }
@@ -113,8 +153,13 @@ impl<T: Marked, L: Line<T>> Dual<T, L> {
         self.meetings.take(seat)
     }
 
-    /// `SynchronousQueue.offer`: the item goes to the taker that is met, or comes back. It takes no memory, and refuses
-    /// what `admit` does; the item comes back then too.
+    /// Offers an item. It goes to the consumer that is met, or is returned. It doesn't allocate.
+    ///
+    /// # Errors
+    /// Nothing has changed, and the item is returned.
+    /// - NoSuchSeat, SeatOpen or TicketsSpent, as `admit`.
+    ///
+    /// Java: `SynchronousQueue.offer`.
     pub fn offer(&mut self, seat: SeatNo, item: T) -> Result<Offered<T>, Refused<T>>
         ensures step { IfOk result (λ answer. OfferStep T.mark_of L.end self.old item answer self.new) }
         ensures admitted { IfOk result (λ _. admit_refusal self.old seat ≡ None) }
@@ -126,8 +171,18 @@ impl<T: Marked, L: Line<T>> Dual<T, L> {
         self.meetings.offer(seat, item)
     }
 
-    /// `SynchronousQueue.poll`: the item comes from the giver that is met, if one is there. It takes no memory, and
-    /// refuses what `admit` does.
+    /// Polls: the item comes from the producer that is met, if one is there. It doesn't allocate.
+    ///
+    /// # Errors
+    /// Nothing has changed.
+    /// - NoSuchSeat, SeatOpen or TicketsSpent, as `admit`.
+    ///
+    /// # Example
+    /// From `crates/example_one_thread/src/handoff.rt`:
+    ///
+    ///     match queue.poll(seat)? {
+    ///
+    /// Java: `SynchronousQueue.poll`.
     pub fn poll(&mut self, seat: SeatNo) -> Result<Polled<T>, Refusal>
         ensures step { IfOk result (λ answer. PollStep T.mark_of L.end self.old answer self.new) }
         ensures admitted { IfOk result (λ _. admit_refusal self.old seat ≡ None) }
@@ -138,36 +193,37 @@ impl<T: Marked, L: Line<T>> Dual<T, L> {
         self.meetings.poll(seat)
     }
 
-    /// Whether the seat's open ticket is this one; and while its item lies here, since it waits or was cut, whether the
-    /// item has this mark, or there is none where this is none. Where the ticket waits it is looked for in the line.
+    /// Returns true if the seat's open ticket is this one, with this mark. While its item lies here, since it waits or
+    /// was interrupted, the item has to have this mark, or there has to be none if this is none. A ticket that waits is
+    /// looked for in the wait queue.
     pub fn awaits(&self, seat: SeatNo, ticket: Ticket, mark: Option<u64>) -> bool
         ensures { IsTrue result ↔ AwaitsAs T.mark_of (seats_of self.now) seat ticket mark }
     {
         self.meetings.awaits(seat, ticket, mark)
     }
 
-    /// The seat's open ticket, if it has one.
+    /// Returns the seat's open ticket, if it has one.
     pub fn open_ticket(&self, seat: SeatNo) -> Option<Ticket>
         ensures { result ≡ open_ticket ((seats_of self.now).holds seat) }
     {
         self.meetings.open_ticket(seat)
     }
 
-    /// How many seats there are.
+    /// Returns how many seats there are.
     pub fn seats(&self) -> u64
         ensures { result ≡ count_of self.now }
     {
         self.meetings.seats()
     }
 
-    /// How many requests that wait have room.
+    /// Returns how many pending requests have room.
     pub fn room(&self) -> u64
         ensures { result ≡ self.now.room }
     {
         self.meetings.room()
     }
 
-    /// How many tickets are open.
+    /// Returns how many requests are pending.
     pub fn owed(&self) -> u64
         ensures value { result ≡ owed_of (count_of self.now) (seats_of self.now).holds }
         ensures few { result ≤ most_seats }
@@ -175,7 +231,7 @@ impl<T: Marked, L: Line<T>> Dual<T, L> {
         self.meetings.owed()
     }
 
-    /// How many open tickets stand in the line.
+    /// Returns how many pending requests stand in the wait queue.
     pub fn waiting(&self) -> u64
         ensures value { result ≡ waiting_count self.now.line }
         ensures nothing_kept { kept_count self.now.line ≡ 0 }
@@ -183,21 +239,24 @@ impl<T: Marked, L: Line<T>> Dual<T, L> {
         self.meetings.waiting()
     }
 
-    /// How many open tickets were met or cut, and await their follow-up.
+    /// Returns how many pending requests were matched or interrupted, and await their follow-up.
     pub fn uncollected(&self) -> u64
         ensures { result ≡ settled_of (count_of self.now) (seats_of self.now).holds }
     {
         self.meetings.uncollected()
     }
 
-    /// How many givers stand in the line.
+    /// Returns how many producers stand in the wait queue.
     pub fn givers(&self) -> u64
         ensures { result ≡ count_on Giver self.now.line }
     {
         self.meetings.givers()
     }
 
-    /// Uses up the next ticket, and changes nothing else. The only refusal is TicketsSpent, exactly where none is left.
+    /// Uses up the next ticket, and changes nothing else.
+    ///
+    /// # Errors
+    /// - TicketsSpent, exactly if none is left: nothing has changed.
     pub fn draw(&mut self) -> Result<Ticket, Refusal>
         ensures ticket { IfOk result (λ ticket. ticket ≡ self.old.next) }
         ensures tickets { IsOk result ↔ (self.old.next ≤ last_ticket) }
@@ -208,14 +267,17 @@ impl<T: Marked, L: Line<T>> Dual<T, L> {
         self.meetings.spend()
     }
 
-    /// How many tickets are left.
+    /// Returns how many tickets are left.
     pub fn tickets_left(&self) -> u64
         ensures { result ≡ last_ticket + 1 - self.now.next }
     {
         self.meetings.tickets_left()
     }
 
-    /// The base of the queue, where so many records were folded away. The only refusal is Memory.
+    /// Returns the base of the queue, after `gone` records were compacted.
+    ///
+    /// # Errors
+    /// - Memory, if an allocation fails.
     pub fn base(&self, alloc: Global, gone: u64) -> Result<Base, Refusal>
         ensures base { IfOk result (IsBaseOf (moment_of_queue T.mark_of self.now) gone) }
         ensures memory { IfErr result (λ why. why ≡ Memory) }
@@ -223,8 +285,8 @@ impl<T: Marked, L: Line<T>> Dual<T, L> {
         self.meetings.base(alloc, gone)
     }
 
-    /// What is always true of a queue: each entry of its line waits and is what its seat holds, no two entries share a
-    /// ticket, and all have one side. It does nothing.
+    /// States what is always true of a queue: each node of its wait queue waits and is what its seat holds, no two
+    /// nodes share a ticket, and all have one side. It does nothing.
     pub fn stays_sound(&self)
         ensures sound { IsSound self.now.line (seats_of self.now).holds self.now.next }
         ensures all_wait { kept_count self.now.line ≡ 0 }

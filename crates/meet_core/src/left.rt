@@ -1,26 +1,29 @@
-//! What is left in a queue that is taken apart.
+//! The items that are left in a queue that is taken apart.
 
 ghost use Rattle.std.specs.Prelude.{◌≡◌, ◌+◌, ◌≤◌, ◌++◌, length, option_to_list, is_some, vec_len};
 ghost use Rattle.std.specs.Vec.{vec_capacity};
 
 use meet_tickets::{Entry, Hold, Ticket};
 
-/// How an item stood in the queue.
+/// The status of an item that is left.
 #[derive(Clone, Copy, PartialEq, Eq, Debug)]
 pub enum LeftStanding {
-    /// It was in the line, and its giver waits.
+    /// It was in the wait queue, and its producer waits.
     Offered,
-    /// It was kept in the line; its giver went on.
+    /// It was buffered; its producer went on.
     Kept,
-    /// Its giver was cut, or it went to a taker that waited; nobody has collected it.
+    /// Its producer was interrupted, or it went to a consumer that waited; it wasn't collected.
     Ready,
 }
 
-/// An item that is left in a queue, with its giver's ticket.
+/// An item that is left in a queue.
 #[derive(Debug, Drop)]
 pub struct Left<T> {
+    /// Its producer's ticket.
     pub ticket: Ticket,
+    /// The item.
     pub item: T,
+    /// Its status.
     pub standing: LeftStanding,
 }
 

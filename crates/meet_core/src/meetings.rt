@@ -1,4 +1,5 @@
-//! What the queues of one thread share: givers and takers that meet in one line, and items that are kept there.
+//! What the queues of one thread share: producers and consumers that meet in one wait queue, and items that are
+//! buffered there.
 
 ghost use Rattle.std.specs.Prelude.{◌≡◌, ◌≤◌, ◌<◌, Some, None, IsOk, IfOk, IfErr, OnOk, OnErr};
 ghost use Rattle.meet_tickets.specs.Meeting.{kept_count};
@@ -21,11 +22,11 @@ mod moves;
 mod partners;
 mod probes;
 
-/// The meetings of one thread's queue: its line, its seats, its last ticket and the next, and how many givers stand in
-/// the line and how many items are kept there.
+/// The meetings of one thread's queue: its wait queue, its seats, its last ticket and the next, and how many producers
+/// wait and how many items are buffered there.
 ///
-/// What each call writes stands together, at the end of the line, here, and at the head of the seats: fields lie in
-/// memory in their order, and each line of the processor's that a call writes has to come from who called before.
+/// What each call writes stands together, at the end of the wait queue, here, and at the head of the seats. Fields lie
+/// in memory in their order, and each cache line that a call writes has to come from the thread that called before.
 #[derive(Drop)]
 pub struct Meetings<T: Marked, L: Line<T>> {
     line: L,
@@ -66,8 +67,10 @@ impl<T: Marked, L: Line<T>> Meetings<T, L> {
     ghost use Rattle.meet_core.specs.Steps.{GiveStep, PutStep, TakeStep, OfferStep, PollStep};
     ghost use Rattle.meet_tickets.specs.declared.refusals.Refusal.TheVariants.{Memory};
 
-    /// A queue with no room yet, with this many seats, at most 65,536, and this first ticket, 1 to 2^63 - 1. The only
-    /// refusal is Memory.
+    /// Creates a queue with no room yet, with this many seats, at most 65,536, and this first ticket, 1 to 2^63 - 1.
+    ///
+    /// # Errors
+    /// - Memory, if an allocation fails.
     pub fn new(alloc: Global, seats: u64, first: u64) -> Result<Self, Refusal>
         requires seats { seats ≤ most_seats }
         requires first_from { 0 < first }
@@ -94,8 +97,13 @@ impl<T: Marked, L: Line<T>> Meetings<T, L> {
         })
     }
 
-    /// The ticket that a request of this seat would use, or why it would be refused: NoSuchSeat, SeatOpen or
-    /// TicketsSpent, the first that applies.
+    /// Returns the ticket that a request of this seat would use.
+    ///
+    /// # Errors
+    /// The first that applies:
+    /// - NoSuchSeat, if the queue has no such seat.
+    /// - SeatOpen, if the seat has a pending request (an open ticket).
+    /// - TicketsSpent, if all tickets are used.
     pub fn admit(&self, seat: SeatNo) -> Result<Ticket, Refusal>
         ensures admitted { IfOk result (λ ticket. (admit_refusal self.now seat ≡ None) × (ticket ≡ self.now.next)) }
         ensures refused { IfErr result (λ why. admit_refusal self.now seat ≡ Some why) }
@@ -109,7 +117,10 @@ impl<T: Marked, L: Line<T>> Meetings<T, L> {
         Ticket::new(self.next).ok_or(Refusal::TicketsSpent)
     }
 
-    /// Makes room for this many requests that wait. The only refusal is Memory.
+    /// Makes room for this many pending requests.
+    ///
+    /// # Errors
+    /// - Memory, if an allocation fails: nothing has changed.
     pub fn reserve(&mut self, requests: u64) -> Result<(), Refusal>
         ensures same { self.new ≡ record self.old { room = self.new.room } }
         ensures room { OnOk result (requests ≤ self.new.room) }
@@ -121,9 +132,15 @@ impl<T: Marked, L: Line<T>> Meetings<T, L> {
         self.line.reserve(requests)
     }
 
-    /// `SynchronousQueue.put` up to its wait: the item goes to the taker that is met, or its giver goes to the line,
-    /// or is refused at entry where it is flagged. Refuses what `admit` does, then Memory, never where there is room;
-    /// the item comes back.
+    /// Gives an item. It goes to the consumer that is met, or its producer goes to the wait queue, or the request is
+    /// refused at entry if the seat is flagged.
+    ///
+    /// # Errors
+    /// Nothing has changed, and the item is returned.
+    /// - NoSuchSeat, SeatOpen or TicketsSpent, as `admit`.
+    /// - Memory, if an allocation fails, and never if there is room.
+    ///
+    /// Java: `SynchronousQueue.put` up to its wait.
     pub fn give(&mut self, seat: SeatNo, item: T) -> Result<Gave<T>, Refused<T>>
         ensures step { IfOk result (λ answer. GiveStep T.mark_of L.end self.old seat item answer self.new) }
         ensures admitted { IfOk result (λ _. admit_refusal self.old seat ≡ None) }
@@ -143,9 +160,15 @@ impl<T: Marked, L: Line<T>> Meetings<T, L> {
         Ok(self.give_admitted(seat, item))
     }
 
-    /// `LinkedTransferQueue.put`: the item goes to the taker that is met, or is kept in the line, and its giver goes
-    /// on; it fails where as many items are kept as the bound says. Refuses what `admit` does, then Memory, never
-    /// where there is room; the item comes back.
+    /// Puts an item. It goes to the consumer that is met, or is buffered, and its producer goes on. The put fails if as
+    /// many items are buffered as the bound allows.
+    ///
+    /// # Errors
+    /// Nothing has changed, and the item is returned.
+    /// - NoSuchSeat, SeatOpen or TicketsSpent, as `admit`.
+    /// - Memory, if an allocation fails, and never if there is room.
+    ///
+    /// Java: `LinkedTransferQueue.put`.
     pub fn put(&mut self, seat: SeatNo, item: T, bound: Option<u64>) -> Result<Put<T>, Refused<T>>
         ensures step { IfOk result (λ answer. PutStep T.mark_of L.end bound self.old seat item answer self.new) }
         ensures admitted { IfOk result (λ _. admit_refusal self.old seat ≡ None) }
@@ -164,9 +187,15 @@ impl<T: Marked, L: Line<T>> Meetings<T, L> {
         Ok(self.put_admitted(seat, item, bound))
     }
 
-    /// `SynchronousQueue.take` up to its wait: the item comes from the giver that is met, or the taker goes to the
-    /// line, or is refused at entry where it is flagged. Refuses what `admit` does, then Memory, never where there is
-    /// room.
+    /// Takes an item. It comes from the producer that is met, or the consumer goes to the wait queue, or the request is
+    /// refused at entry if the seat is flagged.
+    ///
+    /// # Errors
+    /// Nothing has changed.
+    /// - NoSuchSeat, SeatOpen or TicketsSpent, as `admit`.
+    /// - Memory, if an allocation fails, and never if there is room.
+    ///
+    /// Java: `SynchronousQueue.take` up to its wait.
     pub fn take(&mut self, seat: SeatNo) -> Result<Took<T>, Refusal>
         ensures step { IfOk result (λ answer. TakeStep T.mark_of L.end self.old seat answer self.new) }
         ensures admitted { IfOk result (λ _. admit_refusal self.old seat ≡ None) }
@@ -181,8 +210,13 @@ impl<T: Marked, L: Line<T>> Meetings<T, L> {
         Ok(self.take_admitted(seat))
     }
 
-    /// `SynchronousQueue.offer`: the item goes to the taker that is met, or comes back. It takes no memory, and refuses
-    /// what `admit` does; the item comes back then too.
+    /// Offers an item. It goes to the consumer that is met, or is returned. It doesn't allocate.
+    ///
+    /// # Errors
+    /// Nothing has changed, and the item is returned.
+    /// - NoSuchSeat, SeatOpen or TicketsSpent, as `admit`.
+    ///
+    /// Java: `SynchronousQueue.offer`.
     pub fn offer(&mut self, seat: SeatNo, item: T) -> Result<Offered<T>, Refused<T>>
         ensures step { IfOk result (λ answer. OfferStep T.mark_of L.end self.old item answer self.new) }
         ensures admitted { IfOk result (λ _. admit_refusal self.old seat ≡ None) }
@@ -198,8 +232,13 @@ impl<T: Marked, L: Line<T>> Meetings<T, L> {
         Ok(self.offer_admitted(seat, item))
     }
 
-    /// `SynchronousQueue.poll`: the item comes from the giver that is met, if one is there. It takes no memory, and
-    /// refuses what `admit` does.
+    /// Polls: the item comes from the producer that is met, if one is there. It doesn't allocate.
+    ///
+    /// # Errors
+    /// Nothing has changed.
+    /// - NoSuchSeat, SeatOpen or TicketsSpent, as `admit`.
+    ///
+    /// Java: `SynchronousQueue.poll`.
     pub fn poll(&mut self, seat: SeatNo) -> Result<Polled<T>, Refusal>
         ensures step { IfOk result (λ answer. PollStep T.mark_of L.end self.old answer self.new) }
         ensures admitted { IfOk result (λ _. admit_refusal self.old seat ≡ None) }

@@ -1,4 +1,5 @@
-//! The seats of a queue: what each holds, which are flagged, and what of that stands outside the line.
+//! The seats of a queue: what each holds, which have a pending interrupt (are flagged), and what of that stands outside
+//! the wait queue.
 
 mod itemless;
 mod opened;

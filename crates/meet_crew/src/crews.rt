@@ -1,4 +1,4 @@
-//! Crews, from the making of their queue to its end.
+//! Crews, from the creation of their queue to its end.
 
 ghost use Rattle.std.specs.Prelude.{◌≡◌, ◌≤◌, None, IfOk, IfErr, MatchResult, vec_len, if◌then◌else◌, Some, Ok, Err};
 ghost use Rattle.std.specs.Vec.{vec_capacity};
@@ -26,21 +26,35 @@ use std::sync::Wait;
 use std::thread::Threads;
 use std::time::Clock;
 
-/// What the threads of a crew do at their queue.
+/// States what the threads of a crew do at their queue.
+///
+/// # Example
+/// From `crates/example_first/src/main.rt`:
+///
+///     impl Crew<u64> for Handing {
+///         type Told = Result<End<u64>, CallRefused<u64>>;
+///         fn work<C: Chair<u64>>(&self, chair: &mut C) -> Result<End<u64>, CallRefused<u64>> {
+///             match chair.number() {
+///                 0 => chair.transfer_for(7, 60_000), // milliseconds
+///                 _ => chair.poll_for(60_000),
+///             }
+///         }
+///     }
 pub trait Crew<T: Marked> {
-    /// What each thread answers.
+    /// The result of each thread.
     type Told;
 
-    /// What the thread with this chair does.
+    /// Does the work of the thread with this chair, and returns its result. In Java: the `Runnable` of a thread.
     fn work<C: Chair<T>>(&self, chair: &mut C) -> Self::Told;
 }
 
-/// What a crew leaves.
+/// What a crew leaves: the results of its threads, and the final log of its queue.
 #[derive(Debug, Drop)]
 pub struct Done<T, A> {
     /// The result of each thread, in the order of their seats.
     pub told: Vec<A>,
-    /// What the queue left, with its records; or why it couldn't be closed, Memory or Differs, and then it is dropped.
+    /// The final log of the queue. If the queue couldn't be closed, it is dropped, and this is the reason: Memory or
+    /// Differs.
     pub closed: Result<Chronicle<T>, Refusal>,
 }
 
@@ -60,7 +74,10 @@ impl<O: QueueLeaves + Drop, N: Ledgers, A: Drop> Hall<O, N, A>
 where
     O::Item: Drop,
 {
-    /// Creates a queue of these parts, and room for a thread at each of its seats. The only error is Memory.
+    /// Creates a queue of these parts, and room for a thread at each of its seats.
+    ///
+    /// # Errors
+    /// - Memory, if an allocation fails.
     fn new(alloc: Global, parts: NewQueue<ParkGate>) -> Result<Self, Refusal>
         requires ledgers { AreOf N.name N.folds N.moments N.parts parts.blanks }
         requires one_each { N.parts ≡ vec_len parts.gates }
@@ -235,14 +252,23 @@ where
     })
 }
 
-/// Starts `threads` threads at a new `SynchronousQueue` in fair mode, each with a chair, waits until all have ended, for
-/// ever if one never ends, and closes the queue. Its records are a legal history, in which each seat's calls stand once,
-/// in its order, and no others.
+/// Runs `threads` threads at a new fair synchronous queue, each with a chair, and closes the queue. It waits until all
+/// threads have ended, for ever if one never ends. The records are a legal history, in which each seat's calls stand
+/// once, in its order, and no others.
 ///
 /// # Errors
 /// - BadSizes, exactly if `threads` is 0 or more than 65,536.
 /// - Memory, if an allocation fails before the first thread is started.
 /// - NoThread, if a thread can't be started; then no thread has begun to work.
+///
+/// # Example
+/// From `crates/example_first/src/main.rt`:
+///
+///     let done = at_fair_queue(&rt, rt.alloc(), 2, &Handing)?;
+///     let chronicle = done.closed?;
+///     println!(rt; "{} records", chronicle.records.len()).map_err(|_| Refusal::WriteFault)
+///
+/// Java: `new SynchronousQueue<>(true)`, the threads, and `join` of each.
 pub fn at_fair_queue<T, R, V>(
     rt: &R,
     alloc: Global,
@@ -267,7 +293,20 @@ where
     at_fair::<T, Brand, R, V>(rt, alloc, parts, crew)
 }
 
-/// The same at a new `SynchronousQueue` in its default mode, whose newest ticket is met first.
+/// Runs `threads` threads at a new synchronous queue in its default mode, as `at_fair_queue` does. There a request
+/// meets the counterpart that has waited for the shortest time: last in, first out.
+///
+/// # Errors
+/// - BadSizes, exactly if `threads` is 0 or more than 65,536.
+/// - Memory, if an allocation fails before the first thread is started.
+/// - NoThread, if a thread can't be started; then no thread has begun to work.
+///
+/// # Example
+/// From `crates/meet_crew_tests/src/stops.rt`:
+///
+///     let done = at_unfair_queue(&rt, rt.alloc(), 3, &Stopped {}).expect(&rt, "a crew");
+///
+/// Java: `new SynchronousQueue<>()`.
 pub fn at_unfair_queue<T, R, V>(
     rt: &R,
     alloc: Global,
@@ -292,7 +331,20 @@ where
     at_unfair::<T, Brand, R, V>(rt, alloc, parts, crew)
 }
 
-/// The same at a new `LinkedTransferQueue`.
+/// Runs `threads` threads at a new transfer queue, as `at_fair_queue` does.
+///
+/// # Errors
+/// - BadSizes, exactly if `threads` is 0 or more than 65,536.
+/// - Memory, if an allocation fails before the first thread is started.
+/// - NoThread, if a thread can't be started; then no thread has begun to work.
+///
+/// # Example
+/// From `crates/meet_crew_tests/src/moments.rt`:
+///
+///     let done = at_transfer_queue(&rt, rt.alloc(), 1, &Showing).expect(&rt, "a crew");
+///     let chronicle = done.closed.expect(&rt, "the crew's history");
+///
+/// Java: `new LinkedTransferQueue<>()`.
 pub fn at_transfer_queue<T, R, V>(
     rt: &R,
     alloc: Global,

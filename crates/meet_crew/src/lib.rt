@@ -1,8 +1,8 @@
-//! Crews: threads that share a queue which is made for them, each with a chair there. A chair is lent to its thread and
-//! keeps its seat, so every seat is there when the queue is closed, whatever the thread did.
+//! Scoped workers (crews) and their handles (chairs): threads that share a queue which is made for them. A chair is
+//! borrowed by its thread and keeps its seat, so every seat is there when the queue is closed, whatever the thread did.
 //!
-//! A crew knows how a queue is made, its threads started, and the queue closed. What a call of a chair does, the queue
-//! knows (`meet_sync`).
+//! A crew makes the queue, starts its threads and closes the queue. What a call of a chair does, the queue's contracts
+//! state (`meet_sync`).
 #![tactic(auto)]
 
 mod at;

@@ -1,4 +1,4 @@
-//! Calls of a chair that were refused.
+//! Calls of a chair that returned an error.
 
 ghost use Rattle.std.specs.Prelude.{◌≡◌, Ok, IfOk, IfErr, IsErrAnd};
 
@@ -7,19 +7,19 @@ use meet_tickets::{Deed, Refusal};
 use std::fmt;
 use std::fmt::{Debug, Display, Formatter, Write};
 
-/// A call that was refused: nothing was written, and the item comes back. Its text is the name of the reason. It is no
-/// error type, and no `From` makes it a `Refusal`, since that would let the item go: a `?` hands it on whole or doesn't
+/// The error of a chair's call: nothing was logged, and the item is returned. Its text is the name of the reason. It is
+/// no error type, and no `From` makes it a `Refusal`, since that would drop the item: a `?` returns it whole or doesn't
 /// compile.
 #[derive(Drop)]
 pub struct CallRefused<T> {
-    /// Why.
+    /// The reason.
     pub why: Refusal,
     /// The item that the call brought.
     pub item: Option<T>,
 }
 
 impl<T: Drop> CallRefused<T> {
-    /// The reason alone. The item is let go: match the refusal to keep it.
+    /// Returns the reason alone, and drops the item: match the error to keep it.
     pub fn into_why(self) -> Refusal
         ensures { result ≡ self.why }
     {
@@ -46,7 +46,7 @@ impl<T> Debug for CallRefused<T> {
     }
 }
 
-/// The seat that a refused call hands back, and what its caller is told.
+/// Splits a call's error into its seat and what its caller gets.
 pub(crate) fn refused_apart<T, N: Ledgers>(
     refused: SeatRefused<T, N>,
 ) -> (Seat<Deed, N>, CallRefused<T>)
@@ -58,7 +58,7 @@ pub(crate) fn refused_apart<T, N: Ledgers>(
     (seat, CallRefused { why, item })
 }
 
-/// The seat that a whole call hands back, and what its caller is told.
+/// Splits a whole call's result into its seat and what its caller gets.
 pub(crate) fn ended_apart<T, N: Ledgers>(
     called: Result<Ended<T, N>, SeatRefused<T, N>>,
 ) -> (Seat<Deed, N>, Result<End<T>, CallRefused<T>>)

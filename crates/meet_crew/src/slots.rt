@@ -26,7 +26,10 @@ pub(crate) struct Room<N: Ledgers, A> {
 }
 
 impl<N: Ledgers, A: Drop> Room<N, A> {
-    /// Makes room for `count` threads. The only error is Memory.
+    /// Makes room for `count` threads.
+    ///
+    /// # Errors
+    /// - Memory, if an allocation fails.
     pub(crate) fn new(alloc: Global, count: usize) -> Result<Self, Refusal>
         ensures handles { IfOk result (λ room. count ≤ vec_capacity room.handles) }
         ensures backs { IfOk result (λ room. count ≤ vec_capacity room.backs) }

@@ -1,4 +1,4 @@
-//! The desk.
+//! The seat pool (the desk).
 
 ghost use Rattle.std.specs.Prelude.{◌≡◌, ◌≤◌, IfErr, vec_len};
 ghost use Rattle.meet_tickets.specs.declared.refusals.Refusal.TheVariants.{Memory};
@@ -10,10 +10,10 @@ use std::alloc::Global;
 use std::mem::ManuallyDrop;
 use std::sync::{Condvar, Mutex, Wait};
 
-/// The seats of one place, for whoever comes: a thread sits down with one that is free, makes calls with it, and rises
-/// again. A seat that is given out isn't there, so nobody else has it; one that comes back has more receipts, and is
-/// the same seat. Who waits in a call keeps its seat: with as many waiting calls as seats nobody else gets one, so
-/// calls with a limit, or such as don't wait, are for a desk.
+/// The seats of one place, for any thread: a seat pool. A thread acquires a free seat (`sit`), makes calls with it, and
+/// releases it (`rise`). Only one thread has a seat at a time; a released one has more receipts, and is the same seat.
+/// A thread that waits in a call keeps its seat: with as many waiting calls as seats no other thread gets one. So use
+/// calls with a limit at a desk, or calls that don't wait.
 #[derive(Drop)]
 pub struct Desk<D: Copy + Drop, N: Ledgers> {
     free: Mutex<Free<D, N>>,
@@ -25,6 +25,14 @@ impl<D: Copy + Drop, N: Ledgers> Desk<D, N> {
     ///
     /// # Errors
     /// - Memory, if the allocation fails; the seats are returned.
+    ///
+    /// # Example
+    /// From `crates/example_more/src/server.rt`:
+    ///
+    ///     let desk = match Desk::new(alloc, seats) {
+    ///         Ok(desk) => desk,
+    ///         Err(refused) => return Err(refused.into_why()),
+    ///     };
     pub fn new(alloc: Global, seats: Vec<Seat<D, N>>) -> Result<Self, Refused<Vec<Seat<D, N>>>>
         requires all { vec_len seats ≡ N.parts }
         ensures why { IfErr result (λ refused. refused.why ≡ Memory) }
@@ -42,12 +50,23 @@ impl<D: Copy + Drop, N: Ledgers> Desk<D, N> {
         })
     }
 
-    /// Returns the free seat that came back last, or None if no seat is free now. It waits only for the lock.
+    /// Acquires the free seat that was released last; returns None if no seat is free now. It waits only for the lock.
+    ///
+    /// # Example
+    /// From `crates/meet_desk_tests/src/one_thread.rt`:
+    ///
+    ///     let seat = desk.sit(rt).ok_or(Refusal::NoSuchSeat)?;
     pub fn sit<R: Wait>(&self, rt: &R) -> Option<Seat<D, N>> {
         self.free.lock(rt).take()
     }
 
-    /// Returns a seat after one is free. It waits for ever if no seat comes back.
+    /// Acquires a seat, and waits until one is free. It waits for ever if no seat is released.
+    ///
+    /// # Example
+    /// From `crates/example_more/src/server/serving.rt`:
+    ///
+    ///     let seat = server.desk.wait_to_sit(rt);
+    ///     match server.queue.poll_for(rt, seat, PATIENCE) {
     pub fn wait_to_sit<R: Wait>(&self, rt: &R) -> Seat<D, N> {
         let mut free = self.free.lock(rt);
         for _ in rt.forever() {
@@ -59,14 +78,31 @@ impl<D: Copy + Drop, N: Ledgers> Desk<D, N> {
         unreachable!() // it loops for ever
     }
 
-    /// Gives a seat back, and wakes one thread that waits for a seat.
+    /// Releases a seat, and wakes one thread that waits for a seat.
+    ///
+    /// # Example
+    /// From `crates/example_more/src/server/serving.rt`:
+    ///
+    ///     match server.queue.tend(rt, seat) {
+    ///         Ok(seat) => {
+    ///             server.desk.rise(rt, seat);
+    ///             Ok(())
+    ///         }
     pub fn rise<R: Wait>(&self, rt: &R, seat: Seat<D, N>) {
         let left_over = self.free.lock(rt).put(seat);
         let _none = ManuallyDrop::new(left_over);
         self.came.notify_one();
     }
 
-    /// Returns the free seats, for the end of their place: all, if each thread rose that sat down. It takes no memory.
+    /// Returns the free seats, to close their place: all, if each thread released the seat that it acquired. It doesn't
+    /// allocate.
+    ///
+    /// # Example
+    /// From `crates/example_more/src/server.rt`:
+    ///
+    ///     let closed = queue
+    ///         .close(alloc, desk.into_seats())
+    ///         .map_err(QueueFault::into_why)?;
     pub fn into_seats(self) -> Vec<Back<D, N>>
         ensures { vec_len result ≤ N.parts }
     {

@@ -50,7 +50,7 @@ impl<D: Copy + Drop, N: Ledgers> Free<D, N> {
         self.seats.pop()
     }
 
-    /// Pushes a seat that comes back. If all seats of the place are here it returns the seat instead, which never
+    /// Pushes a seat that is released. If all seats of the place are here it returns the seat instead, which never
     /// happens: this is one of them.
     pub(crate) fn put(&mut self, seat: Seat<D, N>) -> Option<Seat<D, N>>
         ensures there { length self.old < N.parts → (self.new ≡ self.old ++ seat ∷ []) × (result ≡ None) }

@@ -1,5 +1,5 @@
-//! A desk: the seats of one place lie there for whoever comes, so that any number of threads share them, as many at a
-//! time as there are seats. It knows seats alone, and neither queues nor pools.
+//! A seat pool (a desk): any number of threads share the seats of one place, as many at a time as there are seats. The
+//! crate knows only seats, and neither queues nor pools.
 #![tactic(auto)]
 
 mod desk;

@@ -1,4 +1,4 @@
-//! The arena, and how it is made.
+//! The arena and its creation.
 
 ghost use Rattle.std.specs.Prelude.{◌≡◌, ◌≤◌, ◌<◌, [], None, IfOk, IfErr, vec_len};
 ghost use Rattle.std.specs.Vec.{vec_capacity};
@@ -17,8 +17,10 @@ use meet_tickets::{MOST_SEATS, MOST_SLOTS, Marked, Refusal, SeatNo};
 use std::alloc::Global;
 use std::marker::Model;
 
-/// An arena of slots, in which seats exchange items. It is java.util.concurrent.Exchanger with its slots to choose from
-/// and with its calls taken apart: `offer`, `collect` and `withdraw` don't wait, `exchange` does.
+/// An arena of slots, in which seats exchange items. The caller chooses the slot, and the calls are split: `offer`,
+/// `collect` and `withdraw` don't wait, `exchange` does.
+///
+/// Java: `Exchanger`.
 #[derive(Drop)]
 pub struct Arena<T: Marked> {
     pub(crate) table: Table<Option<T>, View, Plan, Exchanges, Global>,
@@ -76,8 +78,18 @@ fn deal<T: Marked>(
 }
 
 impl<T: Marked> Arena<T> {
-    /// An arena of so many slots, 1 to 64, and its seats, 1 to 65,536, numbered from 0. It refuses BadSizes exactly
-    /// where these are out of their limits, then Memory.
+    /// Creates an arena of `slots` slots, 1 to 64, and its seats, 1 to 65,536, numbered from 0.
+    ///
+    /// # Errors
+    /// - BadSizes, exactly if one of these is out of its limits.
+    /// - Memory, if an allocation fails.
+    ///
+    /// # Example
+    /// From `crates/example_one_thread/src/swapped.rt`:
+    ///
+    ///     let (arena, mut seats) = Arena::<Parcel>::new(alloc, 1, 2)?; // one slot, two seats
+    ///
+    /// Java: `new Exchanger<>()`.
     pub fn new(alloc: Global, slots: usize, seats: u64) -> Result<(Self, Vec<Seat<T>>), Refusal>
         ensures seats { IfOk result (λ made. AreNew made.0.id 0 made.1.items) }
         ensures count { IfOk result (λ made. vec_len made.1 ≡ seats) }
@@ -89,8 +101,12 @@ impl<T: Marked> Arena<T> {
         Self::starting(alloc, slots, seats, 0)
     }
 
-    /// The same, with the rounds of each slot numbered from `round` on, 0 to 2^44 - 1. So it shows what a worn slot
-    /// does.
+    /// Creates an arena as `new` does, with the rounds of each slot numbered from `round` on, 0 to 2^44 - 1. So it
+    /// shows what a worn slot does.
+    ///
+    /// # Errors
+    /// - BadSizes, exactly if the slots or the seats are out of their limits.
+    /// - Memory, if an allocation fails.
     pub fn starting(
         alloc: Global,
         slots: usize,
@@ -135,8 +151,8 @@ impl<T: Marked> Arena<T> {
         Ok((arena, list))
     }
 
-    /// A glance at the word of a slot, of which nothing is promised: its code, 0 to 4, and 8 times the seat that
-    /// claimed the round, and 2^19 times the round.
+    /// Returns the word of a slot, of which nothing is promised. It is the sum of its code (0 to 4), of 8 times the
+    /// seat that claimed the round, and of 2^19 times the round.
     pub fn word(&self, slot: usize) -> u64
         requires { slot < self.now.slots }
     {

@@ -21,7 +21,7 @@ use std::alloc::Global;
 use std::fmt;
 use std::fmt::{Debug, Display, Formatter, Write};
 
-/// What an arena came to.
+/// What a closed arena leaves.
 #[derive(Debug, Drop)]
 pub struct Closed<T> {
     /// The rounds of each slot, in order.
@@ -32,15 +32,15 @@ pub struct Closed<T> {
     pub left: Vec<LeftIn<T>>,
 }
 
-/// Why an arena was not closed: SeatMissing or Memory. The arena and the seats come back. Its text is the name of the
-/// refusal. It is no error type: a `?` hands it on whole or doesn't compile.
+/// The error of an arena that wasn't closed: SeatMissing or Memory. The arena and the seats are returned. Its text is
+/// the name of the reason. It is no error type: a `?` returns it whole or doesn't compile.
 #[derive(Drop)]
 pub struct CloseFault<T: Marked> {
     /// The reason.
     pub why: Refusal,
-    /// The arena.
+    /// The arena, as it was.
     pub arena: Arena<T>,
-    /// The seats.
+    /// The seats that were given back.
     pub seats: Vec<Back<T>>,
 }
 
@@ -56,7 +56,7 @@ impl<T: Marked> Display for CloseFault<T> {
     }
 }
 
-/// The reason alone: what comes back need not be such as can be shown.
+/// The reason alone: what is returned need not be one that can be shown.
 impl<T: Marked> Debug for CloseFault<T> {
     fn fmt<W: Write>(&self, f: &mut Formatter<W>) -> fmt::Result {
         write!(f, "CloseFault({})", self.why)
@@ -64,7 +64,7 @@ impl<T: Marked> Debug for CloseFault<T> {
 }
 
 impl<T: Marked + Drop> CloseFault<T> {
-    /// The reason alone. The arena and the seats are let go: match the fault to keep them.
+    /// Returns the reason alone, and drops the arena and the seats: match the fault to keep them.
     pub fn into_why(self) -> Refusal
         ensures { result ≡ self.why }
     {
@@ -116,7 +116,7 @@ fn gather<T: Marked>(
     seats.destroy_empty();
 }
 
-/// An empty list for each seat, or none where memory is short.
+/// An empty list for each seat, or none if an allocation fails.
 fn empty_lists(alloc: Global, seats: u64) -> Option<Vec<Vec<Part>>>
     ensures count { IfSome result (λ lists. length lists.items ≡ seats) }
     ensures empty { IfSome result (λ lists. map (λ list. list.items) lists.items ≡ replicate seats []) }
@@ -136,7 +136,7 @@ struct Room<T> {
     left: Vec<LeftIn<T>>,
 }
 
-/// Room for what the seats will have come to, or none where memory is short.
+/// Room for what the seats will have come to, or none if an allocation fails.
 fn room_for<T>(alloc: Global, slots: usize, seats: u64, backs: &[Back<T>]) -> Option<Room<T>>
     ensures slots { IfSome result (λ room. length room.slots.items ≡ slots) }
     ensures blank { IfSome result (λ room. (k : ℕ) → k < slots
@@ -158,10 +158,18 @@ fn room_for<T>(alloc: Global, slots: usize, seats: u64, backs: &[Back<T>]) -> Op
 }
 
 impl<T: Marked> Arena<T> {
-    /// Ends the arena: takes all seats back, in whatever order, and answers the rounds of each slot, what each seat
-    /// did, which is the list of the seat that is given back, and the items that no seat has. It refuses SeatMissing
-    /// exactly where fewer seats are given back than were made, then Memory; then all comes back, and it can be called
-    /// again.
+    /// Closes the arena: takes all seats back, in any order. Returns the rounds of each slot, what each seat did, which
+    /// is the list of the seat that is given back, and the items that no seat has.
+    ///
+    /// # Errors
+    /// The arena and the seats are returned, and `close` can be called again.
+    /// - SeatMissing, exactly if fewer seats are given back than were made.
+    /// - Memory, if an allocation fails.
+    ///
+    /// # Example
+    /// From `crates/example_more/src/buffers.rt`:
+    ///
+    ///     let closed = arena.close(alloc, backs).map_err(CloseFault::into_why)?;
     pub fn close(self, alloc: Global, seats: Vec<Back<T>>) -> Result<Closed<T>, CloseFault<T>>
         requires place { AreOf self.id seats.items }
         ensures slots { IfOk result (λ c. length c.slots.items ≡ self.slots) }

@@ -1,4 +1,4 @@
-//! What ends an offer that stands: the other seat's item is collected, or its own is taken back.
+//! The completions of an offer that stands: the other seat's item is collected, or its own is taken back.
 
 ghost use Rattle.std.specs.Prelude.{◌≡◌, ◌<◌};
 ghost use Rattle.meet_exchange.specs.Calls.{Collects, Withdraws};
@@ -11,7 +11,7 @@ use crate::steps::{collect, find, gain, withdraw};
 use crate::words::{ANSWERED, code};
 use meet_tickets::Marked;
 
-/// What a collecting came to.
+/// The result of a collect.
 #[derive(Debug, Drop)]
 pub enum Gathered<T> {
     /// The other seat's item.
@@ -20,17 +20,17 @@ pub enum Gathered<T> {
     NotYet(Pending<T>),
 }
 
-/// What a withdrawal came to.
+/// The result of a withdrawal.
 #[derive(Debug, Drop)]
 pub enum TakenBack<T> {
-    /// The seat's own item is back.
+    /// The seat's own item is returned.
     Back(Seat<T>, T),
     /// Another seat has taken it, and its own can be collected, now or soon.
     Late(Pending<T>),
 }
 
 impl<T: Marked> Arena<T> {
-    /// Collects the item that another seat gave for this one's, if it did. One step, and no memory.
+    /// Collects the item that another seat gave for this one's, if it did. It is one step, and doesn't allocate.
     pub fn collect(&self, pending: Pending<T>) -> Gathered<T>
         requires place { pending.seat.arena ≡ self.now.id }
         requires slot { pending.slot < self.now.slots }
@@ -88,7 +88,7 @@ impl<T: Marked> Arena<T> {
         Gathered::Got(Seat::new(seat), item)
     }
 
-    /// Takes this seat's item back, unless another seat has taken it. One step, and no memory.
+    /// Takes this seat's item back, unless another seat has taken it. It is one step, and doesn't allocate.
     pub fn withdraw(&self, pending: Pending<T>) -> TakenBack<T>
         requires place { pending.seat.arena ≡ self.now.id }
         requires slot { pending.slot < self.now.slots }

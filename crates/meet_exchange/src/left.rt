@@ -1,4 +1,4 @@
-//! What is left in the slots of an arena that is closed.
+//! What is left in the slots of a closed arena.
 
 ghost use Rattle.std.specs.Prelude.{◌≡◌, ◌≤◌, ◌<◌, ◌+◌, [], vec_len};
 ghost use Rattle.std.specs.Vec.{vec_capacity};
@@ -9,7 +9,7 @@ use crate::words::{POSTED, code, round};
 use atomic_table::Closed;
 use std::alloc::Global;
 
-/// What an item that is left stood as.
+/// The status of an item that is left.
 #[derive(Clone, Copy, PartialEq, Eq, Debug)]
 pub enum Standing {
     /// It was posted, and no seat took it.
@@ -27,7 +27,7 @@ pub struct LeftIn<T> {
     pub round: u64,
     /// The item.
     pub item: T,
-    /// What it stood as.
+    /// Its status.
     pub standing: Standing,
 }
 

@@ -1,9 +1,13 @@
-//! The exchanger: an arena of slots, in each of which two seats at a time give each other their items. Its steps are
-//! single atomic steps on the slot's word, and no lock is taken.
+//! The exchanger's single steps: an arena of slots, in each of which two seats at a time exchange items. Each step is
+//! one atomic step on the slot's word, and no lock is taken.
 //!
-//! `specs/` has the rules: `Rounds` says what a slot's history is and what each seat's part in it, `Closed` what is
-//! known at the end, `Calls` what the calls answer, `Ways` which way an exchange that waits takes, and `Waits` how it
-//! ends. `Stages`, `Rule` and `Told` are the rule that holds between any two steps, and what each step tells.
+//! `specs/` has the specification:
+//!
+//! - `Rounds` defines what a slot's history is, and what each seat's part in it;
+//! - `Closed` defines what is known at the end;
+//! - `Calls` defines what the calls return;
+//! - `Ways` defines which way an exchange that waits takes, and `Waits` how it ends;
+//! - `Stages`, `Rule` and `Told` are the rule that holds between any two steps, and what each step states.
 #![tactic(auto)]
 
 mod arena;

@@ -14,26 +14,39 @@ use crate::steps::{claim, look, post, swap};
 use crate::words::{FREE, POSTED, code, round};
 use meet_tickets::{LAST_ROUND, Marked};
 
-/// What an offer came to.
+/// The result of an offer.
 #[derive(Debug, Drop)]
 pub enum Offered<T> {
     /// The slot was free, and the item is posted there.
     Posted(Pending<T>),
-    /// An item was posted there, and here it is; the other seat may collect the one that was offered.
+    /// An item was posted there, and is returned; the other seat may collect the one that was offered.
     Swapped(Seat<T>, T),
-    /// Others were at work on the slot. The item comes back, and the word that was seen: neither free nor posted, or
+    /// Others were at work on the slot. The item is returned, with the word that was seen: neither free nor posted, or
     /// another than the look had seen.
     Contended(Seat<T>, T, u64),
-    /// The slot is free in its last round, 2^44 - 1, so it can't be claimed. The item comes back.
+    /// The slot is free in its last round, 2^44 - 1, so it can't be claimed. The item is returned.
     Worn(Seat<T>, T),
-    /// Memory was wanted and not there. The item comes back, and the slot wasn't looked at.
+    /// An allocation failed. The item is returned, and the slot wasn't looked at.
     Memory(Seat<T>, T),
 }
 
 impl<T: Marked> Arena<T> {
-    /// Offers an item in a slot: looks once, and where the slot is free or has an item posted, tries once to claim it
-    /// or to take that item. Before it looks it makes room for two entries in the seat's list, so that what ends the
-    /// offer takes no memory.
+    /// Offers an item in a slot. It looks once; if the slot is free or has an item posted, it tries once to claim it or
+    /// to take that item. It first makes room for two entries in the seat's list, so that the completion doesn't
+    /// allocate.
+    ///
+    /// # Errors
+    /// The item is returned.
+    /// - `Offered::Contended`, if others are at work on the slot.
+    /// - `Offered::Worn`, if the slot has no round left.
+    /// - `Offered::Memory`, if the seat's list can't grow.
+    ///
+    /// # Example
+    /// From `crates/example_one_thread/src/swapped.rt`:
+    ///
+    ///     match arena.offer(seat, 0, Parcel { mark, grams: 250 }) {
+    ///         Offered::Posted(pending) => {
+    ///         Offered::Swapped(seat, parcel) => {
     pub fn offer(&self, seat: Seat<T>, slot: usize, item: T) -> Offered<T>
         requires place { seat.arena ≡ self.now.id }
         requires slot { slot < self.now.slots }

@@ -1,4 +1,4 @@
-//! The rule of the table, and what each step tells.
+//! The rule of the table, and what each step states.
 
 ghost use Rattle.std.specs.Prelude.{◌≡◌, [], ◌∷◌, ◌++◌};
 ghost use Rattle.meet_exchange.specs.Rule.{Kept, fresh_from, top, others};
@@ -17,67 +17,77 @@ impl<T: Marked> TableRule<Option<T>, View, Plan> for Exchanges {
     ghost first = { λ plan. fresh_from 0 plan.seats };
 }
 
+/// A load of a slot's word.
 pub struct Look;
 
 impl<T: Marked> Play<Option<T>, View> for Look {
     ghost then = { Sees };
 }
 
+/// A load of the word of a slot where the seat's offer stands.
 pub struct Find;
 
 impl<T: Marked> Play<Option<T>, View> for Find {
     ghost then = { Finds };
 }
 
+/// The step that claims a free slot.
 pub struct Claim;
 
 impl<T: Marked> Play<Option<T>, View> for Claim {
     ghost then = { Claims };
 }
 
+/// The step that posts an item in a claimed slot.
 pub struct Post;
 
 impl<T: Marked> Play<Option<T>, View> for Post {
     ghost then = { Posts T.mark_of };
 }
 
+/// The step that takes a posted item back.
 pub struct Withdraw;
 
 impl<T: Marked> Play<Option<T>, View> for Withdraw {
     ghost then = { Withdraws T.mark_of };
 }
 
+/// The step that clears a slot.
 pub struct Clear;
 
 impl<T: Marked> Play<Option<T>, View> for Clear {
     ghost then = { Frees };
 }
 
+/// The step that takes a posted item.
 pub struct Take;
 
 impl<T: Marked> Play<Option<T>, View> for Take {
     ghost then = { Takes T.mark_of };
 }
 
+/// The step that answers a taken item by another.
 pub struct Answer;
 
 impl<T: Marked> Play<Option<T>, View> for Answer {
     ghost then = { Frees };
 }
 
+/// The step that collects an answer which was seen.
 pub struct Gain;
 
 impl<T: Marked> Play<Option<T>, View> for Gain {
     ghost then = { Gains T.mark_of };
 }
 
+/// The step that collects an answer, if there is one.
 pub struct Collect;
 
 impl<T: Marked> Play<Option<T>, View> for Collect {
     ghost then = { Collects T.mark_of };
 }
 
-/// Cuts the first seat's trail off.
+/// Splits the first seat's trail off.
 pub struct Cut;
 
 impl Split<View> for Cut {
@@ -86,7 +96,7 @@ impl Split<View> for Cut {
     ghost right = { λ v. top v ∷ [] };
 }
 
-/// Takes a seat's trail in.
+/// Joins a seat's trail.
 pub struct Glue;
 
 impl Join<View> for Glue {

@@ -147,7 +147,7 @@ fn is_post(deed: SlotDeed) -> bool
     }
 }
 
-/// A blank round, where it is a post in the slot; or none, where memory is short.
+/// A blank round, where it is a post in the slot; or none, if an allocation fails.
 fn add_post(rounds: &mut Vec<Round>, slot: usize, part: &Part) -> Option<()>
     ensures { IfSome result (λ _. rounds.new.items
         ≡ rounds.old.items ++ replicate (posts_among (in_slot slot (part.now ∷ []))) nothing_known) }
@@ -160,7 +160,7 @@ fn add_post(rounds: &mut Vec<Round>, slot: usize, part: &Part) -> Option<()>
     Some(())
 }
 
-/// A blank round for each post of a list in the slot; or none, where memory is short.
+/// A blank round for each post of a list in the slot; or none, if an allocation fails.
 fn add_posts(rounds: &mut Vec<Round>, slot: usize, list: &[Part]) -> Option<()>
     ensures { IfSome result (λ _. rounds.new.items
         ≡ rounds.old.items ++ replicate (posts_among (in_slot slot list.now)) nothing_known) }
@@ -171,7 +171,7 @@ fn add_posts(rounds: &mut Vec<Round>, slot: usize, list: &[Part]) -> Option<()>
     Some(())
 }
 
-/// As many blank rounds as the seats posted in the slot; or none, where memory is short.
+/// As many blank rounds as the seats posted in the slot; or none, if an allocation fails.
 fn blanks_of<T>(alloc: Global, slot: usize, seats: &[Back<T>]) -> Option<Vec<Round>>
     ensures { IfSome result (λ rounds. rounds.items
         ≡ replicate (posts_of slot (back_lists seats.now)) nothing_known) }

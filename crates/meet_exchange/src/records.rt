@@ -1,15 +1,15 @@
-//! What a seat did, and what a slot went through.
+//! What a seat did, and the rounds of a slot.
 
 use meet_tickets::SeatNo;
 
-/// What a seat did in a round. Items are told by their marks.
+/// What a seat did in a round. Items are named by their marks.
 #[derive(Clone, Copy, PartialEq, Eq, Debug)]
 pub enum SlotDeed {
     /// It posted an item of this mark.
     Posted(u64),
     /// It took the item back.
     Withdrawn,
-    /// It gave an item of the one mark for a posted one of the other.
+    /// It gave an item of the mark `gave` for a posted one of the mark `got`.
     Swapped { gave: u64, got: u64 },
     /// It got an item of this mark for the one that it had posted.
     Collected { got: u64 },
@@ -26,17 +26,20 @@ pub struct Part {
     pub deed: SlotDeed,
 }
 
-/// What became of a round.
+/// How a round ended.
 #[derive(Clone, Copy, PartialEq, Eq, Debug)]
 pub enum RoundEnd {
     /// Its item is still posted.
     Posted,
     /// Its poster took the item back.
     Withdrawn,
-    /// A seat gave an item of this mark for it, and the poster has collected that, or hasn't.
+    /// A seat gave an item for it.
     Swapped {
+        /// That seat.
         by: SeatNo,
+        /// The mark of the item that it gave.
         mark: u64,
+        /// Whether the poster has collected it.
         collected: bool,
     },
 }
@@ -48,6 +51,6 @@ pub struct Round {
     pub seat: SeatNo,
     /// The mark of its item.
     pub mark: u64,
-    /// What became of it.
+    /// How it ended.
     pub end: RoundEnd,
 }

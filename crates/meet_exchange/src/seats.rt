@@ -19,7 +19,7 @@ pub(crate) struct Inner<T> {
     pub(crate) token: Token<T>,
 }
 
-/// A seat of an arena, which alone makes its seats, each number once. It keeps what it did, in order.
+/// A seat (a participant) of an arena, which alone makes its seats, each number once. It keeps what it did, in order.
 #[derive(Drop)]
 pub struct Seat<T> {
     inner: Inner<T>,
@@ -64,14 +64,14 @@ impl<T> Seat<T> {
         self.inner
     }
 
-    /// The seat's number, which is below the number of seats that its arena was made with.
+    /// Returns the seat's number, which is below the number of seats that its arena was made with.
     pub fn number(&self) -> SeatNo
         ensures { result ≡ self.now.number }
     {
         self.inner.number
     }
 
-    /// What the seat did so far, in order.
+    /// Returns what the seat did so far, in order.
     pub fn parts(&self) -> &[Part]
         ensures { result.now ≡ self.now.list }
     {
@@ -79,7 +79,7 @@ impl<T> Seat<T> {
     }
 }
 
-/// A seat whose item was posted. Its list has room for what ends the round.
+/// A seat whose item was posted. Its list has room for the completion of the round.
 #[derive(Drop)]
 pub struct Pending<T> {
     seat: Inner<T>,
@@ -176,28 +176,28 @@ impl<T> Pending<T> {
         }
     }
 
-    /// The seat's number.
+    /// Returns the seat's number.
     pub fn number(&self) -> SeatNo
         ensures { result ≡ self.now.seat.number }
     {
         self.seat.number
     }
 
-    /// The slot in which the item was posted.
+    /// Returns the slot in which the item was posted.
     pub fn slot(&self) -> usize
         ensures { result ≡ self.now.slot }
     {
         self.slot
     }
 
-    /// The item's mark.
+    /// Returns the item's mark.
     pub fn mark(&self) -> u64
         ensures { result ≡ self.now.mark }
     {
         self.mark
     }
 
-    /// What the seat did so far, in order.
+    /// Returns what the seat did so far, in order.
     pub fn parts(&self) -> &[Part]
         ensures { result.now ≡ self.now.seat.list }
     {
@@ -205,17 +205,19 @@ impl<T> Pending<T> {
     }
 }
 
-/// A seat that is given back, free or with an offer.
+/// A seat that is given back.
 #[derive(Debug, Drop)]
 pub enum Back<T> {
+    /// A seat without an offer.
     Free(Seat<T>),
+    /// A seat whose offer stands.
     Held(Pending<T>),
 }
 
 impl<T> Back<T> {
     ghost use Rattle.meet_exchange.specs.Closed.{IsBack, seat_of};
 
-    /// What the seat did so far, in order.
+    /// Returns what the seat did so far, in order.
     pub fn parts(&self) -> &[Part]
         ensures { result.now ≡ (seat_of self.now).list }
     {

@@ -20,11 +20,11 @@ use std::{hint, thread};
 pub enum Exchanged<T> {
     /// With the other seat's item.
     Swapped(Seat<T>, T),
-    /// The limit was reached. The item is back.
+    /// The limit was reached. The item is returned.
     TimedOut(Seat<T>, T),
-    /// A slot had no round left. The item is back.
+    /// A slot had no round left. The item is returned.
     Worn(Seat<T>, T),
-    /// Memory was wanted and not there. The item is back.
+    /// An allocation failed. The item is returned.
     Memory(Seat<T>, T),
 }
 
@@ -44,14 +44,14 @@ enum Next<T> {
     Ends(Exchanged<T>),
 }
 
-/// So many turns an offer stands in a slot above 0.
+/// The turns for which an offer stands in a slot above 0.
 const PATIENCE: u64 = 1_000;
 
-/// So many looks at a slot in which others are at work, before an offer is tried there all the same.
+/// The looks at a slot in which others are at work, before an offer is tried there all the same.
 const LOOKS: u64 = 128;
 
-/// So many looks at a slot that became free are left to who was at work there: it comes back and posts, and the offer
-/// meets it. Where both claimed the slot at once, one would find it contended, and go on to a slot where nobody comes.
+/// Polls of a freshly freed slot before claiming it, so that its last user can post first. If both claimed the slot at
+/// once, one would find it contended, and go on to a slot where no partner comes.
 const CALM: u64 = 8;
 
 /// Behind so many looks in a row a thread pauses, and from then on lets another one run: a pause takes some 15
@@ -95,16 +95,35 @@ fn is_reached(more: Option<u64>) -> bool
 }
 
 impl<T: Marked> Arena<T> {
-    /// Exchanges an item for another seat's, as `exchange` of Exchanger: offers it in this slot, and after Contended
-    /// in the next, the first after the last. Once it is posted there it waits for an answer; in a slot above 0 it
-    /// takes it back after 1,000 turns, and tries the slot of half the number. An answer that it sees it collects. Its
-    /// limit is in turns, a turn being one look that found no answer, or one Contended. At a limit of 0 it tries one
-    /// slot, and doesn't wait. Where the limit is reached it takes the item back; where another seat has taken that, it
-    /// stays until it has the other's.
+    /// Exchanges an item for another seat's. It offers the item in this slot, and after Contended in the next, the
+    /// first after the last. After it is posted there the call waits for an answer, and collects one that it sees. In a
+    /// slot above 0 it takes the item back after 1,000 turns, and tries the slot of half the number.
+    ///
+    /// The limit is in turns; a turn is one look that found no answer, or one Contended. At a limit of 0 it tries one
+    /// slot, and doesn't wait. If the limit is reached it takes the item back; if another seat has taken the item by
+    /// then, it stays until it has the other's.
     ///
     /// It spins, and never parks: a turn is a pause of the processor, or lets other threads run (`Thread.onSpinWait`,
     /// `Thread.yield`), and its time isn't bounded. Before it tries a slot in which others are at work it looks there
     /// some times more, with any other limit than 0; these looks are no turns.
+    ///
+    /// # Errors
+    /// The item is returned.
+    /// - `Exchanged::TimedOut`, if the limit is reached.
+    /// - `Exchanged::Worn`, if a slot had no round left.
+    /// - `Exchanged::Memory`, if the seat's list can't grow.
+    ///
+    /// # Example
+    /// From `crates/example_more/src/buffers/loops.rt`:
+    ///
+    ///     match arena.exchange(rt, seat, 0, buffer, Some(PATIENCE)) {
+    ///         Exchanged::Swapped(seat, other) => Ok((seat, other)),
+    ///         Exchanged::TimedOut(_, _) => Err(Refusal::NoThread), // nobody else is there
+    ///         Exchanged::Worn(_, _) => Err(Refusal::Worn),
+    ///         Exchanged::Memory(_, _) => Err(Refusal::Memory),
+    ///     }
+    ///
+    /// Java: `Exchanger.exchange`.
     pub fn exchange<R: Wait>(
         &self,
         rt: &R,

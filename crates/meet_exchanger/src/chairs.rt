@@ -1,4 +1,4 @@
-//! Chairs: what a thread has in its hand at an exchanger.
+//! Chairs: the handles by which the threads of a crew call their exchanger.
 
 ghost use Rattle.std.specs.Prelude.{◌≡◌, ⊤, ℕ, Option, IfSome, Some};
 ghost use Rattle.meet_exchange.specs.Seats.{SeatView, ArenaView};
@@ -12,7 +12,7 @@ use std::fmt::{Debug, Display, Formatter, Write};
 use std::sync::Wait;
 use std::time::Clock;
 
-/// An exchange that came to no partner. Its text is the name of the reason. It is no error type: a `?` hands it on whole
+/// An exchange that came to no partner. Its text is the name of the reason. It is no error type: a `?` returns it whole
 /// or doesn't compile.
 #[derive(Drop)]
 pub enum Unmet<T> {
@@ -26,6 +26,11 @@ pub enum Unmet<T> {
 
 impl<T> Unmet<T> {
     /// Returns the item that the call brought.
+    ///
+    /// # Example
+    /// From `crates/example_exchanger/src/main.rt`:
+    ///
+    ///     Err(unmet) => unmet.into_item(), // nobody came for a minute
     pub fn into_item(self) -> T
         ensures { result ≡ item_of self }
     {
@@ -72,64 +77,62 @@ pub(crate) fn apart<T>(end: Exchanged<T>) -> (Seat<T>, Result<T, Unmet<T>>)
     }
 }
 
-/// A chair at an exchanger: its thread's exchanges, one after another.
+/// Makes the exchanges of one thread, one after another (a worker's handle).
 pub trait ExchangeChair<T: Marked> {
-    /// By what it waits.
+    /// The runtime handle for blocking and the clock.
     type Handle: Wait + Clock;
 
     /// Its exchanger.
     ghost site: { ArenaView };
 
-    /// Its seat, which is there but while it makes a call.
+    /// Its seat, which is absent only during a call.
     ghost seat_of: { Self → Option SeatView };
 
     /// Returns the number of its seat, from 0.
     fn number(&self) -> u64
         ensures { IfSome (seat_of self.now) (λ seat. result ≡ seat.number) };
 
-    /// Returns how many seats its exchanger has.
+    /// Returns the number of seats of its exchanger.
     fn seats(&self) -> u64
         ensures { result ≡ site.seats };
 
     /// Exchanges an item for another seat's, and waits for one, for `limit` milliseconds at most if there is a limit.
     ///
     /// # Errors
+    /// The item is returned.
     /// - TimedOut, if no partner came in time, and only with a limit.
     /// - Worn, if a slot had its last round, of 2^44.
     /// - Memory, if the seat's list can't grow.
-    ///
-    /// With each the item is returned.
     fn exchange_within(&mut self, item: T, limit: Option<u64>) -> Result<T, Unmet<T>>
         ensures called { CalledAs T.mark_of site.slots (MayTimeOut limit) (seat_of self.old) (seat_of self.new)
             (T.mark_of item) result };
 
-    /// Exchanges an item for another seat's, and waits until one comes: `Exchanger.exchange(V)`.
+    /// Exchanges an item for another seat's, and waits until one comes.
     ///
     /// # Errors
-    /// - Worn, Memory, as `exchange_within`.
+    /// - Worn or Memory, as `exchange_within`.
     ///
-    /// # Example
-    /// ```
-    /// let empty_buffer = chair.exchange(full_buffer)?;
-    /// ```
+    /// Java: `Exchanger.exchange(V)`.
     final fn exchange(&mut self, item: T) -> Result<T, Unmet<T>>
         ensures called { CalledAs T.mark_of site.slots ⊥ (seat_of self.old) (seat_of self.new) (T.mark_of item) result }
     {
         self.exchange_within(item, None)
     }
 
-    /// Exchanges an item for another seat's, and waits for one for `milliseconds` at most:
-    /// `Exchanger.exchange(V, long, TimeUnit)`. With 0 it doesn't wait.
+    /// Exchanges an item for another seat's, and waits for one for `milliseconds` at most. With 0 it doesn't wait.
     ///
     /// # Errors
-    /// - TimedOut, Worn, Memory, as `exchange_within`.
+    /// - TimedOut, Worn or Memory, as `exchange_within`.
     ///
     /// # Example
-    /// ```
-    /// match chair.exchange_for(full_buffer, 1_000) {
-    ///     Ok(empty_buffer) => ..
-    ///     Err(unmet) => full_buffer = unmet.into_item(),
-    /// ```
+    /// From `crates/example_exchanger/src/main.rt`:
+    ///
+    ///     match chair.exchange_for(chair.number(), 60_000) {
+    ///         Ok(other) => other,
+    ///         Err(unmet) => unmet.into_item(), // nobody came for a minute
+    ///     }
+    ///
+    /// Java: `Exchanger.exchange(V, long, TimeUnit)`.
     final fn exchange_for(&mut self, item: T, milliseconds: u64) -> Result<T, Unmet<T>>
         ensures called { CalledAs T.mark_of site.slots ⊤ (seat_of self.old) (seat_of self.new) (T.mark_of item) result }
     {

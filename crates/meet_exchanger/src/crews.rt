@@ -1,4 +1,4 @@
-//! Crews: threads that share an exchanger which is made for them, each with a chair there.
+//! Crews: threads that share an exchanger which is made for them, each with a handle (a chair).
 
 ghost use Rattle.std.specs.Prelude.{◌≡◌, ◌≤◌, [], None, IfSome, IfOk, IfErr, MatchResult, vec_len};
 ghost use Rattle.std.specs.Vec.{vec_capacity};
@@ -20,22 +20,30 @@ use std::thread;
 use std::thread::{JoinHandle, Threads};
 use std::time::Clock;
 
-/// What the threads of a crew do at their exchanger.
+/// States what the threads of a crew do at their exchanger.
+///
+/// # Example
+/// From `crates/example_exchanger/src/main.rt`:
+///
+///     impl ExchangeCrew<u64> for Swapping {
+///         type Told = u64;
+///         fn work<C: ExchangeChair<u64>>(&self, chair: &mut C) -> u64 {
+///             match chair.exchange_for(chair.number(), 60_000) {
 pub trait ExchangeCrew<T: Marked> {
-    /// What each thread returns.
+    /// The result of each thread.
     type Told;
 
-    /// What the thread with this chair does.
+    /// Does the work of the thread with this chair, and returns its result. In Java: the `Runnable` of a thread.
     fn work<C: ExchangeChair<T>>(&self, chair: &mut C) -> Self::Told;
 }
 
-/// What a crew leaves.
+/// What a crew leaves: the results of its threads, and what its exchanger left.
 #[derive(Debug, Drop)]
 pub struct ExchangesDone<T, A> {
     /// The result of each thread, in the order of their seats.
     pub told: Vec<A>,
-    /// What the exchanger left: the rounds of its slots, and what each seat did. Memory if it couldn't be closed, and
-    /// then it is dropped.
+    /// What the exchanger left: the rounds of its slots, and what each seat did. If it couldn't be closed, it is
+    /// dropped, and this is Memory.
     pub closed: Result<Closed<T>, Refusal>,
 }
 
@@ -244,10 +252,9 @@ where
     })
 }
 
-/// Starts `seats` threads at a new exchanger, each with a chair, waits until all have ended, for ever if one never ends,
-/// and closes the exchanger. What it leaves is a history for each slot, and for each seat its part in it.
-///
-/// It stands for an `Exchanger` of java.util.concurrent (JDK 21) that threads share.
+/// Runs `seats` threads at a new exchanger, each with a chair, and closes the exchanger. It waits until all threads
+/// have ended, for ever if one never ends. What the exchanger leaves is a history for each slot, and for each seat its
+/// part in it.
 ///
 /// # Errors
 /// - BadSizes, exactly if `seats` is 0 or more than 65,536.
@@ -255,9 +262,13 @@ where
 /// - NoThread, if a thread can't be started; then no thread has begun to work.
 ///
 /// # Example
-/// ```
-/// let done = at_exchanger(&rt, rt.alloc(), 2, &Buffers)?;
-/// ```
+/// From `crates/example_exchanger/src/main.rt`:
+///
+///     for got in at_exchanger(&rt, rt.alloc(), 2, &Swapping)?.told {
+///         println!(rt; "got {got}").map_err(|_| Refusal::WriteFault)?;
+///     }
+///
+/// Java: `new Exchanger<>()` (JDK 21), the threads, and `join` of each.
 pub fn at_exchanger<T, R, V>(
     rt: &R,
     alloc: Global,

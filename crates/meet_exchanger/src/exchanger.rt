@@ -1,4 +1,4 @@
-//! The exchanger, how it is made and how it ends.
+//! The exchanger, its creation and its end.
 
 ghost use Rattle.std.specs.Prelude.{◌≡◌, ◌≤◌, ◌<◌, ◌↔◌, ◌⊎◌, ℕ, None, map, length, IfOk, IfErr, vec_len};
 ghost use Rattle.meet_tickets.specs.declared.refusals.Refusal.TheVariants.{Memory, SeatMissing};
@@ -15,9 +15,10 @@ use std::fmt;
 use std::fmt::{Debug, Display, Formatter, Write};
 use std::marker::Model;
 
-/// An exchanger: two seats that come to it exchange their items.
+/// An exchanger: two seats that come to it exchange their items. It has a seat for each thread, and a list of what each
+/// seat did.
 ///
-/// It is `java.util.concurrent.Exchanger` (JDK 21). It has a seat for each thread, and a list of what each seat did.
+/// Java: `Exchanger` (JDK 21).
 #[derive(Drop)]
 pub struct Exchanger<T: Marked> {
     pub(crate) arena: Arena<T>,
@@ -56,6 +57,14 @@ impl<T: Marked> Exchanger<T> {
     /// # Errors
     /// - BadSizes, exactly if `seats` is 0 or more than 65,536.
     /// - Memory, if an allocation fails.
+    ///
+    /// # Example
+    /// From `crates/bench_exchanger/src/alone.rt`:
+    ///
+    ///     let (exchanger, mut seats) = Exchanger::<u64>::new(alloc, 1)?;
+    ///     let seat = seats.pop().ok_or(Refusal::SeatMissing)?;
+    ///
+    /// Java: `new Exchanger<>()`.
     pub fn new(alloc: Global, seats: u64) -> Result<(Self, Vec<Seat<T>>), Refusal>
         ensures seats { IfOk result (λ made. AreNew made.0.id 0 made.1.items) }
         ensures count { IfOk result (λ made. vec_len made.1 ≡ seats) }
@@ -83,21 +92,20 @@ impl<T: Marked> Exchanger<T> {
         ))
     }
 
-    /// Returns how many seats it has.
+    /// Returns the number of its seats.
     pub fn seats(&self) -> u64
         ensures { result ≡ self.now.seats }
     {
         self.seats
     }
 
-    /// Ends the exchanger with all its seats, in any order. It returns the rounds of each slot, what each seat did, and
-    /// the items that no seat has.
+    /// Closes the exchanger with all its seats, in any order. It returns the rounds of each slot, what each seat did,
+    /// and the items that no seat has.
     ///
     /// # Errors
+    /// The exchanger and the seats are returned, and `close` can be called again.
     /// - SeatMissing, exactly if fewer seats are given back than were made.
     /// - Memory, if an allocation fails.
-    ///
-    /// Then the exchanger and the seats are returned, and it can be called again.
     pub fn close(self, alloc: Global, seats: Vec<Back<T>>) -> Result<Closed<T>, ExchangerFault<T>>
         requires place { AreOf self.id seats.items }
         ensures slots { IfOk result (λ c. length c.slots.items ≡ self.slots) }
@@ -141,15 +149,15 @@ impl<T: Marked> Exchanger<T> {
     }
 }
 
-/// Why an exchanger wasn't closed: SeatMissing or Memory. The exchanger and the seats are returned. It is no error type:
-/// a `?` hands it on whole or doesn't compile.
+/// The error of an exchanger that wasn't closed: SeatMissing or Memory. The exchanger and the seats are returned. It is
+/// no error type: a `?` returns it whole or doesn't compile.
 #[derive(Drop)]
 pub struct ExchangerFault<T: Marked> {
     /// The reason.
     pub why: Refusal,
-    /// The exchanger.
+    /// The exchanger, as it was.
     pub exchanger: Exchanger<T>,
-    /// The seats.
+    /// The seats that were given back.
     pub seats: Vec<Back<T>>,
 }
 

@@ -14,19 +14,14 @@ use std::sync::Wait;
 use std::time::Clock;
 
 impl<T: Marked> Exchanger<T> {
-    /// Exchanges an item for another seat's, and waits until one comes. A thread that waits for long parks.
-    ///
-    /// It stands for `Exchanger.exchange(V)`. Here nobody is interrupted.
+    /// Exchanges an item for another seat's, and waits until one comes. A thread that waits for long parks. The
+    /// exchange can't be interrupted.
     ///
     /// # Errors
     /// - `Exchanged::Worn`, if a slot had its last round, of 2^44: the item is returned.
     /// - `Exchanged::Memory`, if the seat's list can't grow: the item is returned.
     ///
-    /// # Example
-    /// ```
-    /// match exchanger.exchange(rt, seat, full_buffer) {
-    ///     Exchanged::Swapped(seat, empty_buffer) => ..
-    /// ```
+    /// Java: `Exchanger.exchange(V)`.
     pub fn exchange<R: Wait + Clock>(&self, rt: &R, seat: Seat<T>, item: T) -> Exchanged<T>
         requires place { seat.arena ≡ self.now.id }
         ensures end { EndsAs T.mark_of seat (T.mark_of item) self.now.slots ⊥ result }
@@ -38,18 +33,18 @@ impl<T: Marked> Exchanger<T> {
     /// Exchanges an item for another seat's, and waits for one for `milliseconds` at most. With 0 it doesn't wait. If
     /// its item is taken at the very end, it waits for the other's, and that was an exchange.
     ///
-    /// It stands for `Exchanger.exchange(V, long, TimeUnit)`, which throws where this returns TimedOut.
-    ///
     /// # Errors
     /// - `Exchanged::TimedOut`, if no partner came in time: the item is returned.
     /// - `Exchanged::Worn`, `Exchanged::Memory`, as `exchange`.
     ///
     /// # Example
-    /// ```
-    /// match exchanger.exchange_for(rt, seat, full_buffer, 1_000) {
-    ///     Exchanged::Swapped(seat, empty_buffer) => ..
-    ///     Exchanged::TimedOut(seat, full_buffer) => ..
-    /// ```
+    /// From `crates/bench_exchanger/src/alone.rt`:
+    ///
+    ///     if let Exchanged::TimedOut(_, item) = exchanger.exchange_for(rt, seat, 7, milliseconds) {
+    ///         return println!(rt; "{item} was returned").map_err(|_| Refusal::WriteFault);
+    ///     }
+    ///
+    /// Java: `Exchanger.exchange(V, long, TimeUnit)`, which throws TimeoutException.
     pub fn exchange_for<R: Wait + Clock>(
         &self,
         rt: &R,

@@ -1,7 +1,8 @@
 //! An exchanger whose calls wait: it chooses the slot of an arena itself, and a thread that waits for long parks.
 //!
-//! What a slot is, and what happens there, the arena knows (`meet_exchange`). This crate knows which slot is tried next,
-//! when a thread parks, and who wakes it. `specs/Tries` defines how an exchange ends, and what it did before.
+//! The arena's contracts state what a slot is, and what happens there (`meet_exchange`). This crate decides which slot
+//! is tried next, when a thread parks, and which thread wakes it. `specs/Tries` defines how an exchange ends, and what
+//! it did before.
 #![tactic(auto)]
 
 mod at;

@@ -34,7 +34,10 @@ pub(crate) struct Waiters {
 }
 
 impl Waiters {
-    /// Creates them for this number of seats. The only error is Memory.
+    /// Creates them for this number of seats.
+    ///
+    /// # Errors
+    /// - Memory, if an allocation fails.
     pub(crate) fn new(alloc: Global, seats: u64) -> Result<Waiters, Refusal>
         ensures memory { IfErr result (λ why. why ≡ Memory) }
     {

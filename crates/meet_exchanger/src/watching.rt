@@ -1,5 +1,5 @@
-//! How a thread passes the time at a slot: it looks, then lets other threads run, and then parks. What it sees here is a
-//! hint, so no contract speaks of it.
+//! How a thread passes the time at a slot: it looks, then lets other threads run, and then parks. What it sees here is
+//! a hint, so no contract states anything of it.
 
 ghost use Rattle.std.specs.Prelude.{◌≡◌, ◌≢◌, ◌<◌, false, IfNone};
 ghost use Rattle.meet_exchanger.specs.declared.watching.Glance.TheVariants.{TimeIsUp};
@@ -41,7 +41,7 @@ const PATIENCE: u64 = 1_000;
 /// How many looks at most a thread waits until others in a slot are done.
 const BUSY: u64 = 128;
 
-/// How many looks at a free slot are left to the seat that was at work there: it comes back, and posts.
+/// Polls of a freshly freed slot before claiming it, so that its last user can post first.
 const CALM: u64 = 8;
 
 /// After how many looks a thread lets another one run after each look, in place of a pause of the processor.

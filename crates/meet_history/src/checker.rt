@@ -1,4 +1,4 @@
-//! The checker of histories: are these records legal? It takes them one by one, or all at once.
+//! The checker of logs: are these records legal? It takes them one by one, or all at once.
 
 ghost use Rattle.std.specs.Prelude.{◌≡◌, ◌≢◌, [], Some, None, Err, IfSome, IfOk, IfErr, OnOk};
 ghost use Rattle.meet_tickets.specs.Bases.{IsWellFormed, IsLegalOn};
@@ -19,38 +19,39 @@ mod same;
 /// Why a record can't come next: the first reason that applies.
 #[derive(Clone, Copy, PartialEq, Eq, Debug)]
 pub enum Why {
-    /// A request of a seat that has an open ticket.
+    /// It is a request of a seat that has a pending request (an open ticket).
     SeatOpen,
-    /// A request whose ticket isn't above all earlier ones.
+    /// It is a request whose ticket isn't above all earlier ones.
     TicketOrder,
-    /// An ending of a ticket that isn't the seat's open one.
+    /// It is the completion of a ticket that isn't the seat's open one.
     NotOpen,
-    /// The rules give another deed, partner or mark.
+    /// The specification requires another deed, partner or mark.
     WrongReply,
 }
 
-/// What the checker finds against records.
+/// The error of a checker.
 #[derive(Clone, Copy, PartialEq, Eq, Debug)]
 pub enum CheckFault {
-    /// The record of this number, from 1 and with those of the base, is the first that can't stand, for this reason.
+    /// The record of number `place`, from 1 and with those of the base, is the first that can't stand, for the reason
+    /// `why`.
     Illegal { place: u64, why: Why },
-    /// Memory was wanted and not there.
+    /// An allocation failed.
     Memory,
 }
 
-/// Where a place's tickets and items are at the end of its records.
+/// The status of a place's requests and items at the end of its records.
 #[derive(Clone, Copy, PartialEq, Eq, Debug)]
 pub struct Standing {
-    /// Open tickets that wait in the line.
+    /// Pending requests (open tickets) that wait in the wait queue.
     pub waiting: u64,
-    /// Open tickets that were met or cut, and not collected.
+    /// Pending requests that were matched or interrupted, and not collected.
     pub uncollected: u64,
-    /// Items that are kept in the line.
+    /// Items that are buffered.
     pub kept: u64,
 }
 
-/// Takes a place's records one by one, and tells of each whether those so far are a legal history. It keeps none of
-/// them: the memory that it takes is that of the place which they leave.
+/// Takes a place's records one by one, and returns of each whether those so far are a legal history. It keeps none of
+/// them: its memory is that of the state to which they lead.
 #[derive(Drop)]
 pub struct Checker {
     place: CheckedPlace,
@@ -71,8 +72,16 @@ impl Model for Checker {
 }
 
 impl Checker {
-    /// A checker of a place of this kind that begins with this base, and has seen no record since. It asks that the
-    /// base is well formed. The only fault is Memory.
+    /// Creates a checker of a place of this kind that begins with this base, and has seen no record since. The base has
+    /// to be well formed.
+    ///
+    /// # Errors
+    /// - Memory, if an allocation fails.
+    ///
+    /// # Example
+    /// From `crates/meet_history_tests/src/calls.rt`:
+    ///
+    ///     Checker::new(alloc, kind_of(order), &Base::empty(alloc)).expect(rt, "memory")
     pub fn new(alloc: Global, kind: Kind, base: &Base) -> Result<Self, CheckFault>
         requires { IsWellFormed kind base.now }
         ensures kind { IfOk result (λ checker. checker.place.kind ≡ kind) }
@@ -90,9 +99,17 @@ impl Checker {
         }
     }
 
-    /// Takes the next record in: the records so far are legal. Else it is the first that can't stand, for the first
-    /// reason that applies, and each push behind it answers the same fault again. Where memory is wanted and not there,
-    /// or 2^64 - 1 records were pushed, it is Memory, and the checker is as it was.
+    /// Takes the next record in. If it returns Ok, the records so far are legal.
+    ///
+    /// # Errors
+    /// - Illegal, if this is the first record that can't stand, with the first reason that applies. Each later push
+    ///   returns the same error.
+    /// - Memory, if an allocation fails or 2^64 - 1 records were pushed: the checker is as it was.
+    ///
+    /// # Example
+    /// From `crates/meet_history_tests/src/calls.rt`:
+    ///
+    ///     checker.push(entry)
     pub fn push(&mut self, entry: Record<Deed>) -> Result<(), CheckFault>
         ensures kind { self.new.place.kind ≡ self.old.place.kind }
         ensures seen { result ≢ Err Memory → TakesIn self.old entry self.new }
@@ -122,8 +139,10 @@ impl Checker {
         }
     }
 
-    /// Where the place's tickets and items are behind the records that were pushed; or the fault that was found. It
-    /// takes no memory.
+    /// Returns the status of the place's requests and items after the records that were pushed. It doesn't allocate.
+    ///
+    /// # Errors
+    /// - Illegal, if such a record was found.
     pub fn standing(&self) -> Result<Standing, CheckFault>
         ensures standing { IfOk result (IsStandingOf self.now) }
         ensures sound { OnOk result (self.now.fault ≡ None) }
@@ -136,9 +155,26 @@ impl Checker {
     }
 }
 
-/// Whether these records are a legal history of a place of this kind after this base, and then where its tickets and
-/// items are. It asks that the base is well formed. Else it names the last record of the shortest prefix that isn't
-/// legal, with the first reason that applies; or Memory.
+/// Checks whether these records are a legal history of a place of this kind after this base, and returns the status of
+/// its requests and items. The base has to be well formed.
+///
+/// # Errors
+/// - Illegal, if they aren't: with the last record of the shortest prefix that isn't legal, and the first reason that
+///   applies.
+/// - Memory, if an allocation fails.
+///
+/// # Example
+/// From `crates/meet_wakes_tests/src/chance.rt`:
+///
+///     let standing = match check(
+///         alloc,
+///         Kind { order, bound: None },
+///         &Base::empty(alloc),
+///         records,
+///     ) {
+///         Ok(standing) => standing,
+///         Err(_) => return Err("the records aren't legal".into()),
+///     };
 pub fn check(
     alloc: Global,
     kind: Kind,

@@ -1,4 +1,4 @@
-//! A base that is told piece by piece. Each piece takes time by the logarithm of how many there are.
+//! A base that is built piece by piece. Each piece takes time by the logarithm of how many there are.
 
 ghost use Rattle.std.specs.Prelude.{◌≡◌, ◌<◌, nat_lt, true, not, is_some, ◌&&◌, AllPairs, IfOk, if◌then◌else◌};
 ghost use Rattle.std.specs.List.{list_all};
@@ -9,7 +9,7 @@ use meet_tickets::{Base, Entry, Kind, OpenCut, OpenPair, SeatNo, Ticket};
 use std::alloc::{AllocError, Global};
 use std::marker::Model;
 
-/// A base that is told piece by piece, of a place of some kind. It is well formed.
+/// A base that is built piece by piece, of a place of some kind. It is well formed.
 #[derive(Drop)]
 pub struct Ground {
     kind: Kind,
@@ -107,7 +107,7 @@ impl Ground {
     ghost use Rattle.meet_history.specs.Pieces.{cut_fits, flag_fits};
     ghost use Rattle.meet_history.specs.Pieces.{may_follow, with_piece};
 
-    /// A base of nothing but these numbers. It takes no memory.
+    /// Returns a base of nothing but these numbers. It doesn't allocate.
     pub fn new(alloc: Global, kind: Kind, gone: u64, last: Ticket) -> Self
         ensures kind { result.kind ≡ kind }
         ensures base { result.base ≡ bare_base gone last }
@@ -200,7 +200,7 @@ impl Ground {
         is_above_flags(self.flags.as_slice(), seat) && !self.waiting.has(seat.number())
     }
 
-    /// Whether the base may go on with this piece: it comes in its order, and the base with it is well formed.
+    /// Returns true if the base may go on with this piece: it comes in its order, and the base with it is well formed.
     pub fn may_follow(&self, piece: &Piece) -> bool
         ensures { result ≡ may_follow self.now.kind self.now.base piece.now }
     {
@@ -217,7 +217,7 @@ impl Ground {
         }
     }
 
-    /// The base goes on with an entry that may follow. It fails where memory is wanted and not there.
+    /// Adds an entry that may follow. Fails only if an allocation fails.
     fn lay_entry(self, entry: Entry<u64>) -> Result<Self, AllocError>
         requires fits { may_follow self.kind self.base (Stands entry) ≡ true }
         ensures kind { IfOk result (λ ground. ground.kind ≡ self.kind) }
@@ -382,7 +382,10 @@ impl Ground {
         })
     }
 
-    /// The base goes on with a piece that may follow. It fails where memory is wanted and not there.
+    /// Adds a piece that may follow.
+    ///
+    /// # Errors
+    /// - `AllocError`, if an allocation fails.
     pub fn lay(self, piece: Piece) -> Result<Self, AllocError>
         requires fits { may_follow self.kind self.base piece ≡ true }
         ensures kind { IfOk result (λ ground. ground.kind ≡ self.kind) }
@@ -396,7 +399,7 @@ impl Ground {
         }
     }
 
-    /// The base that was told.
+    /// Returns the base that was built.
     pub fn into_base(self) -> Base
         ensures base { result ≡ self.base }
         ensures well_formed { IsWellFormed self.kind result }

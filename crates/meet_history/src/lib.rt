@@ -1,7 +1,7 @@
-//! The checker of histories, and the replies of one thread.
+//! The checker of logs (histories), and the replies of one thread.
 //!
-//! A checker knows records alone, and not the queue that wrote them: it plays each on a place of its own, of a line of
-//! marks and a table of seats, and stops at the first that can't stand there.
+//! A checker knows only records, and not the queue that wrote them. It plays each on a state of its own, of a wait
+//! queue of marks and a table of seats, and stops at the first that can't stand there.
 #![tactic(auto)]
 
 mod checker;

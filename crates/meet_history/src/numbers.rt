@@ -22,7 +22,7 @@ impl Model for Numbers {
 }
 
 impl Numbers {
-    /// No numbers. It takes no memory.
+    /// No numbers. It doesn't allocate.
     pub(crate) fn new(alloc: Global) -> Self
         ensures { result ≡ [] }
     {
@@ -38,7 +38,7 @@ impl Numbers {
         self.set.contains(&number)
     }
 
-    /// A number comes to the others. It fails where memory is wanted and not there.
+    /// A number comes to the others. Fails only if an allocation fails.
     pub(crate) fn add(&mut self, number: u64) -> Result<(), AllocError>
         ensures { OnOk result ((n : ℕ)
             → has_number self.new n ≡ (if n == number then true else has_number self.old n)) }

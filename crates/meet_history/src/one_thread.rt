@@ -1,4 +1,4 @@
-//! One thread's calls of a place, whatever seats it speaks for, and the replies.
+//! The calls of a place by one thread, for any of its seats, and the replies.
 
 mod all_calls;
 mod laws;

@@ -1,16 +1,16 @@
-//! What a base is made of, piece by piece, in the order in which a trace tells it.
+//! The pieces of a base, in the order in which a trace has them.
 
 use meet_tickets::{Entry, OpenCut, OpenPair, SeatNo};
 
 /// A piece of a base.
 #[derive(Debug, Drop)]
 pub enum Piece {
-    /// An entry of the line.
+    /// A node (an entry) of the wait queue.
     Stands(Entry<u64>),
-    /// An open ticket that was met.
+    /// A pending request (an open ticket) that was matched.
     Met(OpenPair),
-    /// An open ticket that was cut.
+    /// A pending request that was interrupted.
     Cut(OpenCut),
-    /// A flagged seat.
+    /// A seat with a pending interrupt.
     Flagged(SeatNo),
 }

@@ -1,4 +1,4 @@
-//! Judges the text of a concurrent history of calls.
+//! Checks the text of a concurrent history of calls.
 
 ghost use Rattle.std.specs.Prelude.{◌≡◌, ℕ, List, IfOk, IfSome, OnOk};
 ghost use Rattle.std.specs.Io.KnownBytes.{Appends};
@@ -15,7 +15,8 @@ use meet_tickets::Refusal;
 use std::alloc::Global;
 use std::io::{Read, Write};
 
-/// How many moves a search makes at most: our choice. They take a minute or so, and may take ten gigabytes of memory.
+/// The most search steps (moves) of `judge_calls`: implementation-defined. They take a minute or so, and may take ten
+/// gigabytes of memory.
 pub const MOST_MOVES: u64 = 40_000_000;
 
 /// Why a judge gave no answer.
@@ -65,19 +66,25 @@ fn judge_read<W: Write>(alloc: Global, calls: &Calls, writer: &mut W) -> Result<
     }
 }
 
-/// Reads the text of a concurrent history of calls, and judges it: is it linearizable? If a history explains the calls
-/// it writes that as a trace, and returns true. If none does it writes one line that says why, and returns false.
+/// Reads the text of a concurrent history of calls, and checks whether it is linearizable. If a history explains the
+/// calls it writes that as a trace, and returns true. If none does it writes one line with the reason, and returns
+/// false.
 ///
 /// The text is read line by line, and not kept. A call takes some 90 bytes while the text is read, and some 220 while
 /// the calls are judged, if that needs no search.
 ///
 /// # Errors
-/// - `BadLine`, with the line: it isn't the one spelling of a call, and reading ended there.
-/// - `ReadFault` if a read fails, `WriteFault` if a write does.
-/// - `Memory` if an allocation fails.
-/// - `HistoryFull` if 40,000,000 moves of a search weren't enough: that is no verdict.
-/// - `TicketsSpent` if there are more calls than tickets.
-/// - `Differs` if an order was found that can't be written as a history: that was never seen.
+/// - `BadLine`, with the line, if it isn't the one spelling of a call: reading ended there.
+/// - `ReadFault`, if a read fails; `WriteFault`, if a write does.
+/// - `Memory`, if an allocation fails.
+/// - `HistoryFull`, if 40,000,000 search steps weren't enough: that is no verdict.
+/// - `TicketsSpent`, if there are more calls than tickets.
+/// - `Differs`, if an order was found that can't be written as a history: that was never seen.
+///
+/// # Example
+/// From `crates/meet/src/main.rt`:
+///
+///     Task::Judge => judge_calls(alloc, reader, writer),
 pub fn judge_calls<R: Read, W: Write>(
     alloc: Global,
     reader: &mut R,

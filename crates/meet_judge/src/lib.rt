@@ -1,7 +1,7 @@
-//! Judges calls that overlap, as a text tells them: it reads the calls, and answers with the trace of a history that
-//! explains them, or with a line that says how far they can be explained.
+//! The linearizability checker for calls as text (`meet judge`). It reads the calls, and writes the trace of a history
+//! that explains them, or a line that states how far they can be explained.
 //!
-//! What is read is what stands there: a text that isn't the one spelling of calls is refused, by its line.
+//! What is read is what stands there: a text that isn't the one spelling of calls is an error, with its line.
 #![tactic(auto)]
 
 mod judging;

@@ -327,8 +327,8 @@ pub(crate) fn read_calls_from<R: Read>(alloc: Global, reader: &mut R) -> Result<
 /// Reads the text of calls, which stand by their begins.
 ///
 /// # Errors
-/// - `BadLine`, with the line: it isn't the one spelling of such a call, or its line feed is missing.
-/// - `Memory` if an allocation fails.
+/// - `BadLine`, with the line, if it isn't the one spelling of such a call, or its line feed is missing.
+/// - `Memory`, if an allocation fails.
 pub fn read_calls(alloc: Global, text: &[u8]) -> Result<Calls, RunFault>
     ensures spelled { IfOk result (λ read. text.now ≡ calls_text read.kind read.list.items) }
 {

@@ -1,4 +1,4 @@
-//! The text of calls. Where memory runs out, nothing is said of what was appended.
+//! The text of calls. If memory runs out, nothing is stated of what was appended.
 
 ghost use Rattle.std.specs.Prelude.{◌≡◌, ◌++◌, OnOk, codes};
 ghost use Rattle.meet_run.specs.Scripts.Spelling.{option_text};
@@ -177,7 +177,10 @@ fn push_bound(out: &mut Vec<u8>, bound: Option<u64>) -> Result<(), AllocError>
     }
 }
 
-/// Appends the text of calls at a place, whole. Fails only if an allocation fails.
+/// Appends the text of calls at a place, whole.
+///
+/// # Errors
+/// - `AllocError`, if an allocation fails.
 pub fn push_calls(out: &mut Vec<u8>, kind: Kind, calls: &[Call]) -> Result<(), AllocError>
     ensures { OnOk result (out.new.items ≡ out.old.items ++ calls_text kind calls.now) }
 {

@@ -1,5 +1,5 @@
-//! The lines of fair and of unfair places: one line over the end at which it is met. Who came first is met first, or
-//! who came last.
+//! The wait queues of fair and of unfair places: one type over the end at which it is met. The first node is met first,
+//! or the last.
 
 ghost use Rattle.std.specs.Prelude.{◌≡◌, ◌≢◌, ◌+◌, ◌*◌, ◌<◌, ◌≤◌, ◌==◌, ◌⊎◌, [], ◌∷◌, ◌++◌, All, find, length};
 ghost use Rattle.std.specs.Prelude.{IsOk, IfErr, OnOk, OnErr, option_to_list};
@@ -16,17 +16,17 @@ use meet_tickets::{End, Entry, Refusal, Ticket};
 use std::alloc::Global;
 use std::marker::{Model, PhantomData};
 
-/// A line that is met at this end. Entries are found in buckets by their tickets, and leave without a walk.
+/// A wait queue that is met at this end. Nodes are found in buckets by their tickets, and leave without a walk.
 #[derive(Drop)]
 pub struct EndLine<T, A: MetAt> {
     line: Linked<T>,
     at: PhantomData<A>,
 }
 
-/// The line of a fair place, whose first entry is met.
+/// The wait queue of a fair place, whose first node is met.
 pub type FairLine<T> = EndLine<T, First>;
 
-/// The line of an unfair place, whose last entry is met.
+/// The wait queue of an unfair place, whose last node is met.
 pub type StackLine<T> = EndLine<T, Last>;
 
 impl<T, A: MetAt> Model for EndLine<T, A> {
@@ -38,16 +38,16 @@ impl<T, A: MetAt> Model for EndLine<T, A> {
 }
 
 impl<T, A: MetAt> EndLine<T, A> {
-    /// How many nodes the last removal looked at: the ticket's own, and those of its bucket that came later; all of its
-    /// bucket, where the ticket wasn't there; 0 before the first removal.
+    /// Returns how many nodes the last removal looked at: the ticket's own, and those of its bucket that came later;
+    /// all of its bucket, if the ticket wasn't there; 0 before the first removal.
     pub fn looks(&self) -> u64
         ensures { result ≡ self.now.looked }
     {
         self.line.looks() as u64
     }
 
-    /// How many buckets there are: none before room is first made, and then a power of two, not below the number of the
-    /// entries and those that may come without growth.
+    /// Returns how many buckets there are: none before room is first made, and then a power of two, not below the
+    /// number of the nodes and those that may come without growth.
     pub fn buckets(&self) -> u64
         ensures count { result ≡ self.now.buckets }
         ensures size { IsTableSize result }

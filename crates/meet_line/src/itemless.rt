@@ -1,8 +1,8 @@
-//! What has no item is let go, also where items can't be dropped.
+//! Drops what has no item, even if items can't be dropped.
 
 ghost use Rattle.std.specs.Prelude.{◌≡◌, None};
 
-/// Lets no item go.
+/// Drops a None, even if items can't be dropped.
 #[inline(always)]
 pub fn let_go_none<T>(none: Option<T>)
     requires { none ≡ None }

@@ -1,10 +1,10 @@
-//! Lines of unmatched tickets: givers or takers that wait, and items that are kept, each with its ticket and its seat.
-//! They know neither queues nor pools, neither books nor threads.
+//! Wait queues (lines) of unmatched tickets: producers or consumers that wait, and items that are buffered, each with
+//! its ticket and its seat. The crate knows neither queues nor pools, neither books nor threads.
 //!
-//! A line holds givers or takers, never both (the dual queue and the dual stack of Scherer and Scott, DISC 2004), in
-//! order of arrival. It is met at one of its ends, the first entry or the last; an entry is found by its ticket, and
-//! leaves from wherever it stands. What is true of a line beside what seats hold is said here too (`specs/Sound`), for
-//! queues and pools alike.
+//! A line holds producers or consumers, never both (the dual queue and the dual stack of Scherer and Scott, DISC 2004),
+//! in order of arrival. It is met at one of its ends, the first node (entry) or the last; a node is found by its
+//! ticket, and leaves from wherever it stands. What is true of a line beside what seats hold is defined here too
+//! (`specs/Sound`), for queues and pools alike.
 #![tactic(auto)]
 
 mod bucket_table;

@@ -1,4 +1,4 @@
-//! The line of a place's unmatched tickets, however it is kept.
+//! The wait queue (the line) of a place's unmatched tickets, however it is kept.
 
 ghost use Rattle.std.specs.Prelude.{◌≡◌, ◌≢◌, ℕ, ◌+◌, ◌<◌, ◌≤◌, ◌==◌, List, [], ◌∷◌, ◌++◌, length, map, find, All};
 ghost use Rattle.std.specs.Prelude.{AllPairs, IsOk, IfOk, IfErr, OnOk, OnErr, option_map, option_to_list};
@@ -12,23 +12,27 @@ ghost use Rattle.meet_tickets.specs.declared.refusals.Refusal.TheVariants.{Memor
 use meet_tickets::{Entry, Refusal, Ticket};
 use std::alloc::Global;
 
-/// A list of entries in order of arrival, no two of one ticket, with room for some more. `reserve` alone takes memory.
+/// A wait queue: a list of nodes (entries) in order of arrival, no two of one ticket, with room for some more. Only
+/// `reserve` and `list` allocate.
 pub trait Line<T> {
-    /// The entries, in order of arrival.
+    /// The nodes, in order of arrival.
     ghost entries: { Self → List (Entry T) };
 
-    /// How many entries more may come without growth.
+    /// How many more nodes may come without growth.
     ghost spare: { Self → ℕ };
 
-    /// The end at which an entry is met.
+    /// The end at which a node is met.
     ghost end: { End };
 
-    /// A line with nobody in it, and no room.
+    /// Returns an empty wait queue, without room.
     fn empty(alloc: Global) -> Self
         ensures entries { entries result ≡ [] }
         ensures room { spare result ≡ 0 };
 
-    /// Makes room for this many entries more. The only refusal is Memory.
+    /// Makes room for this many more nodes.
+    ///
+    /// # Errors
+    /// - Memory, if an allocation fails, and never if there is that room.
     fn reserve(&mut self, count: u64) -> Result<(), Refusal>
         ensures entries { entries self.new ≡ entries self.old }
         ensures room { OnOk result (count ≤ spare self.new) }
@@ -37,48 +41,51 @@ pub trait Line<T> {
         ensures memory { IfErr result (λ why. why ≡ Memory) }
         ensures enough { count ≤ spare self.old → IsOk result };
 
-    /// An entry comes to the line's end.
+    /// Puts a node at the end.
     fn push_back(&mut self, entry: Entry<T>)
         requires room { 0 < spare self.old }
         requires fresh { All (λ e. e.ticket ≢ entry.ticket) (entries self.old) }
         ensures entries { entries self.new ≡ entries self.old ++ entry ∷ [] }
         ensures room { spare self.new + 1 ≡ spare self.old };
 
-    /// The entry that is met leaves the line, if anybody is there.
+    /// Removes the node that is met, if there is one.
     fn meet(&mut self) -> Option<Entry<T>>
         ensures entry { result ≡ met end (entries self.old) }
         ensures entries { entries self.new ≡ unmet end (entries self.old) }
         ensures room { spare self.new ≡ spare self.old + length (option_to_list result) };
 
-    /// The entry of this ticket leaves the line, if it is there; the others keep their order.
+    /// Removes the node of this ticket, if it is there; the others keep their order.
     fn remove(&mut self, ticket: Ticket) -> Option<Entry<T>>
         ensures entry { result ≡ find (λ e. e.ticket == ticket) (entries self.old) }
         ensures entries { entries self.new ≡ without_first (λ e. e.ticket == ticket) (entries self.old) }
         ensures room { spare self.new ≡ spare self.old + length (option_to_list result) };
 
-    /// The entry that came first, if anybody is there.
+    /// Returns the node that came first, if there is one.
     fn first(&self) -> Option<&Entry<T>>
         ensures { IsItemAt (entries self.now) 0 result };
 
-    /// The entry of this ticket, if it is there.
+    /// Returns the node of this ticket, if it is there.
     fn entry(&self, ticket: Ticket) -> Option<&Entry<T>>
         ensures { option_map (λ e. e.now) result ≡ find (λ e. e.ticket == ticket) (entries self.now) };
 
-    /// The entries in order of arrival, lent. The only refusal is Memory.
+    /// Returns the nodes in order of arrival, borrowed.
+    ///
+    /// # Errors
+    /// - Memory, if an allocation fails.
     fn list(&self, alloc: Global) -> Result<Vec<&Entry<T>>, Refusal>
         ensures entries { IfOk result (λ list. map (λ e. e.now) list.items ≡ entries self.now) }
         ensures memory { IfErr result (λ why. why ≡ Memory) };
 
-    /// How many entries there are.
+    /// Returns how many nodes there are.
     fn len(&self) -> u64
         ensures count { result ≡ length (entries self.now) }
         ensures distinct { AllPairs (λ e f. e.ticket ≢ f.ticket) (entries self.now) };
 
-    /// How many entries more may come without growth.
+    /// Returns how many more nodes may come without growth.
     fn room(&self) -> u64
         ensures { result ≡ spare self.now };
 
-    /// Lets an empty line go, also where its items can't be dropped.
+    /// Drops an empty wait queue, even if its items can't be dropped.
     fn destroy_empty(self)
         requires { entries self ≡ [] };
 }

@@ -1,4 +1,4 @@
-//! A line whose entries are linked to their neighbours, and found in buckets by their tickets.
+//! A wait queue whose nodes are linked to their neighbours, and found in buckets by their tickets.
 
 ghost use Rattle.std.specs.Prelude.{◌≡◌, ◌≢◌, ◌+◌, ◌*◌, ◌<◌, ◌≤◌, ◌==◌, ◌⊎◌, [], ◌∷◌, ◌++◌, length, map, find};
 ghost use Rattle.std.specs.Prelude.{All, AllPairs, IsOk, IfOk, IfErr, OnOk, OnErr, None};
@@ -17,7 +17,7 @@ use meet_tickets::{Entry, Refusal, Ticket};
 use std::alloc::Global;
 use std::marker::Model;
 
-/// Entries in order of arrival. `reserve` alone takes memory. What each call writes stands last, in the roll too.
+/// Entries in order of arrival. Only `reserve` allocates. What each call writes stands last, in the roll too.
 #[derive(Drop)]
 pub(crate) struct Linked<T> {
     slots: Vec<Option<Entry<T>>>,
@@ -226,7 +226,7 @@ impl<T> Linked<T> {
         self.slots[key].as_ref()
     }
 
-    /// The entries in order of arrival, lent. The only refusal is Memory.
+    /// The entries in order of arrival, borrowed. Fails only if an allocation fails.
     pub(crate) fn list(&self, alloc: Global) -> Result<Vec<&Entry<T>>, Refusal>
         ensures entries { IfOk result (λ list. map (λ e. e.now) list.items ≡ self.now.entries) }
         ensures memory { IfErr result (λ why. why ≡ Memory) }

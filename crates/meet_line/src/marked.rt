@@ -1,4 +1,4 @@
-//! A line as histories see it: its items by their marks.
+//! A wait queue as histories see it: its items by their marks.
 
 ghost use Rattle.std.specs.Prelude.{◌≡◌, map, option_map, IfOk, IfErr};
 ghost use Rattle.meet_tickets.specs.declared.refusals.Refusal.TheVariants.{Memory};
@@ -8,7 +8,7 @@ use crate::line::Line;
 use meet_tickets::{Entry, Marked, Refusal};
 use std::alloc::{AllocError, Global};
 
-/// The mark of an item, where there is one.
+/// Returns the mark of an item, if there is one.
 pub fn mark_of<T: Marked>(item: &Option<T>) -> Option<u64>
     ensures { result ≡ option_map T.mark_of item.now }
 {
@@ -37,7 +37,10 @@ fn marked_all<T: Marked>(alloc: Global, list: &[&Entry<T>]) -> Result<Vec<Entry<
     list.iter().map(|entry| marked(*entry)).collect(alloc)
 }
 
-/// The entries of a line with their items by their marks, in order of arrival. The only refusal is Memory.
+/// Returns the nodes of a wait queue with their items by their marks, in order of arrival.
+///
+/// # Errors
+/// - Memory, if an allocation fails.
 pub fn marked_line<T: Marked, L: Line<T>>(
     alloc: Global,
     line: &L,

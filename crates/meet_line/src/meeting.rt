@@ -1,4 +1,4 @@
-//! How a request meets the line.
+//! How a request meets the wait queue.
 
 ghost use Rattle.std.specs.Prelude.{◌≡◌, ◌+◌, ◌<◌, ◌↔◌, IsTrue, false, is_some, None, AllPairs, length};
 ghost use Rattle.std.specs.Prelude.{option_to_list, if◌then◌else◌};
@@ -9,8 +9,8 @@ ghost use Rattle.meet_tickets.specs.declared.places.Side.TheVariants.{Giver};
 use crate::line::Line;
 use meet_tickets::{Entry, Side};
 
-/// Whether a request of this side finds nobody in a line of one side, in which so many givers stand: its own side
-/// stands there, or no side does.
+/// Returns true if a request of this side finds no counterpart in a wait queue of one side, in which `givers` producers
+/// stand: its own side stands there, or no side does.
 #[inline(always)]
 pub fn is_alone<T, L: Line<T>>(line: &L, givers: u64, side: Side) -> bool
     requires givers { givers ≡ count_on Giver (L.entries line.now) }
@@ -24,7 +24,7 @@ pub fn is_alone<T, L: Line<T>>(line: &L, givers: u64, side: Side) -> bool
     }
 }
 
-/// Takes the partner of a request of this side out of a line of one side, in which so many givers stand.
+/// Removes the counterpart of a request of this side from a wait queue of one side, in which `givers` producers stand.
 #[inline(always)]
 pub fn meet<T, L: Line<T>>(line: &mut L, givers: u64, side: Side) -> Option<Entry<T>>
     requires givers { givers ≡ count_on Giver (L.entries line.old) }

@@ -1,4 +1,4 @@
-//! At which end a line is met.
+//! The end at which a wait queue is met.
 
 ghost use Rattle.std.specs.Prelude.{◌≡◌};
 ghost use Rattle.meet_tickets.specs.declared.places.End.{End};
@@ -6,17 +6,17 @@ ghost use Rattle.meet_tickets.specs.declared.places.End.TheVariants.{Front, Back
 
 use meet_tickets::End;
 
-/// The end at which a line is met, as a type, so that each line is made for its own.
+/// The end at which a wait queue is met, as a type, so that each wait queue is compiled for its own.
 pub trait MetAt {
     /// That end.
     ghost end: { End };
 
-    /// That end.
+    /// Returns that end.
     fn end() -> End
         ensures { result ≡ end };
 }
 
-/// Who came first is met first.
+/// The first node is met: first in, first out.
 pub struct First {}
 
 impl MetAt for First {
@@ -28,7 +28,7 @@ impl MetAt for First {
     }
 }
 
-/// Who came last is met first.
+/// The last node is met: last in, first out.
 pub struct Last {}
 
 impl MetAt for Last {

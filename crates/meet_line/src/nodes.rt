@@ -1,5 +1,5 @@
 //! The nodes of a roll, and the links between them. A link is a word: four of them and a ticket are no longer than a
-//! line of the processor's.
+//! cache line.
 
 ghost use Rattle.std.specs.Prelude.{◌≡◌, ◌+◌, ◌<◌, ◌^◌, Option, Some, None};
 ghost use Rattle.meet_line.specs.Nodes.{with_node, with_newest, put_end};

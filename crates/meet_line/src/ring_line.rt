@@ -1,5 +1,5 @@
-//! Lines in a ring: one line over the end at which it is met. Where entries leave at that end, as the kept jobs of a
-//! pool do, it is shorter than a line of nodes: an entry is written once, and nothing else of the line is. An entry that
+//! Wait queues in a ring: one type over the end at which it is met. If nodes leave at that end, as the buffered jobs of
+//! a pool do, it is faster than a wait queue of linked nodes: a node is written once, and nothing else. A node that
 //! leaves from elsewhere is looked for from the first one on, and those on one side of it move.
 
 ghost use Rattle.std.specs.Prelude.{◌≡◌, ◌≢◌, ◌+◌, ◌<◌, [], ◌∷◌, ◌++◌, All};
@@ -11,7 +11,7 @@ use std::alloc::Global;
 use std::collections::VecDeque;
 use std::marker::{Model, PhantomData};
 
-/// A line that is met at this end, in a ring. Taking from an end moves nothing; a removal from elsewhere walks.
+/// A wait queue that is met at this end, in a ring. Taking from an end moves nothing; a removal from elsewhere walks.
 #[derive(Drop)]
 pub struct RingLine<T, A: MetAt> {
     entries: VecDeque<Entry<T>>,
@@ -19,10 +19,10 @@ pub struct RingLine<T, A: MetAt> {
     at: PhantomData<A>,
 }
 
-/// A ring whose first entry is met.
+/// A ring whose first node is met.
 pub type FairRing<T> = RingLine<T, First>;
 
-/// A ring whose last entry is met.
+/// A ring whose last node is met.
 pub type StackRing<T> = RingLine<T, Last>;
 
 impl<T, A: MetAt> Model for RingLine<T, A> {

@@ -13,7 +13,7 @@ use slab::Slab;
 use std::alloc::{AllocError, Global};
 use std::marker::Model;
 
-/// The tickets of a line, each under a key. `reserve` alone takes memory.
+/// The tickets of a line, each under a key. Only `reserve` allocates.
 #[derive(Drop)]
 pub(crate) struct Roll {
     table: Vec<Link>,

@@ -1,44 +1,44 @@
-//! Calls as somebody saw them from outside.
+//! Calls as they were seen from outside.
 
 ghost use Rattle.std.specs.Prelude.{◌≡◌, ◌++◌, ◌∷◌, [], OnOk};
 
 use meet_tickets::{Kind, SeatNo, Ticket};
 use std::alloc::{AllocError, Global};
 
-/// How long a request stays where nobody is there.
+/// The timeout mode of a request: how long it waits for a counterpart.
 #[derive(Clone, Copy, PartialEq, Eq, Debug)]
 pub enum Patience {
-    /// It doesn't: `offer`, `poll`, `tryTransfer`.
+    /// It doesn't wait: `offer`, `poll`, `tryTransfer`.
     Now,
-    /// Until somebody comes: `put`, `transfer`, `take`.
+    /// It waits until one comes: `put`, `transfer`, `take`.
     Forever,
-    /// For a time: `offer`, `poll` and `tryTransfer` with a limit.
+    /// It waits for a time: `offer`, `poll` and `tryTransfer` with a limit.
     Timed,
 }
 
-/// What is called. Items are named by their marks.
+/// The operation of a call (its verb). Items are named by their marks.
 #[derive(Clone, Copy, PartialEq, Eq, Debug)]
 pub enum Verb {
-    /// An item is given, or kept where nobody is there: `put` and `offer` of a transfer queue.
+    /// Gives an item, which is buffered if no consumer waits: `put` and `offer` of a transfer queue.
     Keep(u64),
-    /// An item is given.
+    /// Gives an item.
     Give(Patience, u64),
-    /// An item is taken.
+    /// Takes an item.
     Take(Patience),
-    /// A seat is interrupted.
+    /// Interrupts a seat.
     Interrupt(SeatNo),
 }
 
-/// What a call answered.
+/// What a call returned.
 #[derive(Clone, Copy, PartialEq, Eq, Debug)]
 pub enum Answer {
     /// The item went.
     Went,
     /// An item with this mark came.
     Got(u64),
-    /// Nobody was there.
+    /// No counterpart was there.
     Nothing,
-    /// Nobody came in time.
+    /// No counterpart came in time.
     Expired,
     /// The call was interrupted.
     Interrupted,
@@ -46,22 +46,27 @@ pub enum Answer {
     Made,
 }
 
-/// How a call ended: when, and with which answer.
+/// How a call ended.
 #[derive(Clone, Copy, PartialEq, Eq, Debug)]
 pub struct Returned {
+    /// When it ended.
     pub at: u64,
+    /// What it returned.
     pub answer: Answer,
 }
 
 /// A call as it was seen. Times are numbers of one clock.
 #[derive(Clone, Copy, PartialEq, Eq, Debug)]
 pub struct Call {
+    /// The seat that made it.
     pub seat: SeatNo,
+    /// When it began.
     pub begin: u64,
-    /// A time by which it was seen to wait.
+    /// A time by which it was seen to wait, if there is one.
     pub waits: Option<u64>,
-    /// None: it never ended.
+    /// How it ended; None if it never did.
     pub returned: Option<Returned>,
+    /// The operation.
     pub verb: Verb,
 }
 
@@ -76,16 +81,18 @@ pub enum Stage {
     Over,
 }
 
-/// Calls that were seen at a place of a kind. They may overlap, and stand in any order; where they stand by their
-/// begins they are judged fastest.
+/// Calls that were seen at a place of a kind. They may overlap, and stand in any order; if they stand by their begins
+/// they are judged fastest.
 #[derive(Debug, Drop)]
 pub struct Calls {
+    /// The kind of the place.
     pub kind: Kind,
+    /// The calls.
     pub list: Vec<Call>,
 }
 
 impl Calls {
-    /// No calls yet, at a place of this kind.
+    /// Creates an empty list of calls, at a place of this kind.
     pub fn none(alloc: Global, kind: Kind) -> Calls
         ensures kind { result.kind ≡ kind }
         ensures list { result.list.items ≡ [] }
@@ -96,7 +103,10 @@ impl Calls {
         }
     }
 
-    /// Puts a call behind the others. Fails only if an allocation fails.
+    /// Puts a call at the end.
+    ///
+    /// # Errors
+    /// - `AllocError`, if an allocation fails.
     pub fn push(&mut self, call: Call) -> Result<(), AllocError>
         ensures kind { self.new.kind ≡ self.old.kind }
         ensures list { OnOk result (self.new.list.items ≡ self.old.list.items ++ call ∷ []) }
@@ -104,7 +114,7 @@ impl Calls {
         self.list.extend_from_slice([call].as_slice())
     }
 
-    /// The calls, in their order.
+    /// Returns the calls, in their order.
     pub fn as_slice(&self) -> &[Call]
         ensures { result.now ≡ self.now.list.items }
     {

@@ -1,21 +1,21 @@
-//! Why no answer is found.
+//! The errors of the checker: no verdict.
 
 ghost use Rattle.std.specs.Prelude.{◌≡◌};
 ghost use Rattle.meet_overlap.specs.declared.fault.Fault.TheVariants.{Memory};
 
 use std::alloc::{AllocError, AllocFailed};
 
-/// Why no answer is found.
+/// Why there is no verdict.
 #[derive(Clone, Copy, PartialEq, Eq, Debug)]
 pub enum Fault {
-    /// Memory was wanted and not there.
+    /// An allocation failed.
     Memory,
-    /// More moves were wanted than the limit allows.
+    /// The limit of search steps wasn't enough.
     Limit,
     /// There are more calls than tickets.
     TicketsSpent,
-    /// A way was found that can't be written down as a history. It was never seen, and no proof says that it can't
-    /// come.
+    /// An order was found that can't be written as a history. It was never seen, and no proof states that it can't
+    /// happen.
     Unsure,
 }
 

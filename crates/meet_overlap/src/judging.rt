@@ -1,4 +1,4 @@
-//! The judge: a history that explains a concurrent history of calls, or why there is none.
+//! The checker: it finds a history that explains a concurrent history of calls, or the reason why there is none.
 
 ghost use Rattle.std.specs.Prelude.{◌<◌, length, IfOk, IfErr, IfSome, IsTrue, List};
 ghost use Rattle.meet_tickets.specs.declared.records.Record.{Record};
@@ -122,20 +122,25 @@ fn searched(
     }
 }
 
-/// Judges the calls of a concurrent history at a place of this kind, which was empty when they began: is it
-/// linearizable? It returns a history that explains the calls, and that `check` of meet_history finds legal; or why
+/// Checks whether the calls of a concurrent history are linearizable, at a place of this kind that was empty when they
+/// began. Returns a history that explains the calls, and that `check` of meet_history finds legal; or the reason why
 /// there is none.
 ///
 /// An order of the calls' records is guessed first, and each record of it is checked. If it can't stand, reasons why no
 /// history explains the calls are looked for. Both take n log n steps. What they don't decide is searched for, in at
-/// most `limit` moves, each the next record of one call.
+/// most `limit` search steps (moves), each the next record of one call.
 ///
 /// # Errors
-/// - `Memory` if an allocation fails.
-/// - `Limit` if these moves weren't enough.
-/// - `TicketsSpent` if there are more calls than tickets.
-/// - `Unsure` if an order was found that can't be written as a history. No proof says that this can't come; it was
+/// - `Memory`, if an allocation fails.
+/// - `Limit`, if these search steps weren't enough.
+/// - `TicketsSpent`, if there are more calls than tickets.
+/// - `Unsure`, if an order was found that can't be written as a history. No proof states that this can't happen; it was
 ///   never seen.
+///
+/// # Example
+/// From `crates/meet_judge/src/judging.rt`:
+///
+///     let judged = match judge(alloc, calls.kind, calls.as_slice(), MOST_MOVES) {
 pub fn judge(
     alloc: Global,
     kind: Kind,

@@ -1,4 +1,4 @@
-//! A law: that times and order say the same. It is the contract of a function that does nothing.
+//! A law: that times and order state the same. It is the contract of a function that does nothing.
 
 ghost use Rattle.std.specs.Prelude.{◌≡◌, List};
 ghost use Rattle.meet_tickets.specs.declared.places.Kind.{Kind};
@@ -6,8 +6,8 @@ ghost use Rattle.meet_overlap.specs.declared.calls.Call.{Call};
 ghost use Rattle.meet_overlap.specs.Explaining.{Event, IsExplained, records_of};
 ghost use Rattle.meet_overlap.specs.Ordered.{IsOrderlyExplained};
 
-/// Events that explain calls at their times stand in an order that real time allows, and events in such an order have
-/// times. It does nothing.
+/// States that events that explain calls at their times stand in an order that real time allows, and that events in
+/// such an order have times. It does nothing.
 pub fn times_are_order()
     ensures order { (k : Kind) (calls : List Call) (events : List Event) → IsExplained k calls events
         → IsOrderlyExplained k calls events }

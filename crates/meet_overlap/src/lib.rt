@@ -1,9 +1,10 @@
-//! A linearizability checker for concurrent histories of a synchronous or a transfer queue: is there a legal history that
-//! explains the calls? It knows the rules of histories, and no queue, text or thread. `specs/Calls` defines which records
-//! a call makes, `specs/Explaining` what explains calls, and `specs/Reasons` why nothing does.
+//! A linearizability checker for concurrent histories of a synchronous or a transfer queue: is there a legal history
+//! that explains the calls (a linearization)? The crate knows the specification of histories, and no queue, text or
+//! thread. `specs/Calls` defines which records a call makes, `specs/Explaining` what explains calls, and
+//! `specs/Reasons` why nothing does.
 //!
-//! An order of the calls is guessed (`guess`), and each of its records is checked (`judging`). If one can't stand, reasons
-//! are looked for (`reasons`). What they leave open is searched for (`search`).
+//! An order of the calls is guessed (`guess`), and each of its records is checked (`judging`). If one can't stand,
+//! reasons are looked for (`reasons`). What they leave open is searched for (`search`).
 #![tactic(auto)]
 
 mod alike;

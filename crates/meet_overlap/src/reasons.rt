@@ -39,56 +39,79 @@ const MOST_LOOKS: usize = 16;
 #[derive(Clone, Copy, PartialEq, Eq, Debug)]
 pub enum Reason {
     /// `taker` got the item, and no call gave it in time: each call that gives it began after `taker` had ended, or
-    /// answers that the item wasn't handed over. `giver` is such a call, if there is one.
+    /// returned that the item wasn't handed over. `giver` is such a call, if there is one.
     Ungiven {
+        /// The mark of the item.
         item: u64,
+        /// The call that got it.
         taker: usize,
+        /// A call that gives it too late, or without success.
         giver: Option<usize>,
     },
     /// `giver` handed the item over, and no call got it in time: each call that got it began after `giver` had ended.
     /// `taker` is such a call, if there is one.
     Untaken {
+        /// The mark of the item.
         item: u64,
+        /// The call that handed it over.
         giver: usize,
+        /// A call that got it too late.
         taker: Option<usize>,
     },
-    /// `taker` got the item, which was given after `giver` had put `kept` into the queue; and nobody can have taken
+    /// `taker` got the item, which was given after `giver` had put `kept` into the queue; and no call can have taken
     /// `kept` by then.
     Overtaken {
+        /// The mark of the item.
         item: u64,
+        /// The call that got it.
         taker: usize,
+        /// The mark of the item that was ahead of it.
         kept: u64,
+        /// The call that had put `kept`.
         giver: usize,
     },
-    /// `second` and `first` got the item, which `giver` alone gives, once.
+    /// `second` and `first` got the item, which only `giver` gives, once.
     Doubled {
+        /// The mark of the item.
         item: u64,
+        /// A call that got it.
         first: usize,
+        /// Another call that got it.
         second: usize,
+        /// The only call that gives it.
         giver: usize,
     },
-    /// `taker` found nothing, though `giver` had put the item into the queue before, and nobody can have taken it by
+    /// `taker` found nothing, though `giver` had put the item into the queue before, and no call can have taken it by
     /// then.
     Overlooked {
+        /// The mark of the item.
         item: u64,
+        /// The call that found nothing.
         taker: usize,
+        /// The call that had put it.
         giver: usize,
     },
-    /// `caller` found nobody, though `waiting`, a call of the other side, waited all the time: it was seen to wait before
-    /// `caller` began, and no call can have met it by the end of that. `item` is the one that `waiting` gives, if it
-    /// gives one.
+    /// `caller` found no counterpart, though `waiting`, a call of the other side, waited all the time. `waiting` was
+    /// seen to wait before `caller` began, and no call can have met it by the end of `caller`.
     Missed {
+        /// The mark of the item that `waiting` gives, if it gives one.
         item: Option<u64>,
+        /// The call that found no counterpart.
         caller: usize,
+        /// The call that waited.
         waiting: usize,
     },
-    /// `caller` met a call with the item though `waiting`, a call of the same side as that one, waited all the time, and
-    /// its turn came first: in front, or on top where the last one is met first. No call can have met `waiting` by the
-    /// end of `caller`. `held` is the item that `waiting` gives, if it gives one.
+    /// `caller` met a call with the item though `waiting`, a call of the same side as that one, waited all the time.
+    /// The turn of `waiting` came first: it was in front, or on top if the last one is met first. No call can have met
+    /// `waiting` by the end of `caller`.
     Passed {
+        /// The mark of the item.
         item: u64,
+        /// The call that met another.
         caller: usize,
+        /// The call whose turn it was.
         waiting: usize,
+        /// The mark of the item that `waiting` gives, if it gives one.
         held: Option<u64>,
     },
     /// None of these was found. A search came through all orders, and this far.

@@ -1,10 +1,10 @@
-//! The search for an order in which calls make their records: depth first, each move the next record of one call (Wing and
-//! Gong 1993), with a memory of what leads nowhere (Lowe 2017).
+//! The search for an order in which calls make their records (Wing and Gong 1993), with a memory of what leads nowhere
+//! (Lowe 2017). It is depth first; each search step (move) is the next record of one call.
 //!
 //! - A call has at most one next record at a known place, so a move is a call (`next`, `moving`).
-//! - A call that was met or cut ends at once, since no other call sees that (`settling`).
-//! - What leads nowhere is left early: a call is late (`due`), was met in a way that it doesn't answer (`misled`), or the
-//!   state was seen before (`seen`).
+//! - A call that was matched or interrupted ends at once, since no other call sees that (`settling`).
+//! - What leads nowhere is left early: a call is late (`due`), was matched in a way that contradicts its result
+//!   (`misled`), or the state was seen before (`seen`).
 //! - What is found is written once more with tickets in their order, which makes it a history (`judging`).
 
 ghost use Rattle.std.specs.Prelude.{IfOk, IfErr, IsTrue, List};
@@ -26,12 +26,12 @@ use crate::world::{Reached, beginning};
 use meet_tickets::Kind;
 use std::alloc::Global;
 
-/// How far the search came, where no history explains the calls.
+/// How far the search came, if no history explains the calls.
 #[derive(Clone, Copy, PartialEq, Eq, Debug)]
 pub struct Stuck {
-    /// How many calls had made all of their records where the most records had been made, in the first such order.
+    /// How many calls had made all of their records in the longest partial explanation, the first such order.
     pub explained: usize,
-    /// Of the calls that were left there, the one that had to move first: its place in the list.
+    /// Of the calls that were left there, the one that had to move first: its index in the list.
     pub call: Option<usize>,
 }
 

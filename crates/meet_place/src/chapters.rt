@@ -1,4 +1,4 @@
-//! A stretch of a place's history, handed out whole while its threads go on.
+//! Segments of a place's log, returned whole while its threads go on.
 
 ghost use Rattle.std.specs.Prelude.{◌≡◌, ◌+◌, ◌<◌, ◌≤◌, [], length, IfOk, IfErr};
 ghost use Rattle.meet_tickets.specs.Limits.{most_gone};
@@ -20,8 +20,13 @@ impl<O: Bases, N: Ledgers> Shared<O, N>
 where
     O::Base: Drop,
 {
-    /// A checkpoint of a seat that hands out what it folds away, as the book's `rotate`. It is refused as that is, and
-    /// then nothing has changed. Where there never was a record, nothing is folded: the base of no records stays.
+    /// Rotates the log for a seat, as the book's `rotate`: compacts the records, and returns them with their base. If
+    /// there never was a record, nothing is compacted, and the base of no records stays.
+    ///
+    /// # Errors
+    /// Nothing has changed.
+    /// - HistoryFull, if more than 2^63 - 1 records would be compacted.
+    /// - Memory, if an allocation fails.
     pub fn rotate(
         &mut self,
         seat: &mut Seat<O::Deed, N>,
@@ -61,7 +66,10 @@ where
         }
     }
 
-    /// Base and records once more. The only refusal is Memory.
+    /// Copies base and records.
+    ///
+    /// # Errors
+    /// - Memory, if an allocation fails.
     pub fn copy(&self) -> Result<Chapter<O>, Refusal>
         ensures copied { IfOk result (λ chapter. (chapter.base ≡ self.now.base)
             × (chapter.records.items ≡ self.now.records)) }
@@ -79,9 +87,14 @@ impl<O: Bases, G, N: Ledgers> Place<O, G, N>
 where
     O::Base: Drop,
 {
-    /// A checkpoint of a seat that hands out what it folds away, under one hold of the lock: the records so far, with
-    /// the base on which they stand. They count for the seat. The records to come are written into this list, whose
-    /// own are let go. It refuses what the book's `rotate` does; then nothing has changed.
+    /// Rotates the log for a seat in one critical section: compacts the records so far, and returns them with the base
+    /// on which they stand. They count for the seat. `room` becomes the list of the records to come, and its own
+    /// records are dropped.
+    ///
+    /// # Errors
+    /// The seat hasn't changed.
+    /// - HistoryFull, if more than 2^63 - 1 records would be compacted.
+    /// - Memory, if an allocation fails.
     pub fn locked_rotate<R: Wait>(
         &self,
         rt: &R,
@@ -102,8 +115,11 @@ where
         shared.rotate(seat, room)
     }
 
-    /// The records so far, with the base on which they stand, copied under one hold of the lock: nothing changes, and
-    /// no seat is asked for. The only refusal is Memory.
+    /// Copies the records so far, with the base on which they stand, in one critical section. Nothing changes, and no
+    /// seat is needed.
+    ///
+    /// # Errors
+    /// - Memory, if an allocation fails.
     pub fn history<R: Wait>(&self, rt: &R) -> Result<Chapter<O>, Refusal>
         ensures legal { IfOk result (λ chapter. (object : O) × (O.seat_count_of object ≡ N.parts)
             × O.leads chapter.base chapter.records.items object) }

@@ -18,10 +18,10 @@ use std::alloc::Global;
 use std::fmt;
 use std::fmt::{Debug, Display, Formatter, Write};
 
-/// What a place leaves once it is closed.
+/// What a place leaves after it is closed.
 #[derive(Drop)]
 pub struct Closed<O: Leaves> {
-    /// What stands for the records that were folded away.
+    /// The snapshot of the compacted records.
     pub base: O::Base,
     /// The records since, in order.
     pub records: Vec<Record<O::Deed>>,
@@ -31,38 +31,43 @@ pub struct Closed<O: Leaves> {
     pub left: Vec<O::Left>,
 }
 
-/// Why a place was not closed. Its text is the name of the refusal that it is. It holds what comes back, so it is no
-/// error type: a `?` hands it on whole or doesn't compile.
+/// The error of a place that wasn't closed, with all that is returned. Its text is the name of the reason. It is no
+/// error type: a `?` returns it whole or doesn't compile.
 #[derive(Drop)]
 pub enum CloseFault<O: Object, G, N: Ledgers> {
-    /// Fewer seats were given back than were made. The place and the seats come back.
+    /// Fewer seats were given back than were made. The place and the seats are returned.
     SeatMissing {
         /// How many were given back.
         have: u64,
         /// How many were made.
         made: u64,
+        /// The place, as it was.
         place: Place<O, G, N>,
+        /// The seats that were given back.
         seats: Vec<Back<O::Deed, N>>,
     },
-    /// Memory was wanted and not there. The place and the seats come back.
+    /// An allocation failed. The place and the seats are returned.
     Memory {
+        /// The place, as it was.
         place: Place<O, G, N>,
+        /// The seats that were given back.
         seats: Vec<Back<O::Deed, N>>,
     },
-    /// The records of a seat aren't those of its receipts. The book comes back, out of its lock, and the seats, in the
-    /// order of their numbers.
+    /// The records of a seat aren't those of its receipts. The book is returned, out of its lock, and the seats.
     Differs {
         /// The least such seat.
         seat: SeatNo,
         /// The first index at which they differ, counted from 0 among the seat's records.
         index: u64,
+        /// The log.
         book: Book<O>,
+        /// The seats, in the order of their numbers.
         seats: Vec<Back<O::Deed, N>>,
     },
 }
 
 impl<O: Object, G, N: Ledgers> CloseFault<O, G, N> {
-    /// The reason as a refusal: SeatMissing, Memory or Differs.
+    /// Returns the reason: SeatMissing, Memory or Differs.
     pub fn why(&self) -> Refusal
         ensures { result ≡ why_of self.now }
     {
@@ -73,7 +78,10 @@ impl<O: Object, G, N: Ledgers> CloseFault<O, G, N> {
         }
     }
 
-    /// The numbers of the seats that are missing, in rising order; none where no seat is. The only refusal is Memory.
+    /// Returns the numbers of the seats that are missing, in rising order; none if no seat is.
+    ///
+    /// # Errors
+    /// - Memory, if an allocation fails.
     pub fn missing(&self, alloc: Global) -> Result<Vec<SeatNo>, Refusal>
         ensures numbers { IfOk result (λ list. list.items ≡ missing_in self.now) }
         ensures memory { IfErr result (λ why. why ≡ NoMemory) }
@@ -102,7 +110,7 @@ impl<O: Object, G, N: Ledgers> Display for CloseFault<O, G, N> {
     }
 }
 
-/// The reason alone: what comes back need not be such as can be shown.
+/// The reason alone: what is returned need not be one that can be shown.
 impl<O: Object, G, N: Ledgers> Debug for CloseFault<O, G, N> {
     fn fmt<W: Write>(&self, f: &mut Formatter<W>) -> fmt::Result {
         write!(f, "CloseFault({})", self.why())
@@ -114,7 +122,7 @@ where
     O::Base: Drop,
     O::Deed: Drop,
 {
-    /// The reason alone. The place or its book, and the seats, are let go: match the fault to keep them.
+    /// Returns the reason alone, and drops the place or its book, and the seats: match the fault to keep them.
     pub fn into_why(self) -> Refusal
         ensures { result ≡ why_of self }
     {
@@ -127,9 +135,13 @@ where
     O::Base: Drop,
     O::Deed: Same + Drop,
 {
-    /// Ends the place: takes all seats back, in whatever order, compares the records with their receipts, and takes out
-    /// what is left. It refuses SeatMissing exactly where fewer seats are given back than were made, then Memory, then
-    /// Differs where a seat's receipts aren't its records.
+    /// Closes the place: takes all seats back, in any order, compares the records with their receipts, and takes out
+    /// what is left.
+    ///
+    /// # Errors
+    /// - SeatMissing, exactly if fewer seats are given back than were made.
+    /// - Memory, if an allocation fails.
+    /// - Differs, if a seat's receipts aren't its records.
     pub fn close(
         self,
         alloc: Global,

@@ -1,4 +1,4 @@
-//! A drain at a place that threads share.
+//! A bulk poll (a drain) at a place that threads share.
 
 ghost use Rattle.std.specs.Prelude.{◌≡◌, ◌⊎◌, ◌+◌, ◌<◌, ◌≤◌, ◌++◌, ℕ, [], length, map, min, vec_len};
 ghost use Rattle.std.specs.Prelude.{IfOk, IfErr, IfSome};
@@ -20,10 +20,12 @@ use meet_tickets::{Refusal, Refused, SeatNo};
 use std::alloc::Global;
 use std::sync::Wait;
 
-/// Empty lists for what a drain takes: the polls with their receipts, and their answers.
+/// Empty lists for what a drain takes.
 #[derive(Drop)]
 pub struct DrainRoom<O: Drains> {
+    /// The results of the polls with their receipts.
     pub polled: Vec<(O::Answer, Receipt<O::Deed>)>,
+    /// The results of the polls.
     pub answers: Vec<O::Answer>,
 }
 
@@ -53,10 +55,15 @@ fn hand_out<A, D: Copy>(
 }
 
 impl<O: Drains, N: Ledgers> Shared<O, N> {
-    /// `BlockingQueue.drainTo` of a seat under this hold: up to `max` items, and no more than both empty lists and the
-    /// seat's list have room for; one recorded poll after another. It answers the polls' answers in order, and the
-    /// receipts are at the end of the seat's list; the watch is told of each seat that may go on. It refuses what the
-    /// book's `drain` does, for as many items; then seat and lists are as they were.
+    /// Takes up to `max` items for a seat in this critical section, one logged poll after another, and no more than
+    /// both empty lists and the seat's list have room for. Returns the polls' results in order, and puts the receipts
+    /// at the end of the seat's list. The watch is notified of each seat that may go on.
+    ///
+    /// # Errors
+    /// Seat and lists are as they were.
+    /// - The object's own reasons, HistoryFull or Memory, as the book's `drain` of as many items.
+    ///
+    /// Java: `BlockingQueue.drainTo`.
     pub fn drain<W: Watch>(
         &mut self,
         seat: &mut Seat<O::Deed, N>,
@@ -117,7 +124,7 @@ impl<O: Drains, N: Ledgers> Shared<O, N> {
     }
 }
 
-/// Room for a drain of so many items, or none where memory is short.
+/// Room for a drain of so many items, or none if an allocation fails.
 fn room_for<O: Drains>(alloc: Global, items: usize) -> Option<DrainRoom<O>>
     ensures room { IfSome result (λ room. items ≤ vec_capacity room.polled) }
     ensures empty { IfSome result (λ room. (room.polled.items ≡ []) × (room.answers.items ≡ [])) }
@@ -161,7 +168,7 @@ impl Watch for Woken {
 }
 
 impl<O: Drains, G: Gate, N: Ledgers> Place<O, G, N> {
-    /// How many items there are at some time.
+    /// Returns how many items there are at some time.
     pub fn available<R: Wait>(&self, rt: &R) -> u64
         ensures { (object : O) × (O.seat_count_of object ≡ N.parts) × (result ≡ O.available_of object) }
     {
@@ -169,11 +176,17 @@ impl<O: Drains, G: Gate, N: Ledgers> Place<O, G, N> {
         shared.probe().available()
     }
 
-    /// `BlockingQueue.drainTo` of a seat: up to `max` of the items that are there, one recorded poll after another, all
-    /// under one hold, so that the records follow one another. It makes room for `max` items first, the lock being
-    /// free: a `max` that was `available` a moment ago asks for no more room than is of use. The givers are woken once
-    /// the lock is free again. It refuses Memory where that room isn't there, else what the book's `drain` does; then
-    /// the seat's list is as it was.
+    /// Takes up to `max` of the items that are there for a seat, one logged poll after another, all in one critical
+    /// section, so that the records follow one another. It reserves room for `max` items first, without the lock: a
+    /// `max` that was `available` a moment ago reserves no more than is of use. The producers are woken after the lock
+    /// is free again.
+    ///
+    /// # Errors
+    /// The seat's list is as it was.
+    /// - Memory, if that room can't be reserved.
+    /// - The object's own reasons, HistoryFull or Memory, as the book's `drain`.
+    ///
+    /// Java: `BlockingQueue.drainTo`.
     pub fn locked_drain<R: Wait>(
         &self,
         rt: &R,

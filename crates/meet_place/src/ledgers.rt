@@ -1,5 +1,5 @@
-//! The two ledgers of a place: of its records, and of those that were folded away. They go together in all that
-//! follows. Beside them is the counter of its records, and what a seat knows of it.
+//! The two ledgers (ghost counters) of a place: of its records, and of those that were compacted. They go together in
+//! all that follows. Beside them is the counter of its records, and what a seat knows of it.
 
 ghost use Rattle.std.specs.Prelude.{◌≡◌, ◌+◌, ◌<◌, ◌≤◌, ℕ, max};
 ghost use Rattle.meet_place.specs.Ledgers.{AreOf};
@@ -9,16 +9,17 @@ use std::marker::{Brand, Model, PhantomData};
 use std::sync::ledger;
 use std::sync::ledger::{Blank, Ledger, Share};
 
-/// Tells the two ledgers of one place from those of others, and what that place was made with: as a ledger it is that
-/// of the place's records, with a part for each seat, and beside it is that of the records that were folded away.
+/// Distinguishes the two ledgers of one place from those of others, and states what that place was made with. As a
+/// ledger it is that of the place's records, with a part for each seat; beside it is that of the records that were
+/// compacted.
 pub trait Ledgers: Ledger {
-    /// The name of the ledger of what was folded away.
+    /// The name of the ledger of the compacted records.
     ghost folds: { ℕ };
 
     /// The name of the counter of the records.
     ghost moments: { ℕ };
 
-    /// How many records the place has at most at a time.
+    /// The capacity of the place's log, in records.
     ghost cap: { ℕ };
 }
 
@@ -30,7 +31,7 @@ impl Ledgers for Brand {
     ghost cap = { 0 };
 }
 
-/// The ledger of what was folded away. No value of it is made.
+/// The ledger of the compacted records. No value of it is made.
 pub struct Folds<N> {
     of: PhantomData<N>,
 }
@@ -69,13 +70,21 @@ impl NewCounter {
 /// Two new ledgers, which no type stands for yet, with a part for each seat, and a new counter.
 #[derive(Drop)]
 pub struct Blanks {
+    /// The ledger of the records.
     pub records: Blank,
+    /// The ledger of the compacted records.
     pub folds: Blank,
+    /// The counter of the records.
     pub moments: NewCounter,
 }
 
 impl Blanks {
-    /// Two ledgers for so many seats.
+    /// Creates two ledgers for `seats` seats.
+    ///
+    /// # Example
+    /// From `crates/example_jobs/src/main.rt`:
+    ///
+    ///     blanks: Blanks::new(3), // a part for each caller and each worker
     pub fn new(seats: u64) -> Self
         ensures { (result.records.parts ≡ seats) × (result.folds.parts ≡ seats) }
     {
@@ -183,7 +192,7 @@ impl<N: Ledgers> Model for Moment<N> {
 }
 
 impl<N: Ledgers> Moment<N> {
-    /// Returns a copy. It takes no memory, and can be sent to another thread.
+    /// Returns a copy. It doesn't allocate, and can be sent to another thread.
     pub fn again(&self) -> Self
         ensures { result ≡ self.now }
     {
@@ -201,7 +210,7 @@ impl<N: Ledgers> Moment<N> {
     }
 }
 
-/// How many records all shares count together, and how many of these were folded away.
+/// How many records all shares count together, and how many of these were compacted.
 #[derive(Drop)]
 pub struct Totals<N: Ledgers> {
     records: ledger::Book<N>,

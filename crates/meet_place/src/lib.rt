@@ -1,17 +1,17 @@
 #![tactic(auto)]
-//! A place that threads share: a book under a lock, a seat for each thread, and a gate at which each seat waits. It
-//! names no queue.
+//! A place that threads share (a shared object): a log (a book) under a lock, a seat for each thread, and a gate (a
+//! parker) for each seat. The crate names no queue.
 //!
-//! - The lock: a call is one step of the book under one hold. Of a value that a lock guards nothing is known from one
-//!   hold to the next, so a call says that there was a state from which it was the step.
-//! - The ledger: each seat keeps its receipts in a list of its own, which no lock guards. A ghost ledger counts the
-//!   records over all seats; each seat has a share of it, as large as its list, which can't be copied. So no receipt is
-//!   counted twice, and none is missing where all shares are there.
+//! - The lock: a call is one step of the book in one critical section (one hold). Of a value that a lock guards nothing
+//!   is known from one hold to the next, so a call states that there was a state from which it was the step.
+//! - The ledger: each seat keeps its receipts in a list of its own, which no lock guards. A ghost counter (a ledger)
+//!   counts the records over all seats; each seat has a share of it, as large as its list, which can't be copied. So no
+//!   receipt is counted twice, and none is missing if all shares are there.
 //! - The end: `close` takes all seats back, and compares the records with their receipts, seat by seat. So what threads
 //!   did, however they interleaved, is one legal history, with each seat's calls in the seat's order and no others.
 //!
-//! `#[inline(always)]` stands where a call passes on its way down to the book, so that a call is one function from where
-//! a program makes it; and where the lock is tried first. A thread that finds it taken goes on out of line.
+//! `#[inline(always)]` stands where a call passes on its way down to the book, so that a call is one function from
+//! where a program makes it; and where the lock is tried first. A thread that finds it taken goes on out of line.
 
 mod backs;
 mod chapters;

@@ -1,4 +1,4 @@
-//! Which seats are missing where a place isn't closed.
+//! Which seats are missing if a place isn't closed.
 
 ghost use Rattle.std.specs.Prelude.{◌≡◌, IfOk, IfErr};
 ghost use Rattle.meet_tickets.specs.declared.refusals.Refusal.TheVariants.{Memory};
@@ -16,8 +16,11 @@ fn is_back<D: Copy, N: Ledgers>(seats: &[Back<D, N>], number: u64) -> bool
     seats.iter().any(|back| back.number().number() == number)
 }
 
-/// The numbers of those of so many seats that aren't among these, in rising order. It compares each number with each
-/// seat. The only refusal is Memory.
+/// Returns the numbers of those of `made` seats that aren't among these, in rising order. It compares each number with
+/// each seat.
+///
+/// # Errors
+/// - Memory, if an allocation fails.
 pub fn missing_seats<D: Copy, N: Ledgers>(
     alloc: Global,
     made: u64,

@@ -1,5 +1,4 @@
-//! What the places that threads share have in common at their beginning: seats with their ledger, and how the lock is
-//! taken.
+//! The beginning of all places that threads share: seats with their ledger, and how the lock is taken.
 
 ghost use Rattle.std.specs.Prelude.{◌≡◌, ◌≤◌, [], vec_len};
 ghost use Rattle.std.specs.Vec.{vec_capacity};
@@ -19,7 +18,7 @@ use std::thread;
 /// promised.
 const LOCK_TURNS: u64 = 16;
 
-/// Takes a lock, once no other thread has it, and holds it until the guard is let go.
+/// Takes a lock after no other thread has it, and holds it until the guard is dropped.
 #[inline(always)]
 pub fn hold<'a, T, R: Wait>(rt: &R, lock: &'a Mutex<T>) -> MutexGuard<'a, T> {
     match lock.try_lock() {
@@ -28,8 +27,8 @@ pub fn hold<'a, T, R: Wait>(rt: &R, lock: &'a Mutex<T>) -> MutexGuard<'a, T> {
     }
 }
 
-/// The same, but a thread yields twice as often after each try as after the one before, at most `most` times:
-/// who holds the lock may come back at once, and finds what it guards in its cache.
+/// Takes a lock as `hold` does. A thread yields twice as often after each try as after the one before, at most `most`
+/// times: the thread that holds the lock may come back at once, and finds what it guards in its cache.
 #[inline(always)]
 pub fn hold_patiently<'a, T, R: Wait>(rt: &R, lock: &'a Mutex<T>, most: u64) -> MutexGuard<'a, T> {
     match lock.try_lock() {
@@ -57,8 +56,8 @@ fn hold_later<'a, T, R: Wait>(rt: &R, lock: &'a Mutex<T>, most: u64) -> MutexGua
     lock.lock(rt)
 }
 
-/// The totals of two new ledgers, a share of them that has no part, and so many seats, numbered from 0. The empty list
-/// has room for them.
+/// Creates the totals of two new ledgers, a share of them that has no part, and `count` seats, numbered from 0. The
+/// empty list has room for them.
 pub fn open_seats<D: Copy, N: Ledgers>(
     alloc: Global,
     blanks: Blanks,

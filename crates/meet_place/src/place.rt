@@ -26,7 +26,7 @@ use std::marker::Model;
 use std::sync::{Mutex, MutexGuard, Wait};
 use std::time::Clock;
 
-/// What a place is made of.
+/// The parts of a place.
 #[derive(Drop)]
 pub struct NewPlace<O: Object, G> {
     /// The book of a place that has no history yet.
@@ -38,7 +38,7 @@ pub struct NewPlace<O: Object, G> {
 }
 
 /// A book under a lock, and a gate for each seat. A contract sees the number of its seats: what lies under the lock is
-/// changed by all threads, so it is known while one holds the lock, and not else.
+/// changed by all threads, so it is known only while one holds the lock.
 #[derive(Drop)]
 pub struct Place<O: Object, G, N: Ledgers> {
     pub(crate) gates: Vec<CachePadded<G>>,
@@ -67,9 +67,13 @@ pub(crate) fn seat_of(number: usize) -> SeatNo
 }
 
 impl<O: Object, G: Drop, N: Ledgers> Place<O, G, N> {
-    /// A place over the book of a place that has no history yet and as many seats as there are gates, and its seats,
-    /// one for each gate, numbered from 0. It refuses BadSizes exactly where there is no gate or more than 65,536, then
-    /// Memory; then all comes back.
+    /// Creates a place over the book of a place that has no history yet, and its seats, one for each gate, numbered
+    /// from 0.
+    ///
+    /// # Errors
+    /// The parts are returned.
+    /// - BadSizes, exactly if there is no gate or more than 65,536.
+    /// - Memory, if an allocation fails.
     pub fn new(
         alloc: Global,
         parts: NewPlace<O, G>,
@@ -148,7 +152,7 @@ impl<O: Object, G: Drop, N: Ledgers> Place<O, G, N> {
 }
 
 impl<O: Object, G, N: Ledgers> Place<O, G, N> {
-    /// How many seats there are.
+    /// Returns the number of its seats.
     pub fn seats(&self) -> u64
         ensures count { result ≡ self.now }
         ensures parts { result ≡ N.parts }
@@ -157,8 +161,8 @@ impl<O: Object, G, N: Ledgers> Place<O, G, N> {
         self.gates.len() as u64
     }
 
-    /// Takes the lock, once no other thread has it, and holds it until the guard is let go. A step is short, so it
-    /// first lets another thread run a few times, and sleeps only where the lock is held even then.
+    /// Takes the lock after no other thread has it, and holds it until the guard is dropped. A step is short, so it
+    /// first lets another thread run a few times, and sleeps only if the lock is held even then.
     pub fn hold<R: Wait>(&self, rt: &R) -> MutexGuard<'_, Shared<O, N>> {
         hold(rt, &self.shared)
     }
@@ -173,7 +177,7 @@ impl<O: Object, G, N: Ledgers> Place<O, G, N> {
         shared
     }
 
-    /// What this closure answers of the place as it is at some time, under one hold of the lock.
+    /// Returns what this closure returns of the place as it is at some time, in one critical section.
     pub fn look<R: Wait, A, F: FnOnce(&O) -> A>(&self, rt: &R, look: F) -> A
         requires { F.IsAlwaysCallable look }
         ensures { (object : O) × (O.seat_count_of object ≡ N.parts) × FnOnceReturnsAt F.FnOnce look object result }
@@ -182,8 +186,8 @@ impl<O: Object, G, N: Ledgers> Place<O, G, N> {
         look(shared.probe())
     }
 
-    /// Looks at the place as `look`, at a state that isn't older than a moment: a legal history, in which all records up
-    /// to the moment stand, leads to the object that the closure is given.
+    /// Returns what this closure returns of the place, as `look` does, at a state that isn't older than a moment. A
+    /// legal history, in which all records up to the moment stand, leads to the object that the closure is given.
     pub fn look_since<R: Wait, A, F: FnOnce(&O) -> A>(
         &self,
         rt: &R,
@@ -198,8 +202,8 @@ impl<O: Object, G, N: Ledgers> Place<O, G, N> {
         look(shared.probe())
     }
 
-    /// Drops the receipts for the records that are folded away by now from a seat's list. Under the lock it looks how
-    /// many these are; it takes no memory.
+    /// Drops the receipts for the records that are compacted by now from a seat's list. It looks under the lock how
+    /// many these are, and doesn't allocate.
     pub fn trim<R: Wait>(&self, rt: &R, seat: &mut Seat<O::Deed, N>)
         ensures { (base : O.Base) × Trims (O.gone_of base) seat.old seat.new
             × (seat.old.past.folded ≤ O.gone_of base) }
@@ -207,7 +211,7 @@ impl<O: Object, G, N: Ledgers> Place<O, G, N> {
         trim_after(self.hold(rt), seat);
     }
 
-    /// The same with a seat whose ticket is open, and stays open.
+    /// Drops the receipts of a seat whose request is pending, and stays so, as `trim` does.
     pub fn trim_pending<R: Wait>(&self, rt: &R, pending: Pending<O::Deed, N>) -> Pending<O::Deed, N>
         ensures { (base : O.Base) × TrimsPending (O.gone_of base) pending result
             × (pending.past.folded ≤ O.gone_of base) }
@@ -255,9 +259,13 @@ impl<O: Bases, G, N: Ledgers> Place<O, G, N>
 where
     O::Base: Drop,
 {
-    /// A checkpoint of a seat: folds the records away, under one hold of the lock, and answers how many were folded
-    /// away since the first. Those of this time count for the seat. It refuses what the book's `cut` does; then nothing
-    /// has changed.
+    /// Compacts the log for a seat (a checkpoint), in one critical section, and returns how many records were compacted
+    /// since the first. Those of this time count for the seat.
+    ///
+    /// # Errors
+    /// The seat hasn't changed.
+    /// - HistoryFull, if more than 2^63 - 1 records would be compacted.
+    /// - Memory, if the base can't grow.
     pub fn locked_cut<R: Wait>(&self, rt: &R, seat: &mut Seat<O::Deed, N>) -> Result<u64, Refusal>
         ensures gone { IfOk result (λ gone. (book : Booked O O.Base O.Deed)
             × (gone ≡ O.gone_of book.base + length book.records) × (cut_refusal (O.gone_of book.base) book ≡ None)
@@ -273,9 +281,15 @@ where
 }
 
 impl<O: Wakes, G, N: Ledgers> Place<O, G, N> {
-    /// Makes a call of a seat under one hold of the lock: its answer, and whom it should wake, once the lock is free
-    /// again. The seat's list has room for the receipt, so under the lock nothing grows but the book's records. It
-    /// refuses what the book's `step` does; then the seat is as it was, and the call comes back.
+    /// Makes a call of a seat in one critical section. Returns its result, and the seat that it should wake after the
+    /// lock is free again. The seat's list has room for the receipt, so under the lock nothing grows but the book's
+    /// records.
+    ///
+    /// # Errors
+    /// The seat is as it was, and the call is returned.
+    /// - The object's own reasons, for this call.
+    /// - HistoryFull, if the log has no room for the reserved and the required records.
+    /// - Memory, if the object or the log can't grow.
     #[inline(always)]
     pub fn locked_step<R: Wait>(
         &self,
@@ -325,7 +339,7 @@ impl<O: Object, G: Gate, N: Ledgers> Place<O, G, N> {
         }
     }
 
-    /// Waits at the gate of this seat, for this many milliseconds where there is a limit.
+    /// Waits at the gate of this seat, for `limit` milliseconds if there is a limit.
     pub fn wait<R: Wait + Clock>(
         &self,
         rt: &R,

@@ -1,4 +1,4 @@
-//! Seats, and seats whose ticket is open.
+//! Seats, and seats with a pending request (an open ticket).
 
 ghost use Rattle.std.specs.Prelude.{◌≡◌, ◌<◌, ◌≤◌, ◌+◌, ◌^◌, [], length, filter, max, vec_len, IsOk, IfErr, OnOk};
 ghost use Rattle.std.specs.Vec.{vec_capacity};
@@ -16,22 +16,22 @@ use std::fmt;
 use std::fmt::{Debug, Formatter, Write};
 use std::marker::Model;
 
-/// What a seat has behind it.
+/// What a seat has dropped and compacted so far.
 #[derive(Clone, Copy, Debug)]
 pub struct Past {
     /// How many receipts were dropped from its list.
     pub trimmed: u64,
-    /// How many records its checkpoints folded away.
+    /// How many records its checkpoints compacted.
     pub folded: u64,
-    /// How many records had been folded away when it last dropped receipts; 0 before.
+    /// How many records had been compacted when it last dropped receipts; 0 before.
     pub seen: u64,
 }
 
-/// A seat of a place: its number, its receipts, and its share of the number of records, which is the number of the
-/// receipts that it ever got, and of the number of those that were folded away, which is how many its own checkpoints
-/// did. Receipts for records that were folded away can be dropped (`trim` of its place), and are then counted alone. It
-/// is of the one place whose ledgers are `N`, which alone makes its seats, each number once. It has a moment, which is
-/// no earlier than its last record, nor than any other that it was shown: what it calls stands behind it.
+/// A seat (a participant) of a place: its number, its receipts, and its share of the ledgers. The share counts the
+/// receipts that it ever got, and the records that its own checkpoints compacted. Receipts for compacted records can be
+/// dropped (`trim` of its place), and are then only counted. It is of the one place whose ledgers are `N`, which alone
+/// makes its seats, each number once. It has a moment, which is no earlier than its last record, nor than any other
+/// that it was shown: what it calls stands behind it.
 #[derive(Drop)]
 pub struct Seat<D: Copy, N: Ledgers> {
     pub(crate) number: SeatNo,
@@ -89,7 +89,7 @@ impl<D: Copy, N: Ledgers> Seat<D, N> {
         }
     }
 
-    /// The seat's number, which is below the number of seats that its place was made with.
+    /// Returns the seat's number, which is below the number of seats that its place was made with.
     pub fn number(&self) -> SeatNo
         ensures number { result ≡ self.now.number }
         ensures within { result < N.parts }
@@ -97,7 +97,7 @@ impl<D: Copy, N: Ledgers> Seat<D, N> {
         self.number
     }
 
-    /// The seat's receipts so far, in order, without those that were dropped.
+    /// Returns the seat's receipts so far, in order, without those that were dropped.
     pub fn receipts(&self) -> &[Receipt<D>]
         ensures { result.now ≡ self.now.list }
     {
@@ -119,28 +119,28 @@ impl<D: Copy, N: Ledgers> Seat<D, N> {
         self.moment.learn(moment);
     }
 
-    /// How many receipts were dropped.
+    /// Returns how many receipts were dropped.
     pub fn trimmed(&self) -> u64
         ensures { result ≡ self.now.past.trimmed }
     {
         self.past.trimmed
     }
 
-    /// How many records its checkpoints folded away.
+    /// Returns how many records its checkpoints compacted.
     pub fn folded(&self) -> u64
         ensures { result ≡ self.now.past.folded }
     {
         self.past.folded
     }
 
-    /// How many records had been folded away when it last dropped receipts; 0 before.
+    /// Returns how many records had been compacted when it last dropped receipts; 0 before.
     pub fn seen(&self) -> u64
         ensures { result ≡ self.now.past.seen }
     {
         self.past.seen
     }
 
-    /// Drops the receipts for the first `gone` records. It takes no memory.
+    /// Drops the receipts for the first `gone` records. It doesn't allocate.
     pub fn forget(&mut self, gone: u64)
         requires { share_in self.old < 2 ^ 64 }
         ensures { Trims gone self.old self.new }
@@ -150,9 +150,9 @@ impl<D: Copy, N: Ledgers> Seat<D, N> {
         past.seen = gone;
     }
 
-    /// Whether a seat that tends its place, which has `seats` seats and a book of at most `cap` records, looks at the
-    /// book: its list has more receipts than may lie there, and its last record stands more than half of `cap` after
-    /// those that it saw folded away. Then the book may be more than half full.
+    /// Returns true if this seat should take the lock to compact. Its list has more than cap / seats / 4 receipts, and
+    /// its last record stands more than half of `cap` after those that it saw compacted. Then the log may be more than
+    /// half full.
     pub fn is_to_look(&self, cap: u64, seats: u64) -> bool
         requires { seats ≡ N.parts }
         ensures { result ≡ is_to_look cap seats self.now }
@@ -162,15 +162,17 @@ impl<D: Copy, N: Ledgers> Seat<D, N> {
         last.saturating_sub(self.past.seen) > cap / 2 && self.list.len() as u64 > cap / seats / 4
     }
 
-    /// How many more receipts its list has room for.
+    /// Returns how many more receipts its list has room for.
     pub fn room(&self) -> usize
         ensures { result ≡ self.now.room }
     {
         self.list.capacity() - self.list.len()
     }
 
-    /// Makes room for so many receipts, ahead of a call. The only refusal is Memory, and never where there is so much;
-    /// then nothing has changed.
+    /// Makes room for `receipts` receipts, ahead of a call.
+    ///
+    /// # Errors
+    /// - Memory, if an allocation fails, and never if there is that room; nothing has changed.
     pub fn reserve(&mut self, receipts: usize) -> Result<(), Refusal>
         ensures room { OnOk result (receipts ≤ self.new.room) }
         ensures more { self.old.room ≤ self.new.room }
@@ -210,8 +212,8 @@ fn drop_folded<D: Copy>(list: &mut Vec<Receipt<D>>, gone: u64) -> u64
     (all - list.len()) as u64
 }
 
-/// A seat whose ticket is open, with the mark that its request brought, where it brought an item. Its list has room for
-/// the receipt of the ending.
+/// A seat with a pending request (an open ticket), and the mark that its request brought, if it brought an item. Its
+/// list has room for the receipt of the completion.
 #[derive(Drop)]
 pub struct Pending<D: Copy, N: Ledgers> {
     seat: Seat<D, N>,
@@ -246,7 +248,8 @@ impl<D: Copy, N: Ledgers> Debug for Pending<D, N> {
 }
 
 impl<D: Copy, N: Ledgers> Pending<D, N> {
-    /// This seat, which has room for one receipt more, with its open ticket and the mark that its request brought.
+    /// Makes the pending request of this seat, which has room for one receipt more, with its ticket and the mark that
+    /// its request brought.
     pub fn new(seat: Seat<D, N>, ticket: Ticket, mark: Option<u64>) -> Self
         requires room { 0 < seat.room }
         ensures { result ≡ record {
@@ -261,7 +264,7 @@ impl<D: Copy, N: Ledgers> Pending<D, N> {
         Pending { seat, ticket, mark }
     }
 
-    /// The seat's number, which is below the number of seats that its place was made with.
+    /// Returns the seat's number, which is below the number of seats that its place was made with.
     pub fn number(&self) -> SeatNo
         ensures number { result ≡ self.now.number }
         ensures within { result < N.parts }
@@ -269,21 +272,21 @@ impl<D: Copy, N: Ledgers> Pending<D, N> {
         self.seat.number()
     }
 
-    /// The open ticket.
+    /// Returns the open ticket.
     pub fn ticket(&self) -> Ticket
         ensures { result ≡ self.now.ticket }
     {
         self.ticket
     }
 
-    /// The mark that the ticket's request brought; none where it brought no item.
+    /// Returns the mark that the request brought; none if it brought no item.
     pub fn mark(&self) -> Option<u64>
         ensures { result ≡ self.now.mark }
     {
         self.mark
     }
 
-    /// The seat's receipts so far, in order.
+    /// Returns the seat's receipts so far, in order.
     pub fn receipts(&self) -> &[Receipt<D>]
         ensures { result.now ≡ self.now.list }
     {
@@ -297,14 +300,14 @@ impl<D: Copy, N: Ledgers> Pending<D, N> {
         self.seat.moment()
     }
 
-    /// Raises the seat's moment, as `Seat::learn` does. The ending of the ticket stands behind it.
+    /// Raises the seat's moment, as `Seat::learn` does. The completion of the request stands behind it.
     pub fn learn(&mut self, moment: &Moment<N>)
         ensures { self.new ≡ record self.old { moment = max self.old.moment moment.now } }
     {
         self.seat.learn(moment);
     }
 
-    /// The seat, which has room for the receipt of the ending; the ticket, and the mark.
+    /// Returns the seat, which has room for the receipt of the completion, the ticket, and the mark.
     pub fn into_parts(self) -> (Seat<D, N>, Ticket, Option<u64>)
         ensures room { 0 < result.0.room }
         ensures number { result.0.number ≡ self.number }
@@ -322,14 +325,14 @@ impl<D: Copy, N: Ledgers> Pending<D, N> {
 /// A seat that is given back at the end.
 #[derive(Debug, Drop)]
 pub enum Back<D: Copy, N: Ledgers> {
-    /// One without an open ticket.
+    /// A seat without a pending request.
     Free(Seat<D, N>),
-    /// One whose ticket is still open.
+    /// A seat whose request is still pending.
     Held(Pending<D, N>),
 }
 
 impl<D: Copy, N: Ledgers> Back<D, N> {
-    /// The seat's number, which is below the number of seats that its place was made with.
+    /// Returns the seat's number, which is below the number of seats that its place was made with.
     pub fn number(&self) -> SeatNo
         ensures number { result ≡ number_of self.now }
         ensures within { result < N.parts }
@@ -340,7 +343,7 @@ impl<D: Copy, N: Ledgers> Back<D, N> {
         }
     }
 
-    /// The seat's receipts so far, in order.
+    /// Returns the seat's receipts so far, in order.
     pub fn receipts(&self) -> &[Receipt<D>]
         ensures { result.now ≡ list_of self.now }
     {

@@ -1,4 +1,4 @@
-//! What the places that threads share have in common at their end.
+//! The end of all places that threads share.
 
 ghost use Rattle.std.specs.Prelude.{◌≡◌, ◌+◌, ◌<◌, ◌≤◌, ◌^◌, List, length, map, IfSome, IfOk, IfErr, [], vec_len};
 ghost use Rattle.std.specs.Vec.{vec_capacity};
@@ -15,7 +15,7 @@ use meet_book::{Book, Object, Receipt, Same, compare};
 use meet_tickets::{Record, SeatNo};
 use std::alloc::Global;
 
-/// Empty lists, each with room for so many seats.
+/// Empty lists, each with room for as many seats.
 #[derive(Drop)]
 pub struct SeatRoom<D: Copy, N: Ledgers> {
     bares: Vec<BareSeat<D, N>>,
@@ -31,7 +31,7 @@ pub struct SeatRoom<D: Copy, N: Ledgers> {
 }
 
 impl<D: Copy + Drop, N: Ledgers> SeatRoom<D, N> {
-    /// Room for so many seats, or none where memory is short.
+    /// Makes room for `seats` seats; returns None if out of memory.
     pub fn new(alloc: Global, seats: usize) -> Option<Self>
         ensures { IfSome result (λ room. room.seats ≡ seats) }
     {
@@ -47,8 +47,9 @@ impl<D: Copy + Drop, N: Ledgers> SeatRoom<D, N> {
 /// What a place leaves at its end.
 #[derive(Drop)]
 pub struct Settled<O: Object> {
+    /// The object, as it is at the end.
     pub object: O,
-    /// What stands for the records that were folded away.
+    /// The snapshot of the compacted records.
     pub base: O::Base,
     /// The records since, in order.
     pub records: Vec<Record<O::Deed>>,
@@ -56,20 +57,23 @@ pub struct Settled<O: Object> {
     pub lists: Vec<Vec<Receipt<O::Deed>>>,
 }
 
-/// The records of a seat aren't those of its receipts.
+/// The error of a place whose records of a seat aren't those of its receipts.
 #[derive(Drop)]
 pub struct Unsettled<O: Object, N: Ledgers> {
     /// The least such seat.
     pub seat: SeatNo,
     /// The first index at which they differ.
     pub index: u64,
+    /// The log.
     pub book: Book<O>,
     /// The seats, in the order of their numbers.
     pub seats: Vec<Back<O::Deed, N>>,
 }
 
-/// Takes all seats of a place back, and compares its records with their receipts. It takes no memory. Where they differ
-/// the book and the seats come back.
+/// Takes all seats of a place back, and compares its records with their receipts. It doesn't allocate.
+///
+/// # Errors
+/// - `Unsettled`, if a seat's receipts aren't its records: the book and the seats are returned.
 pub fn settle<O: Object, N: Ledgers>(
     shared: Shared<O, N>,
     mut seats: Vec<Back<O::Deed, N>>,

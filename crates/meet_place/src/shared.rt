@@ -14,12 +14,13 @@ use meet_book::{Bases, Book, Object};
 use meet_tickets::{Refusal, Refused};
 use std::marker::Model;
 
-/// A book beside two ledgers: the total of the one is the number of the book's records, those that were folded away
-/// included, that of the other the number of these. Where none were, the base is that of no records. The book's object
-/// has as many seats as the ledgers have parts, and the book the cap that they tell. A contract sees it as the book.
+/// A book beside two ledgers: the total of the one is the number of the book's records, the compacted ones included,
+/// that of the other the number of the compacted ones. If none were compacted, the base is that of no records. The
+/// book's object has as many seats as the ledgers have parts, and the book the cap that they state. A contract sees it
+/// as the book.
 ///
-/// It begins with a line of the processor's that nobody reads, in the order that is written here: the word of the lock
-/// stands before it, and threads that look whether the lock is free don't take the book's line from who holds it.
+/// 64 bytes of padding (kept by `repr(C)`) put the mutex word and the book on different cache lines, against false
+/// sharing.
 #[derive(Drop)]
 #[repr(C)]
 pub struct Shared<O: Object, N: Ledgers> {
@@ -47,7 +48,8 @@ impl<O: Object, N: Ledgers> Model for Shared<O, N> {
 }
 
 impl<O: Object, N: Ledgers> Shared<O, N> {
-    /// A book whose object has a seat for each part, the totals of both ledgers, and a share that has no part.
+    /// Puts a book, whose object has a seat for each part, beside the totals of both ledgers and a share that has no
+    /// part.
     pub fn new(book: Book<O>, total: Totals<N>, rest: Stake<N>) -> Self
         requires total { O.gone_of book.base + length book.records ≡ total.total }
         requires folds { O.gone_of book.base ≡ total.folds }
@@ -65,7 +67,7 @@ impl<O: Object, N: Ledgers> Shared<O, N> {
         }
     }
 
-    /// The object itself, to be looked at.
+    /// Returns the object itself, to be read.
     pub fn probe(&self) -> &O
         ensures object { result.now ≡ self.now.object }
         ensures seats { O.seat_count_of result.now ≡ N.parts }
@@ -97,7 +99,7 @@ impl<O: Object, N: Ledgers> Shared<O, N> {
         self.book.cap() < 2 * self.book.records().len() as u64
     }
 
-    /// The book, the totals of both ledgers, and a share that has no part.
+    /// Returns the book, the totals of both ledgers, and a share that has no part.
     pub fn into_parts(self) -> (Book<O>, Totals<N>, Stake<N>)
         ensures book { result.0 ≡ self }
         ensures total { O.gone_of result.0.base + length result.0.records ≡ result.1.total }
@@ -115,8 +117,13 @@ impl<O: Object, N: Ledgers> Shared<O, N> {
         (book, total, rest)
     }
 
-    /// Makes a call of a seat, whose list has room for its receipt. It refuses what the book's `step` does; then the
-    /// seat is as it was, and the call comes back.
+    /// Makes a call of a seat, whose list has room for its receipt.
+    ///
+    /// # Errors
+    /// The seat is as it was, and the call is returned.
+    /// - The object's own reasons, for this call.
+    /// - HistoryFull, if the log has no room for the reserved and the required records.
+    /// - Memory, if the object or the log can't grow.
     #[inline(always)]
     pub fn step(
         &mut self,
@@ -173,7 +180,7 @@ impl<O: Object, N: Ledgers> Shared<O, N> {
         Ok(answer)
     }
 
-    /// How many records were folded away, looked at for a seat, whose share is no more than all records.
+    /// Returns how many records were compacted, checked for a seat, whose share is no more than all records.
     pub fn gone_for(&mut self, seat: &mut Seat<O::Deed, N>) -> u64
         ensures gone { result ≡ O.gone_of self.old.base }
         ensures folded { seat.old.past.folded ≤ result }
@@ -194,9 +201,13 @@ impl<O: Bases, N: Ledgers> Shared<O, N>
 where
     O::Base: Drop,
 {
-    /// A checkpoint of a seat: folds the records away, as the book's `cut`, and counts them for the seat. It is refused
-    /// as `cut` is, and then nothing has changed. Where there never was a record, nothing is folded: the base of no
-    /// records stays.
+    /// Compacts the log for a seat (a checkpoint), as the book's `cut`, and counts the records for the seat. If there
+    /// never was a record, nothing is compacted, and the base of no records stays.
+    ///
+    /// # Errors
+    /// Nothing has changed.
+    /// - HistoryFull, if more than 2^63 - 1 records would be compacted.
+    /// - Memory, if the base can't grow.
     pub fn cut(&mut self, seat: &mut Seat<O::Deed, N>) -> Result<u64, Refusal>
         ensures counted { IfOk result (λ _. Checkpoints (length self.old.records) seat.old seat.new) }
         ensures same { IfErr result (λ _. seat.new ≡ seat.old) }

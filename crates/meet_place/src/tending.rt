@@ -1,4 +1,5 @@
-//! A seat tends its place: where each does so behind each call, the history never fills, and the lists stay short.
+//! Compaction by the seats of a place: if each calls `tend` after each call, the log doesn't fill (tested, not proved),
+//! and the lists stay short.
 
 ghost use Rattle.std.specs.Prelude.{◌≡◌, ◌⊎◌, ◌+◌, ◌<◌, ◌≤◌, ◌^◌, length, true, false, IsOk, IfOk, IfErr};
 ghost use Rattle.meet_tickets.specs.Refusals.{IsWhy};
@@ -43,8 +44,13 @@ where
         }
     }
 
-    /// A seat looks at the book: a checkpoint where it is more than half full, and how many records are folded away
-    /// then. It is refused as `cut` is, and then nothing has changed.
+    /// Compacts the book if it is more than half full (a checkpoint of the seat). Returns how many records are
+    /// compacted then.
+    ///
+    /// # Errors
+    /// Nothing has changed.
+    /// - HistoryFull, if more than 2^63 - 1 records would be compacted.
+    /// - Memory, if the base can't grow.
     pub fn look_after(&mut self, seat: &mut Seat<O::Deed, N>) -> (Result<(), Refusal>, u64)
         ensures fits { share_in seat.new < 2 ^ 64 }
         ensures gone { IfOk result.0 (λ _. result.1 ≡ O.gone_of self.old.base + to_fold self.old) }
@@ -81,10 +87,15 @@ where
         shared.look_after(seat)
     }
 
-    /// Looks at the seat's own list. If more receipts lie there than may, and the book may be more than half full by the
-    /// last of them (`is_to_look`), it takes the lock once, folds the records away if the book is, which count for the
-    /// seat then, and drops the seat's receipts for all that is folded away. Else it does nothing. It takes no memory
-    /// but for the base. It is refused as the book's `cut` is, and the receipts are dropped then too.
+    /// Compacts the log if it is more than half full. It takes the lock, once, only on two conditions: the seat's own
+    /// list has more receipts than may lie there, and the last of them shows that the log may be more than half full
+    /// (`is_to_look`). Then the seat's receipts for all that is compacted are dropped. Otherwise it does nothing. It
+    /// allocates only for the base.
+    ///
+    /// # Errors
+    /// The records stay; the seat's receipts for what was compacted before are dropped.
+    /// - HistoryFull, if more than 2^63 - 1 records would be compacted.
+    /// - Memory, if the base can't grow.
     pub fn tend<R: Wait>(&self, rt: &R, seat: &mut Seat<O::Deed, N>) -> Result<(), Refusal>
         ensures few { length seat.old.list ≤ may_lie N.cap N.parts → IsOk result × (seat.new ≡ seat.old) }
         ensures idle { is_to_look N.cap N.parts seat.old ≡ false → IsOk result × (seat.new ≡ seat.old) }

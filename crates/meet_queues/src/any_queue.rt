@@ -1,4 +1,4 @@
-//! The queue of a place, whatever its kind.
+//! A queue of any kind.
 
 ghost use Rattle.std.specs.Prelude.{◌≡◌, ◌≤◌, ◌<◌, true, None, refl, IfOk, IfErr};
 ghost use Rattle.meet_tickets.specs.declared.places.Side.TheVariants.{Taker};
@@ -24,7 +24,7 @@ use meet_transfer::Transfer;
 use std::alloc::Global;
 use std::marker::Model;
 
-/// A queue of numbers that meets, waits and keeps as a place of its kind.
+/// A queue of numbers that meets, waits and buffers as a place of its kind.
 #[derive(Drop)]
 pub struct AnyQueue {
     queue: ByKind,
@@ -51,8 +51,11 @@ impl AnyQueue {
     ghost use Rattle.meet_tickets.specs.Meeting.{FitsBound};
     ghost use Rattle.meet_queues.specs.Probes.{size_of, remaining_of, peek_of};
 
-    /// A queue of this kind, with this many seats, at most 65,536, and this first ticket, 1 to 2^63 - 1. Only a
-    /// transfer queue may have a bound, 1 to 1,048,576. The only refusal is Memory.
+    /// Creates a queue of this kind, with this many seats, at most 65,536, and this first ticket, 1 to 2^63 - 1. Only a
+    /// transfer queue may have a bound, 1 to 1,048,576.
+    ///
+    /// # Errors
+    /// - Memory, if an allocation fails.
     pub fn new(alloc: Global, kind: Kind, seats: u64, first: u64) -> Result<Self, Refusal>
         requires bound { FitsBound kind.order kind.bound }
         requires seats { seats ≤ most_seats }
@@ -76,7 +79,7 @@ impl AnyQueue {
         Ok(AnyQueue { queue })
     }
 
-    /// The seat's open ticket, if it has one.
+    /// Returns the seat's open ticket, if it has one.
     pub fn open_ticket(&self, seat: SeatNo) -> Option<Ticket>
         ensures { result ≡ open_ticket ((seats_of self.now.queue).holds seat) }
     {
@@ -87,7 +90,7 @@ impl AnyQueue {
         }
     }
 
-    /// How many open tickets stand in the line.
+    /// Returns how many pending requests stand in the wait queue.
     pub fn waiting(&self) -> u64
         ensures { result ≡ waiting_count self.now.queue.line }
     {
@@ -98,7 +101,7 @@ impl AnyQueue {
         }
     }
 
-    /// How many open tickets were met or cut, and await their follow-up.
+    /// Returns how many pending requests were matched or interrupted, and await their follow-up.
     pub fn uncollected(&self) -> u64
         ensures { result ≡ settled_of (count_of self.now.queue) (seats_of self.now.queue).holds }
     {
@@ -109,7 +112,7 @@ impl AnyQueue {
         }
     }
 
-    /// How many items are kept; a synchronous queue keeps none.
+    /// Returns how many items are buffered; a synchronous queue buffers none.
     pub fn kept(&self) -> u64
         ensures { result ≡ kept_count self.now.queue.line }
     {
@@ -126,7 +129,10 @@ impl AnyQueue {
         }
     }
 
-    /// `Collection.size`: the givers in the line, kept or waiting; a synchronous queue is always empty.
+    /// Returns how many producers stand in the wait queue, buffered items included; a synchronous queue is always
+    /// empty.
+    ///
+    /// Java: `Collection.size`.
     pub fn size(&self) -> u64
         ensures { result ≡ size_of self.now.kind.order self.now.queue.line }
     {
@@ -137,7 +143,9 @@ impl AnyQueue {
         }
     }
 
-    /// `BlockingQueue.remainingCapacity`: a synchronous queue has none, a transfer queue is said to be unbounded.
+    /// Returns 0 of a synchronous queue, and 2,147,483,647 of a transfer queue.
+    ///
+    /// Java: `BlockingQueue.remainingCapacity`.
     pub fn remaining_capacity(&self) -> u64
         ensures { result ≡ remaining_of self.now.kind.order }
     {
@@ -148,7 +156,9 @@ impl AnyQueue {
         }
     }
 
-    /// `Queue.peek`: the mark of the first giver's item; a synchronous queue shows none.
+    /// Returns the mark of the first producer's item; none of a synchronous queue.
+    ///
+    /// Java: `Queue.peek`.
     pub fn peek_mark(&self) -> Option<u64>
         ensures { result ≡ peek_of self.now.kind.order self.now.queue.line }
     {
@@ -159,7 +169,9 @@ impl AnyQueue {
         }
     }
 
-    /// `LinkedTransferQueue.getWaitingConsumerCount`: the takers in the line of a transfer queue.
+    /// Returns how many consumers stand in the wait queue of a transfer queue.
+    ///
+    /// Java: `LinkedTransferQueue.getWaitingConsumerCount`.
     pub fn waiting_consumers(&self) -> u64
         requires { keeps self.now.kind.order ≡ true }
         ensures { result ≡ count_on Taker self.now.queue.line }

@@ -1,4 +1,4 @@
-//! Books of new queues.
+//! The logs (the books) of new queues.
 
 ghost use Rattle.std.specs.Prelude.{◌≡◌, ◌<◌, ◌≤◌, [], IfOk, IfErr};
 ghost use Rattle.meet_tickets.specs.BySeat.{nobody};
@@ -14,8 +14,16 @@ use meet_tickets::{Marked, Refusal};
 use meet_transfer::Transfer;
 use std::alloc::Global;
 
-/// The book of a new synchronous queue with this many seats, at most 65,536, this first ticket, 1 to 2^63 - 1, and at
-/// most this many records, 1 to 1,048,576. The only refusal is Memory.
+/// Creates the log of a new synchronous queue with this many seats, at most 65,536, and this first ticket, 1 to 2^63 -
+/// 1. `cap` is its capacity in records, 1 to 1,048,576.
+///
+/// # Errors
+/// - Memory, if an allocation fails.
+///
+/// # Example
+/// From `crates/example_one_thread/src/recorded.rt`:
+///
+///     let mut book: Book<Dual<Parcel, FairLine<Parcel>>> = queue_book(alloc, 3, 1, 1_000)?; // at most 1,000 records
 pub fn queue_book<T: Marked, L: Line<T>>(
     alloc: Global,
     seats: u64,
@@ -40,9 +48,11 @@ pub fn queue_book<T: Marked, L: Line<T>>(
     Ok(Book::new(alloc, queue, cap))
 }
 
-/// The book of a new transfer queue with this many seats, at most 65,536, this first ticket, 1 to 2^63 - 1, this
-/// bound on the items that it keeps, or none, and at most this many records, 1 to 1,048,576. The only refusal is
-/// Memory.
+/// Creates the log of a new transfer queue with this many seats, at most 65,536, and this first ticket, 1 to 2^63 - 1.
+/// `bound` is the most items that it buffers, if there is a bound. `cap` is its capacity in records, 1 to 1,048,576.
+///
+/// # Errors
+/// - Memory, if an allocation fails.
 pub fn transfer_book<T: Marked>(
     alloc: Global,
     seats: u64,

@@ -1,4 +1,4 @@
-//! A queue of any kind as a place under a book, and the books of new queues: what stands on both kinds of queue.
+//! A queue of any kind as a book's object, and the books of new queues: what stands on both kinds of queue.
 #![tactic(auto)]
 
 mod any_queue;

@@ -1,4 +1,4 @@
-//! Books of new queues, with room for what is coming: so that no call, below a number of records, grows anything.
+//! Logs of new queues with room for what is coming: so that no call, below a number of records, allocates.
 
 ghost use Rattle.std.specs.Prelude.{◌≡◌, ◌<◌, ◌≤◌, [], IfOk, IfErr};
 ghost use Rattle.meet_tickets.specs.BySeat.{nobody};
@@ -12,12 +12,15 @@ use meet_core::QueuePlace;
 use meet_tickets::{Marked, Refusal};
 use std::alloc::Global;
 
-/// For how many records a ready book has room at first, where its cap isn't less.
+/// The records for which a ready book has room at first, if its cap isn't less.
 pub const READY_RECORDS: u64 = 4_096;
 
-/// The book of a new queue with this many seats, at most 65,536, and at most this many records, 1 to 1,048,576; its
-/// first ticket is 1. The line has room for a waiting request of every seat, and the book for the records up to its cap
-/// or `READY_RECORDS`, the lesser. The only refusal is Memory; it asks no `Drop` of the items or the line.
+/// Creates the log of a new queue with this many seats, at most 65,536; its first ticket is 1. `cap` is its capacity in
+/// records, 1 to 1,048,576. The wait queue has room for a waiting request of every seat, and the book for the records
+/// up to its cap or `READY_RECORDS`, the lesser. It requires no `Drop` of the items or the wait queue.
+///
+/// # Errors
+/// - Memory, if an allocation fails.
 pub fn ready_book<O: QueuePlace>(alloc: Global, seats: u64, cap: u64) -> Result<Book<O>, Refusal>
     requires seats { seats ≤ most_seats }
     requires cap_from { 0 < cap }

@@ -1,6 +1,6 @@
-//! Texts of a meeting place, in three rooms: what all texts have in common (`text`); scripts, one thread's calls and
-//! their replies (`script`); and traces, a place's records (`trace`). What a call answers and what a record may be, it
-//! has from `meet_history`. It knows no threads.
+//! Texts of a place, in three modules: what all texts have in common (`text`); scripts, one thread's calls and their
+//! replies (`script`); and traces, a place's records (`trace`). What a call returns and what a record may be is defined
+//! in `meet_history`. The crate knows no threads.
 #![tactic(auto)]
 
 pub mod script;

@@ -1,4 +1,4 @@
-//! What texts of every kind have in common: lines that are read without taking memory, words and numbers, what is
+//! What texts of every kind have in common: lines that are read without an allocation, words and numbers, what is
 //! written, and what stops a text.
 
 pub(crate) mod blocks;

@@ -1,4 +1,5 @@
-//! Traces: a place's records as text, with a base or without; written, checked, erased, and chained chapter by chapter.
+//! Traces: a place's log as text, with a snapshot (a base) or without; written, checked, erased (projected), and
+//! chained chapter by chapter.
 
 pub mod base_grammar;
 pub mod base_spellings;

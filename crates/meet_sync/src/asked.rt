@@ -1,4 +1,5 @@
-//! What a seat asks of a queue, and what it is answered. Each answer brings the seat back, free or with an open ticket.
+//! What a seat asks of a queue, and the results. Each result returns the seat, free or with a pending request (an open
+//! ticket).
 
 ghost use Rattle.std.specs.Prelude.{◌≡◌};
 ghost use Rattle.meet_sync.specs.Asking.{item_of, call_of, brought};
@@ -10,34 +11,34 @@ use meet_tickets::{Deed, Marked, Refusal, Ticket};
 use std::fmt;
 use std::fmt::{Debug, Display, Formatter, Write};
 
-/// A request that a queue settles, or that waits.
+/// A request, which a queue settles at once or lets wait.
 #[derive(Debug, Drop)]
 pub enum Request<T> {
-    /// A give that a transfer queue never lets wait, since it keeps the item: `LinkedTransferQueue.put`. In a
+    /// Gives an item. In a transfer queue it never waits, since the item is buffered: `LinkedTransferQueue.put`. In a
     /// synchronous queue it waits: `SynchronousQueue.put`.
     Put(T),
-    /// A give that waits for a taker: `SynchronousQueue.put`, `LinkedTransferQueue.transfer`.
+    /// Gives an item, and waits for a consumer: `SynchronousQueue.put`, `LinkedTransferQueue.transfer`.
     Give(T),
-    /// A give to a taker that waits: `SynchronousQueue.offer`, `LinkedTransferQueue.tryTransfer`.
+    /// Gives an item to a consumer that waits: `SynchronousQueue.offer`, `LinkedTransferQueue.tryTransfer`.
     Offer(T),
-    /// A take that waits for a giver: `take` of both.
+    /// Takes an item, and waits for a producer: `take` of both.
     Take,
-    /// A take from a giver that is there: `poll` of both.
+    /// Takes an item from a producer that is there: `poll` of both.
     Poll,
 }
 
-/// The answer to a request that was settled at once.
+/// The result of a request that was settled at once.
 #[derive(Debug, Drop)]
 pub enum Answer<T> {
-    /// The item went to the taker with this ticket.
+    /// The item went to the consumer with this ticket.
     Gave(Ticket),
-    /// The item came from the giver with this ticket.
+    /// The item came from the producer with this ticket.
     Got(Ticket, T),
-    /// Nobody was there; a giver's item comes back.
+    /// No counterpart was there; a producer's item is returned.
     Failed(Option<T>),
-    /// The item is kept in the line, and its giver goes on.
+    /// The item is buffered, and its producer goes on.
     Kept,
-    /// It would have waited, and its seat was flagged; a giver's item comes back.
+    /// It would have waited, and its seat had a pending interrupt (was flagged); a producer's item is returned.
     EntryInterrupted(Option<T>),
 }
 
@@ -46,12 +47,12 @@ pub enum Answer<T> {
 pub enum Asked<T, N: Ledgers> {
     /// It was settled at once.
     Settled(Seat<Deed, N>, Answer<T>),
-    /// It waits in the line: its ticket is open.
+    /// It waits in the wait queue: its ticket is pending (open).
     Parked(Pending<Deed, N>),
 }
 
-/// A call that was refused: nothing was written, and the seat and the item come back. Its text is the name of the
-/// reason. It is no error type, and no `From` makes it a `Refusal`: a `?` hands it on whole or doesn't compile.
+/// The error of a call: nothing was logged, and the seat and the item are returned. Its text is the name of the reason.
+/// It is no error type, and no `From` makes it a `Refusal`: a `?` returns it whole or doesn't compile.
 // The seat stands first, as in `Ended` and `Asked`, so that it lies at the same place in both variants of a result. Were
 // it a word further here, each layer that hands a result on would take the seat's words apart, into one byte and seven.
 #[derive(Drop)]
@@ -60,7 +61,7 @@ pub struct SeatRefused<T, N: Ledgers> {
     pub seat: Seat<Deed, N>,
     /// The item that the call brought.
     pub item: Option<T>,
-    /// Why.
+    /// The reason.
     pub why: Refusal,
 }
 
@@ -76,7 +77,7 @@ impl<T, N: Ledgers> Display for SeatRefused<T, N> {
     }
 }
 
-/// The reason alone: what comes back need not be such as can be shown.
+/// The reason alone: what is returned need not be one that can be shown.
 impl<T, N: Ledgers> Debug for SeatRefused<T, N> {
     fn fmt<W: Write>(&self, f: &mut Formatter<W>) -> fmt::Result {
         write!(f, "SeatRefused({})", self.why)
@@ -84,7 +85,7 @@ impl<T, N: Ledgers> Debug for SeatRefused<T, N> {
 }
 
 impl<T: Drop, N: Ledgers> SeatRefused<T, N> {
-    /// The reason alone. The seat and the item are let go: match the refusal to keep them, since a queue is closed
+    /// Returns the reason alone, and drops the seat and the item: match the error to keep them, since a queue is closed
     /// with all of its seats.
     pub fn into_why(self) -> Refusal
         ensures { result ≡ self.why }
@@ -93,55 +94,55 @@ impl<T: Drop, N: Ledgers> SeatRefused<T, N> {
     }
 }
 
-/// The answer to a follow-up.
+/// The result of a follow-up.
 #[derive(Debug, Drop)]
 pub enum Followed<T, N: Ledgers> {
-    /// The giver was met.
+    /// The producer was matched.
     Done(Seat<Deed, N>),
-    /// The taker was met: the item came from the giver with this ticket.
+    /// The consumer was matched: the item came from the producer with this ticket.
     Got(Seat<Deed, N>, Ticket, T),
-    /// The ticket was cut; a giver's item comes back.
+    /// The request was interrupted; a producer's item is returned.
     Interrupted(Seat<Deed, N>, Option<T>),
-    /// The ticket still stands in the line, and nothing was written.
+    /// The request still waits in the wait queue, and nothing was logged.
     NotYet(Pending<Deed, N>),
 }
 
-/// The answer to a cancel or an expiry.
+/// The result of a cancel or an expiry.
 #[derive(Debug, Drop)]
 pub enum TakenBack<T, N: Ledgers> {
-    /// The ticket left the line; a giver's item comes back.
+    /// The request left the wait queue; a producer's item is returned.
     Back(Seat<Deed, N>, Option<T>),
-    /// The ticket was met or cut before, and nothing was written: a follow-up ends it.
+    /// The request was matched or interrupted before, and nothing was logged: a follow-up completes it.
     Late(Pending<Deed, N>),
 }
 
-/// The answer to an interrupt.
+/// The result of an interrupt.
 #[derive(Debug, Drop)]
 pub enum Interrupted<N: Ledgers> {
-    /// This ticket of the target's was cut.
+    /// This request of the target's, which waited, was interrupted.
     Cut(Seat<Deed, N>, Ticket),
-    /// The target doesn't stand in the line: it is flagged.
+    /// The target doesn't wait: its interrupt is pending (it is flagged).
     Flagged(Seat<Deed, N>),
 }
 
 /// How a whole call ended.
 #[derive(Debug, Drop)]
 pub enum End<T> {
-    /// The item went to the taker with this ticket.
+    /// The item went to the consumer with this ticket.
     Gave(Ticket),
-    /// The item came from the giver with this ticket.
+    /// The item came from the producer with this ticket.
     Got(Ticket, T),
-    /// Nobody was there; a giver's item comes back.
+    /// No counterpart was there; a producer's item is returned.
     Failed(Option<T>),
-    /// The item is kept in the line, and its giver goes on.
+    /// The item is buffered, and its producer goes on.
     Kept,
-    /// It would have waited, and its seat was flagged; a giver's item comes back.
+    /// It would have waited, and its seat had a pending interrupt (was flagged); a producer's item is returned.
     EntryInterrupted(Option<T>),
-    /// The giver waited, and was met.
+    /// The producer waited, and was matched.
     Done,
-    /// The ticket waited, and was cut; a giver's item comes back.
+    /// The request waited, and was interrupted; a producer's item is returned.
     Interrupted(Option<T>),
-    /// The ticket waited, and its time ran out; a giver's item comes back.
+    /// The request waited, and its time ran out; a producer's item is returned.
     TimedOut(Option<T>),
 }
 
@@ -155,7 +156,7 @@ pub struct Ended<T, N: Ledgers> {
 }
 
 impl<T> Request<T> {
-    /// The item that it brings.
+    /// Returns the item that it brings.
     pub fn into_item(self) -> Option<T>
         ensures { result ≡ item_of self }
     {
@@ -192,7 +193,7 @@ impl<T: Marked> Request<T> {
 }
 
 impl<T> Answer<T> {
-    /// The end of a whole call that was settled so.
+    /// Returns the end of a whole call that was settled so.
     pub fn into_end(self) -> End<T>
         ensures { result ≡ end_of self }
     {

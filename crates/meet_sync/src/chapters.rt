@@ -1,5 +1,4 @@
-//! A queue for threads that lives long: its history is tended, handed out chapter by chapter, or looked at, while its
-//! threads go on.
+//! A long-lived queue for threads: its log is compacted, rotated, or copied, while its threads go on.
 
 ghost use Rattle.std.specs.Prelude.{◌≡◌, ◌⊎◌, ◌+◌, ◌<◌, ◌≤◌, ℕ, None, true, false, length, IsOk, IsOkAnd, IfOk, IfErr};
 ghost use Rattle.meet_tickets.specs.Limits.{most_gone};
@@ -18,17 +17,17 @@ use meet_place::{Ledgers, Place, Seat};
 use meet_tickets::{Base, Deed, Marked, Record, Refusal};
 use std::sync::Wait;
 
-/// Records that followed one another, and what stands for all that came before them. Chapters that a queue handed out
-/// one behind another are one history: each ends as the next one's base says.
+/// A segment of a log: records that followed one another, and the snapshot of all before them. Chapters that a queue
+/// returned one after another are one history: each ends as the next one's base states.
 #[derive(Debug, Drop)]
 pub struct Chapter {
-    /// What stands for the records before these.
+    /// The snapshot of the records before these.
     pub base: Base,
     /// The records since, in order: with the base one legal history.
     pub records: Vec<Record<Deed>>,
 }
 
-/// A seat tends a place.
+/// A seat compacts the log of a place if it is more than half full.
 fn tend<O: Bases, G, N: Ledgers, R: Wait>(
     rt: &R,
     place: &Place<O, G, N>,
@@ -46,7 +45,7 @@ where
     place.tend(rt, seat)
 }
 
-/// A checkpoint of a place that hands out what it folds away.
+/// A checkpoint of a place that returns what it compacts.
 fn rotate<O: Bases, G, N: Ledgers, R: Wait>(
     rt: &R,
     place: &Place<O, G, N>,
@@ -68,13 +67,24 @@ where
 }
 
 impl<O: QueuePlace + Bases, G, N: Ledgers> Queue<O, G, N> {
-    /// Keeps the history from filling, if each seat calls it after each of its calls. If the seat's list has more
-    /// receipts than a quarter of its part of the history's cap, and the last of them shows that the history may be
-    /// more than half full (`is_to_look`), it takes the lock once, makes a checkpoint if the history is, and drops the
-    /// seat's receipts for all that is folded away. Else it does nothing and touches no lock, as most calls do.
+    /// Compacts the log if it is more than half full. The log doesn't fill if each seat calls this after each of its
+    /// calls (tested, not proved). Most calls do nothing, and take no lock. The lock is taken only on two conditions:
+    /// the seat's list has more receipts than a quarter of its share of the capacity, and the last of them shows that
+    /// the log may be more than half full (`is_to_look`). Then the seat's receipts for all that is compacted are
+    /// dropped.
     ///
     /// # Errors
-    /// - HistoryFull, Memory: as `checkpoint`; the receipts for what was folded away before are dropped.
+    /// The records stay; the seat's receipts for what was compacted before are dropped.
+    /// - HistoryFull, if more than 2^63 - 1 records would be compacted.
+    /// - Memory, if the base can't grow.
+    ///
+    /// # Example
+    /// From `crates/example_parcels/src/passing.rt`:
+    ///
+    ///     match counter.tend(rt, ended.seat) {
+    ///         Ok(tended) => seat = tended,
+    ///         Err(refused) => return stopped(refused, hand),
+    ///     }
     pub fn tend<R: Wait>(
         &self,
         rt: &R,
@@ -98,10 +108,20 @@ impl<O: QueuePlace + Bases, G, N: Ledgers> Queue<O, G, N> {
         }
     }
 
-    /// A checkpoint that hands out what it folds away: the records so far, and the base on which they stand. They count
-    /// for the seat. The records to come are written into this list, whose own are let go, so that a list is used again
-    /// once what it held is kept elsewhere. It refuses HistoryFull where more than 2^63 - 1 records would be folded
-    /// away, else Memory; then nothing has changed but the list, which is let go.
+    /// Rotates the log: compacts it as `checkpoint` does, and returns the records so far with the base on which they
+    /// stand. They count for the seat. `room` becomes the list of the records to come, and its own records are dropped:
+    /// so a list is used again after what it held is kept elsewhere.
+    ///
+    /// # Errors
+    /// The seat is returned and `room` is dropped; else nothing has changed.
+    /// - HistoryFull, if more than 2^63 - 1 records would be compacted.
+    /// - Memory, if an allocation fails.
+    ///
+    /// # Example
+    /// From `crates/meet_sync_tests/src/chapters.rt`:
+    ///
+    ///     match queue.rotate(rt, seat, list) {
+    ///         Ok(handed) => handed,
     pub fn rotate<R: Wait>(
         &self,
         rt: &R,
@@ -129,9 +149,17 @@ impl<O: QueuePlace + Bases, G, N: Ledgers> Queue<O, G, N> {
         }
     }
 
-    /// The records so far, and the base on which they stand, copied under one hold of the lock. Nothing changes, and no
-    /// seat is asked for, so it tells what happened also where a seat is lost, and `close` can't be had any more. The
-    /// only refusal is Memory.
+    /// Copies the records so far, and the base on which they stand, in one critical section. Nothing changes. It needs
+    /// no seat, so it also returns what happened if a seat is lost, after which `close` always fails.
+    ///
+    /// # Errors
+    /// - Memory, if an allocation fails.
+    ///
+    /// # Example
+    /// From `crates/meet_sync_tests/src/chapters.rt`:
+    ///
+    ///     match queue.history(rt) {
+    ///         Ok(chapter) => chapter,
     pub fn history<R: Wait>(&self, rt: &R) -> Result<Chapter, Refusal>
         ensures chapter { IfOk result (λ chapter. IsChapter O.kind chapter.base chapter.records.items) }
         ensures cap { IfOk result (λ chapter. length chapter.records.items ≤ N.cap) }

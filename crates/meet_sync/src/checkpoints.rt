@@ -1,5 +1,5 @@
-//! Checkpoints of a queue for threads: the records so far are folded into its base, and its seats can let go of their
-//! receipts for them. So a queue that lives long never fills for good.
+//! Compaction of a queue's log (checkpoints): the records so far are replaced by a snapshot (a base), and the seats can
+//! drop their receipts for them. So a long-lived queue never fills for good.
 
 ghost use Rattle.std.specs.Prelude.{◌≡◌, ◌≤◌, ℕ, None, IfOk, IfErr};
 ghost use Rattle.meet_tickets.specs.Limits.{most_gone};
@@ -32,13 +32,20 @@ where
 }
 
 impl<O: QueuePlace + Bases, G, N: Ledgers> Queue<O, G, N> {
-    /// Folds the records so far into the queue's base, under one hold of the lock, and returns how many were folded away
-    /// since the queue was made: all that there are, so no fewer than the seat ever got receipts. Those of this time
-    /// count for the seat. It writes no record.
+    /// Compacts the log: replaces the records so far by the queue's base, in one critical section. Returns how many
+    /// were compacted since the queue was created: all that there are, so no fewer than the seat ever got receipts. The
+    /// records of this compaction count for the seat. It logs nothing.
     ///
     /// # Errors
-    /// - HistoryFull, if more than 2^63 - 1 records would be folded away; nothing has changed.
-    /// - Memory, if the base can't grow; nothing has changed.
+    /// Nothing has changed.
+    /// - HistoryFull, if more than 2^63 - 1 records would be compacted.
+    /// - Memory, if the base can't grow.
+    ///
+    /// # Example
+    /// From `crates/meet_sync_tests/src/checkpoints.rt`:
+    ///
+    ///     Some(Back::Free(seat)) => match shop.checkpoint(rt, seat) {
+    ///         Ok((seat, gone)) => {
     pub fn checkpoint<R: Wait>(
         &self,
         rt: &R,
@@ -63,8 +70,8 @@ impl<O: QueuePlace + Bases, G, N: Ledgers> Queue<O, G, N> {
 }
 
 impl<O: QueuePlace, G, N: Ledgers> Queue<O, G, N> {
-    /// Drops the seat's receipts for the records that are folded away by now, and no other: at least those that its own
-    /// checkpoints folded away. It waits only for the lock, and takes no memory.
+    /// Drops the seat's receipts for the records that are compacted by now, and no other: at least those that its own
+    /// checkpoints compacted. It waits only for the lock, and doesn't allocate.
     pub fn trim<R: Wait>(&self, rt: &R, mut seat: Seat<Deed, N>) -> Seat<Deed, N>
         ensures { (gone : ℕ) × Trims gone seat result × (seat.past.folded ≤ gone) }
     {
@@ -72,7 +79,7 @@ impl<O: QueuePlace, G, N: Ledgers> Queue<O, G, N> {
         seat
     }
 
-    /// The same with a seat whose ticket is open, and stays open.
+    /// Drops the receipts of a seat whose request is pending, and stays so, as `trim` does.
     pub fn trim_pending<R: Wait>(&self, rt: &R, pending: Pending<Deed, N>) -> Pending<Deed, N>
         ensures { (gone : ℕ) × TrimsPending gone pending result × (pending.past.folded ≤ gone) }
     {

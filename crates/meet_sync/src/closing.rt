@@ -16,51 +16,57 @@ use std::alloc::Global;
 use std::fmt;
 use std::fmt::{Debug, Display, Formatter, Write};
 
-/// What a queue leaves once it is closed.
+/// The final log of a closed queue.
 #[derive(Debug, Drop)]
 pub struct Chronicle<T> {
-    /// What stands for the records that were folded away.
+    /// The snapshot of the compacted records.
     pub base: Base,
     /// The records since, in order: with the base one legal history.
     pub records: Vec<Record<Deed>>,
     /// The receipts of each seat, in the order of their numbers, without those that were dropped.
     pub lists: Vec<Vec<Receipt<Deed>>>,
-    /// The items that are left, by rising ticket of their givers.
+    /// The items that are left in the queue, by rising ticket of their producers.
     pub left: Vec<Left<T>>,
 }
 
-/// Why a queue was not closed. Its text is the name of the refusal that it is. It holds what comes back, so it is no
-/// error type: a `?` hands it on whole or doesn't compile.
+/// The error of a queue that wasn't closed, with all that is returned. Its text is the name of the reason. It is no
+/// error type: a `?` returns it whole or doesn't compile.
 #[derive(Drop)]
 pub enum QueueFault<Q, B, N: Ledgers> {
-    /// Fewer seats were given back than were made. The queue and the seats come back.
+    /// Fewer seats were given back than were made. The queue and the seats are returned.
     SeatMissing {
         /// How many were given back.
         have: u64,
         /// How many were made.
         made: u64,
+        /// The queue, as it was.
         queue: Q,
+        /// The seats that were given back.
         seats: Vec<Back<Deed, N>>,
     },
-    /// Memory was wanted and not there. The queue and the seats come back.
+    /// An allocation failed. The queue and the seats are returned.
     Memory {
+        /// The queue, as it was.
         queue: Q,
+        /// The seats that were given back.
         seats: Vec<Back<Deed, N>>,
     },
-    /// The records of a seat aren't those of its receipts. The book comes back, out of its lock, and the seats, in the
-    /// order of their numbers.
+    /// The records of a seat aren't those of its receipts. The log (the book) is returned, out of its lock, and the
+    /// seats.
     Differs {
         /// The least such seat.
         seat: SeatNo,
         /// The first index at which they differ, counted from 0 among the seat's records.
         index: u64,
+        /// The log.
         book: B,
+        /// The seats, in the order of their numbers.
         seats: Vec<Back<Deed, N>>,
     },
 }
 
 impl<Q, B, N: Ledgers> QueueFault<Q, B, N> {
-    /// The reason as a refusal: SeatMissing, Memory or Differs.
+    /// Returns the reason: SeatMissing, Memory or Differs.
     pub fn why(&self) -> Refusal
         ensures { result ≡ why_of self.now }
     {
@@ -71,7 +77,10 @@ impl<Q, B, N: Ledgers> QueueFault<Q, B, N> {
         }
     }
 
-    /// The numbers of the seats that are missing, in rising order; none where no seat is. The only refusal is Memory.
+    /// Returns the numbers of the seats that are missing, in rising order; none if no seat is.
+    ///
+    /// # Errors
+    /// - Memory, if an allocation fails.
     pub fn missing(&self, alloc: Global) -> Result<Vec<SeatNo>, Refusal>
         ensures numbers { IfOk result (λ list. list.items ≡ missing_in self.now) }
         ensures memory { IfErr result (λ why. why ≡ NoMemory) }
@@ -100,7 +109,7 @@ impl<Q, B, N: Ledgers> Display for QueueFault<Q, B, N> {
     }
 }
 
-/// The reason alone: what comes back need not be such as can be shown.
+/// The reason alone: what is returned need not be one that can be shown.
 impl<Q, B, N: Ledgers> Debug for QueueFault<Q, B, N> {
     fn fmt<W: Write>(&self, f: &mut Formatter<W>) -> fmt::Result {
         write!(f, "QueueFault({})", self.why())
@@ -108,7 +117,7 @@ impl<Q, B, N: Ledgers> Debug for QueueFault<Q, B, N> {
 }
 
 impl<Q: Drop, B: Drop, N: Ledgers> QueueFault<Q, B, N> {
-    /// The reason alone. The queue or its book, and the seats, are let go: match the fault to keep them.
+    /// Returns the reason alone, and drops the queue or its log, and the seats: match the fault to keep them.
     pub fn into_why(self) -> Refusal
         ensures { result ≡ why_of self }
     {
@@ -117,11 +126,25 @@ impl<Q: Drop, B: Drop, N: Ledgers> QueueFault<Q, B, N> {
 }
 
 impl<O: QueueLeaves, G: Drop, N: Ledgers> Queue<O, G, N> {
-    /// Ends the queue: takes all seats back, free or with an open ticket, in whatever order, compares the records with
-    /// the seats' receipts, and takes out what is left. So the threads' calls, however they interleaved, have one legal
-    /// history, in which each seat's calls stand once, in the seat's order, and no others. It refuses SeatMissing
-    /// exactly where fewer seats are given back than were made, then Memory, then Differs, at the least seat whose
-    /// receipts aren't its records.
+    /// Closes the queue: takes all seats, free or with an open ticket, in any order, and returns the final log (the
+    /// chronicle) with the items that are left. The threads' calls, however they interleaved, have one legal history,
+    /// in which each seat's calls stand once, in the seat's order, and no others. The records are compared with the
+    /// seats' receipts.
+    ///
+    /// # Errors
+    /// - SeatMissing, exactly if fewer seats are given back than were made; queue and seats are returned.
+    /// - Memory, if an allocation fails; queue and seats are returned.
+    /// - Differs, at the least seat whose receipts aren't its records; the log (the book) and the seats are returned.
+    ///
+    /// # Example
+    /// From `crates/example_more/src/pairs.rt`:
+    ///
+    ///     backs.push_reserved(Back::Free(first));
+    ///     backs.push_reserved(Back::Free(second));
+    ///     match queue.close(alloc, backs) {
+    ///         Ok(chronicle) => Ok(chronicle.left.len()),
+    ///         Err(fault) => Err(fault.into_why()),
+    ///     }
     pub fn close(
         self,
         alloc: Global,

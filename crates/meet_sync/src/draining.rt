@@ -1,4 +1,4 @@
-//! The drain of a queue for threads.
+//! The bulk poll (the drain) of a queue for threads.
 
 ghost use Rattle.std.specs.Prelude.{◌≡◌, ◌⊎◌, Some, None, [], ◌≤◌, length, min, vec_len, IfOk, IfErr, IsSome};
 ghost use Rattle.std.specs.Vec.{vec_capacity};
@@ -98,10 +98,25 @@ impl<O: QueueDrains, G: Gate, N: Ledgers> Queue<O, G, N> {
         }
     }
 
-    /// `BlockingQueue.drainTo`: takes up to `max` items that givers in the line brought, in the order in which polls
-    /// would, all under one hold of the lock, each by a recorded poll. Where `max` is above 64 it looks first how many
-    /// there are, and takes no more. It refuses Memory where a list can't grow, else SeatOpen, TicketsSpent,
-    /// HistoryFull or Memory, the first that applies; then nothing was taken.
+    /// Takes up to `max` items that producers in the wait queue brought, in the order in which polls would. All are
+    /// taken in one critical section, each by a logged poll. If `max` is above 64 it looks first how many there are,
+    /// and takes no more.
+    ///
+    /// # Errors
+    /// The seat is returned, and nothing is taken. The first that applies:
+    /// - Memory, if a list can't grow.
+    /// - SeatOpen, if the seat has a pending request (an open ticket).
+    /// - TicketsSpent, if fewer request ids (tickets) are left than items to take.
+    /// - HistoryFull, if the log has no room for the records.
+    /// - Memory, if the queue can't grow.
+    ///
+    /// # Example
+    /// From `crates/meet_sync_tests/src/drains.rt`:
+    ///
+    ///     match store.drain(rt, alloc, taker, 3) {
+    ///         Ok(drained) => drained,
+    ///
+    /// Java: `BlockingQueue.drainTo`.
     pub fn drain<R: Wait>(
         &self,
         rt: &R,

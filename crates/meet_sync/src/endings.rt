@@ -1,4 +1,4 @@
-//! The endings of an open ticket. None is refused, and none takes memory.
+//! The completions of a pending request (an open ticket). None can fail, and none allocates.
 
 ghost use Rattle.meet_tickets.specs.declared.records.Cause.TheVariants.{Cancelled, Expired};
 ghost use Rattle.meet_sync.specs.Asking.{FollowedAs, TakenBackAs, TakenBackBy};
@@ -12,8 +12,14 @@ use meet_tickets::Deed;
 use std::sync::Wait;
 
 impl<O: QueuePlace, G: Gate, N: Ledgers> Queue<O, G, N> {
-    /// Follows an open ticket up: how it ended, or NotYet while it stands in the line. It waits for the lock alone, and
-    /// is never refused.
+    /// Follows a pending request up: returns how it ended, or NotYet while it waits in the wait queue. It waits only
+    /// for the lock, and can't fail.
+    ///
+    /// # Example
+    /// From `crates/meet_sync_tests/src/chapters.rt`:
+    ///
+    ///     match queue.follow_up(rt, pending) {
+    ///         Followed::Got(seat, _, 7) => seat,
     #[inline(always)]
     pub fn follow_up<R: Wait>(&self, rt: &R, pending: Pending<Deed, N>) -> Followed<O::Item, N>
         ensures { FollowedAs O.kind O.Item.mark_of pending result }
@@ -33,15 +39,15 @@ impl<O: QueuePlace, G: Gate, N: Ledgers> Queue<O, G, N> {
         }
     }
 
-    /// Takes an open ticket back, or answers Late where it was met or cut before, and stays open. It waits for the lock
-    /// alone, and is never refused.
+    /// Takes a pending request back. If it was matched or interrupted before, returns Late, and it stays pending. It
+    /// waits only for the lock, and can't fail.
     pub fn cancel<R: Wait>(&self, rt: &R, pending: Pending<Deed, N>) -> TakenBack<O::Item, N>
         ensures { TakenBackAs O.kind O.Item.mark_of pending Cancelled result }
     {
         self.withdraw(rt, pending, Ending::Cancel)
     }
 
-    /// The same, told as an expiry: the ticket's time ran out.
+    /// Takes a pending request back as `cancel` does, and logs an expiry: its time ran out. It can't fail.
     pub fn expire<R: Wait>(&self, rt: &R, pending: Pending<Deed, N>) -> TakenBack<O::Item, N>
         ensures { TakenBackAs O.kind O.Item.mark_of pending Expired result }
     {

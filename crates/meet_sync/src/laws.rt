@@ -11,16 +11,16 @@ ghost use Rattle.meet_book.specs.Received.{Received};
 ghost use Rattle.meet_laws.specs.Promise.{KeepsPromise};
 ghost use Rattle.meet_sync.specs.Chronicles.{IsChronicle};
 
-/// A closed queue kept its promise: in its one history each ticket was met at most once, in the queue's order, and
-/// never after it was withdrawn, however the threads' calls interleaved. It does nothing.
+/// States that a closed queue kept its promise, however the threads' calls interleaved. In its one history each ticket
+/// was matched at most once, in the queue's order, and never after it was withdrawn. It does nothing.
 pub fn closed_queues_keep_their_promise<T>()
     ensures { (mark : T → ℕ) (kind : Kind) (base : Based) (records : List (Record Deed))
         (lists : List (List (Received Deed))) (items : List (Left T))
         → IsChronicle mark kind base records lists items → KeepsPromise kind base records }
 {}
 
-/// States that receipts tell places. If a record of a closed queue wasn't folded away, it stands in the history at the
-/// number that its receipt has. It does nothing.
+/// States that a receipt's number is its record's place in the log. If a record of a closed queue wasn't compacted, it
+/// stands in the history at the number that its receipt has. It does nothing.
 pub fn receipts_of_closed_queues_tell_places<T>()
     ensures { (mark : T → ℕ) (kind : Kind) (base : Based) (records : List (Record Deed))
         (lists : List (List (Received Deed))) (items : List (Left T))
@@ -30,9 +30,9 @@ pub fn receipts_of_closed_queues_tell_places<T>()
 {}
 
 /// States that a closed queue kept the order that its threads could observe. A record whose number is at most some
-/// moment stands in the history before each record whose number is above that moment. What a seat called before it
-/// gave a moment away has numbers up to that; what a seat calls once it was shown a moment has numbers above that. It
-/// does nothing.
+/// moment stands in the history before each record whose number is above that moment. What a seat called before it gave
+/// a moment away has numbers up to that; what a seat calls after it was shown a moment has numbers above that. It does
+/// nothing.
 pub fn closed_queues_keep_order<T>()
     ensures { (mark : T → ℕ) (kind : Kind) (base : Based) (records : List (Record Deed))
         (lists : List (List (Received Deed))) (items : List (Left T))

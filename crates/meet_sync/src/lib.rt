@@ -1,19 +1,21 @@
 #![tactic(auto)]
 //! The queues of `java.util.concurrent` for threads: each is a queue of one thread under a lock, with a seat for each
-//! thread that calls it. It knows how a call waits, and nothing of what the queue does.
+//! thread that calls it. The crate knows how a call waits, and nothing of what the queue does.
 //!
-//! - A request is one step under the lock. Where it found its partner, that one's gate is woken once the lock is free.
-//! - Where it waits, its seat waits at its gate with the lock free, and follows its ticket up each time that it is
-//!   woken: a wake says nothing, only the queue does. A gate keeps one wake, so one that comes between the request and
-//!   the wait isn't lost; and a limit is looked at once more behind each.
-//! - An ending is one step too: the ticket is ended where it was met or cut, or taken back where its time ran out. Both
-//!   can't happen, since each is a step under the same lock: who comes too late is told so, and follows up.
+//! - A request is one step under the lock. If it finds its counterpart, the counterpart's gate (parker) is woken after
+//!   the lock is free.
+//! - If it finds none, its seat waits at its gate with the lock free. It follows its ticket up each time that it is
+//!   woken: a wake states nothing, only the queue does. A gate keeps one wake, so one that comes between the request
+//!   and the wait isn't lost. A limit is checked once more after each wake.
+//! - A completion is one step too: the request is completed if it was matched or interrupted, or taken back if its time
+//!   ran out. Both can't happen, since each is a step under the same lock: a withdrawal that comes too late returns
+//!   Late, and a follow-up completes the request.
 //! - A chapter, a drain and the end are those of the place; the end's promise is a contract (`close`), and a law of it
 //!   (`closed_queues_keep_their_promise`).
 //!
-//! `#[inline(always)]` stands where a call passes on its way from `ask` to the place below, so that a call is one function
-//! from where a program makes it. It doesn't stand on `turn` and `await_end`: the compiler drops the attribute of a
-//! function that has grown too large, and says nothing. `dev/measure/instructions` does.
+//! `#[inline(always)]` stands where a call passes on its way from `ask` to the place below, so that a call is one
+//! function from where a program makes it. It doesn't stand on `turn` and `await_end`: the compiler drops the attribute
+//! of a function that has grown too large, and reports nothing. `dev/measure/instructions` does.
 
 mod asked;
 mod chapters;

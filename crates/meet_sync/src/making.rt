@@ -1,4 +1,4 @@
-//! New queues for threads.
+//! Creation of queues for threads.
 
 ghost use Rattle.std.specs.Prelude.{◌≡◌, Some, None, [], vec_len, IfOk, IfErr, if◌then◌else◌};
 ghost use Rattle.meet_tickets.specs.declared.refusals.Refusal.TheVariants.{BadSizes, Memory};
@@ -19,18 +19,18 @@ use meet_queues::ready_book;
 use meet_tickets::{Deed, MOST_RECORDS, MOST_SEATS, Refusal, Refused};
 use std::alloc::Global;
 
-/// What a queue for threads is made of. Beside the names and the parts of the ledgers, who makes a queue picks `N.cap`:
-/// how many records it has at most at a time.
+/// The parts of a queue for threads. Beside the names and the parts of the ledgers (ghost counters), the code that
+/// creates a queue chooses `N.cap`: the capacity of its log, in records.
 #[derive(Drop)]
 pub struct NewQueue<G> {
-    /// A gate for each seat.
+    /// A gate (a parker) for each seat.
     pub gates: Vec<G>,
     /// Two ledgers with a part for each seat.
     pub blanks: Blanks,
 }
 
 impl<G> NewQueue<G> {
-    /// What a queue with these gates is made of: two ledgers with a part for each gate come to them.
+    /// Makes the parts of a queue with these gates: two ledgers with a part for each gate are added.
     pub fn of(gates: Vec<G>) -> Self
         ensures gates { result.gates ≡ gates }
         ensures records { result.blanks.records.parts ≡ vec_len gates }
@@ -42,7 +42,16 @@ impl<G> NewQueue<G> {
 }
 
 impl NewQueue<ParkGate> {
-    /// What a queue with so many seats is made of, whose threads park. The only refusal is Memory.
+    /// Makes the parts of a queue with `seats` seats, whose threads park.
+    ///
+    /// # Errors
+    /// - Memory, if an allocation fails.
+    ///
+    /// # Example
+    /// From `crates/example_parcels/src/main.rt`:
+    ///
+    ///     let parts = NewQueue::parked(alloc, 2)?; // two seats, each with a gate
+    ///     pass::<Brand, R>(rt, alloc, parts, plan)
     pub fn parked(alloc: Global, seats: u64) -> Result<Self, Refusal>
         ensures gates { IfOk result (λ parts. vec_len parts.gates ≡ seats) }
         ensures records { IfOk result (λ parts. parts.blanks.records.parts ≡ seats) }
@@ -55,7 +64,10 @@ impl NewQueue<ParkGate> {
 }
 
 impl NewQueue<SpinGate> {
-    /// The same of one whose threads look for a wake so many turns before they park.
+    /// Makes the parts of a queue with `seats` seats, whose threads spin for `turns` turns before they park.
+    ///
+    /// # Errors
+    /// - Memory, if an allocation fails.
     pub fn spinning(alloc: Global, seats: u64, turns: u64) -> Result<Self, Refusal>
         ensures gates { IfOk result (λ parts. vec_len parts.gates ≡ seats) }
         ensures records { IfOk result (λ parts. parts.blanks.records.parts ≡ seats) }
@@ -75,8 +87,10 @@ fn fits(gates: usize, cap: u64) -> bool
 }
 
 impl<O: QueuePlace, G: Drop, N: Ledgers> Queue<O, G, N> {
-    /// A queue with a seat for each gate, over the book of a queue that has no history yet. The only refusal is Memory;
-    /// then the gates and the ledgers come back.
+    /// Creates a queue with a seat for each gate, over the book of a queue that has no history yet.
+    ///
+    /// # Errors
+    /// - Memory, if an allocation fails; the gates and the ledgers are returned.
     fn over(
         alloc: Global,
         parts: NewQueue<G>,
@@ -121,8 +135,21 @@ impl<O: QueuePlace, G: Drop, N: Ledgers> Queue<O, G, N> {
         }
     }
 
-    /// A queue with a seat for each gate, numbered from 0, and at most so many records. It refuses BadSizes where there
-    /// is no gate or more than 65,536, or the records are none or more than 1,048,576; then Memory. All comes back.
+    /// Creates a queue with a seat for each gate, numbered from 0. `cap` is the capacity of its log, in records.
+    ///
+    /// # Errors
+    /// The parts are returned.
+    /// - BadSizes, exactly if there is no gate or more than 65,536, or `cap` is 0 or more than 1,048,576.
+    /// - Memory, if an allocation fails.
+    ///
+    /// # Example
+    /// From `crates/example_parcels/src/passing.rt`:
+    ///
+    ///     let made = TransferQueue::<Parcel, ParkGate, N>::with_cap(alloc, parts, plan.cap);
+    ///     let (counter, mut seats) = match made {
+    ///         Ok(made) => made,
+    ///         Err(refused) => return Err(refused.into_why()), // the gates and the ledgers are let go
+    ///     };
     pub fn with_cap(
         alloc: Global,
         parts: NewQueue<G>,
@@ -150,9 +177,22 @@ impl<O: QueuePlace, G: Drop, N: Ledgers> Queue<O, G, N> {
         }
     }
 
-    /// A queue with a seat for each gate, numbered from 0, and at most 1,048,576 records: `new SynchronousQueue(fair)`,
-    /// `new LinkedTransferQueue()`. It refuses BadSizes where there is no gate or more than 65,536; then Memory. All
-    /// comes back.
+    /// Creates a queue with a seat for each gate, numbered from 0. Its log has 1,048,576 records.
+    ///
+    /// # Errors
+    /// The parts are returned.
+    /// - BadSizes, exactly if there is no gate or more than 65,536.
+    /// - Memory, if an allocation fails.
+    ///
+    /// # Example
+    /// From `crates/example_more/src/pairs.rt`:
+    ///
+    ///     match Numbers::<N>::new(alloc, parts) {
+    ///         Ok((queue, seats)) => Ok((queue, pair(seats)?)),
+    ///         Err(refused) => Err(refused.into_why()),
+    ///     }
+    ///
+    /// Java: `new SynchronousQueue(fair)`, `new LinkedTransferQueue()`.
     pub fn new(
         alloc: Global,
         parts: NewQueue<G>,

@@ -1,5 +1,5 @@
-//! What a queue for threads shows of itself. None of these takes memory. Of those that look under the lock nothing is
-//! promised: once they answer, other threads may have changed what they saw.
+//! The read-only queries (probes) of a queue for threads. None allocates. Of those that look under the lock nothing is
+//! promised: when they return, other threads may have changed what they saw.
 
 ghost use Rattle.std.specs.Prelude.{◌≡◌, true, false, None};
 ghost use Rattle.meet_tickets.specs.Limits.{told_capacity};
@@ -13,35 +13,45 @@ use meet_transfer::Unbounded;
 use std::sync::Wait;
 
 impl<T: Marked, L: Line<T>, G, N: Ledgers> Queue<Dual<T, L>, G, N> {
-    /// `SynchronousQueue.isEmpty`: always true, whoever waits.
+    /// Returns true, even if requests wait.
+    ///
+    /// Java: `SynchronousQueue.isEmpty`.
     pub fn is_empty(&self) -> bool
         ensures { result ≡ true }
     {
         true
     }
 
-    /// `SynchronousQueue.size`: always 0, whoever waits.
+    /// Returns 0, even if requests wait.
+    ///
+    /// Java: `SynchronousQueue.size`.
     pub fn size(&self) -> u64
         ensures { result ≡ 0 }
     {
         0
     }
 
-    /// `SynchronousQueue.remainingCapacity`: always 0.
+    /// Returns 0.
+    ///
+    /// Java: `SynchronousQueue.remainingCapacity`.
     pub fn remaining_capacity(&self) -> u64
         ensures { result ≡ 0 }
     {
         0
     }
 
-    /// `SynchronousQueue.peek`, by its mark: always none.
+    /// Returns none.
+    ///
+    /// Java: `SynchronousQueue.peek`, here by the item's mark.
     pub fn peek_mark(&self) -> Option<u64>
         ensures { result ≡ None }
     {
         None
     }
 
-    /// `SynchronousQueue.contains`, of an item with this mark: always false.
+    /// Returns false, for each mark.
+    ///
+    /// Java: `SynchronousQueue.contains`, here by the item's mark.
     pub fn contains(&self, _mark: u64) -> bool
         ensures { result ≡ false }
     {
@@ -50,29 +60,39 @@ impl<T: Marked, L: Line<T>, G, N: Ledgers> Queue<Dual<T, L>, G, N> {
 }
 
 impl<T: Marked, G, N: Ledgers> Queue<Unbounded<T>, G, N> {
-    /// `LinkedTransferQueue.remainingCapacity`: always 2,147,483,647.
+    /// Returns 2,147,483,647.
+    ///
+    /// Java: `LinkedTransferQueue.remainingCapacity`.
     pub fn remaining_capacity(&self) -> u64
         ensures { result ≡ told_capacity }
     {
         TOLD_CAPACITY
     }
 
-    /// `LinkedTransferQueue.size`: how many givers there are in the line, kept or waiting.
+    /// Returns the number of producers in the wait queue, buffered items included.
+    ///
+    /// Java: `LinkedTransferQueue.size`.
     pub fn size<R: Wait>(&self, rt: &R) -> u64 {
         self.place.hold(rt).probe().as_transfer().size()
     }
 
-    /// `LinkedTransferQueue.isEmpty`: whether there is no giver in the line.
+    /// Returns true if no producer is in the wait queue.
+    ///
+    /// Java: `LinkedTransferQueue.isEmpty`.
     pub fn is_empty<R: Wait>(&self, rt: &R) -> bool {
         self.place.hold(rt).probe().as_transfer().is_empty()
     }
 
-    /// `LinkedTransferQueue.peek`: the mark of the first giver's item.
+    /// Returns the mark of the first producer's item.
+    ///
+    /// Java: `LinkedTransferQueue.peek`.
     pub fn peek_mark<R: Wait>(&self, rt: &R) -> Option<u64> {
         self.place.hold(rt).probe().as_transfer().peek_mark()
     }
 
-    /// `LinkedTransferQueue.getWaitingConsumerCount`: how many takers there are in the line.
+    /// Returns the number of consumers in the wait queue.
+    ///
+    /// Java: `LinkedTransferQueue.getWaitingConsumerCount`.
     pub fn waiting_consumers<R: Wait>(&self, rt: &R) -> u64 {
         self.place
             .hold(rt)
@@ -81,7 +101,9 @@ impl<T: Marked, G, N: Ledgers> Queue<Unbounded<T>, G, N> {
             .waiting_consumers()
     }
 
-    /// `LinkedTransferQueue.hasWaitingConsumer`: whether there is a taker in the line.
+    /// Returns true if a consumer is in the wait queue.
+    ///
+    /// Java: `LinkedTransferQueue.hasWaitingConsumer`.
     pub fn has_waiting_consumer<R: Wait>(&self, rt: &R) -> bool {
         self.place
             .hold(rt)

@@ -1,5 +1,5 @@
-//! A queue for threads: a queue of one thread under a lock. A call is one step under one hold of it, and whom the step
-//! should wake is woken once the lock is free.
+//! A queue for threads: a queue of one thread under a lock. A call is one step in one critical section (one hold). The
+//! thread that the step should wake is woken after the lock is free.
 
 ghost use Rattle.std.specs.Prelude.{◌≡◌, ◌+◌, ◌<◌, ◌≤◌, None, length, option_to_list, IfOk, IfErr, IfSome, IfNone, MatchOption};
 ghost use Rattle.meet_core.specs.QueueRecords.{queue_record};
@@ -15,8 +15,8 @@ use std::marker::Model;
 use std::sync::Wait;
 use std::time::Clock;
 
-/// A queue for threads, over a queue of one thread. Each thread calls it with a seat of its own, and gets the seat back
-/// with the answer. A contract sees the number of its seats.
+/// A queue for threads, over a queue of one thread. Each thread calls it with a seat of its own, which the call
+/// returns. A contract sees the number of its seats.
 #[derive(Drop)]
 pub struct Queue<O: QueuePlace, G, N: Ledgers> {
     pub(crate) place: Place<O, G, N>,
@@ -52,7 +52,7 @@ impl Ending {
 }
 
 impl<O: QueuePlace, G, N: Ledgers> Queue<O, G, N> {
-    /// How many seats there are.
+    /// Returns the number of its seats.
     pub fn seats(&self) -> u64
         ensures count { result ≡ self.now }
         ensures parts { result ≡ N.parts }
@@ -95,9 +95,9 @@ impl<O: QueuePlace, G: Gate, N: Ledgers> Queue<O, G, N> {
         }
     }
 
-    /// Ends a ticket, where it is the seat's open one, and its item, if it lies in the queue, has the mark that its
-    /// request brought: looked at under the hold that ends it, since behind a lock a caller can't know. Else nothing is
-    /// done; with a seat and its own open ticket that can't come.
+    /// Completes the pending request, if `ticket` is the seat's and its item, if it lies in the queue, has the expected
+    /// mark. Both are checked under the lock, since the caller can't prove them. Otherwise it does nothing; with a seat
+    /// and its own open ticket that can't happen.
     #[inline(always)]
     pub(crate) fn end<R: Wait>(
         &self,
@@ -134,9 +134,11 @@ impl<O: QueuePlace, G: Gate, N: Ledgers> Queue<O, G, N> {
         }
     }
 
-    /// Waits at the gate of this seat, for this many milliseconds where there is a limit: `LockSupport.park`,
-    /// `parkNanos`. The gate is woken once the ticket is met or cut; of why a wait ends nothing is promised, so who
-    /// waited follows its ticket up. It takes no memory and no lock.
+    /// Waits at the gate (the parker) of this seat, for `limit` milliseconds if there is a limit. The gate is woken
+    /// after the request is matched or interrupted. Why a wait ends isn't promised, so the caller follows its request
+    /// up after each. It doesn't allocate and takes no lock.
+    ///
+    /// Java: `LockSupport.park`, `parkNanos`.
     pub fn wait<R: Wait + Clock>(
         &self,
         rt: &R,
@@ -146,8 +148,10 @@ impl<O: QueuePlace, G: Gate, N: Ledgers> Queue<O, G, N> {
         self.place.wait(rt, pending, limit)
     }
 
-    /// Wakes who waits at the gate of this seat, or else the next that comes to wait: `LockSupport.unpark`. It does
-    /// nothing where there is no such seat, and takes no memory and no lock.
+    /// Wakes the thread that waits at the gate of this seat, or else the next that comes to wait. It does nothing if
+    /// there is no such seat. It doesn't allocate and takes no lock.
+    ///
+    /// Java: `LockSupport.unpark`.
     pub fn wake(&self, seat: SeatNo) {
         self.place.wake(Some(seat));
     }

@@ -70,11 +70,24 @@ fn refused_with<T, N: Ledgers>(
 }
 
 impl<O: QueuePlace, G: Gate, N: Ledgers> Queue<O, G, N> {
-    /// Makes a request of a seat of this queue: settled at once, or parked with its ticket open. It waits for the lock
-    /// alone, never for a partner: a ticket that is parked is followed up, or taken back. It refuses Memory where its
-    /// seat's list can't grow, else SeatOpen, TicketsSpent, HistoryFull or Memory, the first that applies; then nothing
-    /// was written, and the seat and the item come back. Where it waits, its ending grows nothing. A seat, or a parked
-    /// ticket, that is dropped is missing at `close`.
+    /// Makes a request of a seat: it is settled at once, or it waits with its ticket pending (open). The call waits
+    /// only for the lock, never for a counterpart. A pending request is completed by a follow-up, or taken back; its
+    /// completion doesn't allocate. A seat or a pending request that is dropped is missing at `close`.
+    ///
+    /// # Errors
+    /// Seat and item are returned, and nothing is logged. The first that applies:
+    /// - Memory, if the seat's list can't grow.
+    /// - SeatOpen, if the seat has a pending request (an open ticket).
+    /// - TicketsSpent, if all 2^63 - 1 request ids (tickets) are used.
+    /// - HistoryFull, if two records, for the request and its completion, can't be reserved.
+    /// - Memory, if the queue can't grow.
+    ///
+    /// # Example
+    /// From `crates/meet_sync_tests/src/checkpoints.rt`:
+    ///
+    ///     let Ok(Asked::Parked(seat)) = queue.request(rt, seat, Request::Give(1)) else {
+    ///         return Err("0 put 1");
+    ///     };
     #[inline(always)]
     pub fn request<R: Wait>(
         &self,
@@ -101,9 +114,25 @@ impl<O: QueuePlace, G: Gate, N: Ledgers> Queue<O, G, N> {
         }
     }
 
-    /// `Thread.interrupt` of a target: its ticket is cut where it waits in the line, and its gate is woken; else it is
-    /// flagged. It refuses Memory where its seat's list can't grow, else NoSuchSeat where the queue has no such target,
-    /// HistoryFull or Memory.
+    /// Interrupts a target by the number of its seat. If its request waits, that ends as interrupted, and its thread is
+    /// woken; otherwise the interrupt becomes pending (the target is flagged).
+    ///
+    /// # Errors
+    /// The seat is returned, and nothing is logged. The first that applies:
+    /// - Memory, if the seat's list can't grow.
+    /// - NoSuchSeat, if the queue has no seat of this number.
+    /// - HistoryFull, if the log has no room for the record.
+    /// - Memory, if the queue can't grow.
+    ///
+    /// # Example
+    /// From `crates/meet_sync_tests/src/seals.rt`:
+    ///
+    ///     match queue.interrupt(rt, seat, target) {
+    ///         Ok(came) => interrupted(came),
+    ///         Err(why) => refused(why),
+    ///     }
+    ///
+    /// Java: `Thread.interrupt`.
     pub fn interrupt<R: Wait>(
         &self,
         rt: &R,

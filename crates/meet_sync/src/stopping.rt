@@ -13,7 +13,7 @@ use meet_tickets::{Deed, SeatNo};
 use std::sync::Wait;
 
 impl<N: Ledgers> Interrupted<N> {
-    /// The seat that interrupted, whatever came of it.
+    /// Returns the seat that interrupted, whatever the result.
     pub fn into_seat(self) -> Seat<Deed, N>
         ensures { result ≡ seat_of self }
     {
@@ -42,10 +42,23 @@ impl<O: QueuePlace, G: Gate, N: Ledgers> Queue<O, G, N> {
         }
     }
 
-    /// Interrupts every other seat, in the order of their numbers, each by a step and a record of its own: who waits is
-    /// cut and woken, and every other is flagged, so that its next call that would wait doesn't. So a queue's users are
-    /// stopped (our choice; Java interrupts threads, one by one). It refuses as `interrupt`, Memory or HistoryFull;
-    /// then those below some seat were interrupted, and their receipts are the seat's.
+    /// Interrupts every other seat, in the order of their numbers, each by a step and a record of its own. A request
+    /// that waits ends as interrupted, and its thread is woken; for every other seat the interrupt becomes pending (it
+    /// is flagged). So a queue's users are stopped (implementation-defined; Java interrupts threads one by one).
+    ///
+    /// # Errors
+    /// The seats below some number were interrupted, and no others; the returned seat has their receipts.
+    /// - HistoryFull, if the log has no room for a record.
+    /// - Memory, if an allocation fails.
+    ///
+    /// # Example
+    /// From `crates/example_more/src/pipeline/stages.rt`:
+    ///
+    ///     for number in 1..=last {
+    ///         let put = out.put(rt, seat, number).map_err(SeatRefused::into_why)?;
+    ///         seat = put.seat;
+    ///     }
+    ///     out.interrupt_all(rt, seat).map_err(SeatRefused::into_why)
     pub fn interrupt_all<R: Wait>(
         &self,
         rt: &R,

@@ -16,14 +16,25 @@ use meet_tickets::{Deed, Marked};
 use std::sync::Wait;
 use std::time::Clock;
 
-/// `java.util.concurrent.SynchronousQueue` for threads: over a `FairLine` in fair mode, over a `StackLine` in the
-/// default mode.
+/// The synchronous queue for threads: over a `FairLine` in fair mode, over a `StackLine` in the default mode.
+///
+/// Java: `SynchronousQueue`.
 pub type SyncQueue<T, L, G, N> = Queue<Dual<T, L>, G, N>;
 
 impl<T: Marked, L: Line<T>, G: Gate, N: Ledgers> Queue<Dual<T, L>, G, N> {
-    /// `SynchronousQueue.put`: gives an item, and waits until it is taken, which may be never. It ends with Gave where
-    /// a taker waited there, with Done where one came, and with EntryInterrupted or Interrupted, which bring the item
-    /// back, where its seat was interrupted. Refuses as `request`.
+    /// Gives an item, and waits until it is taken, which may be never. It ends with Gave if a consumer waited there,
+    /// and with Done if one came. If its seat is interrupted, it ends with EntryInterrupted or Interrupted, which
+    /// return the item.
+    ///
+    /// # Errors
+    /// - Memory, SeatOpen, TicketsSpent or HistoryFull, as `request`.
+    ///
+    /// # Example
+    /// From `crates/meet_shop/src/calls.rt`:
+    ///
+    ///     Call::Put(item) => whole(queue.put(rt, seat, item)),
+    ///
+    /// Java: `SynchronousQueue.put`.
     pub fn put<R: Wait + Clock>(
         &self,
         rt: &R,
@@ -36,8 +47,18 @@ impl<T: Marked, L: Line<T>, G: Gate, N: Ledgers> Queue<Dual<T, L>, G, N> {
         self.ask(rt, seat, Request::Give(item), None)
     }
 
-    /// `SynchronousQueue.offer`: gives an item to a taker that waits, and ends with Gave, or fails, and ends with
-    /// Failed, which brings the item back. It doesn't wait. Refuses as `request`.
+    /// Gives an item to a consumer that waits, and ends with Gave. If none waits, it ends with Failed, which returns
+    /// the item. It doesn't wait.
+    ///
+    /// # Errors
+    /// - Memory, SeatOpen, TicketsSpent or HistoryFull, as `request`.
+    ///
+    /// # Example
+    /// From `crates/meet_shop/src/calls.rt`:
+    ///
+    ///     Call::Offer(item) => whole(queue.offer(rt, seat, item)),
+    ///
+    /// Java: `SynchronousQueue.offer`.
     pub fn offer<R: Wait + Clock>(
         &self,
         rt: &R,
@@ -50,8 +71,25 @@ impl<T: Marked, L: Line<T>, G: Gate, N: Ledgers> Queue<Dual<T, L>, G, N> {
         self.ask(rt, seat, Request::Offer(item), None)
     }
 
-    /// `SynchronousQueue.offer` with a limit in milliseconds; with a limit of 0 it is `offer`. With another it ends as
-    /// `put`, or with TimedOut, which brings the item back. Refuses as `request`.
+    /// Gives an item, and waits for `limit` milliseconds at most. It ends as `put`, or with TimedOut, which returns the
+    /// item. With a limit of 0 it is `offer`.
+    ///
+    /// # Errors
+    /// - Memory, SeatOpen, TicketsSpent or HistoryFull, as `request`.
+    ///
+    /// # Example
+    /// From `crates/example_more/src/server/serving.rt`:
+    ///
+    ///     match server.queue.offer_for(rt, seat, connection, PATIENCE) {
+    ///         Ok(offered) => {
+    ///             rise(rt, server, offered.seat)?;
+    ///             match offered.end {
+    ///                 End::TimedOut(back) => Ok(back),
+    ///                 _ => Ok(None),
+    ///             }
+    ///         }
+    ///
+    /// Java: `SynchronousQueue.offer` with a timeout.
     pub fn offer_for<R: Wait + Clock>(
         &self,
         rt: &R,

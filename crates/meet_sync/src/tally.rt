@@ -1,4 +1,4 @@
-//! What a chronicle tells of its tickets, and of the items that were given.
+//! What a final log (a chronicle) states of its requests, and of the items that were given.
 
 ghost use Rattle.std.specs.Prelude.{◌≡◌, ℕ, ◌++◌, None, List, IfOk, IfErr};
 ghost use Rattle.meet_tickets.specs.Fates.{opening, fate_on};
@@ -16,14 +16,14 @@ use meet_tickets::{Deed, Fate, Record, Refusal, Ticket};
 use std::alloc::Global;
 
 impl<T> Chronicle<T> {
-    /// The fate of a ticket. It takes no memory, and reads each record once.
+    /// Returns the outcome (the fate) of a request. It doesn't allocate, and reads each record once.
     pub fn fate(&self, ticket: Ticket) -> Fate
         ensures { result ≡ fate_on self.now.base self.now.records.items ticket }
     {
         fate(&self.base, self.records.as_slice(), ticket)
     }
 
-    /// Where the items are that were given, by number. It takes no memory, and reads each record a few times.
+    /// Returns how many items were given, and where they are. It doesn't allocate, and reads each record a few times.
     pub fn laws(&self) -> Tally
         ensures delivered { result.delivered ≡ met_on self.now.base self.now.records.items }
         ensures tally { (kind : Kind) → (mark : T → ℕ) → (lists : List (List (Received Deed)))
@@ -33,8 +33,12 @@ impl<T> Chronicle<T> {
         reckon(&self.base, self.records.as_slice(), self.left.as_slice())
     }
 
-    /// The records that are left without those of tickets that were cut or taken back, the interrupts, and the requests
-    /// that were refused at their entry. It refuses HasBase exactly where records were folded away, else Memory.
+    /// Returns the records without the requests that were withdrawn, the interrupts, and the requests that were refused
+    /// at their entry (a projection of the log).
+    ///
+    /// # Errors
+    /// - HasBase, exactly if records were compacted.
+    /// - Memory, if an allocation fails.
     pub fn erased(&self, alloc: Global) -> Result<Vec<Record<Deed>>, Refusal>
         ensures erased { IfOk result (λ left. left.items ≡ erase self.now.records.items) }
         ensures legal { (kind : Kind) → (mark : T → ℕ) → (lists : List (List (Received Deed)))

@@ -15,12 +15,25 @@ use meet_transfer::Unbounded;
 use std::sync::Wait;
 use std::time::Clock;
 
-/// `java.util.concurrent.LinkedTransferQueue` for threads.
+/// The transfer queue for threads.
+///
+/// Java: `LinkedTransferQueue`.
 pub type TransferQueue<T, G, N> = Queue<Unbounded<T>, G, N>;
 
 impl<T: Marked, G: Gate, N: Ledgers> Queue<Unbounded<T>, G, N> {
-    /// `LinkedTransferQueue.put`: the item goes to a taker that waits, and the call ends with Gave, or it is kept in
-    /// the line, and the call ends with Kept; it never waits, and never fails. Refuses as `request`.
+    /// Gives the item to a consumer that waits, and ends with Gave; or buffers it, and ends with Kept. It never waits,
+    /// and never ends with Failed.
+    ///
+    /// # Errors
+    /// - Memory, SeatOpen, TicketsSpent or HistoryFull, as `request`.
+    ///
+    /// # Example
+    /// From `crates/example_more/src/pipeline/stages.rt`:
+    ///
+    ///     let put = out.put(rt, seat, number).map_err(SeatRefused::into_why)?;
+    ///     seat = put.seat;
+    ///
+    /// Java: `LinkedTransferQueue.put`.
     pub fn put<R: Wait>(
         &self,
         rt: &R,
@@ -43,7 +56,12 @@ impl<T: Marked, G: Gate, N: Ledgers> Queue<Unbounded<T>, G, N> {
         }
     }
 
-    /// `LinkedTransferQueue.offer`: the same as `put`.
+    /// Puts the item, as `put` does.
+    ///
+    /// # Errors
+    /// - Memory, SeatOpen, TicketsSpent or HistoryFull, as `request`.
+    ///
+    /// Java: `LinkedTransferQueue.offer`.
     pub fn offer<R: Wait>(
         &self,
         rt: &R,
@@ -56,7 +74,12 @@ impl<T: Marked, G: Gate, N: Ledgers> Queue<Unbounded<T>, G, N> {
         self.put(rt, seat, item)
     }
 
-    /// `LinkedTransferQueue.offer` with a limit in milliseconds: the same as `put`, since it never waits.
+    /// Puts the item, as `put` does. It never waits, so the limit has no effect.
+    ///
+    /// # Errors
+    /// - Memory, SeatOpen, TicketsSpent or HistoryFull, as `request`.
+    ///
+    /// Java: `LinkedTransferQueue.offer` with a timeout.
     pub fn offer_for<R: Wait>(
         &self,
         rt: &R,
@@ -70,9 +93,19 @@ impl<T: Marked, G: Gate, N: Ledgers> Queue<Unbounded<T>, G, N> {
         self.offer(rt, seat, item)
     }
 
-    /// `LinkedTransferQueue.transfer`: gives an item, and waits until it is taken, which may be never. It ends with
-    /// Gave where a taker waited there, with Done where one came, and with EntryInterrupted or Interrupted, which bring
-    /// the item back, where its seat was interrupted. Refuses as `request`.
+    /// Gives an item, and waits until it is taken, which may be never. It ends with Gave if a consumer waited there,
+    /// and with Done if one came. If its seat is interrupted, it ends with EntryInterrupted or Interrupted, which
+    /// return the item.
+    ///
+    /// # Errors
+    /// - Memory, SeatOpen, TicketsSpent or HistoryFull, as `request`.
+    ///
+    /// # Example
+    /// From `crates/meet_shop/src/calls.rt`:
+    ///
+    ///     Call::Transfer(item) => whole(queue.transfer(rt, seat, item)),
+    ///
+    /// Java: `LinkedTransferQueue.transfer`.
     pub fn transfer<R: Wait + Clock>(
         &self,
         rt: &R,
@@ -85,8 +118,18 @@ impl<T: Marked, G: Gate, N: Ledgers> Queue<Unbounded<T>, G, N> {
         self.ask(rt, seat, Request::Give(item), None)
     }
 
-    /// `LinkedTransferQueue.tryTransfer`: gives an item to a taker that waits, and ends with Gave, or fails, and ends
-    /// with Failed, which brings the item back. It doesn't wait. Refuses as `request`.
+    /// Gives an item to a consumer that waits, and ends with Gave. If none waits, it ends with Failed, which returns
+    /// the item. It doesn't wait.
+    ///
+    /// # Errors
+    /// - Memory, SeatOpen, TicketsSpent or HistoryFull, as `request`.
+    ///
+    /// # Example
+    /// From `crates/meet_shop/src/calls.rt`:
+    ///
+    ///     Call::TryTransfer(item) => whole(queue.try_transfer(rt, seat, item)),
+    ///
+    /// Java: `LinkedTransferQueue.tryTransfer`.
     pub fn try_transfer<R: Wait + Clock>(
         &self,
         rt: &R,
@@ -99,8 +142,26 @@ impl<T: Marked, G: Gate, N: Ledgers> Queue<Unbounded<T>, G, N> {
         self.ask(rt, seat, Request::Offer(item), None)
     }
 
-    /// `LinkedTransferQueue.tryTransfer` with a limit in milliseconds; with a limit of 0 it is `try_transfer`. With
-    /// another it ends as `transfer`, or with TimedOut, which brings the item back. Refuses as `request`.
+    /// Gives an item, and waits for `limit` milliseconds at most. It ends as `transfer`, or with TimedOut, which
+    /// returns the item. With a limit of 0 it is `try_transfer`.
+    ///
+    /// # Errors
+    /// - Memory, SeatOpen, TicketsSpent or HistoryFull, as `request`.
+    ///
+    /// # Example
+    /// From `crates/example_parcels/src/passing.rt`:
+    ///
+    ///     match counter.transfer_for(rt, seat, parcel, plan.patience) {
+    ///         Ok(ended) => {
+    ///             match counter.tend(rt, ended.seat) {
+    ///                 Ok(tended) => seat = tended,
+    ///                 Err(refused) => return stopped(refused, hand),
+    ///             }
+    ///         }
+    ///         Err(refused) => return stopped(refused, hand),
+    ///     }
+    ///
+    /// Java: `LinkedTransferQueue.tryTransfer` with a timeout.
     pub fn transfer_for<R: Wait + Clock>(
         &self,
         rt: &R,

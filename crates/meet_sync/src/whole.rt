@@ -1,4 +1,4 @@
-//! The whole calls of a queue: a request, and where it waits, the wait for its ending.
+//! The whole calls of a queue: a request, and if that waits, the wait for its completion.
 
 ghost use Rattle.std.specs.Prelude.{◌≡◌, ◌<◌, ⊤, None, IfOk, IfErr, IfNone};
 ghost use Rattle.meet_sync.specs.Asking.{call_of, item_of, RefusedAs};
@@ -123,10 +123,12 @@ impl<O: QueuePlace, G: Gate, N: Ledgers> Queue<O, G, N> {
         unreachable!()
     }
 
-    /// A whole call, of a queue of any kind: a request, and the wait for its ending, for so many milliseconds where
-    /// there is a limit; without one it may wait for ever. Put is `BlockingQueue.put`, Give `TransferQueue.transfer`,
-    /// Offer `TransferQueue.tryTransfer`; in a synchronous queue the first two are the same, and the last is its
-    /// `offer`. Refuses as `request`.
+    /// Makes a whole call, of a queue of any kind: a request, and the wait for its completion. `limit` is in
+    /// milliseconds; without one it may wait for ever. Put is `BlockingQueue.put`, Give `TransferQueue.transfer`, Offer
+    /// `TransferQueue.tryTransfer`. In a synchronous queue the first two are the same, and the last is its `offer`.
+    ///
+    /// # Errors
+    /// - Memory, SeatOpen, TicketsSpent or HistoryFull, as `request`.
     #[inline(always)]
     pub fn ask<R: Wait + Clock>(
         &self,
@@ -171,8 +173,22 @@ impl<O: QueuePlace, G: Gate, N: Ledgers> Queue<O, G, N> {
         self.ask(rt, seat, Request::Give(item), Some(limit))
     }
 
-    /// `BlockingQueue.take`: takes an item, and waits until there is one, which may be never. It ends with Got, or with
-    /// EntryInterrupted or Interrupted where its seat was interrupted. Refuses as `request`.
+    /// Takes an item, and waits until there is one, which may be never. It ends with Got. If its seat is interrupted,
+    /// it ends with EntryInterrupted or Interrupted.
+    ///
+    /// # Errors
+    /// - Memory, SeatOpen, TicketsSpent or HistoryFull, as `request`.
+    ///
+    /// # Example
+    /// From `crates/example_more/src/pipeline/stages.rt`:
+    ///
+    ///     let taken = numbers.take(rt, from).map_err(SeatRefused::into_why)?;
+    ///     from = taken.seat;
+    ///     let End::Got(_, number) = taken.end else {
+    ///         break;
+    ///     };
+    ///
+    /// Java: `BlockingQueue.take`.
     pub fn take<R: Wait + Clock>(
         &self,
         rt: &R,
@@ -184,8 +200,20 @@ impl<O: QueuePlace, G: Gate, N: Ledgers> Queue<O, G, N> {
         self.ask(rt, seat, Request::Take, None)
     }
 
-    /// `Queue.poll`: takes an item from a giver that is there, and ends with Got, or fails, and ends with Failed. It
-    /// doesn't wait. Refuses as `request`.
+    /// Takes an item from a producer that is there, and ends with Got; otherwise it ends with Failed. It doesn't wait.
+    ///
+    /// # Errors
+    /// - Memory, SeatOpen, TicketsSpent or HistoryFull, as `request`.
+    ///
+    /// # Example
+    /// From `crates/example_more/src/told.rt`:
+    ///
+    ///     let mut seat = seat;
+    ///     seat.learn(&note.moment);
+    ///     match queue.poll(rt, seat) {
+    ///         Ok(Ended { seat, end }) => {
+    ///
+    /// Java: `Queue.poll`.
     pub fn poll<R: Wait + Clock>(
         &self,
         rt: &R,
@@ -197,8 +225,20 @@ impl<O: QueuePlace, G: Gate, N: Ledgers> Queue<O, G, N> {
         self.ask(rt, seat, Request::Poll, None)
     }
 
-    /// `BlockingQueue.poll` with a limit in milliseconds; with a limit of 0 it is `poll`. With another it ends as
-    /// `take`, or with TimedOut. Refuses as `request`.
+    /// Takes an item, and waits for one for `limit` milliseconds at most. It ends as `take`, or with TimedOut. With a
+    /// limit of 0 it is `poll`.
+    ///
+    /// # Errors
+    /// - Memory, SeatOpen, TicketsSpent or HistoryFull, as `request`.
+    ///
+    /// # Example
+    /// From `crates/example_parcels/src/passing.rt`:
+    ///
+    ///     match counter.poll_for(rt, seat, plan.patience) {
+    ///         Ok(ended) => {
+    ///             hand = hand.with(parcel_of(ended.end)); // End::Got(with, parcel), End::TimedOut(None), ..
+    ///
+    /// Java: `BlockingQueue.poll` with a timeout.
     pub fn poll_for<R: Wait + Clock>(
         &self,
         rt: &R,

@@ -1,4 +1,4 @@
-//! What stands for the records that were folded away.
+//! Snapshots of the compacted records (bases).
 
 ghost use Rattle.std.specs.Prelude.{◌≡◌, IfOk, IfErr};
 ghost use Rattle.meet_tickets.specs.declared.refusals.Refusal.TheVariants.{Memory};
@@ -10,34 +10,46 @@ use crate::refusals::Refusal;
 use std::alloc::Global;
 use std::marker::Model;
 
-/// An open ticket that was met, and hasn't learned so.
+/// A pending request (an open ticket) that was matched, and isn't completed.
 #[derive(Clone, Copy, PartialEq, Eq, Hash, Debug)]
 pub struct OpenPair {
+    /// The ticket.
     pub ticket: Ticket,
+    /// Its seat.
     pub seat: SeatNo,
+    /// Whether it gives or takes.
     pub side: Side,
+    /// The ticket that it met.
     pub partner: Ticket,
-    /// The mark of the giver's item.
+    /// The mark of the producer's item.
     pub mark: u64,
 }
 
-/// An open ticket that was cut, and hasn't learned so.
+/// A pending request (an open ticket) that was interrupted, and isn't completed.
 #[derive(Clone, Copy, PartialEq, Eq, Hash, Debug)]
 pub struct OpenCut {
+    /// The ticket.
     pub ticket: Ticket,
+    /// Its seat.
     pub seat: SeatNo,
-    /// The mark of a giver's item; a taker has none.
+    /// The mark of a producer's item; a consumer has none.
     pub item: Option<u64>,
 }
 
-/// What stands for the records that were folded away: where they left the place.
+/// A snapshot (a base): the state in which the compacted records left the place.
 #[derive(Debug, Drop)]
 pub struct Base {
+    /// How many records were compacted.
     pub gone: u64,
+    /// The last ticket.
     pub last: Ticket,
+    /// The nodes of the wait queue, in order.
     pub line: Vec<Entry<u64>>,
+    /// The pending requests that were matched.
     pub pairs: Vec<OpenPair>,
+    /// The pending requests that were interrupted.
     pub cut: Vec<OpenCut>,
+    /// The seats with a pending interrupt (flagged).
     pub flags: Vec<SeatNo>,
 }
 
@@ -59,7 +71,7 @@ impl Model for Base {
 impl Base {
     ghost use Rattle.meet_tickets.specs.Bases.{no_base};
 
-    /// The base of no records. It takes no memory.
+    /// Returns the base of no records. It doesn't allocate.
     pub fn empty(alloc: Global) -> Self
         ensures { result ≡ no_base }
     {
@@ -73,7 +85,10 @@ impl Base {
             flags: Vec::new(alloc),
         }
     }
-    /// The same base once more. The only refusal is Memory.
+    /// Copies the base.
+    ///
+    /// # Errors
+    /// - Memory, if an allocation fails.
     pub fn copy(&self, alloc: Global) -> Result<Self, Refusal>
         ensures same { IfOk result (λ copy. copy ≡ self.now) }
         ensures memory { IfErr result (λ why. why ≡ Memory) }
@@ -89,7 +104,10 @@ impl Base {
     }
 }
 
-/// A list of clones of these items. The only refusal is Memory.
+/// Returns a list of clones of these items.
+///
+/// # Errors
+/// - Memory, if an allocation fails.
 pub fn clones_of<T: Clone>(alloc: Global, items: &[T]) -> Result<Vec<T>, Refusal>
     ensures items { IfOk result (λ list. ((x y : T) → T.is_clone x y → y ≡ x) → list.items ≡ items.now) }
     ensures memory { IfErr result (λ why. why ≡ Memory) }

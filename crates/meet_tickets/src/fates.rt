@@ -1,4 +1,4 @@
-//! What becomes of a ticket, and what one record tells of it.
+//! The outcome of a request, and what one record states of it.
 
 ghost use Rattle.std.specs.Prelude.{◌≡◌, ◌==◌, ◌&&◌, nat_lt, is_some, None};
 ghost use Rattle.std.specs.Prelude.{if◌then◌else◌};
@@ -7,33 +7,33 @@ ghost use Rattle.meet_tickets.specs.Fates.{named_by, meets_it, tells_of_meeting,
 use crate::names::Ticket;
 use crate::records::{Cause, Deed, Record};
 
-/// What became of a ticket, as a place's records tell it (`specs/Fates`).
+/// The outcome of a request (its fate), computed from the log alone (`specs/Fates`).
 #[derive(Clone, Copy, PartialEq, Eq, Hash, Debug)]
 pub enum Fate {
     /// No request has this ticket.
     Never,
-    /// It found nobody, and didn't wait.
+    /// It found no counterpart, and didn't wait.
     Failed,
-    /// It was refused at its entry, its seat being flagged.
+    /// It was refused at its entry, since its seat had a pending interrupt.
     EntryRefused,
-    /// It met this ticket, and hasn't learned so; a ticket that didn't wait has nothing to learn.
+    /// It met this ticket, and isn't completed; a request that didn't wait needs no completion.
     Paired(Ticket),
-    /// It waited, met this ticket, and learned so.
+    /// It waited, met this ticket, and is completed.
     Collected(Ticket),
-    /// It was taken back.
+    /// It was withdrawn.
     Withdrawn(Cause),
-    /// It was interrupted in the line, and hasn't learned so.
+    /// It was interrupted in the wait queue, and isn't completed.
     Cut,
-    /// Its item is kept in the line.
+    /// Its item is buffered.
     Kept,
-    /// It waits in the line.
+    /// It waits in the wait queue.
     Waiting,
-    /// It came before the base, and is none of its entries'.
+    /// It came before the base, which has no entry for it.
     Past,
 }
 
 impl Deed {
-    /// The ticket that a request names as its partner, if it met one.
+    /// Returns the ticket that a request names as its partner, if it met one.
     pub fn partner(&self) -> Option<Ticket>
         ensures { result ≡ named_by self.now }
     {
@@ -43,14 +43,14 @@ impl Deed {
         }
     }
 
-    /// Whether it tells its ticket, which waited, that it was met.
+    /// Returns true if it completes its ticket, which waited, as matched.
     pub fn tells_of_meeting(&self) -> bool
         ensures { result ≡ tells_of_meeting self.now }
     {
         matches!(self, Deed::Done | Deed::Got(_, _))
     }
 
-    /// Whether it interrupts a seat.
+    /// Returns true if it interrupts a seat.
     pub fn interrupts(&self) -> bool
         ensures { result ≡ interrupts self.now }
     {
@@ -59,7 +59,7 @@ impl Deed {
 }
 
 impl Record<Deed> {
-    /// Whether it is a request that meets this ticket.
+    /// Returns true if it is a request that meets this ticket.
     pub fn meets(&self, ticket: Ticket) -> bool
         ensures { result ≡ meets_it ticket self.now }
     {
@@ -69,7 +69,7 @@ impl Record<Deed> {
         }
     }
 
-    /// Why it takes this ticket back, if it does.
+    /// Returns why it withdraws this ticket, if it does.
     pub fn takes_back(&self, ticket: Ticket) -> Option<Cause>
         ensures { result ≡ (if is_some (withdrawn_by self.now.deed) && (self.now.ticket == ticket)
             then withdrawn_by self.now.deed else None) }
@@ -80,7 +80,7 @@ impl Record<Deed> {
         }
     }
 
-    /// Whether it cuts this ticket. The record of an interrupt that flags its seat names ticket 0.
+    /// Returns true if it interrupts this ticket. The record of an interrupt that becomes pending names ticket 0.
     pub fn cuts(&self, ticket: Ticket) -> bool
         ensures { result ≡ (interrupts self.now.deed && nat_lt 0 ticket && (self.now.ticket == ticket)) }
     {

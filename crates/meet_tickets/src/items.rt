@@ -1,12 +1,20 @@
-//! What passes through a place.
+//! The items that pass through a place.
 
 ghost use Rattle.std.specs.Prelude.{◌≡◌, ℕ};
 
-/// An item that a record can name. Two items may have one mark.
+/// An item with a mark (an item id), by which a record names it. Two items may have one mark.
+///
+/// # Example
+/// From `crates/example_parcels/src/passing.rt`:
+///
+///     impl Marked for Parcel {
+///         ghost mark_of = { λ parcel. parcel.mark };
+///         fn mark(&self) -> u64 {
 pub trait Marked {
+    /// The mark of an item.
     ghost mark_of: { Self → ℕ };
 
-    /// The number by which records name this item. It takes no memory.
+    /// Returns the number by which records name this item. It doesn't allocate.
     fn mark(&self) -> u64
         ensures { result ≡ mark_of self.now };
 }

@@ -1,9 +1,12 @@
-//! The names that every meeting place shares, and the rules of a legal history. It knows neither queues nor books nor
-//! threads: all that stands here is of records.
+//! The names that all places (shared objects) have in common, and the specification of a legal history. The crate knows
+//! neither queues nor books nor threads: all that stands here is of records (log entries).
 //!
-//! `specs/` has the rules: `Meeting` says whom a request meets, `ByLists` which histories are legal, `BySeat` the same
-//! as the code sees it, `Fates` what became of each ticket, `Placed` that this is what the place holds, `Asked` that it
-//! holds what its tickets brought.
+//! `specs/` has the specification:
+//!
+//! - `Meeting` defines whom a request meets;
+//! - `ByLists` defines which histories are legal, and `BySeat` the same as the code sees it;
+//! - `Fates` defines what happened to each ticket;
+//! - `Placed` states that this is what the place holds, and `Asked` that it holds what its tickets brought.
 #![tactic(auto)]
 
 pub mod bases;

@@ -1,24 +1,27 @@
-//! What stands in a place's line, and what each seat holds.
+//! The nodes of a place's wait queue, and what each seat holds.
 
 ghost use Rattle.std.specs.Prelude.{◌≡◌};
 
 use crate::names::{SeatNo, Ticket};
 use crate::places::Side;
 
-/// An unmatched ticket in the line. A giver presents an item, a taker none.
+/// A node (an entry) of the wait queue: an unmatched ticket. A producer presents an item, a consumer none.
 #[derive(Clone, Debug, Drop)]
 pub struct Entry<T> {
+    /// The ticket.
     pub ticket: Ticket,
+    /// Its seat.
     pub seat: SeatNo,
+    /// A producer's item.
     pub item: Option<T>,
-    /// Whether the ticket is open: its seat waits for it. A kept item's isn't.
+    /// Whether the ticket is pending (open): its seat waits for it. The ticket of a buffered item isn't.
     pub waits: bool,
 }
 
 impl<T> Entry<T> {
     ghost use Rattle.meet_tickets.specs.Meeting.{is_on};
 
-    /// Whether the entry stands on this side.
+    /// Returns true if the node is of this side.
     pub fn is_on(&self, side: Side) -> bool
         ensures { result ≡ is_on side self.now }
     {
@@ -29,25 +32,25 @@ impl<T> Entry<T> {
     }
 }
 
-/// What a seat has open: at most one ticket.
+/// The pending request (the open ticket) of a seat: one at most.
 #[derive(Debug, Drop)]
 pub enum Hold<T> {
-    /// Nothing is open.
+    /// No request is pending.
     Free,
-    /// This ticket stands in the line.
+    /// This ticket stands in the wait queue.
     Waiting(Ticket),
-    /// This giver's ticket was met by that taker, which got the item with this mark.
+    /// This producer's ticket was matched with that consumer, which got the item with this mark.
     Handed(Ticket, Ticket, u64),
-    /// This taker's ticket was met by that giver, whose item is here.
+    /// This consumer's ticket was matched with that producer, whose item is here.
     Served(Ticket, Ticket, T),
-    /// This ticket was cut by an interrupt; a giver's item is here.
+    /// This ticket was interrupted; a producer's item is here.
     Cut(Ticket, Option<T>),
 }
 
 impl<T> Hold<T> {
     ghost use Rattle.meet_tickets.specs.BySeat.{open_ticket, is_open, is_settled};
 
-    /// The open ticket, if there is one.
+    /// Returns the open ticket, if there is one.
     pub fn open_ticket(&self) -> Option<Ticket>
         ensures { result ≡ open_ticket self.now }
     {
@@ -60,14 +63,14 @@ impl<T> Hold<T> {
         }
     }
 
-    /// Whether a ticket is open.
+    /// Returns true if a ticket is open.
     pub fn is_open(&self) -> bool
         ensures { result ≡ is_open self.now }
     {
         self.open_ticket().is_some()
     }
 
-    /// Whether a ticket is open and not in the line: paired, or cut.
+    /// Returns true if a ticket is open and not in the wait queue: matched, or interrupted.
     pub fn is_settled(&self) -> bool
         ensures { result ≡ is_settled self.now }
     {

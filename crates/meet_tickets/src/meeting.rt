@@ -1,4 +1,4 @@
-//! Whom a request meets, and whether an item may be kept.
+//! Whom a request meets, and whether an item may be buffered.
 
 ghost use Rattle.std.specs.Prelude.{◌≡◌, ◌↔◌, IsTrue, option_map};
 ghost use Rattle.meet_tickets.specs.Meeting.{kept_count};
@@ -16,8 +16,8 @@ fn kept<T>(line: &[Entry<T>]) -> u64
 impl Kind {
     ghost use Rattle.meet_tickets.specs.Meeting.{MayKeep, end_of, partner};
 
-    /// The entry of a line that a request of this side meets. There is none where the line is empty or holds the
-    /// request's own side.
+    /// Returns the node of a wait queue that a request of this side meets. There is none if the queue is empty or holds
+    /// the request's own side.
     pub fn partner<'a, T>(self, line: &'a [Entry<T>], side: Side) -> Option<&'a Entry<T>>
         ensures { option_map (λ e. e.now) result ≡ partner (end_of self.order) line.now side }
     {
@@ -30,7 +30,7 @@ impl Kind {
         }
     }
 
-    /// Whether a place with this line may keep an item: it keeps items, and isn't full.
+    /// Returns true if a place with this wait queue may buffer an item: it buffers items, and isn't full.
     pub fn may_keep<T>(self, line: &[Entry<T>]) -> bool
         ensures { IsTrue result ↔ MayKeep self line.now }
     {

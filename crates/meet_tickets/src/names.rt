@@ -1,4 +1,4 @@
-//! Tickets and seats: the two kinds of number by which a place's records name things.
+//! Tickets (request ids) and seat numbers: the two kinds of number by which a place's records name things.
 
 ghost use Rattle.std.specs.Prelude.{◌≡◌, ℕ, ◌≤◌, ◌<◌, SomeIff};
 ghost use Rattle.meet_tickets.specs.Limits.{most_seats, last_ticket};
@@ -6,7 +6,7 @@ ghost use Rattle.meet_tickets.specs.Limits.{most_seats, last_ticket};
 use crate::limits::{LAST_TICKET, MOST_SEATS};
 use std::marker::Model;
 
-/// The number of a request, 1 to 2^63 - 1; 0 names no ticket.
+/// A request id (a ticket), 1 to 2^63 - 1; 0 names no ticket.
 #[derive(Clone, Copy, PartialEq, Eq, PartialOrd, Ord, Hash, Debug)]
 pub struct Ticket {
     number: u64,
@@ -23,7 +23,7 @@ impl Model for Ticket {
 }
 
 impl Ticket {
-    /// The ticket of this number, or none where the number is 2^63 or more.
+    /// Returns the ticket of this number, or None if the number is 2^63 or more.
     pub fn new(number: u64) -> Option<Self>
         ensures { SomeIff result (number ≤ last_ticket) number }
     {
@@ -34,7 +34,7 @@ impl Ticket {
         }
     }
 
-    /// The ticket's number.
+    /// Returns the ticket's number.
     pub fn number(&self) -> u64
         ensures value { result ≡ self.now }
         ensures in_range { self.now ≤ last_ticket }
@@ -60,7 +60,7 @@ impl Model for SeatNo {
 }
 
 impl SeatNo {
-    /// The seat of this number, or none where the number is 65,536 or more.
+    /// Returns the seat number of this number, or None if it is 65,536 or more.
     pub fn new(number: u64) -> Option<Self>
         ensures { SomeIff result (number < most_seats) number }
     {
@@ -71,7 +71,7 @@ impl SeatNo {
         }
     }
 
-    /// The seat's number.
+    /// Returns the number.
     pub fn number(&self) -> u64
         ensures value { result ≡ self.now }
         ensures in_range { self.now < most_seats }

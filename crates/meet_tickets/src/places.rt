@@ -1,38 +1,40 @@
-//! The kinds of meeting place, and the two sides that meet there.
+//! The kinds of place, and the two sides that meet there.
 
 ghost use Rattle.std.specs.Prelude.{◌≡◌};
 
-/// The two sides of a meeting.
+/// The two sides of a match.
 #[derive(Clone, Copy, PartialEq, Eq, PartialOrd, Ord, Hash, Debug)]
 pub enum Side {
+    /// The producer.
     Giver,
+    /// The consumer.
     Taker,
 }
 
-/// Whom a request meets, and whether a giver's item may be kept.
+/// The queueing discipline: whom a request meets, and whether a producer's item may be buffered.
 #[derive(Clone, Copy, PartialEq, Eq, PartialOrd, Ord, Hash, Debug)]
 pub enum Order {
     /// `SynchronousQueue` in fair mode: the one that waited longest.
     Fair,
     /// `SynchronousQueue` in its default mode: the one that came last.
     Unfair,
-    /// `LinkedTransferQueue`: the one that stands there longest; items may be kept.
+    /// `LinkedTransferQueue`: the one that stands there longest; items may be buffered.
     Transfer,
 }
 
-/// The two ends of a place's line.
+/// The two ends of a place's wait queue.
 #[derive(Clone, Copy, PartialEq, Eq, Hash, Debug)]
 pub enum End {
-    /// Where the one stands that waited longest.
+    /// The end of the one that waited longest.
     Front,
-    /// Where the one stands that came last.
+    /// The end of the one that came last.
     Back,
 }
 
 impl Order {
     ghost use Rattle.meet_tickets.specs.Meeting.{end_of, keeps};
 
-    /// The end of its line at which a place's entries are met.
+    /// Returns the end of the wait queue at which a place's nodes are met.
     pub fn end(self) -> End
         ensures { result ≡ end_of self }
     {
@@ -43,7 +45,7 @@ impl Order {
         }
     }
 
-    /// Whether a place keeps the items of givers that went on.
+    /// Returns true if a place buffers the items of producers that went on.
     pub fn keeps(self) -> bool
         ensures { result ≡ keeps self }
     {
@@ -55,9 +57,11 @@ impl Order {
     }
 }
 
-/// A kind of place: its order and, for a transfer queue, how many items it keeps at most.
+/// The type of a place: its order and, for a transfer queue, how many items it buffers at most.
 #[derive(Clone, Copy, PartialEq, Eq, Hash, Debug)]
 pub struct Kind {
+    /// The queueing discipline.
     pub order: Order,
+    /// The most items that are buffered; none if there is no bound.
     pub bound: Option<u64>,
 }

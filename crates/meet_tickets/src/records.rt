@@ -1,51 +1,54 @@
-//! The records that a place keeps of its steps.
+//! The records (log entries) of a place's steps.
 
 ghost use Rattle.std.specs.Prelude.{◌≡◌};
 
 use crate::names::{SeatNo, Ticket};
 use crate::places::Side;
 
-/// Why a ticket was withdrawn.
+/// Why a request was withdrawn.
 #[derive(Clone, Copy, PartialEq, Eq, PartialOrd, Ord, Hash, Debug)]
 pub enum Cause {
+    /// Its seat cancelled it.
     Cancelled,
+    /// Its time ran out.
     Expired,
+    /// Its seat was interrupted.
     Interrupted,
 }
 
-/// What a recorded step did. Items are named by their marks, partners by their tickets.
+/// The event of a logged step (its deed). Items are named by their marks, partners by their tickets.
 #[derive(Clone, Copy, PartialEq, Eq, Hash, Debug)]
 pub enum Deed {
-    /// A giver with this mark goes to the line and waits.
+    /// A producer with this mark goes to the wait queue and waits.
     GiveWaits(u64),
-    /// A giver with this mark meets this taker.
+    /// A producer with this mark meets this consumer.
     GiveMeets(u64, Ticket),
-    /// A giver with this mark finds nobody and doesn't wait.
+    /// A producer with this mark finds no consumer and doesn't wait.
     GiveFails(u64),
-    /// An item with this mark is kept in the line, and its giver goes on.
+    /// An item with this mark is buffered, and its producer goes on.
     GiveKept(u64),
-    /// A taker goes to the line and waits.
+    /// A consumer goes to the wait queue and waits.
     TakeWaits,
-    /// A taker meets this giver, whose item has this mark.
+    /// A consumer meets this producer, whose item has this mark.
     TakeMeets(u64, Ticket),
-    /// A taker finds nobody and doesn't wait.
+    /// A consumer finds no producer and doesn't wait.
     TakeFails,
-    /// A request that would have waited is refused, its seat being flagged.
+    /// A request that would have waited is refused, since its seat has a pending interrupt.
     EntryInterrupted(Side),
-    /// A giver that waited learns that it was met.
+    /// A producer that waited is completed as matched.
     Done,
-    /// A taker that waited collects the item with this mark from this giver.
+    /// A consumer that waited collects the item with this mark from this producer.
     Got(u64, Ticket),
-    /// A ticket is taken back.
+    /// A request is withdrawn.
     Withdrawn(Cause),
-    /// This seat is interrupted: its ticket is cut, or the seat is flagged.
+    /// This seat is interrupted: its waiting request, or else its interrupt becomes pending.
     Interrupt(SeatNo),
 }
 
 impl Deed {
     ghost use Rattle.meet_tickets.specs.BySeat.{is_request};
 
-    /// Whether this is a request's deed: it enters a ticket, where the others end one, or interrupt.
+    /// Returns true if this is a request's deed: it enters a ticket. The others complete one, or interrupt.
     pub fn is_request(&self) -> bool
         ensures { result ≡ is_request self.now }
     {
@@ -56,10 +59,13 @@ impl Deed {
     }
 }
 
-/// One step of a place: by which seat, of which ticket, and what it did.
+/// One logged step of a place (a log entry).
 #[derive(Clone, Copy, PartialEq, Eq, Hash, Debug)]
 pub struct Record<D> {
+    /// The seat that made it.
     pub seat: SeatNo,
+    /// The ticket of the request.
     pub ticket: Ticket,
+    /// What it did.
     pub deed: D,
 }

@@ -1,4 +1,4 @@
-//! Why a call is refused.
+//! Why a call fails.
 
 ghost use Rattle.std.specs.Prelude.{◌≡◌};
 ghost use Rattle.meet_tickets.specs.Refusals.{number_of, name_of};
@@ -7,22 +7,22 @@ use std::error::Error;
 use std::fmt;
 use std::fmt::{Debug, Display, Formatter, Write};
 
-/// Each reason for which a call of this workspace is refused. As an error its text is its name.
+/// The reasons for which a call fails. As an error its text is its name.
 #[derive(Clone, Copy, PartialEq, Eq, Hash, Debug)]
 pub enum Refusal {
-    /// Memory was wanted and not there.
+    /// An allocation failed.
     Memory,
-    /// The records that this call and the open tickets may need would not fit.
+    /// The records that this call and the pending requests may need don't fit into the log.
     HistoryFull,
-    /// No ticket is left.
+    /// All request ids (tickets) are used.
     TicketsSpent,
-    /// The seat has an open ticket.
+    /// The seat has a pending request (an open ticket).
     SeatOpen,
     /// The place has no such seat.
     NoSuchSeat,
     /// The ticket isn't the open one of that seat.
     NotOpen,
-    /// A seat's list differs from the book.
+    /// A seat's receipts aren't its records.
     Differs,
     /// Not every seat was given back.
     SeatMissing,
@@ -32,7 +32,7 @@ pub enum Refusal {
     Worn,
     /// The sizes don't fit together.
     BadSizes,
-    /// The policy needs a queue that keeps jobs.
+    /// The policy needs a queue that buffers jobs.
     PolicyNeedsBuffer,
     /// A thread could not be started.
     NoThread,
@@ -44,12 +44,12 @@ pub enum Refusal {
     ReadFault,
     /// A write failed.
     WriteFault,
-    /// Records were folded away.
+    /// Records were compacted.
     HasBase,
 }
 
 impl Refusal {
-    /// The refusal's number, 1 to 18.
+    /// Returns the reason's number, 1 to 18.
     pub fn number(&self) -> u64
         ensures { result ≡ number_of self.now }
     {
@@ -75,7 +75,7 @@ impl Refusal {
         }
     }
 
-    /// The refusal's name, as programs print it.
+    /// Returns the reason's name, as programs print it.
     pub fn name(&self) -> &'static str
         ensures { result.now ≡ name_of self.now }
     {
@@ -116,11 +116,11 @@ impl Display for Refusal {
 
 impl Error for Refusal {}
 
-/// A refusal, with what was handed in. It is no error type, and no `From` makes it a `Refusal`: so a `?` hands it on
-/// whole or doesn't compile, and nothing that was handed in is let go in silence.
+/// An error, with what was handed in. It is no error type, and no `From` makes it a `Refusal`: so a `?` returns it
+/// whole or doesn't compile, and nothing that was handed in is dropped in silence.
 #[derive(Drop)]
 pub struct Refused<I> {
-    /// Why the call is refused.
+    /// The reason.
     pub why: Refusal,
     /// What was handed in.
     pub back: I,
@@ -138,7 +138,7 @@ impl<I> Display for Refused<I> {
     }
 }
 
-/// The reason alone: what comes back need not be one that can be shown.
+/// The reason alone: what is returned need not be one that can be shown.
 impl<I> Debug for Refused<I> {
     fn fmt<W: Write>(&self, f: &mut Formatter<W>) -> fmt::Result {
         write!(f, "Refused({})", self.why)
@@ -146,7 +146,7 @@ impl<I> Debug for Refused<I> {
 }
 
 impl<I: Drop> Refused<I> {
-    /// The reason alone. What was handed in is let go: match the refusal to keep it.
+    /// Returns the reason alone, and drops what was handed in: match the error to keep it.
     pub fn into_why(self) -> Refusal
         ensures { result ≡ self.why }
     {

@@ -1,8 +1,8 @@
-//! The transfer queue of one thread: `java.util.concurrent.LinkedTransferQueue`, with each waiting call split into its
-//! request and its ending. It knows neither threads nor locks.
+//! The transfer queue of one thread (`LinkedTransferQueue`), with each waiting call split into its request and its
+//! completion. The crate knows neither threads nor locks.
 //!
-//! Its line is that of a synchronous queue in fair mode, but for entries that are kept: their giver went on, so nobody
-//! follows them up, and none can cut them or take them back. A bound is on these alone.
+//! Its wait queue is that of a synchronous queue in fair mode, but for the nodes of buffered items. Their producer went
+//! on, so nobody follows them up, and none can interrupt them or take them back. A bound is on these alone.
 #![tactic(auto)]
 
 mod transfer;

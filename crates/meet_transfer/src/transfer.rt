@@ -1,4 +1,4 @@
-//! The transfer queue: givers that wait or leave their item in the line, and takers.
+//! The transfer queue of one thread: producers that wait or leave their item to be buffered, and consumers.
 
 ghost use Rattle.std.specs.Prelude.{◌≡◌, ◌≤◌, ◌<◌, Some, None, IsOk, IfOk, IfErr, OnOk, OnErr};
 ghost use Rattle.meet_tickets.specs.Bases.{IsBaseOf};
@@ -20,7 +20,9 @@ mod leaving;
 mod place;
 mod probes;
 
-/// A transfer queue of one thread, with a bound on the items that it keeps, or none.
+/// A transfer queue of one thread, with a bound on the items that it buffers, or none.
+///
+/// Java: `LinkedTransferQueue`.
 #[derive(Drop)]
 pub struct Transfer<T: Marked> {
     meetings: Meetings<T, FairLine<T>>,
@@ -40,8 +42,11 @@ impl<T: Marked> Transfer<T> {
     ghost use Rattle.meet_core.specs.Steps.{GiveStep, PutStep, TakeStep, OfferStep, PollStep};
     ghost use Rattle.meet_tickets.specs.declared.refusals.Refusal.TheVariants.{Memory};
 
-    /// A queue without a bound and with no room yet, with this many seats, at most 65,536, and this first ticket, 1
-    /// to 2^63 - 1. The only refusal is Memory.
+    /// Creates a queue without a bound and with no room yet, with this many seats, at most 65,536, and this first
+    /// ticket, 1 to 2^63 - 1.
+    ///
+    /// # Errors
+    /// - Memory, if an allocation fails.
     pub fn new(alloc: Global, seats: u64, first: u64) -> Result<Self, Refusal>
         requires seats { seats ≤ most_seats }
         requires first_from { 0 < first }
@@ -61,8 +66,16 @@ impl<T: Marked> Transfer<T> {
         })
     }
 
-    /// A queue that keeps at most this many items, any number of them: with 0 it keeps none. Seats, first ticket and
-    /// refusal as of `new`.
+    /// Creates a queue that buffers at most `bound` items: with 0 it buffers none. Seats and first ticket are as in
+    /// `new`.
+    ///
+    /// # Errors
+    /// - Memory, if an allocation fails.
+    ///
+    /// # Example
+    /// From `crates/example_one_thread/src/transfers.rt`:
+    ///
+    ///     let mut queue: Transfer<Parcel> = Transfer::with_bound(alloc, 3, 1, 100)?; // keeps at most 100 items
     pub fn with_bound(alloc: Global, seats: u64, first: u64, bound: u64) -> Result<Self, Refusal>
         requires seats { seats ≤ most_seats }
         requires first_from { 0 < first }
@@ -82,8 +95,13 @@ impl<T: Marked> Transfer<T> {
         })
     }
 
-    /// The ticket that a request of this seat would use, or why it would be refused: NoSuchSeat, SeatOpen or
-    /// TicketsSpent, the first that applies.
+    /// Returns the ticket that a request of this seat would use.
+    ///
+    /// # Errors
+    /// The first that applies:
+    /// - NoSuchSeat, if the queue has no such seat.
+    /// - SeatOpen, if the seat has a pending request (an open ticket).
+    /// - TicketsSpent, if all tickets are used.
     pub fn admit(&self, seat: SeatNo) -> Result<Ticket, Refusal>
         ensures admitted { IfOk result (λ ticket. (admit_refusal self.now.queue seat ≡ None)
             × (ticket ≡ self.now.queue.next)) }
@@ -92,7 +110,10 @@ impl<T: Marked> Transfer<T> {
         self.meetings.admit(seat)
     }
 
-    /// Makes room for this many requests that wait or keep their item. The only refusal is Memory.
+    /// Makes room for this many requests that wait or leave their item buffered.
+    ///
+    /// # Errors
+    /// - Memory, if an allocation fails: nothing has changed.
     pub fn reserve(&mut self, requests: u64) -> Result<(), Refusal>
         ensures same { self.new.queue ≡ record self.old.queue { room = self.new.queue.room } }
         ensures room { OnOk result (requests ≤ self.new.queue.room) }
@@ -105,9 +126,15 @@ impl<T: Marked> Transfer<T> {
         self.meetings.reserve(requests)
     }
 
-    /// `LinkedTransferQueue.put`, `offer` and timed `offer`, which are one: the item goes to the taker that is met,
-    /// or is kept in the line, and its giver goes on, or fails where as many items are kept as the bound says. It
-    /// looks at no flag. Refuses what `admit` does, then Memory, never where there is room; the item comes back.
+    /// Puts an item. It goes to the consumer that is met, or is buffered, and its producer goes on. The put fails if as
+    /// many items are buffered as the bound allows. It looks at no pending interrupt.
+    ///
+    /// # Errors
+    /// Nothing has changed, and the item is returned.
+    /// - NoSuchSeat, SeatOpen or TicketsSpent, as `admit`.
+    /// - Memory, if an allocation fails, and never if there is room.
+    ///
+    /// Java: `LinkedTransferQueue.put`, `offer` and `offer` with a timeout, which are the same.
     pub fn put(&mut self, seat: SeatNo, item: T) -> Result<Put<T>, Refused<T>>
         ensures step { IfOk result (λ answer. PutStep T.mark_of Front self.old.bound self.old.queue seat item answer
             self.new.queue) }
@@ -122,9 +149,20 @@ impl<T: Marked> Transfer<T> {
         self.meetings.put(seat, item, self.bound)
     }
 
-    /// `LinkedTransferQueue.transfer` up to its wait: the item goes to the taker that is met, or its giver goes to
-    /// the line behind who stands there, or is refused at entry where it is flagged. Refuses what `admit` does, then
-    /// Memory, never where there is room; the item comes back.
+    /// Gives an item. It goes to the consumer that is met, or its producer goes to the end of the wait queue, or the
+    /// request is refused at entry if the seat is flagged.
+    ///
+    /// # Errors
+    /// Nothing has changed, and the item is returned.
+    /// - NoSuchSeat, SeatOpen or TicketsSpent, as `admit`.
+    /// - Memory, if an allocation fails, and never if there is room.
+    ///
+    /// # Example
+    /// From `crates/example_one_thread/src/transfers.rt`:
+    ///
+    ///     let gave = queue.transfer(seat_0, second).map_err(Refused::into_why)?; // Gave::Waits(ticket), ..
+    ///
+    /// Java: `LinkedTransferQueue.transfer` up to its wait.
     pub fn transfer(&mut self, seat: SeatNo, item: T) -> Result<Gave<T>, Refused<T>>
         ensures step { IfOk result (λ answer. GiveStep T.mark_of Front self.old.queue seat item answer self.new.queue) }
         ensures admitted { IfOk result (λ _. admit_refusal self.old.queue seat ≡ None) }
@@ -138,8 +176,18 @@ impl<T: Marked> Transfer<T> {
         self.meetings.give(seat, item)
     }
 
-    /// `LinkedTransferQueue.tryTransfer`: the item goes to the taker that is met, or comes back. It takes no memory,
-    /// and refuses what `admit` does; the item comes back then too.
+    /// Offers an item. It goes to the consumer that is met, or is returned. It doesn't allocate.
+    ///
+    /// # Errors
+    /// Nothing has changed, and the item is returned.
+    /// - NoSuchSeat, SeatOpen or TicketsSpent, as `admit`.
+    ///
+    /// # Example
+    /// From `crates/example_one_thread/src/transfers.rt`:
+    ///
+    ///     let offered = queue.try_transfer(seat_1, third);
+    ///
+    /// Java: `LinkedTransferQueue.tryTransfer`.
     pub fn try_transfer(&mut self, seat: SeatNo, item: T) -> Result<Offered<T>, Refused<T>>
         ensures step { IfOk result (λ answer. OfferStep T.mark_of Front self.old.queue item answer self.new.queue) }
         ensures admitted { IfOk result (λ _. admit_refusal self.old.queue seat ≡ None) }
@@ -152,9 +200,15 @@ impl<T: Marked> Transfer<T> {
         self.meetings.offer(seat, item)
     }
 
-    /// `LinkedTransferQueue.take` up to its wait: the item comes from the giver that stands there longest, kept or
-    /// waiting, or the taker goes to the line, or is refused at entry where it is flagged. Refuses what `admit` does,
-    /// then Memory, never where there is room.
+    /// Takes an item. It comes from the producer that stands there longest, buffered or waiting, or the consumer goes
+    /// to the wait queue, or the request is refused at entry if the seat is flagged.
+    ///
+    /// # Errors
+    /// Nothing has changed.
+    /// - NoSuchSeat, SeatOpen or TicketsSpent, as `admit`.
+    /// - Memory, if an allocation fails, and never if there is room.
+    ///
+    /// Java: `LinkedTransferQueue.take` up to its wait.
     pub fn take(&mut self, seat: SeatNo) -> Result<Took<T>, Refusal>
         ensures step { IfOk result (λ answer. TakeStep T.mark_of Front self.old.queue seat answer self.new.queue) }
         ensures admitted { IfOk result (λ _. admit_refusal self.old.queue seat ≡ None) }
@@ -167,8 +221,14 @@ impl<T: Marked> Transfer<T> {
         self.meetings.take(seat)
     }
 
-    /// `LinkedTransferQueue.poll`: the item comes from the giver that stands there longest, kept or waiting, if one
-    /// is there. It takes no memory, and refuses what `admit` does.
+    /// Polls: the item comes from the producer that stands there longest, buffered or waiting, if one is there. It
+    /// doesn't allocate.
+    ///
+    /// # Errors
+    /// Nothing has changed.
+    /// - NoSuchSeat, SeatOpen or TicketsSpent, as `admit`.
+    ///
+    /// Java: `LinkedTransferQueue.poll`.
     pub fn poll(&mut self, seat: SeatNo) -> Result<Polled<T>, Refusal>
         ensures step { IfOk result (λ answer. PollStep T.mark_of Front self.old.queue answer self.new.queue) }
         ensures admitted { IfOk result (λ _. admit_refusal self.old.queue seat ≡ None) }
@@ -180,7 +240,10 @@ impl<T: Marked> Transfer<T> {
         self.meetings.poll(seat)
     }
 
-    /// The base of the queue, where so many records were folded away. The only refusal is Memory.
+    /// Returns the base of the queue, after `gone` records were compacted.
+    ///
+    /// # Errors
+    /// - Memory, if an allocation fails.
     pub fn base(&self, alloc: Global, gone: u64) -> Result<Base, Refusal>
         ensures base { IfOk result (IsBaseOf (moment_of_queue T.mark_of self.now.queue) gone) }
         ensures memory { IfErr result (λ why. why ≡ Memory) }

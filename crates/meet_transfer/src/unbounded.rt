@@ -1,4 +1,4 @@
-//! The transfer queue without a bound, as `LinkedTransferQueue` is: a put is never refused a place.
+//! The transfer queue without a bound, as `LinkedTransferQueue` is: a put always finds a place.
 
 ghost use Rattle.std.specs.Prelude.{◌≡◌, ◌≤◌, ◌<◌, None, IfOk, IfErr};
 ghost use Rattle.meet_tickets.specs.BySeat.{nobody};
@@ -11,8 +11,8 @@ use std::marker::Model;
 
 mod place;
 
-/// A transfer queue of one thread that keeps any number of items. As a book's place it tells so: its history is that of
-/// a queue without a bound. Its calls are those of the book; what it shows is that of `as_transfer`.
+/// A transfer queue of one thread that buffers any number of items. As a book's object its history is that of a queue
+/// without a bound. Its calls are those of the book; what it shows is that of `as_transfer`.
 #[derive(Drop)]
 pub struct Unbounded<T: Marked> {
     queue: Transfer<T>,
@@ -33,8 +33,12 @@ impl<T: Marked> Unbounded<T> {
     ghost use Rattle.meet_core.specs.Queue.{seats_of, count_of};
     ghost use Rattle.meet_tickets.specs.declared.refusals.Refusal.TheVariants.{Memory};
 
-    /// `new LinkedTransferQueue()`, with no room yet, with this many seats, at most 65,536, and this first ticket, 1 to
-    /// 2^63 - 1. The only refusal is Memory.
+    /// Creates a queue with no room yet, with this many seats, at most 65,536, and this first ticket, 1 to 2^63 - 1.
+    ///
+    /// # Errors
+    /// - Memory, if an allocation fails.
+    ///
+    /// Java: `new LinkedTransferQueue()`.
     pub fn new(alloc: Global, seats: u64, first: u64) -> Result<Self, Refusal>
         requires seats { seats ≤ most_seats }
         requires first_from { 0 < first }
@@ -50,7 +54,7 @@ impl<T: Marked> Unbounded<T> {
         Ok(Unbounded { queue })
     }
 
-    /// The queue, as one that could have a bound, and has none: for what it shows of itself.
+    /// Returns the queue as one that could have a bound, and has none: for what it shows of itself.
     pub fn as_transfer(&self) -> &Transfer<T>
         ensures queue { result.now.queue ≡ self.now }
         ensures bound { result.now.bound ≡ None }
@@ -58,7 +62,7 @@ impl<T: Marked> Unbounded<T> {
         &self.queue
     }
 
-    /// Lets a queue go in which nobody is there, also where its items can't be dropped.
+    /// Drops an empty queue, even if its items can't be dropped.
     pub fn destroy_empty(self)
         requires empty { seats_of self ≡ nobody }
     {

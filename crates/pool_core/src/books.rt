@@ -1,4 +1,4 @@
-//! The books of new pools.
+//! The logs (the books) of new pools.
 
 ghost use Rattle.std.specs.Prelude.{◌≡◌, ◌<◌, ◌≤◌, None, [], replicate, IfOk, IfErr};
 ghost use Rattle.meet_tickets.specs.Limits.{most_records};
@@ -13,8 +13,11 @@ use meet_book::Book;
 use meet_tickets::{Marked, Refusal};
 use std::alloc::Global;
 
-/// The book of a new pool, with at most this many records at a time, 1 to 1,048,576. It refuses what doesn't fit
-/// (`settings_refusal`), and else Memory alone.
+/// Creates the log of a new pool. `cap` is its capacity in records, 1 to 1,048,576.
+///
+/// # Errors
+/// - BadSizes or PolicyNeedsBuffer, exactly if `settings_refusal` states it.
+/// - Memory, if an allocation fails.
 pub fn book_of_pool<J: Marked>(
     alloc: Global,
     sizes: Sizes,

@@ -1,5 +1,5 @@
-//! The workers of a pool: what each does, and what they count together. No call takes longer where there are more of
-//! them, but for those that go over all.
+//! The workers of a pool: what each does, and what they count together. No call takes longer if there are more of them,
+//! but for those that go over all.
 
 ghost use Rattle.std.specs.Prelude.{◌≡◌, ◌<◌, ◌≤◌, length, get_or, map, replicate, slice_index_or, slice_set};
 ghost use Rattle.std.specs.Prelude.{count_by, sum_by, position, not, if◌then◌else◌, IfOk};
@@ -14,8 +14,8 @@ use std::alloc::{AllocError, Global};
 use std::marker::Model;
 use std::mem;
 
-/// What each worker does, by number; and how many are there, how many run a job, and how many records they may still
-/// need; which numbers no worker has, and whose takes were cut. A contract sees the stages.
+/// What each worker does, by number; how many are there, how many run a job, and how many records they may still need;
+/// which numbers no worker has, and whose takes were interrupted. A contract sees the stages.
 #[derive(Drop)]
 pub struct Crew<J> {
     stages: Vec<Stage<J>>,
@@ -39,7 +39,10 @@ impl<J> Model for Crew<J> {
 }
 
 impl<J> Crew<J> {
-    /// So many numbers that no worker has.
+    /// Creates `count` numbers that no worker has.
+    ///
+    /// # Errors
+    /// - `AllocError`, if an allocation fails.
     pub fn new(alloc: Global, count: u64) -> Result<Self, AllocError>
         requires { count ≤ most_together }
         ensures { IfOk result (λ crew. crew ≡ replicate count Absent) }
@@ -57,21 +60,21 @@ impl<J> Crew<J> {
         })
     }
 
-    /// What each does.
+    /// Returns what each does.
     pub fn stages(&self) -> &[Stage<J>]
         ensures { result.now ≡ self.now }
     {
         self.stages.as_slice()
     }
 
-    /// How many numbers there are.
+    /// Returns how many numbers there are.
     pub fn len(&self) -> u64
         ensures { result ≡ length self.now }
     {
         self.stages.len() as u64
     }
 
-    /// What the worker of this number does.
+    /// Returns what the worker of this number does.
     pub fn at(&self, worker: u64) -> &Stage<J>
         requires { worker < length self.now }
         ensures { result.now ≡ get_or self.now worker result.now }
@@ -79,7 +82,7 @@ impl<J> Crew<J> {
         &self.stages[worker as usize]
     }
 
-    /// What each did, taken apart.
+    /// Returns what each did.
     pub fn into_stages(self) -> Vec<Stage<J>>
         ensures { result.items ≡ self }
     {
@@ -94,35 +97,35 @@ impl<J> Crew<J> {
         stages
     }
 
-    /// The least number that no worker has.
+    /// Returns the least number that no worker has.
     pub fn free(&self) -> Option<u64>
         ensures { result ≡ position (λ stage. not (is_there stage)) self.now }
     {
         self.free.least()
     }
 
-    /// The first worker whose take was cut.
+    /// Returns the first worker whose take was interrupted.
     pub fn first_cut(&self) -> Option<u64>
         ensures { result ≡ position is_cut self.now }
     {
         self.cut.least()
     }
 
-    /// How many are there.
+    /// Returns how many workers are there.
     pub fn there(&self) -> u64
         ensures { result ≡ count_by is_there self.now }
     {
         self.there
     }
 
-    /// How many run a job.
+    /// Returns how many run a job.
     pub fn running(&self) -> u64
         ensures { result ≡ count_by is_running self.now }
     {
         self.running
     }
 
-    /// How many records they may still need.
+    /// Returns how many records they may still need.
     pub fn owes(&self) -> u64
         ensures { result ≡ sum_by stage_owes self.now }
     {
@@ -140,7 +143,7 @@ fn one_if(is: bool) -> u64
 }
 
 impl<J> Crew<J> {
-    /// The worker of this number comes to another stage: the one that it leaves.
+    /// Moves the worker of this number to another stage, and returns the one that it leaves.
     #[inline(always)]
     pub fn put(&mut self, worker: u64, stage: Stage<J>) -> Stage<J>
         requires { worker < length self.old }
@@ -163,7 +166,7 @@ impl<J> Crew<J> {
     }
 }
 
-/// The worker of this number comes to another stage. What it leaves has no job in it.
+/// Moves the worker of this number to another stage. What it leaves has no job in it.
 #[inline(always)]
 pub fn set_stage<J>(workers: &mut Crew<J>, worker: u64, stage: Stage<J>)
     requires there { worker < length workers.old }
@@ -180,7 +183,7 @@ pub fn set_stage<J>(workers: &mut Crew<J>, worker: u64, stage: Stage<J>)
     }
 }
 
-/// Takes what the worker of this number does out; it is absent then.
+/// Takes out what the worker of this number does; it is absent then.
 #[inline(always)]
 pub fn take_stage<J>(workers: &mut Crew<J>, worker: u64) -> Stage<J>
     requires { worker < length workers.old }
@@ -202,7 +205,7 @@ fn nobody_works<J>(alloc: Global, count: u64) -> Result<Vec<Stage<J>>, AllocErro
     Ok(workers)
 }
 
-/// Each worker that waits is cut.
+/// Interrupts each worker that waits.
 pub fn cut_all<J>(workers: &mut Crew<J>)
     ensures { workers.new ≡ map cut_stage workers.old }
 {

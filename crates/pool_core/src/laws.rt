@@ -18,8 +18,8 @@ use crate::pool::PoolCore;
 use meet_book::{Book, Receipt};
 use meet_tickets::{Marked, SeatNo};
 
-/// After a well-formed base and legal records the job of each ticket has as many standings as jobs of it were on the
-/// base or were executed since, and never more than one. It does nothing.
+/// States that after a well-formed base and legal records each job has one status at most. The job of a ticket has as
+/// many statuses as jobs of it were on the base or were executed since. It does nothing.
 pub fn jobs_have_one_standing()
     ensures count { (s : Made) (b : Based) (records : List (Entered (Told ℕ))) → IsWellFormed s b
         → IsLegalOn s b records → (ticket : ℕ) → standing_count (standings s b records) ticket
@@ -28,8 +28,8 @@ pub fn jobs_have_one_standing()
         → (ticket : ℕ) → standing_count (standings s b records) ticket ≤ 1 }
 {}
 
-/// Each answer that is recorded follows a record of the same seat that it runs the job of this ticket, with none of
-/// that seat in between; or the base says that it runs it. It does nothing.
+/// States that each result that is recorded follows a record of the same seat that it runs the job of this ticket. No
+/// record of that seat is in between. Or else the base states that it runs it. It does nothing.
 pub fn answers_follow_starts()
     ensures { (s : Made) (b : Based) (front : List (Entered (Told ℕ))) (seat ticket answer : ℕ)
         (rest : List (Entered (Told ℕ)))
@@ -37,11 +37,11 @@ pub fn answers_follow_starts()
         → RanOn s b front seat ticket }
 {}
 
-/// Each job and each take of a worker is met at most once. A job is handed over once at most and runs once at most,
-/// with the take that it met, and not after it was over (`jobs`). A take is handed one job at most and runs one at
-/// most, no other than it was handed (`takes`). A job meets the take that the queue's order meets, and a worker that
-/// starts without one runs the job that was kept first (`partners`). A take whose worker ended, or that a shutdown cut,
-/// meets no job afterwards (`withdrawn`). It does nothing.
+/// States that each job and each take of a worker is matched at most once. A job is handed over once at most and runs
+/// once at most, with the take that it met, and not after it was over (`jobs`). A take is handed one job at most and
+/// runs one at most, no other than it was handed (`takes`). A job meets the take that the queue's order meets, and a
+/// worker that starts without one runs the oldest buffered job (`partners`). A take whose worker ended, or that a
+/// shutdown interrupted, meets no job afterwards (`withdrawn`). It does nothing.
 pub fn promise_is_kept()
     ensures jobs { (s : Made) (b : Based) (records : List (Entered (Told ℕ))) → IsWellFormed s b → IsLegalOn s b records
         → JobsMeetOnce s b records }
@@ -53,7 +53,7 @@ pub fn promise_is_kept()
         → IsLegalOn s b records → WithdrawnMeetNone s b records }
 {}
 
-/// A worker's step on a book, which is never refused in a state that the call names.
+/// Makes a worker's step on a book. It never fails in a state that the call names.
 pub fn work<J: Marked>(
     book: &mut Book<PoolCore<J>>,
     seat: SeatNo,

@@ -1,4 +1,4 @@
-//! The line of a pool: its kept jobs, or the takes of its waiting workers.
+//! The wait queue of a pool: its buffered jobs, or the takes of its waiting workers.
 
 ghost use Rattle.std.specs.Prelude.{◌≡◌, ◌≢◌, ◌+◌, ◌<◌, ◌≤◌, ◌==◌, ◌^◌, IsTrue, IsFalse, true, is_some, []};
 ghost use Rattle.std.specs.Prelude.{◌∷◌, ◌++◌, find, map, filter, length, vec_len, All, AllPairs, OnOk, OnErr};
@@ -19,17 +19,19 @@ use meet_tickets::{End, Entry, Marked, Refusal, Side, Ticket};
 use std::alloc::Global;
 use std::marker::Model;
 
-/// A line that is met at either end. It counts the kept jobs.
+/// A wait queue that is met at either end. It counts the buffered jobs.
 #[derive(Drop)]
 pub struct JobLine<J> {
     line: ByEnd<J>,
     kept: u64,
 }
 
-/// The end at which an entry is met.
+/// The end at which a node is met.
 #[derive(Drop)]
 pub enum ByEnd<J> {
+    /// At the front: first in, first out.
     Front(FairRing<J>),
+    /// At the back: last in, first out.
     Back(StackLine<J>),
 }
 
@@ -50,7 +52,7 @@ impl<J> Model for JobLine<J> {
 }
 
 impl<J> JobLine<J> {
-    /// A line with nobody in it and no room, that meets at this end.
+    /// Creates an empty wait queue without room, which is met at this end.
     pub fn new(alloc: Global, end: End) -> Self
         ensures end { result.end ≡ end }
         ensures entries { result.entries ≡ [] }
@@ -63,7 +65,7 @@ impl<J> JobLine<J> {
         JobLine { line, kept: 0 }
     }
 
-    /// Lets an empty line go, also where its jobs can't be dropped.
+    /// Drops an empty wait queue, even if its jobs can't be dropped.
     pub fn destroy_empty(self)
         requires { self.entries ≡ [] }
     {
@@ -74,7 +76,10 @@ impl<J> JobLine<J> {
         }
     }
 
-    /// Makes room for so many entries more. The only refusal is Memory.
+    /// Makes room for `count` nodes more.
+    ///
+    /// # Errors
+    /// - Memory, if an allocation fails, and never if there is that room.
     pub fn reserve(&mut self, count: u64) -> Result<(), Refusal>
         ensures same { self.new ≡ record self.old { room = self.new.room } }
         ensures room { OnOk result (count ≤ self.new.room) }
@@ -89,7 +94,7 @@ impl<J> JobLine<J> {
         }
     }
 
-    /// A take comes to the line's end.
+    /// Puts a take at the end.
     #[inline(always)]
     pub fn push_take(&mut self, entry: Entry<J>)
         requires room { 0 < self.old.room }
@@ -102,7 +107,7 @@ impl<J> JobLine<J> {
         push_by(&mut self.line, entry);
     }
 
-    /// A kept job comes to the line's end.
+    /// Puts a buffered job at the end.
     #[inline(always)]
     pub fn push_kept(&mut self, entry: Entry<J>)
         requires room { 0 < self.old.room }
@@ -117,7 +122,7 @@ impl<J> JobLine<J> {
         self.kept += 1;
     }
 
-    /// The partner of a request of this side leaves the line, if it has one.
+    /// Removes the counterpart of a request of this side, if it has one.
     #[inline(always)]
     pub fn partner(&mut self, side: Side) -> Option<Entry<J>>
         ensures end { self.new.end ≡ self.old.end }
@@ -131,7 +136,7 @@ impl<J> JobLine<J> {
         met
     }
 
-    /// The entry of this ticket leaves the line, if it is there.
+    /// Removes the node of this ticket, if it is there.
     pub fn remove(&mut self, ticket: Ticket) -> Option<Entry<J>>
         ensures end { self.new.end ≡ self.old.end }
         ensures entry { result ≡ find (λ e. e.ticket == ticket) self.old.entries }
@@ -143,7 +148,7 @@ impl<J> JobLine<J> {
         removed
     }
 
-    /// The take of this ticket leaves the line, if it is there.
+    /// Removes the take of this ticket, if it is there.
     pub fn remove_take(&mut self, ticket: Ticket)
         requires { MatchOption (find (λ e. e.ticket == ticket) self.old.entries) ⊤ (λ e. e.item ≡ None) }
         ensures end { self.new.end ≡ self.old.end }
@@ -165,7 +170,7 @@ impl<J> JobLine<J> {
         }
     }
 
-    /// The takes leave the line, and the kept jobs stay.
+    /// Removes the takes; the buffered jobs stay.
     pub fn drop_takes(&mut self)
         requires { AllPairs (λ e f. is_some e.item ≡ is_some f.item) self.old.entries }
         ensures end { self.new.end ≡ self.old.end }
@@ -186,7 +191,7 @@ impl<J> JobLine<J> {
         }
     }
 
-    /// The kept jobs leave a line of givers, in the order in which they came, and go behind the others of the list.
+    /// Moves the buffered jobs, in order of arrival, to the end of the list.
     pub fn hand_back(&mut self, list: &mut Vec<Task<J>>)
         requires givers { All (λ e. is_some e.item ≡ true) self.old.entries }
         requires front { self.old.end ≡ AtBack → self.old.entries ≡ [] }
@@ -204,7 +209,7 @@ impl<J> JobLine<J> {
         self.kept = 0;
     }
 
-    /// Whether a request of this side has a partner.
+    /// Returns true if a request of this side has a counterpart.
     #[inline(always)]
     pub fn has_partner(&self, side: Side) -> bool
         ensures { result ≡ is_some (partner self.now.end self.now.entries side) }
@@ -215,8 +220,8 @@ impl<J> JobLine<J> {
         }
     }
 
-    /// The kept job that came first, in a line that is met at its front; it stays there. A line that is met at its back
-    /// keeps none.
+    /// Returns the oldest buffered job, in a wait queue that is met at its front; it stays there. One that is met at
+    /// its back buffers none.
     pub fn first_kept(&self) -> Option<&Entry<J>>
         ensures front { self.now.end ≡ AtFront → option_map (λ e. e.now) result
             ≡ partner AtFront self.now.entries Taker }
@@ -228,7 +233,7 @@ impl<J> JobLine<J> {
         }
     }
 
-    /// How many jobs are kept.
+    /// Returns how many jobs are buffered.
     pub fn kept(&self) -> u64
         ensures { result ≡ kept_count self.now.entries }
     {
@@ -350,7 +355,10 @@ fn kept_one<J>(entry: &Option<Entry<J>>) -> u64
 }
 
 impl<J: Marked> JobLine<J> {
-    /// The entries in order of arrival, jobs by their tags. The only refusal is Memory.
+    /// Returns the nodes in order of arrival, jobs by their tags.
+    ///
+    /// # Errors
+    /// - Memory, if an allocation fails.
     pub fn tagged(&self, alloc: Global) -> Result<Vec<Entry<u64>>, Refusal>
         ensures entries { IfOk result (λ copies. copies.items ≡ map (marked_entry J.mark_of) self.now.entries) }
         ensures memory { IfErr result (λ why. why ≡ Memory) }

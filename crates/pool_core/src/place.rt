@@ -1,4 +1,4 @@
-//! The pool as a book's place.
+//! The pool as a book's object.
 
 ghost use Rattle.std.specs.Prelude.{◌≡◌, ◌+◌, ◌≤◌, None, Some, [], List, length, refl, ℕ};
 ghost use Rattle.std.specs.Vec.{vec_capacity};

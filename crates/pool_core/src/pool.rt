@@ -24,8 +24,8 @@ mod leaving;
 mod waking;
 mod working;
 
-/// The core of a pool: its line, its workers' stages, its counts and its next ticket; how many jobs more may be kept
-/// without growth, and a list for those that `shutdown_now` hands back.
+/// The core of a pool: its wait queue, its workers' stages, its counts and its next ticket. It has room for some more
+/// buffered jobs, and a list for those that `shutdown_now` returns.
 #[derive(Drop)]
 pub struct PoolCore<J> {
     alloc: Global,
@@ -61,7 +61,11 @@ impl<J> PoolCore<J> {
     ghost use Rattle.pool_core.specs.Sound.{IsSound};
     ghost use Rattle.pool_core.specs.Calls.{settings_refusal, execute_refusal, is_running};
 
-    /// A pool that nobody works in. It refuses what doesn't fit (`settings_refusal`), and else Memory alone.
+    /// Creates a pool without workers.
+    ///
+    /// # Errors
+    /// - BadSizes or PolicyNeedsBuffer, exactly if `settings_refusal` states it.
+    /// - Memory, if an allocation fails.
     pub fn new(
         alloc: Global,
         sizes: Sizes,
@@ -117,14 +121,14 @@ impl<J> PoolCore<J> {
         }
     }
 
-    /// What it was made with.
+    /// Returns what it was made with.
     pub fn settings(&self) -> &Settings
         ensures { result.now ≡ self.now.settings }
     {
         &self.settings
     }
 
-    /// What the pool counts.
+    /// Returns its counters.
     pub fn counters(&self) -> Counters
         ensures { result ≡ record {
           workers = working self.now.pool;
@@ -143,49 +147,49 @@ impl<J> PoolCore<J> {
         }
     }
 
-    /// Whether it is shut.
+    /// Returns true if it is shut down.
     pub fn is_shut(&self) -> bool
         ensures { result ≡ self.now.pool.shut }
     {
         self.shut
     }
 
-    /// How many workers there are.
+    /// Returns how many workers there are.
     pub fn workers(&self) -> u64
         ensures { result ≡ working self.now.pool }
     {
         self.workers.there()
     }
 
-    /// How many workers run a job.
+    /// Returns how many workers run a job.
     pub fn running(&self) -> u64
         ensures { result ≡ count_by is_running self.now.pool.workers }
     {
         self.workers.running()
     }
 
-    /// The least number that no worker has.
+    /// Returns the least number that no worker has.
     pub fn free(&self) -> Option<u64>
         ensures { result ≡ free self.now.pool }
     {
         self.workers.free()
     }
 
-    /// The number of the worker whose seat this is; the callers' seats come first.
+    /// Returns the number of the worker whose seat this is; the callers' seats come first.
     pub fn worker_of(&self, seat: SeatNo) -> u64
         ensures { result ≡ worker_of self.now.settings seat }
     {
         seat.number().saturating_sub(self.settings.sizes.callers)
     }
 
-    /// How many jobs are kept.
+    /// Returns how many jobs are buffered.
     pub fn kept(&self) -> u64
         ensures { result ≡ kept_count self.now.pool.line }
     {
         self.line.kept()
     }
 
-    /// How many records may still be needed.
+    /// Returns how many records may still be needed.
     pub fn owed(&self) -> u64
         ensures { result ≡ owed self.now.pool }
     {
@@ -228,7 +232,12 @@ impl<J> PoolCore<J> {
         }
     }
 
-    /// Whether a seat's job is admitted, or why it is refused: NoSuchSeat or TicketsSpent, the first that applies.
+    /// Returns whether a seat's job is admitted.
+    ///
+    /// # Errors
+    /// The first that applies:
+    /// - NoSuchSeat, if the seat isn't a caller's.
+    /// - TicketsSpent, if fewer tickets are left than it and the workers may need.
     pub fn admit_execute(&self, seat: SeatNo) -> Result<(), Refusal>
         ensures admitted { IfOk result (λ _. execute_refusal self.now seat ≡ None) }
         ensures why { IfErr result (λ why. execute_refusal self.now seat ≡ Some why) }
@@ -246,7 +255,10 @@ impl<J> PoolCore<J> {
         }
     }
 
-    /// Makes room for this many jobs more that are kept. The only refusal is Memory, and never where there is so much.
+    /// Makes room for this many more buffered jobs.
+    ///
+    /// # Errors
+    /// - Memory, if an allocation fails, and never if there is that room.
     pub fn reserve(&mut self, jobs: u64) -> Result<(), Refusal>
         ensures same { self.new ≡ record self.old { room = self.new.room } }
         ensures room { OnOk result (jobs ≤ self.new.room) }
@@ -269,7 +281,7 @@ impl<J> PoolCore<J> {
         Ok(())
     }
 
-    /// What is always true of a pool. It does nothing.
+    /// States what is always true of a pool. It does nothing.
     pub fn stays_sound(&self)
         ensures sound { IsSound self.now.settings self.now.pool self.now.next }
         ensures tickets { owed self.now.pool + self.now.next ≤ LAST_TICKET + 1 }

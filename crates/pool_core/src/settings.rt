@@ -8,24 +8,36 @@ use meet_tickets::{End, MOST_KEPT, Order, Refusal};
 /// The most callers and workers of a pool together.
 pub const MOST_TOGETHER: u64 = 1_024;
 
-/// How many workers and callers a pool has.
+/// The numbers of workers and callers of a pool, and its keep-alive time.
+///
+/// # Example
+/// From `crates/example_jobs/src/main.rt`:
+///
+///     sizes: Sizes {
+///         core: 2,
+///         maximum: 2,
+///         callers: 1,
+///         keep_alive: 60_000, // milliseconds
+///         core_timeout: false,
+///     },
 #[derive(Clone, Copy, PartialEq, Eq, Debug)]
 pub struct Sizes {
-    /// Below so many workers each job starts one.
+    /// While there are fewer workers than this, each job starts one. Java: `corePoolSize`.
     pub core: u64,
-    /// There are never more workers.
+    /// The most workers. Java: `maximumPoolSize`.
     pub maximum: u64,
     /// How many seats may execute jobs.
     pub callers: u64,
-    /// How long a worker waits for a job, in milliseconds.
+    /// How long a worker waits for a job, in milliseconds. Java: `keepAliveTime`.
     pub keep_alive: u64,
-    /// Whether a worker's wait ends too where there are no more than `core`.
+    /// Whether a worker times out even if there are no more than `core`. Java: `allowCoreThreadTimeOut`.
     pub core_timeout: bool,
 }
 
 impl Sizes {
-    /// The sizes of `Executors.newCachedThreadPool`, for a queue `Hand(Unfair)`: no core, and as many workers as may
-    /// be.
+    /// Returns the sizes of a pool for a queue `Hand(Unfair)`: no core, and as many workers as may be.
+    ///
+    /// Java: `Executors.newCachedThreadPool`.
     pub fn cached(callers: u64) -> Self
         requires from { 0 < callers }
         requires to { callers < most_together }
@@ -46,8 +58,9 @@ impl Sizes {
         }
     }
 
-    /// The sizes of `Executors.newFixedThreadPool`, for the queue `Unbounded`: so many workers at most, of which none
-    /// ends for want of a job.
+    /// Returns the sizes of a pool for the queue `Unbounded`: `workers` workers at most, of which none times out.
+    ///
+    /// Java: `Executors.newFixedThreadPool`.
     pub fn fixed(callers: u64, workers: u64) -> Self
         ensures { result ≡ record {
           core = workers;
@@ -66,8 +79,9 @@ impl Sizes {
         }
     }
 
-    /// The sizes of `Executors.newSingleThreadExecutor`, for the queue `Unbounded`: one worker, which runs the jobs in
-    /// the order in which they came.
+    /// Returns the sizes of a pool for the queue `Unbounded`: one worker, which runs the jobs in order of arrival.
+    ///
+    /// Java: `Executors.newSingleThreadExecutor`.
     pub fn single(callers: u64) -> Self
         ensures { result ≡ record {
           core = 1;
@@ -81,21 +95,21 @@ impl Sizes {
     }
 }
 
-/// Where a job goes that starts no worker.
+/// The queue for a job that starts no worker.
 #[derive(Clone, Copy, PartialEq, Eq, Debug)]
 pub enum PoolQueue {
-    /// `SynchronousQueue`, in this order: a waiting worker gets it, or nobody.
+    /// Hands the job over, in this order: a waiting worker gets it, or none. Java: `SynchronousQueue`.
     Hand(Order),
-    /// `LinkedTransferQueue`: it is kept.
+    /// Buffers any number of jobs. Java: `LinkedTransferQueue`.
     Unbounded,
-    /// It is kept where fewer are.
+    /// Buffers at most this many jobs.
     Bounded(u64),
 }
 
 impl PoolQueue {
     ghost use Rattle.pool_core.specs.Pools.{queue_end};
 
-    /// The end of its line at which it meets.
+    /// Returns the end of its wait queue at which it meets.
     pub fn end(&self) -> End
         ensures { result ≡ queue_end self.now }
     {
@@ -107,31 +121,34 @@ impl PoolQueue {
     }
 }
 
-/// What becomes of a job that is rejected.
+/// What happens to a job that is rejected.
 #[derive(Clone, Copy, PartialEq, Eq, Debug)]
 pub enum Policy {
-    /// `AbortPolicy`: it comes back.
+    /// It is returned. Java: `AbortPolicy`.
     Abort,
-    /// `CallerRunsPolicy`: its caller runs it.
+    /// Its caller runs it. Java: `CallerRunsPolicy`.
     CallerRuns,
-    /// `DiscardPolicy`: it is dropped.
+    /// It is dropped. Java: `DiscardPolicy`.
     Discard,
-    /// `DiscardOldestPolicy`: the kept job that came first is dropped, and it is executed again.
+    /// The oldest buffered job is dropped, and it is executed again. Java: `DiscardOldestPolicy`.
     DiscardOldest,
 }
 
 /// What a pool is made with.
 #[derive(Clone, Copy, PartialEq, Eq, Debug)]
 pub struct Settings {
+    /// The numbers of workers and callers, and the keep-alive time.
     pub sizes: Sizes,
+    /// The queue of jobs.
     pub queue: PoolQueue,
+    /// What happens to a job that is rejected.
     pub policy: Policy,
 }
 
 impl Settings {
     ghost use Rattle.pool_core.specs.Calls.{settings_refusal};
 
-    /// Why no pool can be made of these: BadSizes, then PolicyNeedsBuffer.
+    /// Returns why no pool can be made of these, if none can: BadSizes, then PolicyNeedsBuffer.
     pub fn refusal(&self) -> Option<Refusal>
         ensures { result ≡ settings_refusal self.now }
     {

@@ -2,10 +2,12 @@
 
 use meet_tickets::Ticket;
 
-/// A job, and the ticket by which it is known.
+/// A job, and the ticket that identifies it.
 #[derive(Clone, Debug, Drop)]
 pub struct Task<X> {
+    /// The ticket.
     pub ticket: Ticket,
+    /// The job.
     pub job: X,
 }
 
@@ -16,11 +18,11 @@ pub enum Stage<X> {
     Absent,
     /// It starts, with its first job or with none. After each job it starts again, with none.
     Starting(Option<Task<X>>),
-    /// Its take, of this ticket, stands in the line.
+    /// Its take, of this ticket, waits.
     Waiting(Ticket),
-    /// Its take was cut by a shutdown.
+    /// Its take was interrupted by a shutdown.
     Cut(Ticket),
-    /// Its take was met by this job.
+    /// Its take was matched with this job.
     HandedOver(Ticket, Task<X>),
     /// It runs the job of this ticket.
     Running(Ticket),
@@ -32,7 +34,7 @@ impl<X> Stage<X> {
     ghost use Rattle.pool_core.specs.Calls.{is_starting, is_at_queue, is_running, is_jobless, is_waiting, is_cut};
     ghost use Rattle.pool_core.specs.Calls.{take_of};
 
-    /// Whether there is a worker.
+    /// Returns true if there is a worker.
     pub fn is_there(&self) -> bool
         ensures { result ≡ is_there self.now }
     {
@@ -46,7 +48,7 @@ impl<X> Stage<X> {
         }
     }
 
-    /// How many records it may still need.
+    /// Returns how many records it may still need.
     pub fn owes(&self) -> u64
         ensures value { result ≡ stage_owes self.now }
         ensures few { result ≤ 4 }
@@ -62,7 +64,7 @@ impl<X> Stage<X> {
         }
     }
 
-    /// Whether it starts.
+    /// Returns true if it starts.
     pub fn is_starting(&self) -> bool
         ensures { result ≡ is_starting self.now }
     {
@@ -72,7 +74,7 @@ impl<X> Stage<X> {
         }
     }
 
-    /// Whether its take is in the line, was cut or was met.
+    /// Returns true if its take waits, was interrupted or was matched.
     pub fn is_at_queue(&self) -> bool
         ensures { result ≡ is_at_queue self.now }
     {
@@ -82,7 +84,7 @@ impl<X> Stage<X> {
         }
     }
 
-    /// Whether it has a job in hand.
+    /// Returns true if it has a job in hand.
     pub fn has_task(&self) -> bool
         ensures { result ≡ is_some (task_at self.now) }
     {
@@ -93,7 +95,7 @@ impl<X> Stage<X> {
         }
     }
 
-    /// The job that it has in hand.
+    /// Returns the job that it has in hand.
     pub fn into_task(self) -> Option<Task<X>>
         ensures { result ≡ task_at self }
     {
@@ -104,7 +106,7 @@ impl<X> Stage<X> {
         }
     }
 
-    /// Whether it runs a job.
+    /// Returns true if it runs a job.
     pub fn is_running(&self) -> bool
         ensures { result ≡ is_running self.now }
     {
@@ -114,7 +116,7 @@ impl<X> Stage<X> {
         }
     }
 
-    /// Whether it starts without a job.
+    /// Returns true if it starts without a job.
     pub fn is_jobless(&self) -> bool
         ensures { result ≡ is_jobless self.now }
     {
@@ -124,7 +126,7 @@ impl<X> Stage<X> {
         }
     }
 
-    /// Whether its take stands in the line.
+    /// Returns true if its take waits.
     pub fn is_waiting(&self) -> bool
         ensures { result ≡ is_waiting self.now }
     {
@@ -134,7 +136,7 @@ impl<X> Stage<X> {
         }
     }
 
-    /// Whether its take was cut.
+    /// Returns true if its take was interrupted.
     pub fn is_cut(&self) -> bool
         ensures { result ≡ is_cut self.now }
     {
@@ -144,7 +146,7 @@ impl<X> Stage<X> {
         }
     }
 
-    /// The ticket of its take, where it is at the queue.
+    /// Returns the ticket of its take, if it is at the queue.
     pub fn take(&self) -> Option<Ticket>
         ensures { result ≡ take_of self.now }
     {

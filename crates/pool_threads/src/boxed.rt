@@ -11,10 +11,10 @@ impl Work for ItsTag {
     ghost worth = { λ tag. tag };
 }
 
-/// A boxed function.
+/// A boxed function, which returns a number.
 pub type JobFn = Box<dyn FnOnce() -> u64 + Send>;
 
-/// A boxed function, as a job that returns its tag.
+/// A boxed function as a job, which returns its tag.
 #[derive(Drop)]
 pub struct Boxed {
     tag: u64,
@@ -24,7 +24,19 @@ pub struct Boxed {
 }
 
 impl Boxed {
-    /// Makes a job of this tag, which calls the function once.
+    /// Creates a job of this tag, which calls the function once.
+    ///
+    /// # Example
+    /// From `crates/example_jobs/src/main.rt`:
+    ///
+    ///     let call: JobFn = Box::new(
+    ///         alloc,
+    ///         move || -> u64
+    ///             ensures { result ≡ n }
+    ///         { n },
+    ///     )
+    ///     .map_err(|_| Refusal::Memory)?;
+    ///     jobs.push(Boxed::new(n, call)).map_err(|_| Refusal::Memory)?; // each is worth its tag
     pub fn new(tag: u64, call: JobFn) -> Self
         requires ready { JobFn.pre call }
         requires worthy { (answer : ℕ) → JobFn.post call answer → answer ≡ tag }

@@ -1,5 +1,4 @@
-//! A pool that lives long: its history is tended by its callers, handed out chapter by chapter, or looked at, while its
-//! workers go on.
+//! A long-lived pool: its log is compacted by its callers, rotated, or copied, while its workers go on.
 
 ghost use Rattle.std.specs.Prelude.{◌≡◌, ◌⊎◌, ◌+◌, ◌<◌, ◌≤◌, ◌^◌, ℕ, true, false, length, IsOkAnd, IfOk, IfErr};
 ghost use Rattle.std.specs.Sync.Mutex.{mutex_guard_value};
@@ -25,10 +24,10 @@ use pool_core::{PoolBase, PoolCore, PoolDeed};
 use std::sync::atomic::{AtomicU64, Ordering};
 use std::sync::{MutexGuard, Wait};
 
-/// Records of a pool that followed one another, and what stands for all that came before them.
+/// A segment of a pool's log: records that followed one another, and the snapshot of all before them.
 #[derive(Debug, Drop)]
 pub struct PoolChapter {
-    /// What stands for the records before these.
+    /// The snapshot of the records before these.
     pub base: PoolBase,
     /// The records since, in order.
     pub records: Vec<Record<PoolDeed<u64>>>,
@@ -69,7 +68,10 @@ impl<W: Work, C: Drop, N: PoolLedgers> PoolShared<W, C, N> {
         self.shared.rotate(seat, room)
     }
 
-    /// Base and records once more. The only refusal is Memory.
+    /// Copies base and records.
+    ///
+    /// # Errors
+    /// - Memory, if an allocation fails.
     fn copy(&self) -> Result<Chapter<PoolCore<u64>>, Refusal>
         ensures copied { IfOk result (λ chapter. (chapter.base ≡ self.now.base)
             × (chapter.records.items ≡ self.now.records)) }
@@ -134,7 +136,10 @@ fn rotate<W: Work, C: Drop, N: PoolLedgers>(
     }
 }
 
-/// What the book under this lock holds, copied. The only refusal is Memory.
+/// Copies what the book under this lock holds.
+///
+/// # Errors
+/// - Memory, if an allocation fails.
 fn copy<W: Work, C: Drop, N: PoolLedgers>(
     shared: MutexGuard<'_, PoolShared<W, C, N>>,
 ) -> Result<PoolChapter, Refusal>
@@ -156,13 +161,15 @@ fn copy<W: Work, C: Drop, N: PoolLedgers>(
 }
 
 impl<W: Work, C: Drop, G: Gate + Drop, S: Drop, N: PoolLedgers> Pool<W, C, G, S, N> {
-    /// Keeps the history from filling, if each caller calls it after each of its calls. If the seat's list has more
-    /// receipts than a quarter of its part of 1,048,576, and the last of them shows that the history may be more than
-    /// half full (`is_to_look`), it takes the lock once, makes a checkpoint if the history is, and drops the seat's
-    /// receipts for all that is folded away. Else it does nothing and touches no lock, as most calls do.
+    /// Compacts the log if it is more than half full. The log doesn't fill if each caller calls this after each of its
+    /// calls (tested, not proved). Most calls do nothing, and take no lock. The lock is taken only on two conditions:
+    /// the seat's list has more receipts than a quarter of its share of 1,048,576, and the last of them shows that the
+    /// log may be more than half full (`is_to_look`). Then the seat's receipts for all that is compacted are dropped.
     ///
     /// # Errors
-    /// - HistoryFull, Memory: as `checkpoint`; the receipts for what was folded away before are dropped.
+    /// The records stay; the seat's receipts for what was compacted before are dropped.
+    /// - HistoryFull, if more than 2^63 - 1 records would be compacted.
+    /// - Memory, if the base can't grow.
     pub fn tend<R: Wait>(
         &self,
         rt: &R,
@@ -181,10 +188,14 @@ impl<W: Work, C: Drop, G: Gate + Drop, S: Drop, N: PoolLedgers> Pool<W, C, G, S,
         look_after(&self.home.folded, hold(rt, &self.home.shared), seat)
     }
 
-    /// A checkpoint that hands out what it folds away: the records so far, and the base on which they stand. They count
-    /// for the seat. The records to come are written into this list, whose own are let go, so that a list is used again
-    /// once what it held is kept elsewhere. It refuses HistoryFull where more than 2^63 - 1 records would be folded
-    /// away, else Memory; then nothing has changed but the list, which is let go.
+    /// Rotates the log: compacts it as `checkpoint` does, and returns the records so far with the base on which they
+    /// stand. They count for the seat. `room` becomes the list of the records to come, and its own records are dropped:
+    /// so a list is used again after what it held is kept elsewhere.
+    ///
+    /// # Errors
+    /// The seat is returned and `room` is dropped; else nothing has changed.
+    /// - HistoryFull, if more than 2^63 - 1 records would be compacted.
+    /// - Memory, if an allocation fails.
     pub fn rotate<R: Wait>(
         &self,
         rt: &R,
@@ -203,9 +214,11 @@ impl<W: Work, C: Drop, G: Gate + Drop, S: Drop, N: PoolLedgers> Pool<W, C, G, S,
         rotate(&self.home.folded, hold(rt, &self.home.shared), seat, room)
     }
 
-    /// The records so far, and the base on which they stand, copied under one hold of the lock. Nothing changes, and no
-    /// seat is asked for, so it tells what happened also where a seat is lost, and `close` can't be had any more. The
-    /// only refusal is Memory.
+    /// Copies the records so far, and the base on which they stand, in one critical section. Nothing changes. It needs
+    /// no seat, so it also returns what happened if a seat is lost, after which `close` always fails.
+    ///
+    /// # Errors
+    /// - Memory, if an allocation fails.
     pub fn history<R: Wait>(&self, rt: &R) -> Result<PoolChapter, Refusal>
         ensures legal { IfOk result (λ chapter. (core : Shown ℕ) × (core.settings ≡ N.settings)
             × LeadsTo (λ tag. tag) chapter.base chapter.records.items core) }

@@ -1,5 +1,5 @@
-//! Checkpoints of a pool: the records so far are folded into its base, and callers' seats can let go of their receipts
-//! for them. So a pool that lives long never fills for good.
+//! Compaction of a pool's log (checkpoints): the records so far are replaced by a snapshot (a base), and callers' seats
+//! can drop their receipts for them. So a long-lived pool never fills for good.
 
 ghost use Rattle.std.specs.Prelude.{◌≡◌, ◌+◌, ◌<◌, ◌≤◌, ◌^◌, ℕ, length, IfOk, IfErr};
 ghost use Rattle.std.specs.Sync.Mutex.{mutex_guard_value};
@@ -77,13 +77,14 @@ fn trim_after<W: Work, C: Drop, N: PoolLedgers>(
 }
 
 impl<W: Work, C: Drop, G: Gate + Drop, S: Drop, N: PoolLedgers> Pool<W, C, G, S, N> {
-    /// Folds the records so far into the pool's base, under one hold of the lock, and returns how many were folded away
-    /// since the pool was made: all that there are, so no fewer than the seat ever got receipts. Those of this time count
-    /// for the seat. It writes no record.
+    /// Compacts the log: replaces the records so far by the pool's base, in one critical section. Returns how many were
+    /// compacted since the pool was created: all that there are, so no fewer than the seat ever got receipts. The
+    /// records of this compaction count for the seat. It logs nothing.
     ///
     /// # Errors
-    /// - HistoryFull, if more than 2^63 - 1 records would be folded away; nothing has changed.
-    /// - Memory, if the base can't grow; nothing has changed.
+    /// Nothing has changed.
+    /// - HistoryFull, if more than 2^63 - 1 records would be compacted.
+    /// - Memory, if the base can't grow.
     pub fn checkpoint<R: Wait>(
         &self,
         rt: &R,
@@ -104,8 +105,8 @@ impl<W: Work, C: Drop, G: Gate + Drop, S: Drop, N: PoolLedgers> Pool<W, C, G, S,
         made
     }
 
-    /// Drops the seat's receipts for the records that are folded away by now, and no other: at least those that its own
-    /// checkpoints folded away. It waits only for the lock, and takes no memory.
+    /// Drops the seat's receipts for the records that are compacted by now, and no other: at least those that its own
+    /// checkpoints compacted. It waits only for the lock, and doesn't allocate.
     pub fn trim<R: Wait>(&self, rt: &R, seat: Seat<PoolDeed<u64>, N>) -> Seat<PoolDeed<u64>, N>
         ensures { (gone : ℕ) × Trims gone seat result × (seat.past.folded ≤ gone) }
     {

@@ -43,16 +43,16 @@ use std::collections::VecDeque;
 use std::sync::{Arc, Mutex, Wait};
 use std::thread;
 
-/// What a pool leaves once it is closed.
+/// The final log of a closed pool.
 #[derive(Debug, Drop)]
 pub struct PoolChronicle<C> {
-    /// What stands for the records that were folded away.
+    /// The snapshot of the compacted records.
     pub base: PoolBase,
     /// The records since, in order.
     pub records: Vec<Record<PoolDeed<u64>>>,
     /// The receipts of each seat, in the order of their numbers.
     pub lists: Vec<Vec<Receipt<PoolDeed<u64>>>>,
-    /// The kept jobs with their tickets, in the order in which they came.
+    /// The buffered jobs with their tickets, in order of arrival.
     pub left: Vec<(Ticket, Job<C>)>,
 }
 
@@ -211,12 +211,25 @@ fn unclosed<W: Work, C, G, S, N: PoolLedgers>(
 }
 
 impl<W: Work, C: Drop, G: Gate + Drop, S: Drop, N: PoolLedgers> Pool<W, C, G, S, N> {
-    /// `ThreadPoolExecutor.shutdown`: no more jobs are taken, and workers that find none end. It waits for the lock
-    /// alone, and does no harm when repeated.
+    /// Shuts the pool down: no more jobs are taken, and workers that find none end. It waits only for the lock, and can
+    /// be repeated.
     ///
     /// # Errors
-    /// - NoSuchSeat, if the seat is no caller's.
-    /// - HistoryFull, Memory: nothing has changed.
+    /// Nothing has changed.
+    /// - NoSuchSeat, if the seat isn't a caller's.
+    /// - HistoryFull, if the log has no room for the record.
+    /// - Memory, if an allocation fails.
+    ///
+    /// # Example
+    /// From `crates/example_jobs/src/running.rt`:
+    ///
+    ///     match pool.shutdown(rt, seat) {
+    ///         Ok(after) => backs.push_reserved(Back::Free(after)),
+    ///         Err(turned_away) => return Err(turned_away.into_why()), // the pool is let go, with its one seat
+    ///     }
+    ///     pool.await_end(rt); // no more jobs, no more workers
+    ///
+    /// Java: `ThreadPoolExecutor.shutdown`.
     pub fn shutdown<R: Wait>(
         &self,
         rt: &R,
@@ -244,12 +257,22 @@ impl<W: Work, C: Drop, G: Gate + Drop, S: Drop, N: PoolLedgers> Pool<W, C, G, S,
         }
     }
 
-    /// `ThreadPoolExecutor.shutdownNow`: shuts the pool down, and takes all kept jobs out, in their order. It waits for
-    /// the lock alone.
+    /// Shuts the pool down, and returns all buffered jobs, in their order. It waits only for the lock.
     ///
     /// # Errors
-    /// - NoSuchSeat, if the seat is no caller's.
-    /// - HistoryFull, Memory: nothing has changed.
+    /// Nothing has changed.
+    /// - NoSuchSeat, if the seat isn't a caller's.
+    /// - HistoryFull, if the log has no room for the record.
+    /// - Memory, if an allocation fails.
+    ///
+    /// # Example
+    /// From `crates/pool_threads_tests/src/pools.rt`:
+    ///
+    ///     match pool.shutdown_now(rt, seat) {
+    ///         Ok((seat, jobs)) => {
+    ///             let first = jobs.front().map(|job| job.tag());
+    ///
+    /// Java: `ThreadPoolExecutor.shutdownNow`.
     pub fn shutdown_now<R: Wait>(
         &self,
         rt: &R,
@@ -285,14 +308,22 @@ impl<W: Work, C: Drop, G: Gate + Drop, S: Drop, N: PoolLedgers> Pool<W, C, G, S,
         }
     }
 
-    /// What the pool shows of itself: its workers, the jobs that run, are kept and were done, and the most workers that
-    /// there were. It waits for the lock alone.
+    /// Returns the pool's counters: its workers, the jobs that run, are buffered and were done, and the most workers
+    /// that there were. It waits only for the lock.
+    ///
+    /// Java: `getPoolSize`, `getActiveCount` and their kin.
     pub fn counters<R: Wait>(&self, rt: &R) -> Counters {
         hold(rt, &self.home.shared).counters()
     }
 
-    /// `ThreadPoolExecutor.awaitTermination` without a limit: waits until the pool is shut down and has no worker,
-    /// which may be never.
+    /// Waits until the pool is shut down and has no worker, which may be never.
+    ///
+    /// # Example
+    /// From `crates/example_jobs/src/running.rt`:
+    ///
+    ///     pool.await_end(rt); // no more jobs, no more workers
+    ///
+    /// Java: `ThreadPoolExecutor.awaitTermination` without a limit.
     pub fn await_end<R: Wait>(&self, rt: &R) {
         let guard = self.home.moved.wait_while(
             rt,
@@ -302,9 +333,21 @@ impl<W: Work, C: Drop, G: Gate + Drop, S: Drop, N: PoolLedgers> Pool<W, C, G, S,
         drop(guard);
     }
 
-    /// Ends the pool: takes all seats back, compares the records with their receipts, and waits until the threads of
-    /// its workers have let it go. It refuses SeatMissing exactly where fewer seats are given back, or lie in the pool,
-    /// than were made, then Memory, then Differs where a seat's receipts aren't its records.
+    /// Closes the pool: takes all seats back, compares the records with their receipts, and waits until its workers'
+    /// threads have dropped it.
+    ///
+    /// # Errors
+    /// - SeatMissing, exactly if fewer seats are given back, or lie in the pool, than were made.
+    /// - Memory, if an allocation fails.
+    /// - Differs, if a seat's receipts aren't its records.
+    ///
+    /// # Example
+    /// From `crates/example_jobs/src/running.rt`:
+    ///
+    ///     match pool.close(rt, alloc, backs) {
+    ///         Ok(chronicle) => Ok(Ran { chronicle, refused }),
+    ///         Err(fault) => Err(fault.into_why()),
+    ///     }
     pub fn close<R: Wait>(
         self,
         rt: &R,

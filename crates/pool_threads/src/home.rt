@@ -66,7 +66,7 @@ impl<N: Ledgers> Made<N> {
         }
     }
 
-    /// How many.
+    /// Returns how many.
     pub(crate) fn count(&self) -> usize
         ensures same { result ≡ self.now }
         ensures all { result ≡ N.parts }

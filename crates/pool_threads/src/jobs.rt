@@ -1,4 +1,4 @@
-//! Jobs, and what becomes of one that is handed in.
+//! Jobs, and what happens to a job that is handed in.
 
 ghost use Rattle.std.specs.Prelude.{◌≡◌, ◌≢◌, ℕ, MatchOption};
 
@@ -6,27 +6,27 @@ use meet_tickets::Ticket;
 use std::fmt;
 use std::fmt::{Debug, Formatter, Write};
 
-/// What the jobs of a pool are worth, by their tags.
+/// States what the jobs of a pool return, by their tags (job ids).
 pub trait Work {
-    /// The answer that a job of this tag gives.
+    /// The number that a job of this tag returns.
     ghost worth: { ℕ → ℕ };
 }
 
-/// What a job does once.
+/// States what a job does once.
 pub trait Call<W: Work> {
     /// The job's tag.
     ghost tag_of: { Self → ℕ };
 
-    /// The job's tag.
+    /// Returns the job's tag.
     fn tag(&self) -> u64
         ensures { result ≡ tag_of self.now };
 
-    /// Does it, and answers what its tag is worth.
+    /// Does the job, and returns what its tag is worth.
     fn make(self) -> u64
         ensures { result ≡ W.worth (tag_of self) };
 }
 
-/// A job, known by its tag.
+/// A job, identified by its tag (a job id).
 #[derive(Drop)]
 pub struct Job<C> {
     tag: u64,
@@ -41,7 +41,12 @@ impl<C> Debug for Job<C> {
 }
 
 impl<C> Job<C> {
-    /// The job of this call.
+    /// Creates the job of this call.
+    ///
+    /// # Example
+    /// From `crates/example_jobs/src/running.rt`:
+    ///
+    ///     match pool.execute(rt, seat, Job::new::<ItsTag>(job)) {
     pub fn new<W: Work>(call: C) -> Self
     where
         C: Call<W>,
@@ -52,14 +57,14 @@ impl<C> Job<C> {
         Job { tag, call }
     }
 
-    /// Its tag.
+    /// Returns its tag.
     pub fn tag(&self) -> u64
         ensures { result ≡ self.now.tag }
     {
         self.tag
     }
 
-    /// What it does.
+    /// Returns its call.
     pub fn into_call(self) -> C
         ensures { result ≡ self.call }
     {
@@ -67,8 +72,8 @@ impl<C> Job<C> {
         call
     }
 
-    /// Runs the job if it is of its tag, as all are that `new` made, and returns what the tag is worth; None exactly if it
-    /// isn't of its tag.
+    /// Runs the job if it is of its tag, as all are that `new` made, and returns what the tag is worth; None exactly if
+    /// it isn't of its tag.
     pub fn run<W: Work>(self) -> Option<u64>
     where
         C: Call<W> + Drop,
@@ -82,16 +87,23 @@ impl<C> Job<C> {
     }
 }
 
-/// What became of a job that was handed in.
+/// What happened to a job that was handed in.
 #[derive(Debug, Drop)]
 pub enum Executed<C> {
+    /// It was handed to this worker, which waited.
     Handed(u64),
+    /// This worker is to be started with it.
     Started(u64),
+    /// It is buffered.
     Kept,
+    /// It is buffered, and this worker is to be started.
     KeptStart(u64),
+    /// It is rejected, and returned.
     Aborted(Job<C>),
+    /// Its caller runs it.
     CallerRuns(Job<C>),
+    /// It is dropped, and returned.
     Dropped(Job<C>),
-    /// The kept job that came first, of this ticket, is dropped, and the new one is kept.
+    /// The oldest buffered job, of this ticket, is dropped and returned, and the new one is buffered.
     DroppedOldest(Ticket, Job<C>),
 }

@@ -6,8 +6,8 @@ ghost use Rattle.meet_book.specs.Listed.{AreListed, StandsBefore, StandsIn, list
 ghost use Rattle.meet_book.specs.Received.{Received};
 ghost use Rattle.pool_core.specs.declared.deeds.PoolDeed.{PoolDeed};
 
-/// States that receipts tell places. If a record of a closed pool wasn't folded away, it stands in the history at the
-/// number that its receipt has. It does nothing.
+/// States that a receipt's number is its record's place in the log. If a record of a closed pool wasn't compacted, it
+/// stands in the history at the number that its receipt has. It does nothing.
 pub fn receipts_of_closed_pools_tell_places()
     ensures { (gone : ℕ) (records : List (Record (PoolDeed ℕ))) (lists : List (List (Received (PoolDeed ℕ))))
         → AreListed gone records lists → (seat k : ℕ) (receipt : Received (PoolDeed ℕ))
@@ -15,9 +15,9 @@ pub fn receipts_of_closed_pools_tell_places()
 {}
 
 /// States that a closed pool kept the order that its threads could observe. A record whose number is at most some
-/// moment stands in the history before each record whose number is above that moment. What a seat called before it
-/// gave a moment away has numbers up to that; what a seat calls once it was shown a moment has numbers above that. It
-/// does nothing.
+/// moment stands in the history before each record whose number is above that moment. What a seat called before it gave
+/// a moment away has numbers up to that; what a seat calls after it was shown a moment has numbers above that. It does
+/// nothing.
 pub fn closed_pools_keep_order()
     ensures { (gone : ℕ) (records : List (Record (PoolDeed ℕ))) (lists : List (List (Received (PoolDeed ℕ))))
         → AreListed gone records lists → (one other : Received (PoolDeed ℕ)) (a b j k moment : ℕ)

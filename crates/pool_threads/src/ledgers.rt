@@ -1,4 +1,4 @@
-//! The ledgers of a pool, which tell what it was made with.
+//! The ledgers (ghost counters) of a pool, which fix what it was made with.
 
 ghost use Rattle.std.specs.Prelude.{false};
 ghost use Rattle.pool_core.specs.declared.settings.Settings.{Settings};
@@ -8,7 +8,7 @@ ghost use Rattle.pool_core.specs.declared.settings.Policy.TheVariants.{Abort};
 use meet_place::Ledgers;
 use std::marker::Brand;
 
-/// Tells the two ledgers of one pool from those of others, and what that pool was made with.
+/// Distinguishes the two ledgers of one pool from those of others, and states what that pool was made with.
 pub trait PoolLedgers: Ledgers {
     /// The sizes, the queue and the policy that the pool was made with.
     ghost settings: { Settings };

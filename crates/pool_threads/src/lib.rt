@@ -1,8 +1,9 @@
-//! A pool of workers, each a thread of its own, which run jobs that callers hand in. It knows how a worker's thread
-//! lives, and nothing of where a job goes: that is `pool_core`, under a lock, with the jobs themselves beside it.
+//! A pool of workers (`ThreadPoolExecutor`), each a thread of its own, which run jobs that callers hand in. The crate
+//! knows how a worker's thread lives, and nothing of where a job goes: that is `pool_core`, under a lock, with the jobs
+//! themselves beside it.
 //!
-//! `#[inline(always)]` stands where a job and a worker's step pass on their way to the core, so that each is one function
-//! from where a thread makes it, and which kind of call it is, is asked once.
+//! `#[inline(always)]` stands where a job and a worker's step pass on their way to the core. So each is one function
+//! from where a thread makes it, and the kind of call is tested once.
 #![tactic(auto)]
 
 mod boxed;

@@ -26,14 +26,27 @@ use std::collections::VecDeque;
 use std::sync::atomic::AtomicU64;
 use std::sync::{Arc, Condvar, Mutex};
 
-/// What a pool is made of.
+/// The parts of a pool.
+///
+/// # Example
+/// From `crates/example_jobs/src/main.rt`:
+///
+///     queue: PoolQueue::Unbounded,
+///     policy: Policy::Abort,
+///     gates,
+///     starter: ThreadStarter::new(),
+///     blanks: Blanks::new(3), // a part for each caller and each worker
 #[derive(Drop)]
 pub struct NewPool<G, S> {
+    /// The numbers of workers and callers, and the keep-alive time.
     pub sizes: Sizes,
+    /// The queue of jobs.
     pub queue: PoolQueue,
+    /// What happens to a job that is rejected.
     pub policy: Policy,
-    /// A gate for each worker, by its number.
+    /// A gate (a parker) for each worker, by its number.
     pub gates: Vec<G>,
+    /// What makes the threads of the workers.
     pub starter: S,
     /// Two ledgers with a part for each caller and each worker.
     pub blanks: Blanks,
@@ -86,9 +99,9 @@ where
     Ok(padded)
 }
 
-/// How often a thread that finds the lock of a pool taken lets others run before it tries again: where jobs are kept who
-/// holds the lock mostly comes back at once, and it pays to leave it to them for a while. Our choice, of which nothing
-/// is promised.
+/// How often a thread that finds the lock of a pool taken lets others run before it tries again. If jobs are buffered,
+/// the thread that holds the lock mostly comes back at once, and it pays to leave it to that thread for a while.
+/// Implementation-defined; nothing is promised of it.
 fn patience_of(queue: PoolQueue) -> u64 {
     match queue {
         PoolQueue::Hand(_) => 1,
@@ -97,8 +110,26 @@ fn patience_of(queue: PoolQueue) -> u64 {
 }
 
 impl<W: Work, C: Drop, G: Drop, S: Drop, N: PoolLedgers> Pool<W, C, G, S, N> {
-    /// A pool without a job, and a seat for each caller, numbered from 0. It refuses what doesn't fit
-    /// (`settings_refusal`), and else Memory alone.
+    /// Creates a pool without a job, and a seat for each caller, numbered from 0.
+    ///
+    /// # Errors
+    /// - BadSizes, exactly if one of these is so (`settings_refusal`):
+    ///   - there are no callers, or the maximum of workers is 0;
+    ///   - the core size is above the maximum;
+    ///   - callers and maximum are more than 1,024 together;
+    ///   - core workers time out, and the keep-alive time is 0;
+    ///   - a bound is 0 or above 1,048,576;
+    ///   - the queue hands jobs over in the order of a transfer queue.
+    /// - PolicyNeedsBuffer, exactly if the sizes fit, and the policy drops the oldest job of a queue that buffers none.
+    /// - Memory, if an allocation fails.
+    ///
+    /// # Example
+    /// From `crates/example_jobs/src/running.rt`:
+    ///
+    ///     let (pool, mut seats) = Pool::<ItsTag, Boxed, ParkGate, ThreadStarter, N>::new(alloc, parts)?;
+    ///     let mut seat = seats.pop().unwrap(); // the one caller's
+    ///
+    /// Java: `new ThreadPoolExecutor(..)`.
     pub fn new(
         alloc: Global,
         parts: NewPool<G, S>,

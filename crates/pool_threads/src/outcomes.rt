@@ -1,26 +1,26 @@
-//! What becomes of a job that a pool is handed.
+//! What happens to a job that a pool is handed.
 
 use crate::jobs::Job;
 use meet_tickets::Ticket;
 
-/// What became of a job that a pool was handed.
+/// What happened to a job that a pool was handed.
 #[derive(Debug, Drop)]
 pub enum Outcome<C> {
     /// It was handed to this worker, which waited.
     Handed(u64),
     /// This worker was started with it.
     Started(u64),
-    /// It is kept.
+    /// It is buffered.
     Kept,
-    /// It is kept, and this worker was started.
+    /// It is buffered, and this worker was started.
     KeptStart(u64),
-    /// It wasn't taken, and comes back: `ThreadPoolExecutor.AbortPolicy`.
+    /// It was rejected, and is returned. Java: `ThreadPoolExecutor.AbortPolicy`.
     Aborted(Job<C>),
-    /// It was run here, and answered this: `ThreadPoolExecutor.CallerRunsPolicy`.
+    /// It was run here, and returned this. Java: `ThreadPoolExecutor.CallerRunsPolicy`.
     RanHere(u64),
-    /// It was dropped, and comes back: `ThreadPoolExecutor.DiscardPolicy`.
+    /// It was dropped, and is returned. Java: `ThreadPoolExecutor.DiscardPolicy`.
     Dropped(Job<C>),
-    /// The kept job that came first, of this ticket, was dropped and comes back, and the new one is kept:
+    /// The oldest buffered job, of this ticket, was dropped and is returned, and the new one is buffered. Java:
     /// `ThreadPoolExecutor.DiscardOldestPolicy`.
     DroppedOldest(Ticket, Job<C>),
 }

@@ -26,6 +26,8 @@ use std::thread::Threads;
 use std::time::Clock;
 
 /// A pool of workers, each a thread of its own.
+///
+/// Java: `ThreadPoolExecutor`.
 #[derive(Drop)]
 pub struct Pool<W: Work, C, G, S, N: PoolLedgers> {
     pub(crate) home: Arc<Home<W, C, G, N>, Global>,
@@ -70,7 +72,7 @@ fn back_of<C: Drop>(job: Option<Job<C>>, tag: u64) -> Begun<C>
     }
 }
 
-/// Runs a job that is the caller's to run.
+/// Maps the result of a hand-in to its outcome. A job that is the caller's to run is run here.
 fn outcome_of<W: Work, C: Call<W> + Drop>(executed: Executed<C>) -> Outcome<C>
     ensures told { (job : Job C) → IsItself job executed → answer_of job.tag result ≡ answer_told executed }
     ensures item { (job : Job C) → IsItself job executed → ItemFits (W.worth (C.tag_of job.call)) job result }
@@ -163,14 +165,30 @@ impl<W: Work, C: Call<W> + Drop, G: Gate + Drop, S: Starter, N: PoolLedgers> Poo
         }
     }
 
-    /// `ThreadPoolExecutor.execute`: hands a job in. It waits for the lock alone. If a new worker is needed it makes its
-    /// thread; if the policy has the caller run the job, it runs here, and its answer is returned.
+    /// Hands a job in. It waits only for the lock. If a new worker is needed, it makes the worker's thread; if the
+    /// policy has the caller run the job, it runs here, and what it returned is the outcome.
     ///
     /// # Errors
-    /// - Memory, HistoryFull; TicketsSpent; NoSuchSeat, if the seat is no caller's: nothing has changed, and the job is
-    ///   returned.
+    /// Nothing has changed, and seat and job are returned, but for NoThread.
+    /// - Memory, if an allocation fails.
+    /// - NoSuchSeat, if the seat isn't a caller's.
+    /// - TicketsSpent, if fewer tickets are left than the call and the workers may need.
+    /// - HistoryFull, if the log has no room for the records that may be needed.
     /// - NoThread, if the worker's thread can't be made: the record of its start stays. The job is returned exactly if
-    ///   the worker was started with it, and else it is kept.
+    ///   the worker was started with it; otherwise it is buffered.
+    ///
+    /// # Example
+    /// From `crates/example_jobs/src/running.rt`:
+    ///
+    ///     match pool.execute(rt, seat, Job::new::<ItsTag>(job)) {
+    ///         Ok((after, _outcome)) => seat = after, // Outcome::Started(worker), Outcome::Kept, ..
+    ///         Err(turned_away) => {
+    ///             refused = Some(turned_away.why);
+    ///             seat = turned_away.seat; // its job, turned_away.job, is let go
+    ///         }
+    ///     }
+    ///
+    /// Java: `ThreadPoolExecutor.execute`.
     pub fn execute<R>(
         &self,
         rt: &R,

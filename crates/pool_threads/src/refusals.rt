@@ -1,5 +1,5 @@
-//! Why a pool refuses a call, or isn't closed, with all that comes back. None of these is an error type, and no `From`
-//! makes one a `Refusal`: so a `?` hands it on whole or doesn't compile.
+//! The errors of a pool's calls, with all that is returned. None of these is an error type, and no `From` makes one a
+//! `Refusal`: so a `?` returns it whole or doesn't compile.
 
 ghost use Rattle.std.specs.Prelude.{◌≡◌, IfOk, IfErr};
 ghost use Rattle.meet_tickets.specs.declared.refusals.Refusal.TheVariants.{Memory as NoMemory};
@@ -17,15 +17,15 @@ use std::collections::VecDeque;
 use std::fmt;
 use std::fmt::{Debug, Display, Formatter, Write};
 
-/// A job was refused: the seat comes back, and the job. NoThread brings the job back exactly where its worker was
-/// started with it; else it is kept. Its text is the name of the reason.
+/// The error of `execute`: the seat is returned, and the job. After NoThread the job is returned exactly if its worker
+/// was started with it; otherwise it is buffered. Its text is the name of the reason.
 #[derive(Drop)]
 pub struct PoolRefused<C, N: Ledgers> {
-    /// Why.
+    /// The reason.
     pub why: Refusal,
     /// The seat; after NoThread with the receipt of the job's record.
     pub seat: Seat<PoolDeed<u64>, N>,
-    /// The job, if it isn't kept.
+    /// The job, if it isn't buffered.
     pub job: Option<Job<C>>,
 }
 
@@ -41,7 +41,7 @@ impl<C, N: Ledgers> Display for PoolRefused<C, N> {
     }
 }
 
-/// The reason alone: what comes back need not be such as can be shown.
+/// The reason alone: what is returned need not be one that can be shown.
 impl<C, N: Ledgers> Debug for PoolRefused<C, N> {
     fn fmt<O: Write>(&self, f: &mut Formatter<O>) -> fmt::Result {
         write!(f, "PoolRefused({})", self.why)
@@ -49,8 +49,8 @@ impl<C, N: Ledgers> Debug for PoolRefused<C, N> {
 }
 
 impl<C: Drop, N: Ledgers> PoolRefused<C, N> {
-    /// The reason alone. The seat and the job are let go: match the refusal to keep them, since a pool is closed with
-    /// all of its seats.
+    /// Returns the reason alone, and drops the seat and the job: match the error to keep them, since a pool is closed
+    /// with all of its seats.
     pub fn into_why(self) -> Refusal
         ensures { result ≡ self.why }
     {
@@ -59,14 +59,14 @@ impl<C: Drop, N: Ledgers> PoolRefused<C, N> {
     }
 }
 
-/// A call of a seat that was refused: the seat comes back. Its text is the name of the reason.
+/// The error of a seat's call: the seat is returned. Its text is the name of the reason.
 // The seat stands first, as in what a call that isn't refused answers, so that it lies at the same place in both. In
 // `PoolRefused` it doesn't: there the job would come to lie at two places.
 #[derive(Drop)]
 pub struct SeatRefused<N: Ledgers> {
     /// The seat, as it was.
     pub seat: Seat<PoolDeed<u64>, N>,
-    /// Why.
+    /// The reason.
     pub why: Refusal,
 }
 
@@ -90,7 +90,7 @@ impl<N: Ledgers> Debug for SeatRefused<N> {
 }
 
 impl<N: Ledgers> SeatRefused<N> {
-    /// The reason alone. The seat is let go: match the refusal to keep it, since a pool is closed with all of its
+    /// Returns the reason alone, and drops the seat: match the error to keep it, since a pool is closed with all of its
     /// seats.
     pub fn into_why(self) -> Refusal
         ensures { result ≡ self.why }
@@ -100,38 +100,45 @@ impl<N: Ledgers> SeatRefused<N> {
     }
 }
 
-/// Why a pool was not closed. Its text is the name of the refusal that it is.
+/// The error of a pool that wasn't closed. Its text is the name of the reason.
 #[derive(Drop)]
 pub enum PoolFault<W: Work, C, G, S, N: PoolLedgers> {
-    /// Fewer seats were given back, or lie in the pool, than were made. The pool and the seats come back.
+    /// Fewer seats were given back, or lie in the pool, than were made. The pool and the seats are returned.
     SeatMissing {
         /// How many were given back, or lie in the pool.
         have: u64,
         /// How many were made.
         made: u64,
+        /// The pool.
         pool: Pool<W, C, G, S, N>,
+        /// The seats that were given back.
         seats: Vec<Back<PoolDeed<u64>, N>>,
     },
-    /// Memory was wanted and not there. The pool and the seats come back.
+    /// An allocation failed. The pool and the seats are returned.
     Memory {
+        /// The pool.
         pool: Pool<W, C, G, S, N>,
+        /// The seats that were given back.
         seats: Vec<Back<PoolDeed<u64>, N>>,
     },
-    /// The records of a seat aren't those of its receipts. The book comes back, out of its lock; the seats of callers
-    /// and workers, in the order of their numbers; and the kept jobs, in theirs.
+    /// The records of a seat aren't those of its receipts. The log (the book) is returned, out of its lock, with all
+    /// seats and the buffered jobs.
     Differs {
         /// The least such seat.
         seat: SeatNo,
         /// The first index at which they differ, counted from 0 among the seat's records.
         index: u64,
+        /// The log.
         book: Book<PoolCore<u64>>,
+        /// The seats of callers and workers, in the order of their numbers.
         seats: Vec<Back<PoolDeed<u64>, N>>,
+        /// The buffered jobs, in order of arrival.
         left: VecDeque<Job<C>>,
     },
 }
 
 impl<W: Work, C, G, S, N: PoolLedgers> PoolFault<W, C, G, S, N> {
-    /// The reason as a refusal: SeatMissing, Memory or Differs.
+    /// Returns the reason: SeatMissing, Memory or Differs.
     pub fn why(&self) -> Refusal
         ensures { result ≡ why_of self.now }
     {
@@ -142,8 +149,11 @@ impl<W: Work, C, G, S, N: PoolLedgers> PoolFault<W, C, G, S, N> {
         }
     }
 
-    /// The numbers of those of so many callers' seats that weren't given back, in rising order; none where no seat is
-    /// missing. The only refusal is Memory.
+    /// Returns the numbers of those of `callers` callers' seats that weren't given back, in rising order; none if no
+    /// seat is missing.
+    ///
+    /// # Errors
+    /// - Memory, if an allocation fails.
     pub fn missing(&self, alloc: Global, callers: u64) -> Result<Vec<SeatNo>, Refusal>
         ensures numbers { IfOk result (λ list. list.items ≡ missing_in callers self.now) }
         ensures memory { IfErr result (λ why. why ≡ NoMemory) }
@@ -168,7 +178,7 @@ impl<W: Work, C, G, S, N: PoolLedgers> Display for PoolFault<W, C, G, S, N> {
     }
 }
 
-/// The reason alone: what comes back need not be such as can be shown.
+/// The reason alone: what is returned need not be one that can be shown.
 impl<W: Work, C, G, S, N: PoolLedgers> Debug for PoolFault<W, C, G, S, N> {
     fn fmt<O: Write>(&self, f: &mut Formatter<O>) -> fmt::Result {
         write!(f, "PoolFault({})", self.why())
@@ -176,7 +186,8 @@ impl<W: Work, C, G, S, N: PoolLedgers> Debug for PoolFault<W, C, G, S, N> {
 }
 
 impl<W: Work, C: Drop, G: Drop, S: Drop, N: PoolLedgers> PoolFault<W, C, G, S, N> {
-    /// The reason alone. The pool or its book, the seats and the kept jobs are let go: match the fault to keep them.
+    /// Returns the reason alone, and drops the pool or its log, the seats and the buffered jobs: match the fault to
+    /// keep them.
     pub fn into_why(self) -> Refusal
         ensures { result ≡ why_of self }
     {

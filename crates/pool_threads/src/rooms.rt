@@ -21,7 +21,7 @@ pub(crate) struct EndRoom<C: Drop, N: Ledgers> {
 
 impl<C: Drop, N: Ledgers> EndRoom<C, N> {
     /// Room for so many seats, for so many jobs that are left, and for so many that are kept; and for as many seats
-    /// behind those that were given back. None where memory is short.
+    /// behind those that were given back. None if an allocation fails.
     pub(crate) fn new(
         alloc: Global,
         made: usize,

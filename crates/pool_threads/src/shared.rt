@@ -26,10 +26,10 @@ use std::collections::VecDeque;
 use std::marker::Model;
 use std::mem;
 
-/// The book of a pool's core, beside the jobs that lie in the pool, and the seats of the workers that aren't there. The
-/// jobs are those that the core knows by their tags, and the seats are of those workers that it knows to be absent. The
-/// core's settings are those that the pool was made with. They lie in the order that is written here: what each call of
-/// a worker touches lies together, and away from the lock's word.
+/// The book of a pool's core, the jobs that lie in the pool, and the seats of the workers that aren't there. The jobs
+/// are those that the core knows by their tags, and the seats are of those workers that it knows to be absent. The
+/// core's settings are those that the pool was made with. The fields lie in the order that is written here (`repr(C)`):
+/// what each call of a worker touches lies together, and away from the lock's word.
 #[derive(Drop)]
 #[repr(C)]
 pub struct PoolShared<W: Work, C, N: PoolLedgers> {
@@ -57,22 +57,29 @@ impl<W: Work, C, N: PoolLedgers> Model for PoolShared<W, C, N> {
         × (s.shared.object.settings ≡ N.settings) };
 }
 
-/// What became of a job under the lock; and the seat of the worker that has to be started, if one has.
+/// What happened to a job under the lock, and the seat of the worker that has to be started, if there is one.
 #[derive(Drop)]
 pub struct Placed<C, S> {
+    /// What happened to the job.
     pub executed: Executed<C>,
+    /// The seat of the worker that has to be started.
     pub worker: Option<S>,
 }
 
 impl<W: Work, C: Drop, N: PoolLedgers> PoolShared<W, C, N> {
-    /// The core, to be looked at.
+    /// Returns the core, to be read.
     pub fn probe(&self) -> &PoolCore<u64>
         ensures { result.now ≡ self.now.object }
     {
         self.shared.probe()
     }
 
-    /// Hands a job in. The seat's list has room for the receipt. It refuses Memory, or what the core refuses.
+    /// Hands a job in. The seat's list has room for the receipt.
+    ///
+    /// # Errors
+    /// Nothing has changed, and the job is returned.
+    /// - Memory, if an allocation fails.
+    /// - NoSuchSeat, TicketsSpent or HistoryFull, as the core and its log (`Pool::execute`).
     #[inline(always)]
     pub fn execute(
         &mut self,
@@ -116,6 +123,12 @@ impl<W: Work, C: Drop, N: PoolLedgers> PoolShared<W, C, N> {
     }
 
     /// Shuts the pool down. The seat's list has room for the receipt.
+    ///
+    /// # Errors
+    /// Nothing has changed.
+    /// - NoSuchSeat, if the seat isn't a caller's.
+    /// - HistoryFull, if the log has no room for the record.
+    /// - Memory, if an allocation fails.
     pub fn shutdown(&mut self, seat: &mut Seat<PoolDeed<u64>, N>) -> Result<(), Refusal>
         requires room { 0 < seat.old.room }
         ensures seat { SameSeat seat.old seat.new }
@@ -135,7 +148,13 @@ impl<W: Work, C: Drop, N: PoolLedgers> PoolShared<W, C, N> {
         }
     }
 
-    /// Shuts the pool down, and takes all kept jobs out, in their order. The seat's list has room for the receipt.
+    /// Shuts the pool down, and returns all buffered jobs, in their order. The seat's list has room for the receipt.
+    ///
+    /// # Errors
+    /// Nothing has changed.
+    /// - NoSuchSeat, if the seat isn't a caller's.
+    /// - HistoryFull, if the log has no room for the record.
+    /// - Memory, if an allocation fails.
     pub fn shutdown_now(
         &mut self,
         alloc: Global,
@@ -173,7 +192,7 @@ fn back_with<A: Drop, C>(refused: Refused<A>, job: Job<C>) -> Refused<Job<C>>
     }
 }
 
-/// Makes room for four receipts of the worker that a job may start, ahead of the step: whether there is.
+/// Reserves room for four receipts on the worker that this job may start; returns false if out of memory.
 fn prepared<W: Work, N: Ledgers>(
     seats: &mut Vec<Option<WorkerSeat<W, N>>>,
     free: Option<u64>,
@@ -194,7 +213,7 @@ fn prepared<W: Work, N: Ledgers>(
     }
 }
 
-/// Makes room for four receipts, if a seat is here: whether there is.
+/// Reserves room for four receipts, if a seat is here; returns false if out of memory.
 fn reserved<W: Work, N: Ledgers>(slot: &mut Option<WorkerSeat<W, N>>) -> bool
     ensures here { is_none slot.new ≡ is_none slot.old }
     ensures room { IsTrue result → IfSome slot.new (λ seat. 4 ≤ seat.room) }

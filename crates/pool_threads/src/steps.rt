@@ -24,9 +24,9 @@ pub enum WorkerCall {
     Ready,
     /// It looks whether it was handed a job.
     Follow,
-    /// Its job answered this.
+    /// Its job returned this.
     Finish(u64),
-    /// Its time at the queue ran out.
+    /// Its keep-alive time ran out.
     IdleEnd,
     /// It has no job, and ends.
     Leave,
@@ -45,7 +45,7 @@ pub enum Next<C, S> {
     Stays(S),
     /// The worker isn't there any more; its seat lies in the pool.
     Gone,
-    /// The step was refused.
+    /// The step returned an error.
     Refused(S),
 }
 
@@ -174,8 +174,8 @@ impl<W: Work, C: Drop, N: PoolLedgers> PoolShared<W, C, N> {
         }
     }
 
-    /// A worker couldn't be started: the job that it was started with, if there was one. Its seat lies in the pool
-    /// again; a step that is refused, which none is, lets it go.
+    /// Records that a worker couldn't be started, and returns the job that it was to begin with, if there was one. Its
+    /// seat lies in the pool again; an error of the step, which never happens, drops it.
     pub fn start_failed(&mut self, mut seat: WorkerSeat<W, N>) -> Option<Job<C>>
         requires room { 0 < seat.room }
         ensures { Fails self.old.object self.new.object seat result }

@@ -1,4 +1,4 @@
-//! Workers, and the threads that they are.
+//! Workers and their threads.
 
 ghost use Rattle.std.specs.Prelude.{◌≡◌, ◌<◌, IfErr};
 
@@ -46,8 +46,9 @@ impl<W: Work, C, G, N: PoolLedgers> Worker<W, C, G, N> {
 }
 
 impl<W: Work, C: Call<W> + Drop, G: Gate + Drop, N: PoolLedgers> Worker<W, C, G, N> {
-    /// Works, from its start to its end: it runs jobs, and between them waits at its gate, until the pool is shut down
-    /// and no job is left, or its keep-alive ran out and it isn't needed. Then it lets the pool go.
+    /// Works, from its start to its end: it runs jobs, and between them waits at its gate. It ends if the pool is shut
+    /// down and no job is left, or if its keep-alive time ran out and it isn't needed. Then it drops its part of the
+    /// pool.
     pub fn run<R: Wait + Clock>(self, rt: &R) {
         let Worker { home, seat } = self;
         home.serve(rt, seat);
@@ -55,9 +56,11 @@ impl<W: Work, C: Call<W> + Drop, G: Gate + Drop, N: PoolLedgers> Worker<W, C, G,
     }
 }
 
-/// Who may start threads, and how.
+/// States how the threads of a pool are made.
+///
+/// Java: `ThreadFactory`.
 pub trait Starter {
-    /// How the next thread is to be made; none where none is to be made.
+    /// Returns how the next thread is to be made, or none if none is to be made.
     fn builder(&self) -> Option<Builder>;
 }
 
@@ -66,6 +69,12 @@ pub trait Starter {
 pub struct ThreadStarter {}
 
 impl ThreadStarter {
+    /// Creates the starter.
+    ///
+    /// # Example
+    /// From `crates/example_jobs/src/main.rt`:
+    ///
+    ///     starter: ThreadStarter::new(),
     pub fn new() -> ThreadStarter {
         ThreadStarter {}
     }
@@ -107,7 +116,10 @@ impl<W: Work, C: Call<W> + Drop, G: Gate + Drop, N: PoolLedgers> Desk<W, C, G, N
     }
 }
 
-/// Makes a thread, and then hands it its worker. Where there is no thread, the worker comes back.
+/// Makes a thread, and then hands it its worker.
+///
+/// # Errors
+/// - The worker, if the thread can't be made.
 pub fn start<R, W, C, G, N, S>(
     rt: &R,
     alloc: Global,

@@ -18,7 +18,7 @@ use meet_tickets::{Refusal, SeatNo};
 use pool_core::{PoolAnswer, PoolCall, PoolCore, PoolDeed};
 use std::marker::{Model, PhantomData};
 
-/// The seat of a worker. In its list each answer is what its job's tag is worth.
+/// The seat of a worker. In its list each finished job's number is what its tag is worth.
 #[derive(Drop)]
 pub struct WorkerSeat<W: Work, N: Ledgers> {
     seat: Seat<PoolDeed<u64>, N>,
@@ -80,7 +80,7 @@ fn stay_together(list: &[Receipt<PoolDeed<u64>>], gone: u64) -> bool
 }
 
 impl<W: Work, N: Ledgers> WorkerSeat<W, N> {
-    /// A seat without a receipt.
+    /// Creates the seat of a worker, without a receipt.
     pub fn new(seat: Seat<PoolDeed<u64>, N>) -> Self
         requires { seat.list ≡ [] }
         ensures { result ≡ seat }
@@ -92,7 +92,7 @@ impl<W: Work, N: Ledgers> WorkerSeat<W, N> {
         }
     }
 
-    /// The seat.
+    /// Returns the seat.
     pub fn into_seat(self) -> Seat<PoolDeed<u64>, N>
         ensures same { result ≡ self }
         ensures worthy { IsWorthy W.worth result.list }
@@ -101,14 +101,18 @@ impl<W: Work, N: Ledgers> WorkerSeat<W, N> {
         seat
     }
 
-    /// Its number.
+    /// Returns its number.
     pub fn number(&self) -> SeatNo
         ensures { result ≡ self.now.number }
     {
         self.seat.number()
     }
 
-    /// Makes room for so many receipts. The only refusal is Memory; then nothing has changed.
+    /// Makes room for `receipts` receipts.
+    ///
+    /// # Errors
+    /// Nothing has changed.
+    /// - Memory, if an allocation fails.
     pub fn reserve(&mut self, receipts: usize) -> Result<(), Refusal>
         ensures room { OnOk result (receipts ≤ self.new.room) }
         ensures number { self.new.number ≡ self.old.number }
@@ -121,12 +125,14 @@ impl<W: Work, N: Ledgers> WorkerSeat<W, N> {
         self.seat.reserve(receipts)
     }
 
-    /// Whether its list is long, and more records were folded away, so many, since it let go of receipts last.
+    /// Returns true if its list is long, and records were compacted since it dropped receipts last. `gone` is how many
+    /// are compacted by now.
     pub fn is_to_forget(&self, gone: u64) -> bool {
         self.seen < gone && self.seat.receipts().len() >= MANY
     }
 
-    /// Lets go of the receipts for the first `gone` records, but not of a start whose answer stays. It takes no memory.
+    /// Drops the receipts for the first `gone` records, but not that of a start whose answer stays. It doesn't
+    /// allocate.
     pub fn forget(&mut self, gone: u64)
         requires { share_in self.old < 2 ^ 64 }
         ensures list { (self.new ≡ self.old) ⊎ ((upto : ℕ) × (upto ≤ gone) × Trims upto self.old self.new) }
@@ -140,7 +146,7 @@ impl<W: Work, N: Ledgers> WorkerSeat<W, N> {
         }
     }
 
-    /// How many records were folded away, looked at for this seat, whose share is no more than all records.
+    /// Returns how many records were compacted, checked for this seat, whose share is no more than all records.
     pub fn gone_in(&mut self, shared: &mut Shared<PoolCore<u64>, N>) -> u64
         ensures fits { share_in self.new < 2 ^ 64 }
         ensures same { self.new ≡ self.old }
@@ -149,7 +155,10 @@ impl<W: Work, N: Ledgers> WorkerSeat<W, N> {
         shared.gone_for(&mut self.seat)
     }
 
-    /// Makes a step. A Finish says what the job that the list ends with is worth.
+    /// Makes a step. A Finish has the number that the job with which the list ends is worth.
+    ///
+    /// # Errors
+    /// Nothing has changed. The reason is the core's or the log's; the contract leaves it open.
     #[inline(always)]
     pub fn step(
         &mut self,

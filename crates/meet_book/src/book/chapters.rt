@@ -1,5 +1,4 @@
-//! A stretch of a book's history, handed out whole: so that it can be kept before it is folded away, or looked at while
-//! the book goes on.
+//! Segments of a log, returned whole: to be kept before they are compacted, or read while the book goes on.
 
 ghost use Rattle.std.specs.Prelude.{◌≡◌, ◌+◌, ◌≤◌, [], None, length, IfOk, IfErr};
 ghost use Rattle.std.specs.Vec.{vec_capacity};
@@ -12,10 +11,10 @@ use crate::object::{Bases, Object};
 use meet_tickets::{MOST_GONE, Record, Refusal, Refused};
 use std::mem;
 
-/// Records that followed one another, and what stands for all that came before them.
+/// A segment of a log: records that followed one another, and the snapshot of all before them.
 #[derive(Drop)]
 pub struct Chapter<O: Object> {
-    /// What stands for the records before these.
+    /// The snapshot of the records before these.
     pub base: O::Base,
     /// The records since, in order.
     pub records: Vec<Record<O::Deed>>,
@@ -25,10 +24,13 @@ impl<O: Bases> Book<O>
 where
     O::Base: Drop,
 {
-    /// Folds the records away as `cut` does, and hands them out, with the base on which they stand. The records to come
-    /// are written into this list, whose own are let go, so that a list is used again. It refuses HistoryFull exactly
-    /// where more than 2^63 - 1 records would be folded away, then Memory; then nothing has changed, and the list comes
-    /// back empty.
+    /// Rotates the log: compacts it as `cut` does, and returns the records, with the base on which they stand. `room`
+    /// becomes the list of the records to come, and its own records are dropped: so a list is used again.
+    ///
+    /// # Errors
+    /// Nothing has changed, and the list is returned empty.
+    /// - HistoryFull, exactly if more than 2^63 - 1 records would be compacted.
+    /// - Memory, if an allocation fails.
     pub fn rotate(
         &mut self,
         room: Vec<Record<O::Deed>>,
@@ -72,7 +74,10 @@ where
         }
     }
 
-    /// Base and records once more, while the book goes on. The only refusal is Memory.
+    /// Copies base and records, while the book goes on.
+    ///
+    /// # Errors
+    /// - Memory, if an allocation fails.
     pub fn copy(&self) -> Result<Chapter<O>, Refusal>
         ensures base { IfOk result (λ chapter. chapter.base ≡ self.now.base) }
         ensures records { IfOk result (λ chapter. chapter.records.items ≡ self.now.records) }

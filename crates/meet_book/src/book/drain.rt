@@ -1,4 +1,4 @@
-//! A drain: one recorded poll after another, all under one hold.
+//! A bulk poll (a drain): one logged poll after another, with no other step in between.
 
 ghost use Rattle.std.specs.Prelude.{◌≡◌, ◌+◌, ◌<◌, ◌≤◌, ◌^◌, Some, None, [], ◌∷◌, ◌++◌, length, map, min, vec_len};
 ghost use Rattle.std.specs.Prelude.{IfNone, IsOk, IfOk, IfErr};
@@ -40,10 +40,23 @@ impl<O: Drains> Book<O> {
         }
     }
 
-    /// `BlockingQueue.drainTo`: takes up to `max` items, one recorded poll after another, and answers them in order.
-    /// k is the lesser of `max` and the items that are there. It refuses what the seat is refused, NoSuchSeat or
-    /// SeatOpen, for k = 0 too; for k above 0 TicketsSpent where fewer than k tickets are left, HistoryFull where
-    /// records, owed and k + 1 are more than the book may have, then Memory. Then nothing but room has changed.
+    /// Takes up to `max` items, one logged poll after another, and returns the results in order. Let k be the lesser of
+    /// `max` and the items that are there.
+    ///
+    /// # Errors
+    /// Nothing but room has changed. The first that applies:
+    /// - NoSuchSeat or SeatOpen, as the seat's poll, for k = 0 too.
+    /// - TicketsSpent, if k is above 0 and fewer than k tickets are left.
+    /// - HistoryFull, if k is above 0, and the records, the reserved ones and k + 1 are more than the capacity.
+    /// - Memory, if an allocation fails.
+    ///
+    /// # Example
+    /// From `crates/example_one_thread/src/recorded.rt`:
+    ///
+    ///     let taken = book.drain(rt.alloc(), seat, 10)?; // up to ten items, an answer and a receipt for each
+    ///     println!(rt; "drained {}", taken.len())?;
+    ///
+    /// Java: `BlockingQueue.drainTo`.
     pub fn drain(
         &mut self,
         alloc: Global,
@@ -93,10 +106,13 @@ impl<O: Drains> Book<O> {
         }
     }
 
-    /// `drain` into an empty list that is lent, of no more items than the list has room for. It allocates nothing but
-    /// the room that the book's records lack, so that it is never refused for memory where they have it. A refusal is
-    /// one of those of `drain`, for as many items; it hands the list back, and nothing but room has changed. The watch
-    /// is told of each seat that may go on.
+    /// Drains into an empty list that is moved in, no more items than the list has room for. It allocates only the room
+    /// that the book's records lack: so it never fails with Memory if they have it. The watch is notified of each seat
+    /// that may go on.
+    ///
+    /// # Errors
+    /// Nothing but room has changed, and the list is returned.
+    /// - Those of `drain`, for as many items.
     pub fn drain_into<W: Watch>(
         &mut self,
         seat: SeatNo,
@@ -145,7 +161,10 @@ impl<O: Drains> Book<O> {
         self.drain_reserved(seat, k, empty, watch)
     }
 
-    /// An admitted drain of k items into a list with room for them: its only refusal is Memory, for the book's records.
+    /// Makes an admitted drain of k items into a list with room for them.
+    ///
+    /// # Errors
+    /// - Memory, if the book's records can't grow.
     fn drain_reserved<W: Watch>(
         &mut self,
         seat: SeatNo,

@@ -4,8 +4,8 @@ ghost use Rattle.meet_core.specs.Handed.{HandsOutWhatWasBrought};
 
 use meet_tickets::Marked;
 
-/// An item that a queue hands out, to a taker or back to its giver, has the mark that its giver's request brought,
-/// whatever base and records led to the queue. It does nothing.
+/// States that an item that a queue returns, to a consumer or back to its producer, has the mark that its producer's
+/// request brought, whatever base and records led to the queue. It does nothing.
 pub fn handed_items_were_brought<T: Marked>()
     ensures { HandsOutWhatWasBrought T.mark_of }
 {}

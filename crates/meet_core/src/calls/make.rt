@@ -13,8 +13,14 @@ use crate::meetings::Meetings;
 use meet_line::Line;
 use meet_tickets::{Cause, Marked, Refusal, SeatNo};
 
-/// Whether this seat's call is admitted, or why it is refused: the first reason that applies, of NoSuchSeat,
-/// SeatOpen, TicketsSpent and NotOpen. It takes no memory.
+/// Returns whether this seat's call is admitted. It doesn't allocate.
+///
+/// # Errors
+/// The first that applies:
+/// - NoSuchSeat, of a request or an interrupt, if the queue has no such seat or target.
+/// - SeatOpen, of a request, if the seat has a pending request (an open ticket).
+/// - TicketsSpent, of a request, if all tickets are used.
+/// - NotOpen, of a completion, if the ticket isn't the open one of that seat.
 #[inline(always)]
 pub fn admit_call<T: Marked, L: Line<T>>(
     queue: &Meetings<T, L>,
@@ -42,8 +48,8 @@ pub fn admit_call<T: Marked, L: Line<T>>(
     }
 }
 
-/// Makes an admitted call of a queue that keeps nothing, for which there is room: what it is answered, and its record.
-/// A put waits. It takes no memory.
+/// Makes an admitted call of a queue that buffers nothing, for which there is room, and returns its result and its
+/// record. A put waits. It doesn't allocate.
 #[inline(always)]
 pub fn make_call<T: Marked, L: Line<T>>(
     queue: &mut Meetings<T, L>,

@@ -1,5 +1,5 @@
-//! What a queue for threads asks of a queue of one thread. What only some of its calls ask for stands in traits of its
-//! own, since each call pays for all that is asked.
+//! What a queue for threads requires of a queue of one thread. What only some of its calls require stands in traits of
+//! its own, since each call pays for all that is required.
 
 use crate::calls::queue_calls::{QueueAnswer, QueueCall};
 use crate::left::Left;
@@ -7,7 +7,7 @@ use meet_book::{Drains, Leaves, Object, Wakes};
 use meet_tickets::{Base, Deed, Marked, Refusal, SeatNo, Ticket};
 use std::alloc::Global;
 
-/// A queue of one thread as a book's place, always of one kind: its steps, refusals and records are those of a queue of
+/// A queue of one thread as a book's object, always of one kind: its steps, errors and records are those of a queue of
 /// this kind, and so is its history.
 pub trait QueuePlace: Object<
     Call = QueueCall<Self::Item>,
@@ -32,7 +32,7 @@ pub trait QueuePlace: Object<
     ghost use Rattle.meet_core.specs.declared.calls.queue_calls.QueueCall.{QueueCall};
     ghost use Rattle.meet_core.specs.declared.calls.queue_calls.QueueAnswer.{QueueAnswer};
 
-    /// What goes through it.
+    /// The type of its items.
     type Item: Marked;
 
     /// Its kind.
@@ -41,8 +41,10 @@ pub trait QueuePlace: Object<
     /// What it shows of itself.
     ghost queue_of: { Self → Queue Self.Item };
 
-    /// A queue with this many seats, at most 65,536, of which nobody has asked yet, and with no history; its first
-    /// ticket is 1. The only refusal is Memory.
+    /// Creates an empty queue with `seats` seats (at most 65,536), without a history; its first ticket is 1.
+    ///
+    /// # Errors
+    /// - Memory, if an allocation fails.
     fn unused(alloc: Global, seats: u64) -> Result<Self, Refusal>
         requires seats { seats ≤ most_seats }
         ensures free { IfOk result (λ queue. seats_of (queue_of queue) ≡ nobody) }
@@ -52,12 +54,12 @@ pub trait QueuePlace: Object<
         ensures history { IfOk result (λ queue. Self.leads Self.no_base [] queue) }
         ensures memory { IfErr result (λ why. why ≡ Memory) };
 
-    /// Whether the seat's open ticket is this one; and while its item lies here, since it waits or was cut, whether the
-    /// item has this mark, or there is none where this is none.
+    /// Returns true if the seat's open ticket is this one, with this mark. While its item lies here, since it waits or
+    /// was interrupted, the item has to have this mark, or there has to be none if this is none.
     fn awaits(&self, seat: SeatNo, ticket: Ticket, mark: Option<u64>) -> bool
         ensures { IsTrue result ↔ AwaitsAs Self.Item.mark_of (seats_of (queue_of self.now)) seat ticket mark };
 
-    /// Lets a queue go in which nobody is there, also where its items can't be dropped.
+    /// Drops an empty queue, even if its items can't be dropped.
     fn destroy_empty(self)
         requires empty { seats_of (queue_of self) ≡ nobody };
 
@@ -70,7 +72,7 @@ pub trait QueuePlace: Object<
     ghost is_record: { (seat : ℕ) (call : QueueCall Self.Item) (answer : QueueAnswer Self.Item)
         → Self.record_of seat call answer ≡ queue_record Self.Item.mark_of seat call answer };
 
-    /// It refuses what a queue does.
+    /// Its calls fail as a queue's do.
     ghost is_refusal: { (o : Self) (seat : ℕ) (call : QueueCall Self.Item)
         → Self.refusal_of o seat call ≡ queue_refusal (queue_of o) seat call };
 
@@ -97,7 +99,7 @@ pub trait QueuePlace: Object<
         → LeadsTo Self.Item.mark_of kind base records (queue_of o) };
 }
 
-/// Such a place whose items can be drained as those of a queue.
+/// Such a queue whose items can be drained as those of a queue.
 pub trait QueueDrains: QueuePlace + Drains {
     ghost use Rattle.std.specs.Prelude.{◌≡◌};
     ghost use Rattle.meet_core.specs.QueueSteps.{queue_available};
@@ -106,11 +108,11 @@ pub trait QueueDrains: QueuePlace + Drains {
     /// A drain polls it.
     ghost is_poll: { Self.poll ≡ Poll };
 
-    /// As many items can be drained as givers stand in the line.
+    /// As many items can be drained as producers stand in the wait queue.
     ghost is_available: { (o : Self) → Self.available_of o ≡ queue_available (Self.queue_of o) };
 }
 
-/// Such a place that leaves what a queue leaves.
+/// Such a queue that leaves what a queue leaves.
 pub trait QueueLeaves: QueuePlace + Leaves<Left = Left<Self::Item>> {
     ghost use Rattle.std.specs.Prelude.{List};
     ghost use Rattle.meet_tickets.specs.declared.records.Record.{Record};

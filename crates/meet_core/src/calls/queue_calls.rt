@@ -1,28 +1,29 @@
-//! What a seat asks of a queue, and what it is answered.
+//! A seat's calls of a queue, and their results.
 
 ghost use Rattle.std.specs.Prelude.{◌≡◌};
 
 use crate::answers::{Followed, Gave, Interrupted, Offered, Polled, Put, TakenBack, Took};
 use meet_tickets::{SeatNo, Ticket};
 
-/// A call of a queue, whatever its kind.
+/// A call of a queue, of any kind.
 #[derive(Debug, Drop)]
 pub enum QueueCall<T> {
-    /// `BlockingQueue.put`: a transfer queue keeps the item, a synchronous queue waits for a taker, as with a give.
+    /// `BlockingQueue.put`: a transfer queue buffers the item, a synchronous queue waits for a consumer, as with a
+    /// give.
     Put(T),
-    /// A give that waits for a taker.
+    /// Gives an item, and waits for a consumer.
     Give(T),
-    /// A give to a taker that is there.
+    /// Gives an item to a consumer that waits.
     Offer(T),
-    /// A take that waits for a giver.
+    /// Takes an item, and waits for a producer.
     Take,
-    /// A take from a giver that is there.
+    /// Takes an item from a producer that is there.
     Poll,
-    /// The follow-up of the seat's open ticket.
+    /// Follows the seat's open ticket up.
     FollowUp(Ticket),
-    /// The seat takes its open ticket back.
+    /// Takes the seat's open ticket back.
     Cancel(Ticket),
-    /// The time of the seat's open ticket ran out.
+    /// Takes the seat's open ticket back, since its time ran out.
     Expire(Ticket),
     /// `Thread.interrupt` of this seat.
     Interrupt(SeatNo),
@@ -31,7 +32,7 @@ pub enum QueueCall<T> {
 impl<T> QueueCall<T> {
     ghost use Rattle.meet_core.specs.QueueSteps.{item_in, queue_need, queue_room};
 
-    /// The item that it brings.
+    /// Returns the item that it brings.
     pub fn into_item(self) -> Option<T>
         ensures { result ≡ item_in self }
     {
@@ -42,7 +43,7 @@ impl<T> QueueCall<T> {
         }
     }
 
-    /// How many records this call may need.
+    /// Returns how many records this call may need.
     pub fn need(&self) -> u64
         ensures { result ≡ queue_need self.now }
     {
@@ -54,7 +55,7 @@ impl<T> QueueCall<T> {
         }
     }
 
-    /// How many places in the line this call may need.
+    /// Returns how many nodes of the wait queue this call may need.
     pub fn room(&self) -> u64
         ensures { result ≡ queue_room self.now }
     {
@@ -66,29 +67,29 @@ impl<T> QueueCall<T> {
     }
 }
 
-/// Its answer, as the queue gives it.
+/// The result of a call.
 #[derive(Debug, Drop)]
 pub enum QueueAnswer<T> {
-    /// To a put, of a queue that keeps items.
+    /// Of a put, at a queue that buffers items.
     Put(Put<T>),
-    /// To a give, or to a put that waits.
+    /// Of a give, or of a put that waits.
     Gave(Gave<T>),
-    /// To an offer.
+    /// Of an offer.
     Offered(Offered<T>),
-    /// To a take.
+    /// Of a take.
     Took(Took<T>),
-    /// To a poll.
+    /// Of a poll.
     Polled(Polled<T>),
-    /// To a follow-up.
+    /// Of a follow-up.
     Followed(Followed<T>),
-    /// To a cancel or an expiry.
+    /// Of a cancel or an expiry.
     TakenBack(TakenBack<T>),
-    /// To an interrupt.
+    /// Of an interrupt.
     Interrupted(Interrupted),
 }
 
 impl<T> QueueAnswer<T> {
-    /// Whether the call met a ticket, or cut one, so that another seat may go on.
+    /// Returns true if the call matched or interrupted a request, so that another seat may go on.
     pub fn frees(&self) -> bool {
         match self {
             QueueAnswer::Put(put) => match put {

@@ -1,4 +1,4 @@
-//! A queue's answers to a seat's calls, each with its record.
+//! A queue's results of a seat's calls, each with its record.
 
 ghost use Rattle.std.specs.Prelude.{◌≡◌, Some};
 ghost use Rattle.meet_core.specs.QueueRecords.{give_record, offer_record, take_record, poll_record, follow_record};
@@ -8,7 +8,7 @@ use crate::answers::{Followed, Gave, Interrupted, Offered, Polled, Put, TakenBac
 use crate::calls::queue_calls::QueueAnswer;
 use meet_tickets::{Cause, Deed, Marked, Record, SeatNo, Side, Ticket};
 
-/// The answer to a call, and its record, where there is one.
+/// The result of a call, and its record, if there is one.
 pub type Answered<T> = (QueueAnswer<T>, Option<Record<Deed>>);
 
 /// The answer to a give of an item with this mark.
@@ -25,7 +25,7 @@ pub(crate) fn of_give<T>(seat: SeatNo, mark: u64, gave: Gave<T>) -> Answered<T>
     (QueueAnswer::Gave(gave), Some(entry))
 }
 
-/// The answer to a put of an item with this mark.
+/// Returns the result of a put of an item with this mark, with its record.
 pub fn answered_put<T>(seat: SeatNo, mark: u64, put: Put<T>) -> Answered<T>
     ensures { result ≡ (QueueAnswer.Put put, Some (put_record seat mark put)) }
 {

@@ -1,4 +1,4 @@
-//! Why a queue refuses an ending or an interrupt.
+//! Why a completion or an interrupt of a queue fails.
 
 ghost use Rattle.std.specs.Prelude.{◌≡◌, ◌≢◌, Some, None, IfOk, IfErr};
 ghost use Rattle.meet_tickets.specs.declared.refusals.Refusal.TheVariants.{Memory, HistoryFull};

@@ -1,4 +1,4 @@
-//! The synchronous queue as a book's place, over either line.
+//! The synchronous queue as a book's object, over either wait queue.
 
 ghost use Rattle.std.specs.Prelude.{◌≡◌, ◌≤◌, None, [], List, length, refl};
 ghost use Rattle.meet_core.specs.Queue.{places_of, count_of};

@@ -1,4 +1,4 @@
-//! What `SynchronousQueue` answers of its items: it keeps none, so each answer is constant.
+//! The read-only queries of `SynchronousQueue`: it buffers no items, so each result is constant.
 
 ghost use Rattle.std.specs.Prelude.{◌≡◌, true, None};
 
@@ -7,28 +7,36 @@ use meet_line::Line;
 use meet_tickets::Marked;
 
 impl<T: Marked, L: Line<T>> Dual<T, L> {
-    /// `SynchronousQueue.isEmpty`: always true, whoever waits.
+    /// Returns true, even if requests wait.
+    ///
+    /// Java: `SynchronousQueue.isEmpty`.
     pub fn is_empty(&self) -> bool
         ensures { result ≡ true }
     {
         true
     }
 
-    /// `SynchronousQueue.size`: always 0, whoever waits.
+    /// Returns 0, even if requests wait.
+    ///
+    /// Java: `SynchronousQueue.size`.
     pub fn size(&self) -> u64
         ensures { result ≡ 0 }
     {
         0
     }
 
-    /// `SynchronousQueue.remainingCapacity`: always 0.
+    /// Returns 0.
+    ///
+    /// Java: `SynchronousQueue.remainingCapacity`.
     pub fn remaining_capacity(&self) -> u64
         ensures { result ≡ 0 }
     {
         0
     }
 
-    /// `SynchronousQueue.peek`, by its mark: always none.
+    /// Returns none.
+    ///
+    /// Java: `SynchronousQueue.peek`, here by the item's mark.
     pub fn peek_mark(&self) -> Option<u64>
         ensures { result ≡ None }
     {

@@ -1,4 +1,4 @@
-//! The requests of a queue, once they are admitted: none of them fails.
+//! The requests of a queue after they are admitted: none of them fails.
 
 ghost use Rattle.std.specs.Prelude.{◌≡◌, ◌<◌, ◌≤◌, None};
 ghost use Rattle.meet_tickets.specs.Meeting.{kept_count};
@@ -12,9 +12,11 @@ impl<T: Marked, L: Line<T>> Meetings<T, L> {
     ghost use Rattle.meet_core.specs.Queue.{places_of, admit_refusal};
     ghost use Rattle.meet_core.specs.Steps.{GiveStep, PutStep, TakeStep, OfferStep, PollStep};
 
-    /// `SynchronousQueue.put` or `LinkedTransferQueue.transfer` up to its wait, which can't be refused: the item goes
-    /// to the taker that is met, or its giver goes to the line, or is refused at entry where it is flagged. It asks
-    /// that `admit` refuses nothing, and that there is room.
+    /// Gives an item: it goes to the consumer that is met, or its producer goes to the wait queue, or the request is
+    /// refused at entry if the seat is flagged. It requires that `admit` succeeds, and that there is room. It can't
+    /// fail.
+    ///
+    /// Java: `SynchronousQueue.put` or `LinkedTransferQueue.transfer` up to its wait.
     #[inline(always)]
     pub fn give_admitted(&mut self, seat: SeatNo, item: T) -> Gave<T>
         requires admitted { admit_refusal self.old seat ≡ None }
@@ -37,9 +39,10 @@ impl<T: Marked, L: Line<T>> Meetings<T, L> {
         }
     }
 
-    /// `LinkedTransferQueue.put`, which can't be refused: the item goes to the taker that is met, or is kept at the
-    /// line's end, or comes back where as many as the bound are kept. It asks that `admit` refuses nothing, and that
-    /// there is room.
+    /// Puts an item: it goes to the consumer that is met, or is buffered, or is returned if as many as the bound are
+    /// buffered. It requires that `admit` succeeds, and that there is room. It can't fail.
+    ///
+    /// Java: `LinkedTransferQueue.put`.
     pub fn put_admitted(&mut self, seat: SeatNo, item: T, bound: Option<u64>) -> Put<T>
         requires admitted { admit_refusal self.old seat ≡ None }
         requires room { 0 < self.old.room }
@@ -57,9 +60,11 @@ impl<T: Marked, L: Line<T>> Meetings<T, L> {
         }
     }
 
-    /// `BlockingQueue.take` up to its wait, which can't be refused: the item comes from the giver that is met, or the
-    /// taker goes to the line, or is refused at entry where it is flagged. It asks that `admit` refuses nothing, and
-    /// that there is room.
+    /// Takes an item: it comes from the producer that is met, or the consumer goes to the wait queue, or the request is
+    /// refused at entry if the seat is flagged. It requires that `admit` succeeds, and that there is room. It can't
+    /// fail.
+    ///
+    /// Java: `BlockingQueue.take` up to its wait.
     #[inline(always)]
     pub fn take_admitted(&mut self, seat: SeatNo) -> Took<T>
         requires admitted { admit_refusal self.old seat ≡ None }
@@ -82,8 +87,10 @@ impl<T: Marked, L: Line<T>> Meetings<T, L> {
         }
     }
 
-    /// `SynchronousQueue.offer` or `LinkedTransferQueue.tryTransfer`, which can't be refused: the item goes to the
-    /// taker that is met, or comes back. It asks that `admit` refuses nothing.
+    /// Offers an item: it goes to the consumer that is met, or is returned. It requires that `admit` succeeds. It can't
+    /// fail.
+    ///
+    /// Java: `SynchronousQueue.offer` or `LinkedTransferQueue.tryTransfer`.
     pub fn offer_admitted(&mut self, seat: SeatNo, item: T) -> Offered<T>
         requires { admit_refusal self.old seat ≡ None }
         ensures step { OfferStep T.mark_of L.end self.old item result self.new }
@@ -97,8 +104,10 @@ impl<T: Marked, L: Line<T>> Meetings<T, L> {
         }
     }
 
-    /// `BlockingQueue.poll`, which can't be refused: the item comes from the giver that is met, if one is there. It
-    /// asks that `admit` refuses nothing.
+    /// Polls: the item comes from the producer that is met, if one is there. It requires that `admit` succeeds. It
+    /// can't fail.
+    ///
+    /// Java: `BlockingQueue.poll`.
     pub fn poll_admitted(&mut self, seat: SeatNo) -> Polled<T>
         requires { admit_refusal self.old seat ≡ None }
         ensures step { PollStep T.mark_of L.end self.old result self.new }

@@ -1,4 +1,4 @@
-//! The base of a queue, for those that go on without its history.
+//! The snapshot (the base) of a queue, with which it goes on without its history.
 
 ghost use Rattle.std.specs.Prelude.{◌≡◌, IfOk, IfErr};
 ghost use Rattle.meet_tickets.specs.Bases.{IsBaseOf};
@@ -12,7 +12,10 @@ use meet_tickets::{Base, Marked, Refusal};
 use std::alloc::Global;
 
 impl<T: Marked, L: Line<T>> Meetings<T, L> {
-    /// The base of this queue, where so many records were folded away. The only refusal is Memory.
+    /// Returns the base of this queue, after `gone` records were compacted.
+    ///
+    /// # Errors
+    /// - Memory, if an allocation fails.
     pub fn base(&self, alloc: Global, gone: u64) -> Result<Base, Refusal>
         ensures base { IfOk result (IsBaseOf (moment_of_queue T.mark_of self.now) gone) }
         ensures memory { IfErr result (λ why. why ≡ Memory) }

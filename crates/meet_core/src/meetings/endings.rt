@@ -1,4 +1,4 @@
-//! The endings of an open ticket, and interrupts. None of them takes memory.
+//! The completions of a pending request, and interrupts. None of them allocates.
 
 ghost use Rattle.std.specs.Prelude.{◌≡◌, ◌↔◌, ◌<◌, Some, IsOk, IfOk, IfErr};
 ghost use Rattle.meet_tickets.specs.Meeting.{kept_count};
@@ -14,8 +14,10 @@ impl<T: Marked, L: Line<T>> Meetings<T, L> {
     ghost use Rattle.meet_core.specs.Steps.{FollowStep, WithdrawStep, InterruptStep, CutsWaiting};
     ghost use Rattle.meet_tickets.specs.declared.refusals.Refusal.TheVariants.{NoSuchSeat, NotOpen};
 
-    /// The follow-up of the seat's open ticket. Refuses NotOpen where the ticket isn't the open one of that seat,
-    /// also for a seat that isn't there.
+    /// Follows the seat's open ticket up.
+    ///
+    /// # Errors
+    /// - NotOpen, if the ticket isn't the open one of that seat, or the seat isn't there: nothing has changed.
     #[inline(always)]
     pub fn follow_up(&mut self, seat: SeatNo, ticket: Ticket) -> Result<Followed<T>, Refusal>
         ensures step { IfOk result (λ answer. FollowStep self.old seat ticket answer self.new) }
@@ -34,8 +36,10 @@ impl<T: Marked, L: Line<T>> Meetings<T, L> {
         Ok(Followed::of(self.seats.free_up(seat)))
     }
 
-    /// Takes the seat's open ticket back, with a giver's item, where it stands in the line; else it is late. Refuses
-    /// NotOpen as a follow-up does.
+    /// Takes the seat's open ticket back, with a producer's item, if it stands in the wait queue; otherwise it is late.
+    ///
+    /// # Errors
+    /// - NotOpen, as `follow_up`.
     pub fn cancel(&mut self, seat: SeatNo, ticket: Ticket) -> Result<TakenBack<T>, Refusal>
         ensures step { IfOk result (λ answer. WithdrawStep self.old seat ticket answer self.new) }
         ensures open { IsOk result ↔ (open_ticket ((seats_of self.old).holds seat) ≡ Some ticket) }
@@ -60,8 +64,12 @@ impl<T: Marked, L: Line<T>> Meetings<T, L> {
         }
     }
 
-    /// The time of the seat's open ticket ran out, as in timed `SynchronousQueue.offer` and `poll`: it is taken back
-    /// as by `cancel`.
+    /// Takes the seat's open ticket back as `cancel` does, since its time ran out.
+    ///
+    /// # Errors
+    /// - NotOpen, as `follow_up`.
+    ///
+    /// Java: the timeout of `SynchronousQueue.offer` and `poll`.
     pub fn expire(&mut self, seat: SeatNo, ticket: Ticket) -> Result<TakenBack<T>, Refusal>
         ensures step { IfOk result (λ answer. WithdrawStep self.old seat ticket answer self.new) }
         ensures open { IsOk result ↔ (open_ticket ((seats_of self.old).holds seat) ≡ Some ticket) }
@@ -73,8 +81,13 @@ impl<T: Marked, L: Line<T>> Meetings<T, L> {
         self.cancel(seat, ticket)
     }
 
-    /// `Thread.interrupt` of the target: its ticket is cut where it stands in the line, and awaits its follow-up;
-    /// else the target is flagged. Refuses NoSuchSeat where the target isn't there.
+    /// Interrupts the target. A ticket that stands in the wait queue leaves it, and awaits its follow-up; otherwise the
+    /// interrupt becomes pending (the target is flagged).
+    ///
+    /// # Errors
+    /// - NoSuchSeat, if the target isn't there: nothing has changed.
+    ///
+    /// Java: `Thread.interrupt`.
     pub fn interrupt(&mut self, target: SeatNo) -> Result<Interrupted, Refusal>
         ensures step { IfOk result (λ answer. InterruptStep self.old target answer self.new) }
         ensures waited { IfOk result (λ answer. CutsWaiting self.old target answer) }

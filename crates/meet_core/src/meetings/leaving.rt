@@ -1,4 +1,4 @@
-//! What is left in a queue, counted and taken out, and a queue in which nothing is. No call takes memory.
+//! The items that are left in a queue, counted and taken out, and the drop of an empty queue. No call allocates.
 
 ghost use Rattle.std.specs.Prelude.{◌≡◌, ◌+◌, ◌≤◌, ◌++◌, [], length, vec_len, IsPermutation};
 ghost use Rattle.std.specs.List.Sorted.{IsNonDecreasingBy};
@@ -27,18 +27,18 @@ fn empty_line<T, L: Line<T>>(line: L, left: &mut Vec<Left<T>>)
 }
 
 impl<T: Marked, L: Line<T>> Meetings<T, L> {
-    /// How many items are left in the queue: those in the line, offered or kept, and those that were cut or taken and
-    /// that nobody has collected. It counts the line's at constant cost, and looks at every seat.
+    /// Returns how many items are left in the queue: those in the wait queue, offered or buffered, and those that were
+    /// interrupted or taken and not collected. It counts the wait queue's at constant cost, and looks at every seat.
     pub fn left(&self) -> u64
         ensures { result ≡ length (left_in L.end self.now) }
     {
         self.givers() + self.seats.left()
     }
 
-    /// Takes the queue apart, and takes out the items that are left in it: the line's, in the order in which they
-    /// would be met, and then the seats', rising. These are all the items, each once, with its giver's ticket. The
-    /// list must have room for them (`left` says how many they are): so the call takes no memory, and no item is let
-    /// go.
+    /// Takes the queue apart, and returns the items that are left in it: the wait queue's, in the order in which they
+    /// would be met, and then the seats', rising. These are all the items, each once, with its producer's ticket. The
+    /// list must have room for them (`left` returns how many they are): so the call doesn't allocate, and no item is
+    /// dropped.
     pub fn into_left(self, empty: Vec<Left<T>>) -> Vec<Left<T>>
         requires empty { empty.items ≡ [] }
         requires room { length (left_in L.end self) ≤ vec_capacity empty }
@@ -58,7 +58,7 @@ impl<T: Marked, L: Line<T>> Meetings<T, L> {
         left
     }
 
-    /// The same, by rising ticket: n items cost n log n.
+    /// Takes the queue apart as `into_left` does, and returns the items by rising ticket: n items cost n log n.
     pub fn into_left_by_ticket(self, empty: Vec<Left<T>>) -> Vec<Left<T>>
         requires empty { empty.items ≡ [] }
         requires room { length (left_in L.end self) ≤ vec_capacity empty }
@@ -70,7 +70,7 @@ impl<T: Marked, L: Line<T>> Meetings<T, L> {
         left
     }
 
-    /// Lets a queue go in which nobody is there, also where its items can't be dropped.
+    /// Drops an empty queue, even if its items can't be dropped.
     pub fn destroy_empty(self)
         requires empty { seats_of self ≡ nobody }
     {

@@ -26,7 +26,10 @@ impl<T: Marked, L: Line<T>> Meetings<T, L> {
     ghost use Rattle.meet_core.specs.Queue.{seats_of, count_of, places_of};
     ghost use Rattle.meet_core.specs.Steps.{Leaves, HandsOver, Fetches};
 
-    /// Uses up the next ticket, and changes nothing else. The only refusal is TicketsSpent, exactly where none is left.
+    /// Uses up the next ticket, and changes nothing else.
+    ///
+    /// # Errors
+    /// - TicketsSpent, exactly if none is left: nothing has changed.
     pub fn spend(&mut self) -> Result<Ticket, Refusal>
         ensures ticket { IfOk result (λ ticket. ticket ≡ self.old.next) }
         ensures tickets { IsOk result ↔ (self.old.next ≤ last_ticket) }

@@ -1,4 +1,4 @@
-//! What becomes of a partner that was met.
+//! What happens to a partner that was met.
 
 ghost use Rattle.std.specs.Prelude.{◌≡◌, ◌<◌, None, Some, IsSome, length};
 ghost use Rattle.meet_tickets.specs.BySeat.{put_at};

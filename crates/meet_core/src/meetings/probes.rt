@@ -1,5 +1,5 @@
-//! What a queue shows of itself, each at constant cost but `awaits`, which looks for a ticket in the line. None of
-//! these takes memory.
+//! The read-only queries of a queue, each at constant cost but `awaits`, which looks for a ticket in the wait queue.
+//! None of these allocates.
 
 ghost use Rattle.std.specs.Prelude.{◌+◌, ◌≡◌, ◌≤◌, ◌-◌, ◌↔◌, IsTrue, option_map, slice_get};
 ghost use Rattle.std.specs.Option.{option_and_then};
@@ -24,7 +24,7 @@ impl<T: Marked, L: Line<T>> Meetings<T, L> {
     ghost use Rattle.meet_line.specs.Sound.{IsSound};
     ghost use Rattle.meet_core.specs.Queue.{seats_of, count_of};
 
-    /// The seat's open ticket, if it has one.
+    /// Returns the seat's open ticket, if it has one.
     #[inline(always)]
     pub fn open_ticket(&self, seat: SeatNo) -> Option<Ticket>
         ensures { result ≡ open_ticket ((seats_of self.now).holds seat) }
@@ -36,14 +36,15 @@ impl<T: Marked, L: Line<T>> Meetings<T, L> {
         }
     }
 
-    /// The seat whose hold was changed last, where one was: after two tickets met, or one was cut, that of the one that
-    /// waited; none after a kept item was met. It is a hint, of which nothing is promised.
+    /// Returns the seat whose hold was changed last, if there is one: after a match or an interrupt, that of the
+    /// request that waited; none after a buffered item was taken. It is a hint, of which nothing is promised.
     pub fn changed(&self) -> Option<SeatNo> {
         self.seats.changed()
     }
 
-    /// Whether the seat's open ticket is this one; and while its item lies here, since it waits or was cut, whether the
-    /// item has this mark, or there is none where this is none. Where the ticket waits it is looked for in the line.
+    /// Returns true if the seat's open ticket is this one, with this mark. While its item lies here, since it waits or
+    /// was interrupted, the item has to have this mark, or there has to be none if this is none. A ticket that waits is
+    /// looked for in the wait queue.
     #[inline(always)]
     pub fn awaits(&self, seat: SeatNo, ticket: Ticket, mark: Option<u64>) -> bool
         ensures { IsTrue result ↔ AwaitsAs T.mark_of (seats_of self.now) seat ticket mark }
@@ -61,21 +62,21 @@ impl<T: Marked, L: Line<T>> Meetings<T, L> {
         }
     }
 
-    /// How many seats there are.
+    /// Returns how many seats there are.
     pub fn seats(&self) -> u64
         ensures { result ≡ count_of self.now }
     {
         self.seats.count()
     }
 
-    /// How many requests that wait have room.
+    /// Returns how many pending requests have room.
     pub fn room(&self) -> u64
         ensures { result ≡ self.now.room }
     {
         self.line.room()
     }
 
-    /// How many tickets are open.
+    /// Returns how many requests are pending.
     pub fn owed(&self) -> u64
         ensures value { result ≡ owed_of (count_of self.now) (seats_of self.now).holds }
         ensures few { result ≤ most_seats }
@@ -83,42 +84,42 @@ impl<T: Marked, L: Line<T>> Meetings<T, L> {
         self.seats.owed()
     }
 
-    /// How many open tickets stand in the line.
+    /// Returns how many pending requests stand in the wait queue.
     pub fn waiting(&self) -> u64
         ensures { result ≡ waiting_count self.now.line }
     {
         self.line.len() - self.kept
     }
 
-    /// How many items are kept in the line: their givers went on.
+    /// Returns how many items are buffered: their producers went on.
     pub fn kept(&self) -> u64
         ensures { result ≡ kept_count self.now.line }
     {
         self.kept
     }
 
-    /// How many open tickets were met or cut, and await their follow-up.
+    /// Returns how many pending requests were matched or interrupted, and await their follow-up.
     pub fn uncollected(&self) -> u64
         ensures { result ≡ settled_of (count_of self.now) (seats_of self.now).holds }
     {
         self.seats.settled()
     }
 
-    /// How many givers stand in the line.
+    /// Returns how many producers stand in the wait queue.
     pub fn givers(&self) -> u64
         ensures { result ≡ count_on Giver self.now.line }
     {
         self.givers
     }
 
-    /// How many takers stand in the line.
+    /// Returns how many consumers stand in the wait queue.
     pub fn takers(&self) -> u64
         ensures { result ≡ count_on Taker self.now.line }
     {
         self.line.len() - self.givers
     }
 
-    /// The mark of the item that came first, where givers stand in the line.
+    /// Returns the mark of the item that came first, if producers stand in the wait queue.
     pub fn first_mark(&self) -> Option<u64>
         ensures { result ≡ option_and_then (λ e. option_map T.mark_of e.item) (slice_get self.now.line 0) }
     {
@@ -126,16 +127,16 @@ impl<T: Marked, L: Line<T>> Meetings<T, L> {
         mark_of(&first.item)
     }
 
-    /// How many tickets are left.
+    /// Returns how many tickets are left.
     pub fn tickets_left(&self) -> u64
         ensures { result ≡ last_ticket + 1 - self.now.next }
     {
         LAST_TICKET + 1 - self.next
     }
 
-    /// What is always true of a queue: each entry of its line has a used ticket, and is what its seat holds where it
-    /// waits; where it is kept it has an item, and no seat has its ticket open; no two share a ticket, and all have
-    /// one side. It does nothing.
+    /// States what is always true of a queue. Each node of its wait queue has a used ticket. A node that waits is what
+    /// its seat holds; one that is buffered has an item, and no seat has its ticket open. No two share a ticket, and
+    /// all have one side. It does nothing.
     pub fn stays_sound(&self)
         ensures { IsSound self.now.line (seats_of self.now).holds self.now.next }
     {

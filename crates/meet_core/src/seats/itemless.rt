@@ -1,4 +1,4 @@
-//! A hold that has no item is let go, also where items can't be dropped.
+//! Drops a hold that has no item, even if items can't be dropped.
 
 ghost use Rattle.meet_core.specs.Table.{HasNoItem};
 

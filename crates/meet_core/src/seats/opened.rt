@@ -1,4 +1,4 @@
-//! What a table of seats holds outside the line, as a base names it.
+//! What a table of seats holds outside the wait queue, as a base names it.
 
 ghost use Rattle.std.specs.Prelude.{◌≡◌, ◌<◌, ◌++◌, length, option_to_list, IfOk, IfErr, OnOk, IsPermutation};
 ghost use Rattle.std.specs.List.Sorted.{IsNonDecreasingBy};
@@ -10,14 +10,14 @@ use meet_line::mark_of;
 use meet_tickets::{Hold, Marked, OpenCut, OpenPair, Refusal, SeatNo, Side};
 use std::alloc::Global;
 
-/// What a table of seats holds outside the line, as a base names it.
+/// What a table of seats holds outside the wait queue, as a base names it.
 #[derive(Drop)]
 pub struct Opened {
-    /// The open tickets that were met.
+    /// The pending requests (open tickets) that were matched.
     pub pairs: Vec<OpenPair>,
-    /// The open tickets that were cut.
+    /// The pending requests that were interrupted.
     pub cut: Vec<OpenCut>,
-    /// The flagged seats.
+    /// The seats with a pending interrupt (flagged).
     pub flags: Vec<SeatNo>,
 }
 
@@ -107,9 +107,12 @@ fn by_seat<T: Marked>(alloc: Global, table: &SeatTable<T>) -> Result<Opened, Ref
     Ok(Opened { pairs, cut, flags })
 }
 
-/// What a table of seats holds outside the line, as a base names it: the open tickets that were met and those that were
-/// cut, each by rising ticket, and the flagged seats, rising. An item is named by its mark. It looks at every seat. The
-/// only refusal is Memory.
+/// Returns what a table of seats holds outside the wait queue, as a base names it. These are the pending requests that
+/// were matched and those that were interrupted, each by rising ticket, and the flagged seats, rising. An item is named
+/// by its mark. It looks at every seat.
+///
+/// # Errors
+/// - Memory, if an allocation fails.
 pub fn open_tickets<T: Marked>(alloc: Global, table: &SeatTable<T>) -> Result<Opened, Refusal>
     ensures pairs { IfOk result (λ opened. IsPermutation
         (gathered (pair_at T.mark_of table.now) (length table.now.holds)) opened.pairs.items) }

@@ -1,4 +1,4 @@
-//! The table of a place's seats: what each holds, which are flagged, and how many tickets are open.
+//! The table of a place's seats: what each holds, which are flagged, and how many requests are pending.
 
 ghost use Rattle.std.specs.Prelude.{◌≡◌, ℕ, ◌+◌, ◌++◌, ◌≤◌, ◌<◌, false, true, is_some, length, replicate, count_by, vec_len};
 ghost use Rattle.std.specs.Prelude.{IsOk, IfOk, OnOk, OnErr};
@@ -46,8 +46,10 @@ impl<T> Model for SeatTable<T> {
 impl<T> SeatTable<T> {
     ghost use Rattle.meet_core.specs.Table.{flag_at, HasNoItem};
 
-    /// A table of this many seats, at most 65,536, none of which holds anything or is flagged. The only error is want
-    /// of memory.
+    /// Creates a table of this many seats, at most 65,536, none of which holds anything or is flagged.
+    ///
+    /// # Errors
+    /// - `AllocError`, if an allocation fails.
     pub fn new(alloc: Global, count: u64) -> Result<Self, AllocError>
         requires { count ≤ most_seats }
         ensures count { IfOk result (λ table. length table.holds ≡ count) }
@@ -68,8 +70,11 @@ impl<T> SeatTable<T> {
         })
     }
 
-    /// Makes it so many seats at least, at most 65,536. The new ones hold nothing and aren't flagged. It grows by
-    /// what it was, or more, so that a seat's share of all growth is a constant. The only error is want of memory.
+    /// Grows the table to `count` seats at least, at most 65,536. The new ones hold nothing and aren't flagged. It
+    /// grows by what it was, or more, so that a seat's share of all growth is a constant.
+    ///
+    /// # Errors
+    /// - `AllocError`, if an allocation fails: nothing has changed.
     #[inline(never)]
     pub fn grow(&mut self, count: u64) -> Result<(), AllocError>
         requires { count ≤ most_seats }
@@ -92,7 +97,7 @@ impl<T> SeatTable<T> {
         Ok(())
     }
 
-    /// How many seats there are.
+    /// Returns how many seats there are.
     pub fn count(&self) -> u64
         ensures value { result ≡ length self.now.holds }
         ensures in_range { length self.now.holds ≤ most_seats }
@@ -101,7 +106,7 @@ impl<T> SeatTable<T> {
         self.holds.len() as u64
     }
 
-    /// How many seats have an open ticket.
+    /// Returns how many seats have a pending request (an open ticket).
     pub fn owed(&self) -> u64
         ensures value { result ≡ owed_of (length self.now.holds) (hold_at self.now.holds) }
         ensures few { result ≤ most_seats }
@@ -109,7 +114,7 @@ impl<T> SeatTable<T> {
         self.owed
     }
 
-    /// What this seat holds.
+    /// Returns what this seat holds.
     pub fn hold(&self, seat: SeatNo) -> &Hold<T>
         requires { seat < length self.now.holds }
         ensures { result.now ≡ hold_at self.now.holds seat }
@@ -117,7 +122,7 @@ impl<T> SeatTable<T> {
         &self.holds[seat.number() as usize]
     }
 
-    /// Whether this seat is flagged.
+    /// Returns true if this seat has a pending interrupt (is flagged).
     pub fn is_flagged(&self, seat: SeatNo) -> bool
         requires { seat < length self.now.holds }
         ensures flag { result ≡ flag_at self.now.flags seat }
@@ -135,7 +140,7 @@ impl<T> SeatTable<T> {
         self.flags[seat.number() as usize] = flag;
     }
 
-    /// Puts what this seat holds in the place of what it held, which is handed out.
+    /// Replaces what this seat holds, and returns what it held.
     #[inline(always)]
     pub fn replace(&mut self, seat: SeatNo, hold: Hold<T>) -> Hold<T>
         requires { seat < length self.old.holds }
@@ -153,7 +158,7 @@ impl<T> SeatTable<T> {
         was
     }
 
-    /// Puts what this seat holds in the place of what it held, in which there is no item.
+    /// Replaces what this seat holds; what it held has no item.
     #[inline(always)]
     pub fn put(&mut self, seat: SeatNo, hold: Hold<T>)
         requires seat { seat < length self.old.holds }
@@ -165,7 +170,7 @@ impl<T> SeatTable<T> {
         let_go_hold(self.replace(seat, hold));
     }
 
-    /// Puts what this seat holds, where it held nothing.
+    /// Sets what this seat holds, which held nothing.
     #[inline(always)]
     pub fn enter(&mut self, seat: SeatNo, hold: Hold<T>)
         requires seat { seat < length self.old.holds }
@@ -184,7 +189,7 @@ impl<T> SeatTable<T> {
         }
     }
 
-    /// Puts what this seat holds, which is settled, where its ticket stood in the line.
+    /// Sets what this seat holds, which is settled, after its ticket stood in the wait queue.
     #[inline(always)]
     pub fn settle(&mut self, seat: SeatNo, hold: Hold<T>)
         requires seat { seat < length self.old.holds }
@@ -219,7 +224,7 @@ impl<T> SeatTable<T> {
         mem::replace(&mut self.holds[seat.number() as usize], Hold::Free)
     }
 
-    /// How many seats have an open ticket that isn't in the line.
+    /// Returns how many seats have an open ticket that isn't in the wait queue.
     pub fn settled(&self) -> u64
         ensures value { result ≡ settled_of (length self.now.holds) (hold_at self.now.holds) }
         ensures few { result ≤ most_seats }
@@ -227,7 +232,7 @@ impl<T> SeatTable<T> {
         self.settled
     }
 
-    /// The seat whose hold was changed last, where one was and that wasn't forgotten: a hint, of which nothing is
+    /// Returns the seat whose hold was changed last, if one was and that wasn't forgotten: a hint, of which nothing is
     /// promised.
     pub fn changed(&self) -> Option<SeatNo> {
         self.changed
@@ -240,7 +245,7 @@ impl<T> SeatTable<T> {
         self.changed = None;
     }
 
-    /// How many items the seats hold. It looks at every seat.
+    /// Returns how many items the seats hold. It looks at every seat.
     pub fn left(&self) -> u64
         ensures value { result ≡ length (left_at_seats self.now.holds) }
         ensures few { result ≤ most_seats }
@@ -248,8 +253,8 @@ impl<T> SeatTable<T> {
         items_in(&self.holds) as u64
     }
 
-    /// Takes the table apart, and puts the items that its seats hold behind the others, by rising seat. The list must
-    /// have room for them: it takes no memory.
+    /// Takes the table apart, and moves the items that its seats hold to the end of the list, by rising seat. The list
+    /// must have room for them: it doesn't allocate.
     pub fn into_left(self, left: &mut Vec<Left<T>>)
         requires { vec_len left.old + length (left_at_seats self.holds) ≤ vec_capacity left.old }
         ensures items { left.new.items ≡ left.old.items ++ left_at_seats self.holds }
@@ -270,7 +275,7 @@ impl<T> SeatTable<T> {
         holds.destroy_empty();
     }
 
-    /// Lets a table go whose seats hold nothing, also where items can't be dropped.
+    /// Drops a table whose seats hold nothing, even if items can't be dropped.
     pub fn destroy_empty(self)
         requires empty { hold_at self.holds ≡ (λ _. Free) }
     {

@@ -1,4 +1,4 @@
-//! The base that stands for what a checker has seen: where a history ends, and the next one begins.
+//! The snapshot (the base) of what a checker has seen: where a history ends, and the next one begins.
 
 ghost use Rattle.std.specs.Prelude.{◌≡◌, ◌≢◌, Some, None, Err, IfSome, IfOk, IfErr, OnOk};
 ghost use Rattle.meet_tickets.specs.Bases.{IsBaseOf};
@@ -12,9 +12,12 @@ use meet_tickets::Base;
 use std::alloc::Global;
 
 impl Checker {
-    /// The base that stands for the base that the checker began with and all records that were pushed: a history that
-    /// goes on from here begins with it. Where a fault was found it is that fault; Memory where memory is wanted and
-    /// not there, and then the same may be asked again.
+    /// Returns the base for the base that the checker began with and all records that were pushed: a history that goes
+    /// on from here begins with it.
+    ///
+    /// # Errors
+    /// - Illegal, if such a record was found.
+    /// - Memory, if an allocation fails; then it can be called again.
     pub fn base(&self, alloc: Global) -> Result<Base, CheckFault>
         ensures base { IfOk result (IsBaseOf (moment_at self.now.place) self.now.count) }
         ensures sound { OnOk result (self.now.fault ≡ None) }
@@ -30,9 +33,12 @@ impl Checker {
         }
     }
 
-    /// Whether this base is the one that stands for the base that the checker began with and all records that were
-    /// pushed: just this one is. Where a fault was found it is that fault; Memory where memory is wanted and not there,
-    /// and then the same may be asked again.
+    /// Returns true if this base is the one for the base that the checker began with and all records that were pushed:
+    /// only this one is.
+    ///
+    /// # Errors
+    /// - Illegal, if such a record was found.
+    /// - Memory, if an allocation fails; then it can be called again.
     pub fn ends_at(&self, alloc: Global, base: &Base) -> Result<bool, CheckFault>
         ensures ends { IfOk result (TellsEnd self.now base.now) }
         ensures sound { OnOk result (self.now.fault ≡ None) }

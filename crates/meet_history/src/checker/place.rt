@@ -48,7 +48,7 @@ impl Model for CheckedPlace {
 }
 
 impl CheckedPlace {
-    /// Sees that the table has this seat. The only refusal is Memory.
+    /// Sees that the table has this seat. Fails only if an allocation fails.
     #[inline(always)]
     fn seat(&mut self, seat: SeatNo) -> Result<(), Refusal>
         ensures kind { self.new.kind ≡ self.old.kind }
@@ -68,8 +68,8 @@ impl CheckedPlace {
         }
     }
 
-    /// Makes room for one entry more, and in the table for the seats that this record names. The only refusal is
-    /// Memory.
+    /// Makes room for one entry more, and in the table for the seats that this record names. Fails only if an
+    /// allocation fails.
     pub(super) fn reserve(&mut self, entry: &Record<Deed>) -> Result<(), Refusal>
         ensures kind { self.new.kind ≡ self.old.kind }
         ensures moment { moment_at self.new ≡ moment_at self.old }

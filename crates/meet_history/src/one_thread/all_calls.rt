@@ -12,20 +12,28 @@ use super::{Call, Reply, Setup, Stepper};
 use meet_tickets::{Base, Deed, Record, Refusal};
 use std::alloc::Global;
 
-/// What came of one thread's calls.
+/// The results of one thread's calls.
 #[derive(Debug, Drop)]
 pub struct Run {
     /// The replies, in order.
     pub replies: Vec<Reply>,
-    /// What stands for the records that were folded away.
+    /// The snapshot of the compacted records.
     pub base: Base,
     /// The records since, in order.
     pub records: Vec<Record<Deed>>,
 }
 
-/// The replies to these calls, one after another, on a place of this setup, and the records that they write; those that
-/// checkpoints folded away are in the base. The only refusal is Memory. It asks that the setup is in its limits, as
-/// what `Setup::new` answers is, and that the place serves each call's verb, which `is_served` says.
+/// Makes these calls, one after another, on a place of this setup, and returns the replies and the records. Those that
+/// checkpoints compacted are in the base. The setup has to be in its limits, as what `Setup::new` returns is, and the
+/// place has to have each call's operation (`is_served`).
+///
+/// # Errors
+/// - Memory, if an allocation fails.
+///
+/// # Example
+/// From `crates/meet_history_tests/src/calls.rt`:
+///
+///     run_all(alloc, TRANSFER, calls).expect(rt, "memory")
 pub fn run_all(alloc: Global, setup: Setup, calls: &[Call]) -> Result<Run, Refusal>
     requires verbs { All (λ call. IsTrue (serves setup.kind.order call.verb)) calls.now }
     requires limits { IsInLimits setup }

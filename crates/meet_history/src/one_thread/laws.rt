@@ -1,4 +1,4 @@
-//! What one thread's records tell: a law, which is the contract of a function that does nothing.
+//! What one thread's records state: laws, each the contract of a function that does nothing.
 
 ghost use Rattle.std.specs.Prelude.{◌≡◌, ◌+◌, ◌≤◌, ℕ, true, IsTrue, All, List, [], ◌∷◌, length};
 ghost use Rattle.meet_tickets.specs.declared.records.Record.{Record};
@@ -15,15 +15,16 @@ ghost use Rattle.meet_history.specs.Standings.{IsRecorded};
 ghost use Rattle.meet_history.specs.declared.one_thread.verbs.Call.{Call};
 ghost use Rattle.meet_history.specs.declared.one_thread.setup.Setup.{Setup};
 
-/// What one thread's calls write, on a place of any kind, is legal and leaves the place as they do. How many tickets
-/// wait there, are met or cut and not told so, and how many items are kept, can be read from these records alone.
+/// States that what one thread's calls write, on a place of any kind, is legal and leaves the place as they do. How
+/// many tickets wait there, are matched or interrupted and not completed, and how many items are buffered, can be read
+/// from these records alone.
 pub fn one_thread_is_recorded()
     ensures { (setup : Setup) (calls : List Call) → IsInLimits setup → IsRecorded setup calls }
 {}
 
-/// A call that isn't refused has one legal deed, the one that it writes, and none where it writes none: what it writes
-/// is legal (`one_thread_is_recorded`), and of the deeds that are such a call's (`IsOfCall`) whichever the rules allow
-/// next, a request's with the next ticket, is what it writes. It does nothing.
+/// States that a call that doesn't fail has one legal deed, the one that it writes, and none if it writes none. What it
+/// writes is legal (`one_thread_is_recorded`), and of the deeds that are such a call's (`IsOfCall`), the one that the
+/// specification allows next, a request's with the next ticket, is what it writes. It does nothing.
 pub fn calls_have_one_deed()
     ensures { (setup : Setup) (p : Place) (seat ticket : ℕ) (verb : Verb) (deed : Deed)
         → IsOfCall setup.kind p.seats.line verb deed → Allows setup.kind p.seats seat ticket deed
@@ -32,10 +33,10 @@ pub fn calls_have_one_deed()
         → (turn_of setup p seat verb).records ≡ record { seat = seat; ticket = ticket; deed = deed } ∷ [] }
 {}
 
-/// Each legal history is one that calls write, record by record the call for its deed (`calls_for`): where it names
-/// seats of the place, the tickets of its requests go up by one from the first, and the cap leaves room beside its
-/// records for one of each seat and two more. The place has all these calls. So the rules call nothing legal that no
-/// call can do. It does nothing.
+/// States that each legal history is one that calls write, record by record the call for its deed (`calls_for`). There
+/// are three conditions: the history names seats of the place; the tickets of its requests go up by one from the first;
+/// and the cap leaves room beside its records for one of each seat and two more. The place has all these calls. So the
+/// specification calls nothing legal that no call can do. It does nothing.
 pub fn legal_histories_are_made()
     ensures made { (setup : Setup) (history : List (Record Deed)) → IsLegal setup.kind history
         → AreNumbered setup.seats setup.first history → length history + setup.seats + 2 ≤ setup.cap

@@ -9,52 +9,55 @@ use meet_core::{Followed, Gave, Offered, Put, TakenBack};
 use meet_queues::QueueAnswer;
 use meet_tickets::{Cause, Deed, Record, Refusal, SeatNo, Ticket};
 
-/// A reply, to the seat that made the call.
+/// A reply to a call.
 #[derive(Clone, Copy, PartialEq, Eq, Debug)]
 pub struct Reply {
+    /// The seat that made the call.
     pub seat: SeatNo,
+    /// The result.
     pub outcome: Outcome,
 }
 
-/// What came of a call.
+/// The result of a call.
 #[derive(Clone, Copy, PartialEq, Eq, Debug)]
 pub enum Outcome {
     /// The record of this number, from 1, was written: of this ticket, with this answer.
     Recorded(u64, Ticket, Answer),
-    /// The record of this number was written: this seat was interrupted. Its ticket was cut, or it was flagged.
+    /// The record of this number was written: this seat was interrupted. Its waiting request ended, or its interrupt is
+    /// pending.
     Interrupted(u64, SeatNo, Option<Ticket>),
-    /// The ticket still stands in the line.
+    /// The request still waits in the wait queue.
     NotYet,
-    /// The ticket was paired or cut before.
+    /// The request was matched or interrupted before.
     Late,
     /// A drain ended after this many items.
     Drained(u64),
-    /// A probe's number.
+    /// A query's number.
     Count(u64),
     /// The mark of the first item, if there is one.
     Peeked(Option<u64>),
-    /// So many records were folded away since the first.
+    /// This many records were compacted since the first.
     Based(u64),
-    /// The call was refused, and nothing changed.
+    /// The call failed, and nothing changed.
     Refused(Refusal),
 }
 
-/// The answer of a recorded request or ending. Items are told by their marks.
+/// The result of a logged request or completion. Items are named by their marks.
 #[derive(Clone, Copy, PartialEq, Eq, Debug)]
 pub enum Answer {
-    /// The request goes to the line and waits.
+    /// The request goes to the wait queue and waits.
     Waits,
-    /// The item is kept.
+    /// The item is buffered.
     Kept,
-    /// The item went to the taker with this ticket.
+    /// The item went to the consumer with this ticket.
     Gave(u64, Ticket),
-    /// The item came from the giver with this ticket.
+    /// The item came from the producer with this ticket.
     Got(u64, Ticket),
-    /// Nobody was there; a giver's item comes back.
+    /// No counterpart was there; a producer's item is returned.
     Fails(Option<u64>),
-    /// The giver was met.
+    /// The producer was matched.
     Done,
-    /// The ticket was withdrawn, or refused at entry; a giver's item comes back.
+    /// The request was withdrawn, or refused at entry; a producer's item is returned.
     Withdrawn(Cause, Option<u64>),
 }
 

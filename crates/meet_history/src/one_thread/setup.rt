@@ -6,13 +6,16 @@ ghost use Rattle.meet_history.specs.Limits.{IsInLimits};
 
 use meet_tickets::{Kind, LAST_TICKET, MOST_KEPT, MOST_RECORDS, MOST_SEATS};
 
-/// A place: its kind, how many seats it has (1 to 65,536), how many records it takes (1 to 1,048,576), and its first
-/// ticket (1 to 2^63 - 1).
+/// The setup of a place.
 #[derive(Clone, Copy, PartialEq, Eq, Debug)]
 pub struct Setup {
+    /// Its kind.
     pub kind: Kind,
+    /// The number of its seats, 1 to 65,536.
     pub seats: u64,
+    /// The capacity of its log in records, 1 to 1,048,576.
     pub cap: u64,
+    /// Its first ticket, 1 to 2^63 - 1.
     pub first: u64,
 }
 
@@ -27,9 +30,9 @@ fn fits_bound(kind: Kind) -> bool
 }
 
 impl Setup {
-    /// A place of this kind, with this many seats, 1 to 65,536, this first ticket, 1 to 2^63 - 1, and room for this
-    /// many records, 1 to 1,048,576. Only a transfer queue may have a bound, 1 to 1,048,576. None where any of these
-    /// is out of its limits.
+    /// Returns the setup of a place of this kind, with this many seats, 1 to 65,536, this first ticket, 1 to 2^63 - 1,
+    /// and this capacity in records, 1 to 1,048,576. Only a transfer queue may have a bound, 1 to 1,048,576. Returns
+    /// None if any of these is out of its limits.
     pub fn new(kind: Kind, seats: u64, first: u64, cap: u64) -> Option<Setup>
         ensures given { IfSome result (λ setup. setup
             ≡ record { kind = kind; seats = seats; cap = cap; first = first }) }

@@ -18,7 +18,7 @@ use std::marker::Model;
 
 mod drains;
 
-/// A place that one thread uses, whatever seats it speaks for: a queue under a book.
+/// A place that one thread uses, for any of its seats: a queue under a log (a book).
 #[derive(Drop)]
 pub struct Stepper {
     alloc: Global,
@@ -47,7 +47,7 @@ impl Model for Stepper {
         × (s.book.cap ≡ s.setup.cap) };
 }
 
-/// The reply to a call that was refused; want of memory has none.
+/// The reply to a call that was refused; a failed allocation has none.
 fn refused_unless_memory(seat: SeatNo, why: Refusal) -> Result<Reply, Refusal>
     ensures reply { IfOk result (λ reply. reply ≡ record { seat = seat; outcome = Outcome.Refused why }) }
     ensures other { IfOk result (λ _. why ≢ Memory) }
@@ -101,7 +101,10 @@ impl Stepper {
     ghost use Rattle.meet_history.specs.Stepping.{turn_of_call, refusal_at};
     ghost use Rattle.meet_history.specs.Limits.{IsInLimits};
 
-    /// The place of this setup, before any call. The only refusal is Memory.
+    /// Creates the place of this setup, before any call.
+    ///
+    /// # Errors
+    /// - Memory, if an allocation fails.
     pub fn new(alloc: Global, setup: Setup) -> Result<Self, Refusal>
         requires { IsInLimits setup }
         ensures place { IfOk result (λ stepper. place_of stepper ≡ start setup) }
@@ -119,8 +122,8 @@ impl Stepper {
         })
     }
 
-    /// Makes a call of the queue; an ending is of the seat's open ticket. The reply tells the record, where there is
-    /// one. The only refusal is Memory.
+    /// Makes a call of the queue; a completion is of the seat's open ticket. The reply names the record, if there is
+    /// one. Fails only if an allocation fails.
     #[inline(always)]
     fn make(&mut self, seat: SeatNo, call: QueueCall<u64>) -> Result<Reply, Refusal>
         requires opened { queue_need call ≡ 0 → queue_refusal self.old.queue seat call ≡ None }
@@ -202,8 +205,8 @@ impl Stepper {
         }
     }
 
-    /// Folds the records so far away, and tells how many were folded away since the first. The only refusal is Memory;
-    /// then nothing has changed.
+    /// Compacts the records so far, and returns how many were compacted since the first. Fails only if an allocation
+    /// fails; then nothing has changed.
     fn checkpoint(&mut self, seat: SeatNo) -> Result<Reply, Refusal>
         ensures turn { IfOk result (TakesTurn (turn_of self.old.setup (place_of self.old) seat Checkpoint) self.old
             self.new) }
@@ -226,9 +229,11 @@ impl Stepper {
         }
     }
 
-    /// Makes a call, and puts its replies behind `replies`. The only refusal is Memory, and for a call that is one step
-    /// never where there is room for its reply, for two records and for a place in the line; then nothing has changed,
-    /// and the replies so far stay.
+    /// Makes a call, and puts its replies at the end of `replies`.
+    ///
+    /// # Errors
+    /// - Memory, if an allocation fails: nothing has changed, and the replies so far stay. A call that is one step
+    ///   never fails if there is room for its reply, for two records and for a node in the wait queue.
     pub fn answer(&mut self, call: Call, replies: &mut Vec<Reply>) -> Result<(), Refusal>
         requires served { IsTrue (serves self.old.setup.kind.order call.verb) }
         ensures replies { OnOk result (replies.new.items ≡ replies.old.items
@@ -272,21 +277,21 @@ impl Stepper {
         }
     }
 
-    /// How many records were written, those that were folded away included.
+    /// Returns how many records were written, the compacted ones included.
     pub fn count(&self) -> u64
         ensures { result ≡ self.now.base.gone + length self.now.records }
     {
         self.book.written()
     }
 
-    /// Whether a checkpoint was made.
+    /// Returns true if a checkpoint was made.
     pub fn is_cut(&self) -> bool
         ensures { result ≡ self.now.cut }
     {
         self.cut
     }
 
-    /// Where the place's tickets and items are.
+    /// Returns the status of the place's requests and items.
     pub fn standing(&self) -> Standing
         ensures { result ≡ standing_of self.now.setup (place_of self.now) }
     {
@@ -298,7 +303,7 @@ impl Stepper {
         }
     }
 
-    /// The base, and the records since, in order. They are legal.
+    /// Returns the base, and the records since, in order. They are legal.
     pub fn into_parts(self) -> (Base, Vec<Record<Deed>>)
         ensures base { result.0 ≡ self.base }
         ensures records { result.1.items ≡ self.records }

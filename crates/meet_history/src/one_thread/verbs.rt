@@ -5,19 +5,21 @@ ghost use Rattle.meet_history.specs.Served.{serves};
 
 use meet_tickets::{Order, SeatNo};
 
-/// A call: which seat makes it, and what it asks.
+/// A call of a script.
 #[derive(Clone, Copy, PartialEq, Eq, Debug)]
 pub struct Call {
+    /// The seat that makes it.
     pub seat: SeatNo,
+    /// The operation.
     pub verb: Verb,
 }
 
-/// What a call asks. Items are numbers, and their own marks.
+/// The operation of a call (its verb). Items are numbers, and their own marks.
 #[derive(Clone, Copy, PartialEq, Eq, Debug)]
 pub enum Verb {
-    /// `SynchronousQueue.put` waits for a taker; `LinkedTransferQueue.put` keeps the item.
+    /// `SynchronousQueue.put` waits for a consumer; `LinkedTransferQueue.put` buffers the item.
     Put(u64),
-    /// `SynchronousQueue.offer` is immediate; `LinkedTransferQueue.offer` keeps the item.
+    /// `SynchronousQueue.offer` is immediate; `LinkedTransferQueue.offer` buffers the item.
     Offer(u64),
     /// `BlockingQueue.take`.
     Take,
@@ -37,13 +39,13 @@ pub enum Verb {
     Interrupt(SeatNo),
     /// `BlockingQueue.drainTo` with this many items at most.
     Drain(u64),
-    /// A look at the place, which changes nothing.
+    /// A read-only query (a probe).
     Look(Probe),
-    /// The records so far are folded away.
+    /// The records so far are compacted.
     Checkpoint,
 }
 
-/// What a look at a place asks.
+/// A read-only query.
 #[derive(Clone, Copy, PartialEq, Eq, Debug)]
 pub enum Probe {
     /// `Collection.size`.
@@ -56,8 +58,8 @@ pub enum Probe {
     Consumers,
 }
 
-/// Whether a place of this order serves the verb: a transfer queue serves all, a synchronous queue all but those that
-/// `LinkedTransferQueue` alone has.
+/// Returns true if a place of this order has the operation: a transfer queue has all, a synchronous queue all but those
+/// that only `LinkedTransferQueue` has.
 pub fn is_served(order: Order, verb: Verb) -> bool
     ensures { result ≡ serves order verb }
 {

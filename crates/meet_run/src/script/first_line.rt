@@ -1,4 +1,4 @@
-//! What the first line of a script says.
+//! The first line of a script.
 
 ghost use Rattle.std.specs.Prelude.{◌≡◌, IfSome};
 ghost use Rattle.std.specs.Option.{option_map};
@@ -14,9 +14,13 @@ use meet_tickets::{Kind, LAST_TICKET, MOST_KEPT, MOST_RECORDS, MOST_SEATS, Order
 /// The options that a first line spells out.
 #[derive(Clone, Copy, PartialEq, Eq, Debug)]
 pub struct Options {
+    /// The number of seats.
     pub seats: Option<u64>,
+    /// The capacity of the log, in records.
     pub cap: Option<u64>,
+    /// The first ticket.
     pub first: Option<u64>,
+    /// The most items that are buffered.
     pub bound: Option<u64>,
 }
 
@@ -68,7 +72,7 @@ fn read_long_setup(line: &[u8]) -> Option<Setup>
     finish_setup(order, options, rest)
 }
 
-/// The place of a script's first line, or none where the line is at fault.
+/// Returns the place of a script's first line, or None if the line is at fault.
 #[tactic(auto, unfolding(crate::specs::Scripts::Grammar::setup_of))]
 pub fn read_setup(line: &[u8]) -> Option<Setup>
     ensures read { result ≡ setup_of line.now }

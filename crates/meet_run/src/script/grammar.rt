@@ -1,4 +1,4 @@
-//! What the lines of a script say.
+//! The grammar of a script's lines.
 
 ghost use Rattle.std.specs.Prelude.{◌≡◌, IfSome};
 ghost use Rattle.meet_run.specs.Scripts.Spelling.{FitsCall};
@@ -111,7 +111,7 @@ pub(crate) fn read_any_call(line: &[u8]) -> Option<Call>
     Some(Call { seat, verb })
 }
 
-/// The call of a line of a script about a place of this order, or none where the line is at fault.
+/// Returns the call of a line of a script about a place of this order, or None if the line is at fault.
 #[tactic(auto, unfolding(crate::specs::Scripts::Grammar::call_of, crate::specs::Scripts::Grammar::served_call))]
 pub fn read_call(order: Order, line: &[u8]) -> Option<Call>
     ensures read { result ≡ call_of order line.now }

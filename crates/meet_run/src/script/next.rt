@@ -1,4 +1,4 @@
-//! What the next line of a script is.
+//! The next line of a script.
 
 ghost use Rattle.std.specs.Prelude.{◌≤◌};
 ghost use Rattle.std.specs.Vec.{vec_capacity};

@@ -131,12 +131,15 @@ fn run_calls<R: Read, W: Write>(
 }
 
 /// Runs the script that this reader gives, and writes its replies: the first line names the place, each other line is a
-/// call. Each reply is written before the next line is read. A read of the reader takes one byte and costs a turn.
+/// call. Each reply is written before the next line is read. Returns true. A read takes one byte; `turns` is the most
+/// reads.
 ///
-/// The answer is true. A line that can't be read ends the run with BadLine and its number, from 1, as soon as it is
-/// known; a text without a first line is a fault of line 1. A read that fails, or no turn left for it, is ReadFault; a
-/// write that fails or takes no byte is WriteFault; where memory is wanted and not there, it is Memory. Without a turn
-/// it is ReadFault, whether or not there is memory.
+/// # Errors
+/// - BadLine, with the line's number, from 1: the line can't be read, and ends the run as soon as that is known. A text
+///   without a first line is a fault of line 1.
+/// - ReadFault, if a read fails, or no turn is left for it. Without a turn it is this error in any case.
+/// - WriteFault, if a write fails or takes no byte.
+/// - Memory, if an allocation fails.
 pub fn run_script_within<R: Read, W: Write>(
     alloc: Global,
     reader: &mut R,
@@ -162,6 +165,14 @@ pub fn run_script_within<R: Read, W: Write>(
 }
 
 /// Runs a script as `run_script_within` does, with 2^32 reads.
+///
+/// # Errors
+/// - BadLine, ReadFault, WriteFault or Memory, as `run_script_within`.
+///
+/// # Example
+/// From `crates/meet/src/main.rt`:
+///
+///     Task::Run => run_script(alloc, reader, writer),
 pub fn run_script<R: Read, W: Write>(
     alloc: Global,
     reader: &mut R,

@@ -1,4 +1,4 @@
-//! A reader that is read byte by byte at the cost of a look.
+//! A reader that is read byte by byte from memory.
 
 ghost use Rattle.std.specs.Prelude.{◌≡◌, [], IfOk, OnOk};
 ghost use Rattle.std.specs.Io.KnownBytes.{Keeps, IsAtEnd};
@@ -12,8 +12,8 @@ use std::marker::Model;
 /// How many bytes are read at once.
 const BLOCK: usize = 8192;
 
-/// A reader whose bytes come from another in blocks. A read takes one byte, and asks the other only where the block
-/// has none left: so who reads on a terminal line by line waits for no more than that line.
+/// A buffered reader, whose bytes come from another in blocks. A read takes one byte, and reads the other only if the
+/// block has none left: so a program that reads on a terminal line by line waits for no more than that line.
 #[derive(Drop)]
 pub struct Blocks<R> {
     reader: R,
@@ -34,7 +34,10 @@ impl<R> Model for Blocks<R> {
 }
 
 impl<R: Read> Blocks<R> {
-    /// A reader in front of this one. Where there is no memory the reader is let go.
+    /// Creates a reader in front of this one.
+    ///
+    /// # Errors
+    /// - `AllocError`, if the allocation fails: the reader is dropped.
     pub fn new(alloc: Global, reader: R) -> Result<Self, AllocError>
     where
         R: Drop,

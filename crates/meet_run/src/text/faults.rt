@@ -1,4 +1,4 @@
-//! How a run fails, and how a program says so. Nothing here takes memory.
+//! How a run fails, and how a program reports it. Nothing here allocates.
 
 ghost use Rattle.std.specs.Prelude.{◌≡◌, ◌+◌, ◌≤◌, ◌++◌, Some, None, length};
 ghost use Rattle.arrayvec.specs.ArrayVec.{array_vec_len};
@@ -11,22 +11,24 @@ use std::fmt;
 use std::fmt::{Display, Formatter, Write};
 use thiserror::Error;
 
-/// Why a run ended early, and in which line of its text, from 1, if it was a line's fault.
+/// Why a run ended early.
 #[derive(Clone, Copy, PartialEq, Eq, Debug, Error)]
 #[error("meet: {}{}", InLine(*.line), .why.name())]
 pub struct RunFault {
+    /// The reason.
     pub why: Refusal,
+    /// The line of its text, from 1, if it was a line's fault.
     pub line: Option<u64>,
 }
 
-/// A run that ends early, outside any line.
+/// Returns the fault of a run that ends early, outside any line.
 pub fn cut_short(why: Refusal) -> RunFault
     ensures { result ≡ record { why = why; line = None } }
 {
     RunFault { why, line: None }
 }
 
-/// A text that can't be read on, for the fault of this line.
+/// Returns the fault of a text whose line of this number can't be read.
 pub fn at_line(why: Refusal, line: u64) -> RunFault
     ensures { result ≡ record { why = why; line = Some line } }
 {
@@ -58,10 +60,12 @@ impl Display for InLine {
 /// The most bytes of a line on standard error.
 const ROOM: usize = 64;
 
-/// How a program ends: its exit status, and its line on standard error, which is empty where it has none.
+/// How a program ends.
 #[derive(Drop, Debug)]
 pub struct Report {
+    /// Its exit status.
     pub status: u8,
+    /// Its line on standard error, which is empty if it has none.
     pub line: ArrayVec<u8, ROOM>,
 }
 
@@ -113,7 +117,7 @@ fn line_for(fault: RunFault) -> ArrayVec<u8, ROOM>
     line
 }
 
-/// How a program ends after this run.
+/// Returns how a program ends after this run.
 #[tactic(auto, unfolding(crate::specs::Texts::Faults::status_of, crate::specs::Texts::Faults::fault_line))]
 pub fn report_of(outcome: &Result<bool, RunFault>) -> Report
     ensures status { result.status ≡ status_of outcome.now }

@@ -1,4 +1,4 @@
-//! What lines of scripts and traces say alike: a seat, the order of a place, an option.
+//! What lines of scripts and traces have in common: a seat, the order of a place, an option.
 
 ghost use Rattle.std.specs.Prelude.{◌≡◌};
 ghost use Rattle.std.specs.Option.{option_map};
@@ -8,7 +8,7 @@ ghost use Rattle.meet_run.specs.Texts.Grammar.{seat_of, order_of, option_value, 
 use crate::text::words::{behind_prefix, read_number, split_word};
 use meet_tickets::{Order, SeatNo};
 
-/// The seat of a word.
+/// Returns the seat of a word.
 #[tactic(auto, unfolding(crate::specs::Texts::Grammar::seat_of, crate::specs::Texts::Grammar::seat_in))]
 pub fn read_seat(word: &[u8]) -> Option<SeatNo>
     ensures { result ≡ seat_of word.now }
@@ -17,7 +17,7 @@ pub fn read_seat(word: &[u8]) -> Option<SeatNo>
     SeatNo::new(number)
 }
 
-/// The order of a place by its word.
+/// Returns the order of a place by its word.
 #[tactic(auto, unfolding(crate::specs::Texts::Grammar::order_of))]
 pub fn read_order(word: &[u8]) -> Option<Order>
     ensures { result ≡ order_of word.now }
@@ -48,7 +48,8 @@ fn read_value(most: u64, text: &[u8]) -> Option<(Option<u64>, &[u8])>
     }
 }
 
-/// An option by its name with a space on either side: its number, if it stands there, and the rest of its line.
+/// Reads an option by its name with a space on either side. Returns its number, if it stands there, and the rest of its
+/// line.
 #[tactic(auto, unfolding(crate::specs::Texts::Grammar::option_in))]
 pub fn read_option<'a>(name: &[u8], most: u64, rest: &'a [u8]) -> Option<(Option<u64>, &'a [u8])>
     ensures { option_map (λ found. (found.0, found.1.now)) result ≡ option_in name.now most rest.now }

@@ -1,11 +1,11 @@
-//! What the next line of a text is.
+//! The next line of a text.
 
 ghost use Rattle.std.specs.Prelude.{◌≡◌};
 ghost use Rattle.meet_run.specs.Scripts.Running.{next_from};
 
 use crate::text::reading::LineRead;
 
-/// What the next line is.
+/// The next line of a text.
 #[derive(Clone, Copy, PartialEq, Eq, Debug)]
 pub enum Next<A> {
     /// It reads as this.
@@ -18,7 +18,7 @@ pub enum Next<A> {
     Broken,
 }
 
-/// What the next line is, by what came of reading it and what it then reads as.
+/// Returns the next line, by the result of reading it and by what it then reads as.
 pub fn next_of<A: Copy>(came: LineRead, read: Option<A>) -> Next<A>
     ensures { result ≡ next_from came read }
 {

@@ -7,8 +7,10 @@ ghost use Rattle.meet_run.specs.Texts.Writing.{AppendsPrefix, AppendsLess};
 use meet_tickets::Refusal;
 use std::io::Write;
 
-/// Writes these bytes, as often as it takes, and for none of them not once. A write that fails, or that takes no
-/// byte, is a fault; what was written until then stays written, and isn't all.
+/// Writes these bytes, by as many writes as it takes, and by none if there are none.
+///
+/// # Errors
+/// - WriteFault, if a write fails or takes no byte: what was written until then stays written, and isn't all.
 pub fn write_whole<W: Write>(writer: &mut W, bytes: &[u8]) -> Result<(), Refusal>
     ensures ok { OnOk result (Appends (W.contents writer.old) (W.contents writer.new) bytes.now) }
     ensures prefix { AppendsPrefix (W.contents writer.old) (W.contents writer.new) bytes.now }

@@ -1,4 +1,4 @@
-//! Reading a text line by line, without taking memory.
+//! Reading a text line by line, without an allocation.
 
 ghost use Rattle.std.specs.Prelude.{◌≤◌};
 ghost use Rattle.std.specs.Vec.{vec_capacity};
@@ -9,12 +9,13 @@ use std::io::Read;
 /// The most bytes of a line.
 pub const LONGEST_LINE: usize = 128;
 
-/// How many reads a text may take: 2^32.
+/// The most reads of a text: 2^32.
 pub const MOST_READS: u64 = 1 << 32;
 
-/// What came of reading a byte.
+/// The result of reading a byte.
 #[derive(Clone, Copy, PartialEq, Eq, Debug)]
 pub enum ByteRead {
+    /// This byte was read.
     Byte(u8),
     /// The input has ended.
     End,
@@ -22,7 +23,7 @@ pub enum ByteRead {
     Failed,
 }
 
-/// What came of reading a line.
+/// The result of reading a line.
 #[derive(Clone, Copy, PartialEq, Eq, Debug)]
 pub enum LineRead {
     /// A line was read.

@@ -1,4 +1,4 @@
-//! The room that a text's lines are read into, the one memory that reading a line takes.
+//! The buffer for a text's lines, the only memory that reading a line takes.
 
 ghost use Rattle.std.specs.Prelude.{◌≡◌, ◌<◌, ◌≤◌, [], None, IfOk, IfErr, OnOk};
 ghost use Rattle.std.specs.Vec.{vec_capacity};
@@ -10,8 +10,11 @@ use crate::text::reading::LONGEST_LINE;
 use meet_tickets::Refusal;
 use std::alloc::Global;
 
-/// The room that the lines of a text are read into, where there is a turn to read any. Without a turn it is ReadFault,
-/// whether or not there is memory; where memory is wanted and not there, it is Memory.
+/// Allocates the buffer for the lines of a text, if there is a turn to read any.
+///
+/// # Errors
+/// - ReadFault, without a turn, whether or not there is memory.
+/// - Memory, if an allocation fails.
 pub fn room_for_lines(alloc: Global, turns: u64) -> Result<Vec<u8>, RunFault>
     ensures room { IfOk result (λ line. LONGEST_LINE ≤ vec_capacity line) }
     ensures empty { IfOk result (λ line. line.items ≡ []) }

@@ -1,4 +1,4 @@
-//! The text of the replies, one line each. Where memory runs out, nothing is said of what was appended.
+//! The text of the replies, one line each. If memory runs out, nothing is stated of what was appended.
 
 ghost use Rattle.std.specs.Prelude.{◌≡◌, ◌++◌, OnOk, codes, decimal};
 ghost use Rattle.meet_run.specs.Scripts.Wording.{with_mark, cause_text, answer_text, cut_text, mark_text, outcome_text};
@@ -10,6 +10,9 @@ use meet_tickets::{Cause, SeatNo, Ticket};
 use std::alloc::AllocError;
 
 /// Appends a number's digits.
+///
+/// # Errors
+/// - `AllocError`, if an allocation fails.
 pub fn push_number(out: &mut Vec<u8>, number: u64) -> Result<(), AllocError>
     ensures { OnOk result (out.new.items ≡ out.old.items ++ decimal number) }
 {
@@ -30,7 +33,10 @@ fn push_with_mark(out: &mut Vec<u8>, word: &[u8], mark: Option<u64>) -> Result<(
     Ok(())
 }
 
-/// Appends a number behind a word. Where memory runs out, nothing is said of what was appended.
+/// Appends a number after a word.
+///
+/// # Errors
+/// - `AllocError`, if an allocation fails: nothing is stated of what was appended.
 pub fn push_numbered(out: &mut Vec<u8>, word: &[u8], value: u64) -> Result<(), AllocError>
     ensures { OnOk result (out.new.items ≡ out.old.items ++ (word.now ++ decimal value)) }
 {
@@ -39,6 +45,9 @@ pub fn push_numbered(out: &mut Vec<u8>, word: &[u8], value: u64) -> Result<(), A
 }
 
 /// Appends a word, a number, another word and a second number.
+///
+/// # Errors
+/// - `AllocError`, if an allocation fails.
 pub fn push_pair(
     out: &mut Vec<u8>,
     word: &[u8],
@@ -107,6 +116,9 @@ fn push_mark(out: &mut Vec<u8>, mark: Option<u64>) -> Result<(), AllocError>
 }
 
 /// Appends the start of a reply without a record: its seat, and a word.
+///
+/// # Errors
+/// - `AllocError`, if an allocation fails.
 pub fn push_seat(out: &mut Vec<u8>, seat: SeatNo, word: &[u8]) -> Result<(), AllocError>
     ensures { OnOk result (out.new.items
         ≡ out.old.items ++ (codes "- " ++ decimal seat ++ word.now)) }
@@ -167,8 +179,11 @@ pub(crate) fn push_reply(out: &mut Vec<u8>, reply: &Reply) -> Result<(), AllocEr
     out.extend_from_slice(b"\n")
 }
 
-/// Appends the line at the end of a script: how many records there are, how many tickets wait in the line, how many
-/// were met or cut and not collected, and how many items are kept.
+/// Appends the line at the end of a script: how many records there are, how many requests wait, how many were matched
+/// or interrupted and not collected, and how many items are buffered.
+///
+/// # Errors
+/// - `AllocError`, if an allocation fails.
 #[tactic(auto, unfolding(crate::specs::Scripts::Wording::last_line))]
 pub fn push_last_line(out: &mut Vec<u8>, records: u64, standing: Standing) -> Result<(), AllocError>
     ensures { OnOk result (out.new.items ≡ out.old.items ++ last_line records standing) }

@@ -5,7 +5,7 @@ ghost use Rattle.std.specs.Option.{option_map};
 ghost use Rattle.std.specs.Str.Parse.{AllDigits, digits_value};
 ghost use Rattle.meet_run.specs.Texts.Words.{word_of, rest_of, behind, number_spelled, BeginsAsNumber};
 
-/// Cuts a text at its first space: what stands before it, and what is left from it on.
+/// Splits a text at its first space: what stands before it, and what is left from it on.
 pub fn split_word(text: &[u8]) -> (&[u8], &[u8])
     ensures word { result.0.now ≡ word_of text.now }
     ensures rest { result.1.now ≡ rest_of text.now }
@@ -14,7 +14,7 @@ pub fn split_word(text: &[u8]) -> (&[u8], &[u8])
     text.split_at(end)
 }
 
-/// What stands behind a prefix, where a text begins with it.
+/// Returns what stands after a prefix, if a text begins with it.
 pub fn behind_prefix<'a>(prefix: &[u8], text: &'a [u8]) -> Option<&'a [u8]>
     ensures { option_map (λ rest. rest.now) result ≡ behind prefix.now text.now }
 {
@@ -56,7 +56,7 @@ fn read_digits(word: &[u8]) -> Option<u64>
     Some(number)
 }
 
-/// The number below 2^64 of which this word is the one spelling, if there is one.
+/// Returns the number below 2^64 of which this word is the one spelling, if there is one.
 pub fn read_number(word: &[u8]) -> Option<u64>
     ensures { result ≡ number_spelled word.now }
 {

@@ -1,4 +1,4 @@
-//! What the lines of a base say in a trace.
+//! The grammar of a base's lines in a trace.
 
 ghost use Rattle.std.specs.Prelude.{◌≡◌};
 ghost use Rattle.meet_run.specs.Tracing.BaseGrammar.{waits_of, giver_entry, entry_of_line, pair_of_line, pair_behind};

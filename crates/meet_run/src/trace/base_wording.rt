@@ -1,4 +1,4 @@
-//! The text of a base in a trace. Where memory runs out, nothing is said of what was appended.
+//! The text of a base in a trace. If memory runs out, nothing is stated of what was appended.
 
 ghost use Rattle.std.specs.Prelude.{◌≡◌, ◌++◌, map, OnOk};
 ghost use Rattle.std.specs.List.{flat_map};
@@ -46,7 +46,10 @@ fn push_standing(out: &mut Vec<u8>, item: Option<u64>, waits: bool) -> Result<()
     }
 }
 
-/// Appends the line of an entry of the line.
+/// Appends the line of a node of the wait queue.
+///
+/// # Errors
+/// - `AllocError`, if an allocation fails.
 #[tactic(auto, unfolding(crate::specs::Tracing::BaseWording::piece_line))]
 pub fn push_entry(out: &mut Vec<u8>, entry: &Entry<u64>) -> Result<(), AllocError>
     ensures { OnOk result (out.new.items ≡ out.old.items ++ piece_line (Stands entry.now)) }
@@ -56,7 +59,10 @@ pub fn push_entry(out: &mut Vec<u8>, entry: &Entry<u64>) -> Result<(), AllocErro
     out.extend_from_slice(b"\n")
 }
 
-/// Appends the line of an open ticket that was met.
+/// Appends the line of a pending request that was matched.
+///
+/// # Errors
+/// - `AllocError`, if an allocation fails.
 #[tactic(auto, unfolding(crate::specs::Tracing::BaseWording::piece_line))]
 pub fn push_met(out: &mut Vec<u8>, pair: OpenPair) -> Result<(), AllocError>
     ensures { OnOk result (out.new.items ≡ out.old.items ++ piece_line (Met pair)) }
@@ -67,7 +73,10 @@ pub fn push_met(out: &mut Vec<u8>, pair: OpenPair) -> Result<(), AllocError>
     out.extend_from_slice(b"\n")
 }
 
-/// Appends the line of an open ticket that was cut.
+/// Appends the line of a pending request that was interrupted.
+///
+/// # Errors
+/// - `AllocError`, if an allocation fails.
 #[tactic(auto, unfolding(crate::specs::Tracing::BaseWording::piece_line))]
 pub fn push_cut(out: &mut Vec<u8>, cut: OpenCut) -> Result<(), AllocError>
     ensures { OnOk result (out.new.items ≡ out.old.items ++ piece_line (Cut cut)) }
@@ -77,7 +86,10 @@ pub fn push_cut(out: &mut Vec<u8>, cut: OpenCut) -> Result<(), AllocError>
     out.extend_from_slice(b"\n")
 }
 
-/// Appends the line of a flagged seat.
+/// Appends the line of a seat with a pending interrupt.
+///
+/// # Errors
+/// - `AllocError`, if an allocation fails.
 #[tactic(auto, unfolding(crate::specs::Tracing::BaseWording::piece_line))]
 pub fn push_flag(out: &mut Vec<u8>, seat: SeatNo) -> Result<(), AllocError>
     ensures { OnOk result (out.new.items ≡ out.old.items ++ piece_line (Flagged seat)) }

@@ -1,4 +1,4 @@
-//! What is found of a trace that has a base.
+//! The check of a trace that has a base.
 
 ghost use Rattle.std.specs.Prelude.{◌≡◌, ◌+◌, ◌^◌, ◌<◌, ◌≤◌, [], ◌∷◌, IfSome, IfOk, IfErr, OnOk, false};
 ghost use Rattle.std.specs.Vec.{vec_capacity};

@@ -1,4 +1,4 @@
-//! What is found of the chapters of a chain, one after another.
+//! The check of the chapters of a chain, one after another.
 
 ghost use Rattle.std.specs.Prelude.{◌≡◌, ◌<◌, ◌+◌, ◌^◌, ◌∷◌, [], ◌++◌, List, IfOk, IfErr, OnOk};
 ghost use Rattle.meet_tickets.specs.declared.refusals.Refusal.TheVariants.{Memory};
@@ -12,14 +12,15 @@ use meet_history::{CheckFault, Checker, Why};
 use meet_tickets::{Kind, Refusal};
 use std::alloc::{AllocError, Global};
 
-/// What is wrong with a chapter behind those before it.
+/// What is wrong with a chapter after those before it.
 #[derive(Clone, Copy, PartialEq, Eq, Debug)]
 pub enum ChapterFault {
     /// Its trace names another place.
     OtherPlace,
     /// Its base doesn't stand for those before it.
     OtherBase,
-    /// The record of this number, from 1 and with those of the base, is its first that can't stand, for this reason.
+    /// The record of number `place`, from 1 and with those of the base, is its first that can't stand, for the reason
+    /// `why`.
     Illegal { place: u64, why: Why },
 }
 
@@ -38,7 +39,7 @@ pub(crate) struct Chain {
     fault: Option<Broken>,
 }
 
-/// What is wrong with a chapter's own records, if anything is. The only refusal is Memory.
+/// What is wrong with a chapter's own records, if anything is. Fails only if an allocation fails.
 fn wrong_in(checker: &Checker) -> Result<Option<ChapterFault>, Refusal>
     ensures wrong { IfOk result (λ wrong. wrong ≡ wrong_of checker.now.fault) }
     ensures memory { IfErr result (λ why. why ≡ Memory) }
@@ -50,7 +51,7 @@ fn wrong_in(checker: &Checker) -> Result<Option<ChapterFault>, Refusal>
     }
 }
 
-/// What is wrong with a chapter behind another one, if anything is. The only refusal is Memory.
+/// What is wrong with a chapter behind another one, if anything is. Fails only if an allocation fails.
 fn wrong_behind(
     alloc: Global,
     last: &ReadTrace,
@@ -80,7 +81,7 @@ fn broken_at(chapter: u64, wrong: Option<ChapterFault>) -> Option<Broken>
 }
 
 impl Chain {
-    /// A chain that begins with this chapter. The only refusal is Memory.
+    /// A chain that begins with this chapter. Fails only if an allocation fails.
     pub(crate) fn begin(trace: ReadTrace) -> Result<Self, Refusal>
         ensures read { IfOk result (λ chain. (c : Chapter) → IsOf trace c → HasRead chain (c ∷ [])) }
         ensures many { IfOk result (λ chain. chain.chapters ≡ 1) }
@@ -94,7 +95,7 @@ impl Chain {
         })
     }
 
-    /// The chain with this chapter behind the others. The only refusal is Memory.
+    /// The chain with this chapter behind the others. Fails only if an allocation fails.
     pub(crate) fn take(self, alloc: Global, trace: ReadTrace) -> Result<Self, Refusal>
         requires few { self.chapters + 1 < 2 ^ 64 }
         ensures read { IfOk result (λ chain. (chapters : List Chapter) (c : Chapter) → HasRead self chapters
@@ -124,7 +125,7 @@ impl Chain {
     }
 
     /// Whether the chapters that were read are one legal history, and the line that says so: as that of one trace of
-    /// all of them; or which of them can't follow, and why. The only refusal is Memory.
+    /// all of them; or which of them can't follow, and why. Fails only if an allocation fails.
     pub(crate) fn found(&self, alloc: Global) -> Result<(bool, Vec<u8>), Refusal>
         ensures found { IfOk result (λ found. (chapters : List Chapter) → HasRead self.now chapters
             → IsFoundOfAll chapters found.0 found.1.items) }

@@ -1,5 +1,5 @@
-//! What is found of a chain: whole traces of one place, one behind another, each on the base that stands for those
-//! before it.
+//! The check of a chain: whole traces of one place, one after another, each on the base that stands for those before
+//! it.
 
 ghost use Rattle.std.specs.Prelude.{◌≡◌, ◌⊎◌, ◌+◌, ◌^◌, ◌<◌, ◌≤◌, ◌++◌, ◌∷◌, None, Some, false, codes, IfSome, IfOk};
 ghost use Rattle.std.specs.Prelude.{IfErr, OnOk};
@@ -43,7 +43,7 @@ fn is_head(line: &[u8]) -> bool
     read_head(line).is_some() || read_based_head(line).is_some()
 }
 
-/// Appends a line and its end. The only refusal is Memory.
+/// Appends a line and its end. Fails only if an allocation fails.
 fn keep_line(text: &mut Vec<u8>, line: &[u8]) -> Result<(), RunFault>
     ensures kept { OnOk result (text.new.items ≡ text.old.items ++ (line.now ++ codes "\n")) }
     ensures memory { IfErr result (λ fault. fault ≡ record { why = Memory; line = None }) }
@@ -206,20 +206,26 @@ fn find_chapters<R: Read>(
     }
 }
 
-/// Checks the chain that this reader gives: whole traces of one place, of either format, one behind another, each on
-/// the base that stands for those before it. The whole of it is read before anything is written; the text of one trace
-/// is kept at a time, and none of its records. A read of the reader takes one byte and costs a turn.
+/// Checks a chain: whole traces of one place, of either format, one after another, each on the base that stands for
+/// those before it. The whole of it is read before anything is written; the text of one trace is kept at a time, and
+/// none of its records. A read takes one byte; `turns` is the most reads.
 ///
-/// Where they are one legal history on the first one's base it writes the line that a check of it as one trace would,
-/// and the answer is true. Else it writes one line that names the first trace, from 1, that can't follow, and why: it
-/// names another place (`chapter 2 OtherPlace`), its base doesn't stand for those before it (`chapter 2 OtherBase`), or
-/// a record of it can't stand (`chapter 2 illegal 7 WrongReply`); and the answer is false.
+/// If they are one legal history on the first one's base it writes the line that a check of it as one trace would, and
+/// returns true. Otherwise it writes one line and returns false. The line names the first trace, from 1, that can't
+/// follow:
 ///
-/// A line that can't be read is BadTrace with its number in the whole text, from 1, as is one behind a trace's
-/// 1,048,576th record that begins no other; a text without a first line is a fault of line 1. That wins over anything
-/// that is wrong before it. A read that fails, or no turn left for it, is ReadFault; where memory is wanted and not
-/// there, it is Memory. Then nothing is written. A write that fails or takes no byte is WriteFault, and a prefix of the
-/// line is written. Without a turn it is ReadFault, whether or not there is memory.
+/// - it names another place (`chapter 2 OtherPlace`);
+/// - its base doesn't stand for those before it (`chapter 2 OtherBase`);
+/// - or a record of it can't stand (`chapter 2 illegal 7 WrongReply`).
+///
+/// # Errors
+/// - BadTrace, with the line's number in the whole text, from 1: the line can't be read, or it stands after a trace's
+///   1,048,576th record and begins no other trace. A text without a first line is a fault of line 1. That wins over
+///   anything that is wrong before it. Nothing is written.
+/// - ReadFault, if a read fails, or no turn is left for it: nothing is written. Without a turn it is this error in any
+///   case.
+/// - Memory, if an allocation fails: nothing is written.
+/// - WriteFault, if a write fails or takes no byte: a prefix of the line is written.
 pub fn check_chain_within<R: Read, W: Write>(
     alloc: Global,
     reader: &mut R,
@@ -241,6 +247,14 @@ pub fn check_chain_within<R: Read, W: Write>(
 }
 
 /// Checks a chain as `check_chain_within` does, with 2^32 reads.
+///
+/// # Errors
+/// - BadTrace, ReadFault, Memory or WriteFault, as `check_chain_within`.
+///
+/// # Example
+/// From `crates/meet/src/main.rt`:
+///
+///     Task::Chain => check_chain(alloc, reader, writer),
 pub fn check_chain<R: Read, W: Write>(
     alloc: Global,
     reader: &mut R,

@@ -1,4 +1,4 @@
-//! What is found of a trace.
+//! The check of a trace.
 
 ghost use Rattle.std.specs.Prelude.{◌≡◌, ◌+◌, ◌^◌, ◌<◌, ◌≤◌, [], IfSome, IfOk, IfErr, OnOk};
 ghost use Rattle.std.specs.Vec.{vec_capacity};
@@ -33,8 +33,9 @@ use std::io::{Read, Write};
 /// A whole trace that was read.
 #[derive(Drop)]
 pub struct ReadTrace {
+    /// The kind of its place.
     pub kind: Kind,
-    /// What it stands on: the empty base where it names none.
+    /// Its base: the empty one if it names none.
     pub base: Base,
     /// The checker that has seen its records.
     pub checker: Checker,
@@ -84,7 +85,7 @@ fn push_records<R: Read>(
     }
 }
 
-/// What the checker found of so many records, and the line that says so. The only refusal is Memory.
+/// What the checker found of so many records, and the line that says so. Fails only if an allocation fails.
 fn verdict(alloc: Global, checker: &Checker, count: u64) -> Result<(bool, Vec<u8>), Refusal>
     ensures verdict { IfOk result (λ found. IsVerdictOf checker.now count found.0 found.1.items) }
     ensures memory { IfErr result (λ why. why ≡ Memory) }
@@ -175,8 +176,12 @@ fn read_into<R: Read>(
     }
 }
 
-/// Reads a whole trace, of either format, by at most so many reads; it refuses BadTrace with the line that can't be
-/// read, ReadFault and Memory. It keeps none of the records.
+/// Reads a whole trace, of either format, by `turns` reads at most. It keeps none of the records.
+///
+/// # Errors
+/// - BadTrace, with the line that can't be read.
+/// - ReadFault, if a read fails, or no turn is left for it.
+/// - Memory, if an allocation fails.
 pub fn read_trace<R: Read>(alloc: Global, reader: &mut R, turns: u64) -> Result<ReadTrace, RunFault>
     ensures read { IfOk result (λ trace. IfSome (R.remaining reader.old) (λ input. IsRead (lines_of input) trace)) }
     ensures bad { IfErr result (λ fault. IfSome (R.remaining reader.old) (λ input.
@@ -191,6 +196,9 @@ pub fn read_trace<R: Read>(alloc: Global, reader: &mut R, turns: u64) -> Result<
 }
 
 /// Reads a whole trace as `read_trace` does, and keeps its records.
+///
+/// # Errors
+/// - BadTrace, ReadFault or Memory, as `read_trace`.
 pub fn read_records<R: Read>(
     alloc: Global,
     reader: &mut R,
@@ -210,7 +218,10 @@ pub fn read_records<R: Read>(
     Ok((trace, kept.into_records()))
 }
 
-/// Reads a whole trace, and says what is found of it, and the line that says so; it refuses as `read_trace`.
+/// Reads a whole trace, and returns whether it is legal, and the line that states so.
+///
+/// # Errors
+/// - BadTrace, ReadFault or Memory, as `read_trace`.
 pub fn find_trace<R: Read>(
     alloc: Global,
     reader: &mut R,
@@ -233,16 +244,18 @@ pub fn find_trace<R: Read>(
 }
 
 /// Checks the trace that this reader gives. The whole of it is read before anything is written, and none of its records
-/// is kept: it takes the memory of the place that they leave. A read of the reader takes one byte and costs a turn.
+/// is kept: its memory is that of the state to which they lead. A read takes one byte; `turns` is the most reads.
 ///
-/// Where its records are legal it writes one line that counts them and says what stands at their end, and the answer is
-/// true. Else it writes one line that names the first record that can't stand, and why, and the answer is false.
+/// If its records are legal it writes one line that counts them and states what is left at their end, and returns true.
+/// Otherwise it writes one line that names the first record that can't stand, with the reason, and returns false.
 ///
-/// A line that can't be read, or that stands behind the 1,048,576th record, is BadTrace with its number, from 1; a
-/// text without a first line is a fault of line 1. That wins over an illegal record before it. A read that fails, or
-/// no turn left for it, is ReadFault; where memory is wanted and not there, it is Memory. Then nothing is written. A
-/// write that fails or takes no byte is WriteFault, and a prefix of the line is written. Without a turn it is
-/// ReadFault, whether or not there is memory.
+/// # Errors
+/// - BadTrace, with the line's number, from 1: the line can't be read, or it stands after the 1,048,576th record. A
+///   text without a first line is a fault of line 1. That wins over an illegal record before it. Nothing is written.
+/// - ReadFault, if a read fails, or no turn is left for it: nothing is written. Without a turn it is this error in any
+///   case.
+/// - Memory, if an allocation fails: nothing is written.
+/// - WriteFault, if a write fails or takes no byte: a prefix of the line is written.
 pub fn check_trace_within<R: Read, W: Write>(
     alloc: Global,
     reader: &mut R,
@@ -264,6 +277,14 @@ pub fn check_trace_within<R: Read, W: Write>(
 }
 
 /// Checks a trace as `check_trace_within` does, with 2^32 reads.
+///
+/// # Errors
+/// - BadTrace, ReadFault, Memory or WriteFault, as `check_trace_within`.
+///
+/// # Example
+/// From `crates/meet/src/main.rt`:
+///
+///     Task::Check => check_trace(alloc, reader, writer),
 pub fn check_trace<R: Read, W: Write>(
     alloc: Global,
     reader: &mut R,

@@ -1,4 +1,4 @@
-//! Traces without the tickets that were cut, taken back or refused at their entry.
+//! Traces without the requests that were interrupted, withdrawn or refused at their entry (projections).
 
 ghost use Rattle.std.specs.Prelude.{◌≡◌, ◌+◌, ◌^◌, ◌<◌, ◌≤◌, true, IfSome, IfOk, IfErr, OnOk};
 ghost use Rattle.std.specs.Io.KnownBytes.{Appends};
@@ -157,18 +157,21 @@ fn write_erased<W: Write>(
     }
 }
 
-/// Erases from the trace that this reader gives all records of tickets that were cut or withdrawn, all interrupts, and
-/// all requests that were refused at their entry. The whole of it is read before anything is written, and its records
-/// are kept. A read of the reader takes one byte and costs a turn.
+/// Erases from the trace that this reader gives all records of requests that were interrupted or withdrawn, all
+/// interrupts, and all requests that were refused at their entry. The whole of it is read before anything is written,
+/// and its records are kept. A read takes one byte; `turns` is the most reads.
 ///
-/// Where its records are legal it writes the trace of what is left, and the answer is true. Else it writes one line
-/// that names the first record that can't stand, and why, and the answer is false.
+/// If its records are legal it writes the trace of what is left, and returns true. Otherwise it writes one line that
+/// names the first record that can't stand, with the reason, and returns false.
 ///
-/// A line that can't be read, or that stands behind the 1,048,576th record, is BadTrace with its number, from 1; a text
-/// without a first line is a fault of line 1, and so is a first line that announces a base. That wins over an illegal
-/// record before it. A read that fails, or no turn left for it, is ReadFault. Then nothing is written. A write that
-/// fails or takes no byte is WriteFault; where memory is wanted and not there, it is Memory: then a prefix of the text
-/// is written, or nothing. Without a turn it is ReadFault, whether or not there is memory.
+/// # Errors
+/// - BadTrace, with the line's number, from 1: the line can't be read, or it stands after the 1,048,576th record. A
+///   text without a first line is a fault of line 1, and so is a first line that announces a base. That wins over an
+///   illegal record before it. Nothing is written.
+/// - ReadFault, if a read fails, or no turn is left for it: nothing is written. Without a turn it is this error in any
+///   case.
+/// - WriteFault, if a write fails or takes no byte: a prefix of the text is written, or nothing.
+/// - Memory, if an allocation fails: a prefix of the text is written, or nothing.
 pub fn erase_trace_within<R: Read, W: Write>(
     alloc: Global,
     reader: &mut R,
@@ -190,6 +193,14 @@ pub fn erase_trace_within<R: Read, W: Write>(
 }
 
 /// Erases from a trace as `erase_trace_within` does, with 2^32 reads.
+///
+/// # Errors
+/// - BadTrace, ReadFault, WriteFault or Memory, as `erase_trace_within`.
+///
+/// # Example
+/// From `crates/meet/src/main.rt`:
+///
+///     Task::Erase => erase_trace(alloc, reader, writer),
 pub fn erase_trace<R: Read, W: Write>(
     alloc: Global,
     reader: &mut R,

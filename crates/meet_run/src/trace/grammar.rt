@@ -1,4 +1,4 @@
-//! What the lines of a trace say: its first line names the place, each further one a record.
+//! The grammar of a trace's lines: its first line names the place, each further one a record.
 
 ghost use Rattle.std.specs.Prelude.{◌≡◌, IfSome};
 ghost use Rattle.meet_run.specs.Tracing.TraceSpelling.{FitsRecord, FitsHead};
@@ -13,7 +13,7 @@ use crate::text::reading::LONGEST_LINE;
 use crate::text::words::{behind_prefix, read_number, split_word};
 use meet_tickets::{Cause, Deed, Kind, MOST_KEPT, Order, Record, SeatNo, Side, Ticket};
 
-/// The ticket of a word.
+/// Returns the ticket of a word.
 #[tactic(auto, unfolding(crate::specs::Tracing::TraceGrammar::ticket_of, crate::specs::Tracing::TraceGrammar::ticket_in))]
 pub fn read_ticket(word: &[u8]) -> Option<Ticket>
     ensures { result ≡ ticket_of word.now }
@@ -189,7 +189,7 @@ fn read_any_record(line: &[u8]) -> Option<Record<Deed>>
     read_record_behind(seat, rest)
 }
 
-/// The record of a line of a trace, or none where the line is at fault.
+/// Returns the record of a line of a trace, or None if the line is at fault.
 #[tactic(auto, unfolding(crate::specs::Tracing::TraceGrammar::record_of))]
 pub fn read_record(line: &[u8]) -> Option<Record<Deed>>
     ensures read { result ≡ record_of line.now }
@@ -212,7 +212,7 @@ fn finish_kind(order: Order, bound: Option<u64>, rest: &[u8]) -> Option<Kind>
     Some(Kind { order, bound })
 }
 
-/// A kind of place: its word, and its bound where it is spelled out.
+/// Returns a kind of place: its word, and its bound if it is spelled out.
 #[tactic(auto, unfolding(crate::specs::Tracing::TraceGrammar::kind_in))]
 pub fn read_kind(text: &[u8]) -> Option<Kind>
     ensures { result ≡ kind_in text.now }

@@ -1,4 +1,4 @@
-//! The records of a trace that is read, where they are wanted behind the check.
+//! The records of a trace that is read, if they are needed after the check.
 
 ghost use Rattle.std.specs.Prelude.{◌≡◌, ◌↔◌, [], ◌∷◌, ◌++◌, List, Bool, true, false, Err, IsTrue, OnOk, IfErr};
 ghost use Rattle.meet_tickets.specs.declared.records.Deed.{Deed};
@@ -30,7 +30,7 @@ impl Kept {
         }
     }
 
-    /// Keeps none, and takes no memory.
+    /// Keeps none, and doesn't allocate.
     pub(crate) fn nothing(alloc: Global) -> Self
         ensures { HasKept false result [] }
     {
@@ -71,8 +71,8 @@ fn is_memory(pushed: Result<(), CheckFault>) -> bool
     }
 }
 
-/// Takes in the next record that was read: keeps it, if it is wanted, and pushes it on the checker. The only refusal is
-/// Memory.
+/// Takes in the next record that was read: keeps it, if it is wanted, and pushes it on the checker. Fails only if an
+/// allocation fails.
 pub(crate) fn take_in(
     kept: &mut Kept,
     checker: &mut Checker,

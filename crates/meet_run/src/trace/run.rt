@@ -54,8 +54,17 @@ fn write_records<W: Write>(
     write_whole(writer, out.as_slice())
 }
 
-/// Writes the trace of these records of a place of this kind, whole; it refuses Memory or WriteFault, and then a prefix
-/// of it is written.
+/// Writes the trace of these records of a place of this kind, whole.
+///
+/// # Errors
+/// A prefix of it is written.
+/// - Memory, if an allocation fails.
+/// - WriteFault, if a write fails or takes no byte.
+///
+/// # Example
+/// From `crates/example_parcels/src/main.rt`:
+///
+///     Ok(true) => write_trace(rt.alloc(), TRANSFER, records, &mut rt.stdout())?,
 pub fn write_trace<W: Write>(
     alloc: Global,
     kind: Kind,
@@ -74,8 +83,12 @@ pub fn write_trace<W: Write>(
     }
 }
 
-/// Writes the trace of these records of a place of this kind after this base, whole; it refuses Memory or WriteFault,
-/// and then a prefix of it is written.
+/// Writes the trace of these records of a place of this kind after this base, whole.
+///
+/// # Errors
+/// A prefix of it is written.
+/// - Memory, if an allocation fails.
+/// - WriteFault, if a write fails or takes no byte.
 pub fn write_based<W: Write>(
     alloc: Global,
     kind: Kind,
@@ -221,15 +234,17 @@ fn trace_calls<R: Read, W: Write>(
     }
 }
 
-/// Runs the script that this reader gives, and writes the trace of its records: a first line that names the place,
-/// where a checkpoint was made the base, and a line for each record since. It is written once the script has ended. A
-/// read of the reader takes one byte and costs a turn.
+/// Runs the script that this reader gives, and writes the trace of its records after the script has ended: a first line
+/// that names the place, the base if a checkpoint was made, and a line for each record since. Returns true. A read
+/// takes one byte; `turns` is the most reads.
 ///
-/// The answer is true. A line that can't be read ends the script: the trace of the calls before it is written, and
-/// the fault is BadLine with the line's number, from 1; where that is the first line, or there is none, nothing is
-/// written. A read that fails, or no turn left for it, is ReadFault; a write that fails or takes no byte is
-/// WriteFault; where memory is wanted and not there, it is Memory. Then a prefix of the trace is written. Without a
-/// turn it is ReadFault, whether or not there is memory.
+/// # Errors
+/// A prefix of the trace is written, but for BadLine.
+/// - BadLine, with the line's number, from 1: the line can't be read and ends the script, and the trace of the calls
+///   before it is written. If that is the first line, or there is none, nothing is written.
+/// - ReadFault, if a read fails, or no turn is left for it. Without a turn it is this error in any case.
+/// - WriteFault, if a write fails or takes no byte.
+/// - Memory, if an allocation fails.
 pub fn run_trace_within<R: Read, W: Write>(
     alloc: Global,
     reader: &mut R,
@@ -255,6 +270,14 @@ pub fn run_trace_within<R: Read, W: Write>(
 }
 
 /// Runs a script as `run_trace_within` does, with 2^32 reads.
+///
+/// # Errors
+/// - BadLine, ReadFault, WriteFault or Memory, as `run_trace_within`.
+///
+/// # Example
+/// From `crates/meet/src/main.rt`:
+///
+///     Task::Trace => run_trace(alloc, reader, writer),
 pub fn run_trace<R: Read, W: Write>(
     alloc: Global,
     reader: &mut R,

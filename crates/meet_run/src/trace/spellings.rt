@@ -4,25 +4,27 @@
 ghost use Rattle.meet_run.specs.Tracing.TraceSpelling.{RecordsHaveOneSpelling, HeadsHaveOneSpelling};
 ghost use Rattle.meet_run.specs.Tracing.TraceTexts.{TracesHaveOneText, BasedTracesHaveOneText};
 
-/// A line reads as a record exactly where it is that record's one spelling, and the record's numbers are in their
-/// limits. So a zero in front, two spaces together, a tab or any other stray byte is a fault.
+/// States that a line reads as a record exactly if it is that record's one spelling, and the record's numbers are in
+/// their limits. So a zero in front, two spaces together, a tab or any other stray byte is a fault.
 pub fn records_have_one_spelling()
     ensures { RecordsHaveOneSpelling }
 {}
 
-/// A first line reads as a kind of place exactly where it is its one spelling, and the place may have that bound.
+/// States that a first line reads as a kind of place exactly if it is its one spelling, and the place may have that
+/// bound.
 pub fn heads_have_one_spelling()
     ensures { HeadsHaveOneSpelling }
 {}
 
-/// A text reads as a whole trace exactly where it is the text that would be written of it, and all is in its limits;
-/// only the end of the last line may be missing. So two texts of the same history are the same but for that end.
+/// States that a text reads as a whole trace exactly if it is the text that would be written of it, and all is in its
+/// limits. Only the end of the last line may be missing. So two texts of the same history are the same but for that
+/// end.
 pub fn traces_have_one_text()
     ensures { TracesHaveOneText }
 {}
 
-/// A text reads as a whole trace with a base exactly where it is the text that would be written of it, the base is well
-/// formed, and all is in its limits; only the end of the last line may be missing.
+/// States that a text reads as a whole trace with a base on three conditions, and only then: it is the text that would
+/// be written of it, the base is well formed, and all is in its limits. Only the end of the last line may be missing.
 pub fn based_traces_have_one_text()
     ensures { BasedTracesHaveOneText }
 {}

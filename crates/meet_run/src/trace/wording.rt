@@ -1,4 +1,4 @@
-//! The text of a trace, and of what is found against it, one line each. Where memory runs out, nothing is said of what
+//! The text of a trace, and of what is found against it, one line each. If memory runs out, nothing is stated of what
 //! was appended.
 
 ghost use Rattle.std.specs.Prelude.{◌≡◌, ◌++◌, OnOk, codes};
@@ -11,7 +11,7 @@ use meet_history::Why;
 use meet_tickets::{Deed, Kind, Order, Record, Side, Ticket};
 use std::alloc::AllocError;
 
-/// A place's word.
+/// Returns a place's word.
 pub fn order_word(order: Order) -> &'static [u8]
     ensures { result.now ≡ place_text order }
 {
@@ -97,6 +97,9 @@ fn push_deed(out: &mut Vec<u8>, deed: Deed) -> Result<(), AllocError>
 }
 
 /// Appends a record's line.
+///
+/// # Errors
+/// - `AllocError`, if an allocation fails.
 #[tactic(auto, unfolding(crate::specs::Tracing::TraceWording::record_line))]
 pub fn push_record(out: &mut Vec<u8>, entry: Record<Deed>) -> Result<(), AllocError>
     ensures { OnOk result (out.new.items ≡ out.old.items ++ record_line entry) }
@@ -107,7 +110,7 @@ pub fn push_record(out: &mut Vec<u8>, entry: Record<Deed>) -> Result<(), AllocEr
     out.extend_from_slice(b"\n")
 }
 
-/// Why a record can't come next, as a word.
+/// Returns why a record can't come next, as a word.
 #[tactic(auto, unfolding(crate::specs::Tracing::TraceWording::why_text))]
 pub fn why_word(why: Why) -> &'static [u8]
     ensures { result.now ≡ why_text why }
@@ -120,7 +123,10 @@ pub fn why_word(why: Why) -> &'static [u8]
     }
 }
 
-/// Appends the line that names the first record that can't stand, from 1, and why.
+/// Appends the line that names the first record that can't stand, from 1, and the reason.
+///
+/// # Errors
+/// - `AllocError`, if an allocation fails.
 #[tactic(auto, unfolding(crate::specs::Tracing::TraceWording::illegal_line))]
 pub fn push_illegal(out: &mut Vec<u8>, number: u64, why: Why) -> Result<(), AllocError>
     ensures { OnOk result (out.new.items ≡ out.old.items ++ illegal_line number why) }

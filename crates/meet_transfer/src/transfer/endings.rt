@@ -1,4 +1,4 @@
-//! The endings of an open ticket, and interrupts. None of them takes memory.
+//! The completions of a pending request, and interrupts. None of them allocates.
 
 ghost use Rattle.std.specs.Prelude.{◌≡◌, ◌↔◌, ◌<◌, Some, IsOk, IfOk, IfErr};
 ghost use Rattle.meet_tickets.specs.BySeat.{open_ticket};
@@ -12,8 +12,11 @@ impl<T: Marked> Transfer<T> {
     ghost use Rattle.meet_core.specs.Steps.{FollowStep, WithdrawStep, InterruptStep, CutsWaiting};
     ghost use Rattle.meet_tickets.specs.declared.refusals.Refusal.TheVariants.{NoSuchSeat, NotOpen};
 
-    /// The follow-up of the seat's open ticket. Refuses NotOpen where the ticket isn't the open one of that seat,
-    /// also for a seat that isn't there, and for the ticket of a kept item, which is never open.
+    /// Follows the seat's open ticket up.
+    ///
+    /// # Errors
+    /// - NotOpen, if the ticket isn't the open one of that seat, or the seat isn't there: nothing has changed. The
+    ///   ticket of a buffered item is never open.
     pub fn follow_up(&mut self, seat: SeatNo, ticket: Ticket) -> Result<Followed<T>, Refusal>
         ensures step { IfOk result (λ answer. FollowStep self.old.queue seat ticket answer self.new.queue) }
         ensures open { IsOk result ↔ (open_ticket ((seats_of self.old.queue).holds seat) ≡ Some ticket) }
@@ -25,8 +28,10 @@ impl<T: Marked> Transfer<T> {
         self.meetings.follow_up(seat, ticket)
     }
 
-    /// Takes the seat's open ticket back, with a giver's item, where it stands in the line; else it is late. Refuses
-    /// NotOpen as a follow-up does.
+    /// Takes the seat's open ticket back, with a producer's item, if it stands in the wait queue; otherwise it is late.
+    ///
+    /// # Errors
+    /// - NotOpen, as `follow_up`.
     pub fn cancel(&mut self, seat: SeatNo, ticket: Ticket) -> Result<TakenBack<T>, Refusal>
         ensures step { IfOk result (λ answer. WithdrawStep self.old.queue seat ticket answer self.new.queue) }
         ensures open { IsOk result ↔ (open_ticket ((seats_of self.old.queue).holds seat) ≡ Some ticket) }
@@ -38,8 +43,12 @@ impl<T: Marked> Transfer<T> {
         self.meetings.cancel(seat, ticket)
     }
 
-    /// The time of the seat's open ticket ran out, as in timed `LinkedTransferQueue.tryTransfer` and `poll`: it is
-    /// taken back as by `cancel`, and leaves nothing behind.
+    /// Takes the seat's open ticket back as `cancel` does, since its time ran out. It leaves nothing there.
+    ///
+    /// # Errors
+    /// - NotOpen, as `follow_up`.
+    ///
+    /// Java: the timeout of `LinkedTransferQueue.tryTransfer` and `poll`.
     pub fn expire(&mut self, seat: SeatNo, ticket: Ticket) -> Result<TakenBack<T>, Refusal>
         ensures step { IfOk result (λ answer. WithdrawStep self.old.queue seat ticket answer self.new.queue) }
         ensures open { IsOk result ↔ (open_ticket ((seats_of self.old.queue).holds seat) ≡ Some ticket) }
@@ -51,8 +60,13 @@ impl<T: Marked> Transfer<T> {
         self.meetings.expire(seat, ticket)
     }
 
-    /// `Thread.interrupt` of the target: its ticket is cut where it waits in the line, and awaits its follow-up; else
-    /// the target is flagged. What it left there to be kept stays. Refuses NoSuchSeat where the target isn't there.
+    /// Interrupts the target. A ticket that waits in the wait queue leaves it, and awaits its follow-up; otherwise the
+    /// interrupt becomes pending (the target is flagged). Its buffered items stay.
+    ///
+    /// # Errors
+    /// - NoSuchSeat, if the target isn't there: nothing has changed.
+    ///
+    /// Java: `Thread.interrupt`.
     pub fn interrupt(&mut self, target: SeatNo) -> Result<Interrupted, Refusal>
         ensures step { IfOk result (λ answer. InterruptStep self.old.queue target answer self.new.queue) }
         ensures waited { IfOk result (λ answer. CutsWaiting self.old.queue target answer) }

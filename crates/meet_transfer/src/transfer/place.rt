@@ -1,4 +1,4 @@
-//! The transfer queue as a book's place.
+//! The transfer queue as a book's object.
 
 ghost use Rattle.std.specs.Prelude.{◌≡◌, ◌≤◌, None, [], List, length, refl, Option};
 ghost use Rattle.meet_tickets.specs.declared.places.End.TheVariants.{Front};

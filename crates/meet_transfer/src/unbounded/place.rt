@@ -1,4 +1,5 @@
-//! The transfer queue without a bound as a book's place. Each step is that of a transfer queue, whose bound stays none.
+//! The transfer queue without a bound as a book's object. Each step is that of a transfer queue, whose bound stays
+//! none.
 
 ghost use Rattle.std.specs.Prelude.{◌≡◌, ◌≤◌, None, [], List, length, refl};
 ghost use Rattle.std.specs.Vec.{vec_capacity};

@@ -1,4 +1,4 @@
-//! A pool is shut.
+//! The shutdown of a pool.
 
 ghost use Rattle.std.specs.Prelude.{◌≡◌, ◌≢◌, ◌+◌, None, Some, IfOk, IfErr};
 ghost use Rattle.meet_tickets.specs.declared.refusals.Refusal.TheVariants.{Memory, HistoryFull};
@@ -13,7 +13,10 @@ impl<J> PoolCore<J> {
     ghost use Rattle.pool_core.specs.Calls.{Step, ReturnStep, shutdown_refusal};
     ghost use Rattle.pool_core.specs.declared.deeds.PoolDeed.TheVariants.{ShutDown};
 
-    /// Whether a shutdown of this seat is admitted, or why it is refused.
+    /// Returns whether a shutdown of this seat is admitted.
+    ///
+    /// # Errors
+    /// - NoSuchSeat, exactly if the seat isn't a caller's.
     pub fn admit_shutdown(&self, seat: SeatNo) -> Result<(), Refusal>
         ensures admitted { IfOk result (λ _. shutdown_refusal self.now seat ≡ None) }
         ensures why { IfErr result (λ why. shutdown_refusal self.now seat ≡ Some why) }
@@ -26,7 +29,11 @@ impl<J> PoolCore<J> {
         }
     }
 
-    /// No job is accepted any more; kept jobs stay, and waiting workers are cut. It takes no memory.
+    /// Shuts the pool down: no job is accepted any more, buffered jobs stay, and waiting workers are interrupted. It
+    /// doesn't allocate.
+    ///
+    /// # Errors
+    /// - NoSuchSeat, exactly if the seat isn't a caller's: nothing has changed.
     pub fn shutdown(&mut self, seat: SeatNo) -> Result<(), Refusal>
         ensures step { IfOk result (λ _. Step self.old seat 0 ShutDown self.new) }
         ensures room { self.new.room ≡ self.old.room }
@@ -50,8 +57,11 @@ impl<J> PoolCore<J> {
         self.line.drop_takes();
     }
 
-    /// The same, and the kept jobs are handed back, in the order in which they came. It takes no memory: the list was
-    /// reserved as the jobs were kept.
+    /// Shuts the pool down, and returns the buffered jobs, in order of arrival. It doesn't allocate: the list was
+    /// reserved as the jobs were buffered.
+    ///
+    /// # Errors
+    /// - NoSuchSeat, exactly if the seat isn't a caller's: nothing has changed.
     pub fn shutdown_now(&mut self, seat: SeatNo) -> Result<Vec<Task<J>>, Refusal>
         ensures step { IfOk result (λ jobs. ReturnStep self.old seat jobs.items self.new) }
         ensures room { self.new.room ≡ self.old.room }

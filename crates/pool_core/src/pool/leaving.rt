@@ -1,4 +1,4 @@
-//! What is left in a pool, counted and taken out. No call takes memory.
+//! The jobs that are left in a pool, counted and taken out. No call allocates.
 
 ghost use Rattle.std.specs.Prelude.{◌≡◌, ◌+◌, ◌≤◌, ◌++◌, [], length, option_to_list, is_some, vec_len, count_by};
 ghost use Rattle.std.specs.Prelude.{IsPermutation};
@@ -12,7 +12,7 @@ use crate::pool::PoolCore;
 use crate::stages::Task;
 
 impl<J> PoolCore<J> {
-    /// How many jobs are left in the pool: the kept ones, and those in the hands of workers.
+    /// Returns how many jobs are left in the pool: the buffered ones, and those in the hands of workers.
     pub fn left(&self) -> u64
         ensures { result ≡ length (left_in self.now.pool) }
     {
@@ -20,9 +20,8 @@ impl<J> PoolCore<J> {
         self.line.kept() + tasks_in(&self.workers) as u64
     }
 
-    /// Takes the pool apart, and takes out the jobs that are left in it: the kept ones, in the order in which they
-    /// came, and those in the hands of workers, by number. The list must have room for them (`left` says how many they
-    /// are).
+    /// Takes the pool apart, and returns the jobs that are left in it: the buffered ones, in order of arrival, and
+    /// those in the hands of workers, by number. The list must have room for them (`left` returns how many they are).
     pub fn into_left(self, empty: Vec<Task<J>>) -> Vec<Task<J>>
         requires empty { empty.items ≡ [] }
         requires room { length (left_in self.pool) ≤ vec_capacity empty }
@@ -53,7 +52,7 @@ impl<J> PoolCore<J> {
         left
     }
 
-    /// The same, by rising ticket: n jobs cost n log n.
+    /// Takes the pool apart as `into_left` does, and returns the jobs by rising ticket: n jobs cost n log n.
     pub fn into_left_by_ticket(self, empty: Vec<Task<J>>) -> Vec<Task<J>>
         requires empty { empty.items ≡ [] }
         requires room { length (left_in self.pool) ≤ vec_capacity empty }

@@ -1,4 +1,4 @@
-//! Who may go on after an answer: hints.
+//! Which worker may go on after a call: hints.
 
 use crate::answers::{Executed, Followed, Ready};
 use crate::calls::PoolAnswer;

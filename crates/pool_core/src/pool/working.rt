@@ -1,4 +1,4 @@
-//! The workers' steps. None of them takes memory.
+//! The workers' steps. None of them allocates.
 
 ghost use Rattle.std.specs.Prelude.{◌≡◌, ◌≢◌, ◌+◌, ◌-◌, ◌<◌, ◌≤◌, true, false, Some, None, IfOk, IfErr, length};
 ghost use Rattle.std.specs.Prelude.{slice_index_or, slice_set};
@@ -38,7 +38,12 @@ impl<J> PoolCore<J> {
         Ok(worker)
     }
 
-    /// Whether the worker's `ready` or `start_failed` is admitted, or why it is refused.
+    /// Returns whether the worker's `ready` or `start_failed` is admitted.
+    ///
+    /// # Errors
+    /// The first that applies:
+    /// - NoSuchSeat, if the seat isn't a worker's.
+    /// - NotOpen, if the worker doesn't start.
     #[inline(always)]
     pub fn admit_starting(&self, seat: SeatNo) -> Result<(), Refusal>
         ensures admitted { IfOk result (λ _. worker_refusal is_starting self.now seat ≡ None) }
@@ -53,7 +58,12 @@ impl<J> PoolCore<J> {
         }
     }
 
-    /// Whether the worker's `follow` or `idle_end` is admitted, or why it is refused.
+    /// Returns whether the worker's `follow` or `idle_end` is admitted.
+    ///
+    /// # Errors
+    /// The first that applies:
+    /// - NoSuchSeat, if the seat isn't a worker's.
+    /// - NotOpen, if the worker isn't at the queue.
     pub fn admit_at_queue(&self, seat: SeatNo) -> Result<(), Refusal>
         ensures admitted { IfOk result (λ _. worker_refusal is_at_queue self.now seat ≡ None) }
         ensures why { IfErr result (λ why. worker_refusal is_at_queue self.now seat ≡ Some why) }
@@ -67,7 +77,12 @@ impl<J> PoolCore<J> {
         }
     }
 
-    /// Whether the worker's `finish` is admitted, or why it is refused.
+    /// Returns whether the worker's `finish` is admitted.
+    ///
+    /// # Errors
+    /// The first that applies:
+    /// - NoSuchSeat, if the seat isn't a worker's.
+    /// - NotOpen, if the worker runs no job.
     #[inline(always)]
     pub fn admit_finish(&self, seat: SeatNo) -> Result<(), Refusal>
         ensures admitted { IfOk result (λ _. worker_refusal is_running self.now seat ≡ None) }
@@ -82,7 +97,12 @@ impl<J> PoolCore<J> {
         }
     }
 
-    /// Whether the worker's `leave` is admitted, or why it is refused.
+    /// Returns whether the worker's `leave` is admitted.
+    ///
+    /// # Errors
+    /// The first that applies:
+    /// - NoSuchSeat, if the seat isn't a worker's.
+    /// - NotOpen, if the worker doesn't start without a job.
     pub fn admit_leave(&self, seat: SeatNo) -> Result<(), Refusal>
         ensures admitted { IfOk result (λ _. worker_refusal is_jobless self.now seat ≡ None) }
         ensures why { IfErr result (λ why. worker_refusal is_jobless self.now seat ≡ Some why) }
@@ -96,7 +116,10 @@ impl<J> PoolCore<J> {
         }
     }
 
-    /// The worker's job answered this: the job is done, and the worker starts again, with none.
+    /// Records what the worker's job returned: the job is done, and the worker starts again, with none.
+    ///
+    /// # Errors
+    /// - NoSuchSeat or NotOpen, as `admit_finish`: nothing has changed.
     #[inline(always)]
     pub fn finish(&mut self, seat: SeatNo, answer: u64) -> Result<Ticket, Refusal>
         ensures step { IfOk result (λ ticket. Step self.old seat ticket (Finished answer) self.new) }
@@ -115,7 +138,10 @@ impl<J> PoolCore<J> {
         Ok(ticket)
     }
 
-    /// A worker that starts without a job ends.
+    /// Ends a worker that starts without a job.
+    ///
+    /// # Errors
+    /// - NoSuchSeat or NotOpen, as `admit_leave`: nothing has changed.
     pub fn leave(&mut self, seat: SeatNo) -> Result<Ticket, Refusal>
         ensures step { IfOk result (λ ticket. Step self.old seat ticket Leaves self.new) }
         ensures room { self.old.room ≤ self.new.room }
@@ -131,7 +157,10 @@ impl<J> PoolCore<J> {
         Ok(no_ticket())
     }
 
-    /// A worker couldn't be started, and ends; its first job comes back.
+    /// Ends a worker that couldn't be started, and returns its first job.
+    ///
+    /// # Errors
+    /// - NoSuchSeat or NotOpen, as `admit_starting`: nothing has changed.
     pub fn start_failed(&mut self, seat: SeatNo) -> Result<(Ticket, Option<J>), Refusal>
         ensures step { IfOk result (λ told. StartStep self.old seat told.0 told.1 self.new) }
         ensures room { self.old.room ≤ self.new.room }
@@ -152,7 +181,10 @@ impl<J> PoolCore<J> {
         Ok((ticket, Some(job)))
     }
 
-    /// The follow-up of the worker's take.
+    /// Follows the worker's take up.
+    ///
+    /// # Errors
+    /// - NoSuchSeat or NotOpen, as `admit_at_queue`: nothing has changed.
     pub fn follow(&mut self, seat: SeatNo) -> Result<(Ticket, Followed<J>), Refusal>
         ensures step { IfOk result (λ told. FollowStep self.old seat told.0 told.1 self.new) }
         ensures room { self.old.room ≤ self.new.room }
@@ -176,8 +208,11 @@ impl<J> PoolCore<J> {
         Ok((take, Followed::Run(ticket, job)))
     }
 
-    /// The keep-alive of a worker's take ran out: where it still stands in the line, the worker ends if there are more
-    /// than `core` or core workers time out too, and else stays.
+    /// Records that the keep-alive time of a worker's take ran out. If the take still waits, the worker ends if there
+    /// are more than `core` or core workers time out too; otherwise it stays.
+    ///
+    /// # Errors
+    /// - NoSuchSeat or NotOpen, as `admit_at_queue`: nothing has changed.
     pub fn idle_end(&mut self, seat: SeatNo) -> Result<(Ticket, IdleEnd), Refusal>
         ensures step { IfOk result (λ told. IdleStep self.old seat told.0 told.1 self.new) }
         ensures room { self.old.room ≤ self.new.room }
@@ -207,8 +242,11 @@ impl<J> PoolCore<J> {
         self.settings.sizes.core_timeout || self.workers() > self.settings.sizes.core
     }
 
-    /// A worker that starts runs its first job, or the kept one that came first; else it exits where the pool is shut,
-    /// and else it waits.
+    /// Gives a worker that starts its first job, or the oldest buffered one; otherwise it exits if the pool is shut
+    /// down, and else it waits.
+    ///
+    /// # Errors
+    /// - NoSuchSeat or NotOpen, as `admit_starting`: nothing has changed.
     #[inline(always)]
     pub fn ready(&mut self, seat: SeatNo) -> Result<(Ticket, Ready<J>), Refusal>
         ensures step { IfOk result (λ told. Step self.old seat told.0 (ready_deed told.1) self.new) }

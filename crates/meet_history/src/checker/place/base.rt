@@ -14,7 +14,7 @@ use meet_core::{SeatTable, open_tickets};
 use meet_tickets::{Base, Entry, Hold, Kind, OpenCut, OpenPair, Refusal, SeatNo, Side, Ticket};
 use std::alloc::Global;
 
-/// Sees that a table has this seat. The only refusal is Memory.
+/// Sees that a table has this seat. Fails only if an allocation fails.
 fn make_seat(table: &mut SeatTable<u64>, seat: SeatNo) -> Result<(), Refusal>
     ensures holds { hold_at table.new.holds ≡ hold_at table.old.holds }
     ensures flags { flag_at table.new.flags ≡ flag_at table.old.flags }
@@ -28,7 +28,7 @@ fn make_seat(table: &mut SeatTable<u64>, seat: SeatNo) -> Result<(), Refusal>
     }
 }
 
-/// A seat holds this from now on. The only refusal is Memory.
+/// A seat holds this from now on. Fails only if an allocation fails.
 fn hold(table: &mut SeatTable<u64>, seat: SeatNo, hold: Hold<u64>) -> Result<(), Refusal>
     ensures holds { OnOk result (hold_at table.new.holds ≡ put_at (hold_at table.old.holds) seat hold) }
     ensures flags { flag_at table.new.flags ≡ flag_at table.old.flags }
@@ -41,7 +41,7 @@ fn hold(table: &mut SeatTable<u64>, seat: SeatNo, hold: Hold<u64>) -> Result<(),
     Ok(())
 }
 
-/// The seats of a line's entries hold their tickets where these wait. The only refusal is Memory.
+/// The seats of a line's entries hold their tickets where these wait. Fails only if an allocation fails.
 fn hold_line(table: &mut SeatTable<u64>, line: &[Entry<u64>]) -> Result<(), Refusal>
     ensures holds { OnOk result (hold_at table.new.holds
         ≡ held_once (hold_at table.old.holds) (waiting_in_line line.now)) }
@@ -69,7 +69,7 @@ fn hold_met(side: Side, ticket: Ticket, partner: Ticket, mark: u64) -> Hold<u64>
     }
 }
 
-/// The seats of tickets that were met hold them. The only refusal is Memory.
+/// The seats of tickets that were met hold them. Fails only if an allocation fails.
 fn hold_pairs(table: &mut SeatTable<u64>, pairs: &[OpenPair]) -> Result<(), Refusal>
     ensures holds { OnOk result (hold_at table.new.holds
         ≡ held_once (hold_at table.old.holds) (map paired_held pairs.now)) }
@@ -84,7 +84,7 @@ fn hold_pairs(table: &mut SeatTable<u64>, pairs: &[OpenPair]) -> Result<(), Refu
     Ok(())
 }
 
-/// The seats of tickets that were cut hold them. The only refusal is Memory.
+/// The seats of tickets that were cut hold them. Fails only if an allocation fails.
 fn hold_cut(table: &mut SeatTable<u64>, cuts: &[OpenCut]) -> Result<(), Refusal>
     ensures holds { OnOk result (hold_at table.new.holds
         ≡ held_once (hold_at table.old.holds) (map cut_held cuts.now)) }
@@ -98,7 +98,7 @@ fn hold_cut(table: &mut SeatTable<u64>, cuts: &[OpenCut]) -> Result<(), Refusal>
     Ok(())
 }
 
-/// These seats are flagged. The only refusal is Memory.
+/// These seats are flagged. Fails only if an allocation fails.
 fn flag_all(table: &mut SeatTable<u64>, seats: &[SeatNo]) -> Result<(), Refusal>
     ensures holds { hold_at table.new.holds ≡ hold_at table.old.holds }
     ensures flags { OnOk result (flag_at table.new.flags ≡ flagged_once (flag_at table.old.flags) seats.now) }
@@ -113,7 +113,7 @@ fn flag_all(table: &mut SeatTable<u64>, seats: &[SeatNo]) -> Result<(), Refusal>
 }
 
 impl CheckedPlace {
-    /// The place that a well-formed base stands for. The only refusal is Memory.
+    /// The place that a well-formed base stands for. Fails only if an allocation fails.
     pub(crate) fn on(alloc: Global, kind: Kind, base: &Base) -> Result<Self, Refusal>
         requires { IsWellFormed kind base.now }
         ensures kind { IfOk result (λ place. place.kind ≡ kind) }
@@ -137,7 +137,7 @@ impl CheckedPlace {
         })
     }
 
-    /// The base that stands for this place, where so many records were folded away. The only refusal is Memory.
+    /// The base that stands for this place, where so many records were folded away. Fails only if an allocation fails.
     pub(crate) fn base(&self, alloc: Global, gone: u64) -> Result<Base, Refusal>
         ensures base { IfOk result (IsBaseOf (moment_at self.now) gone) }
         ensures memory { IfErr result (λ why. why ≡ Memory) }

@@ -71,7 +71,7 @@ impl MarkLine {
         }
     }
 
-    /// The line of these entries, whose tickets rise, and which are of one side. The only refusal is Memory.
+    /// The line of these entries, whose tickets rise, and which are of one side. Fails only if an allocation fails.
     pub(crate) fn of(alloc: Global, end: End, entries: &[Entry<u64>]) -> Result<Self, Refusal>
         requires rises { AllPairs (λ e f. e.ticket < f.ticket) entries.now }
         requires one_side { AllPairs (λ e f. is_some e.item ≡ is_some f.item) entries.now }
@@ -89,7 +89,7 @@ impl MarkLine {
         Ok(marks)
     }
 
-    /// Makes room for an entry more. The only refusal is Memory.
+    /// Makes room for an entry more. Fails only if an allocation fails.
     #[inline(always)]
     pub(crate) fn reserve(&mut self) -> Result<(), Refusal>
         ensures end { self.new.end ≡ self.old.end }
@@ -178,7 +178,7 @@ impl MarkLine {
         len_of(&self.line)
     }
 
-    /// The entries once more, in order of request. The only refusal is Memory.
+    /// The entries once more, in order of request. Fails only if an allocation fails.
     pub(crate) fn entries(&self, alloc: Global) -> Result<Vec<Entry<u64>>, Refusal>
         ensures entries { IfOk result (λ copies. copies.items ≡ self.now.entries) }
         ensures memory { IfErr result (λ why. why ≡ Memory) }
@@ -191,7 +191,7 @@ impl MarkLine {
     }
 }
 
-/// The entries of a line in order of request, lent. The only refusal is Memory.
+/// The entries of a line in order of request, borrowed. Fails only if an allocation fails.
 fn list_by(alloc: Global, line: &ByEnd) -> Result<Vec<&Entry<u64>>, Refusal>
     ensures entries { IfOk result (λ list. map (λ e. e.now) list.items ≡ entries_of line.now) }
     ensures memory { IfErr result (λ why. why ≡ Memory) }
@@ -214,7 +214,7 @@ fn copy(entry: &Entry<u64>) -> Entry<u64>
     }
 }
 
-/// These entries once more. The only error is want of memory.
+/// These entries once more. Fails only if an allocation fails.
 fn copies(alloc: Global, list: &[&Entry<u64>]) -> Result<Vec<Entry<u64>>, AllocError>
     ensures { IfOk result (λ copies. copies.items ≡ map (λ e. e.now) list.now) }
 {
