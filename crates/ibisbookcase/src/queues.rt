@@ -1,8 +1,8 @@
-//! The queues for threads, for who holds seats, gates and ledgers in a hand of his own, and a desk for their seats.
+//! The queues for threads, for callers that hold seats, gates and ledgers themselves, and a pool for their seats.
 
 pub use meet_cells::{ParkGate, SpinGate};
 pub use meet_chosen::{ChosenBook, ChosenQueue};
-pub use meet_desk::Desk;
+pub use meet_seats::SeatPool;
 pub use meet_sync::{
     Answer, Asked, Back, Blanks, Chapter, Chronicle, DrainedItems, End, Ended, FairLine, Followed,
     Gate, Interrupted, Ledgers, Left, LeftStanding, Moment, NewQueue, Pending, Queue, QueueFault,

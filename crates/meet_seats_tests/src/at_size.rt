@@ -1,11 +1,11 @@
-//! A desk of as many seats as a place may have.
+//! A pool of as many seats as a place may have.
 
 ghost use Rattle.std.specs.Prelude.{◌≡◌, vec_len};
 ghost use Rattle.meet_place.specs.Ledgers.{AreOf};
 ghost use Rattle.meet_tickets.specs.Limits.{most_records};
 
 use meet_cells::ParkGate;
-use meet_desk::Desk;
+use meet_seats::SeatPool;
 use meet_sync::{Ledgers, NewQueue, TransferQueue};
 use meet_tickets::{MOST_SEATS, Refusal};
 use std::alloc::Global;
@@ -27,21 +27,21 @@ fn filled<N: Ledgers, R: Wait>(
         Ok(made) => made,
         Err(refused) => return Err(refused.into_why()),
     };
-    let desk = match Desk::new(alloc, seats) {
-        Ok(desk) => desk,
+    let pool = match SeatPool::new(alloc, seats) {
+        Ok(pool) => pool,
         Err(refused) => return Err(refused.into_why()),
     };
     let mut taken = Vec::new(alloc);
     for _ in 0..=MOST_SEATS {
-        if let Some(seat) = desk.sit(rt) {
+        if let Some(seat) = pool.try_acquire(rt) {
             taken.push(seat).map_err(|_| Refusal::Memory)?;
         }
     }
     let given = taken.len();
     for seat in taken {
-        desk.rise(rt, seat);
+        pool.release(rt, seat);
     }
-    let backs = desk.into_seats();
+    let backs = pool.into_seats();
     let free = backs.len();
     match queue.close(alloc, backs) {
         Ok(_) => Ok((given, free)),
@@ -51,7 +51,7 @@ fn filled<N: Ledgers, R: Wait>(
 
 /// Memory is refused only where it is short, however many seats there are.
 #[test]
-fn a_desk_of_65_536_seats(rt: HostRuntime) {
+fn a_pool_of_65_536_seats(rt: HostRuntime) {
     let parts = NewQueue::parked(rt.alloc(), 65_536).expect(&rt, "memory");
     let told = filled::<Brand, HostRuntime>(&rt, rt.alloc(), parts);
     assert_eq!(&rt; told, Ok((65_536, 65_536)));

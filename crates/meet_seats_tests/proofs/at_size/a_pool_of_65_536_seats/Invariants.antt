@@ -1,6 +1,6 @@
--- What stays true from turn to turn of `a_desk_of_65_536_seats`, src/at_size.rt.
+-- What stays true from turn to turn of `a_pool_of_65_536_seats`, src/at_size.rt.
 use Rattle.meet_tickets.specs.Limits.{most_records}
-use Rattle.meet_desk_tests.proofs.at_size.a_desk_of_65_536_seats.Given as goal
+use Rattle.meet_seats_tests.proofs.at_size.a_pool_of_65_536_seats.Given as goal
 
 -- the ledgers of the queue that is made
 abbrev pub ghosts-filled-N-Ledger : goal.ghosts-filled-N-Ledger

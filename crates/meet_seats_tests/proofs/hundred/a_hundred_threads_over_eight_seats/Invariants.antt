@@ -1,6 +1,6 @@
 -- What stays true from turn to turn of `a_hundred_threads_over_eight_seats`, src/hundred.rt.
 use Rattle.meet_tickets.specs.Limits.{most_records}
-use Rattle.meet_desk_tests.proofs.hundred.a_hundred_threads_over_eight_seats.Given as goal
+use Rattle.meet_seats_tests.proofs.hundred.a_hundred_threads_over_eight_seats.Given as goal
 
 -- the ledgers of the queue that is made
 abbrev pub ghosts-hundred-N-Ledger : goal.ghosts-hundred-N-Ledger

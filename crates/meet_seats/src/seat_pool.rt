@@ -1,4 +1,4 @@
-//! The desk.
+//! The pool of seats.
 
 ghost use Rattle.std.specs.Prelude.{◌≡◌, ◌≤◌, IfErr, vec_len};
 ghost use Rattle.meet_tickets.specs.declared.refusals.Refusal.TheVariants.{Memory};
@@ -10,18 +10,19 @@ use std::alloc::Global;
 use std::mem::ManuallyDrop;
 use std::sync::{Condvar, Mutex, Wait};
 
-/// The seats of one place, for whoever comes: a thread sits down with one that is free, makes calls with it, and rises
-/// again. A seat that is given out isn't there, so nobody else has it; one that comes back has more receipts, and is
-/// the same seat. Who waits in a call keeps its seat: with as many waiting calls as seats nobody else gets one, so
-/// calls with a limit, or such as don't wait, are for a desk.
+/// The seats of one place, shared by any number of threads. A thread acquires a free seat, makes calls with it, and
+/// releases it. No other thread has the seat meanwhile; its receipts and its moment stay with it.
+///
+/// A thread that waits in a call keeps its seat. If as many calls wait as there are seats, no other thread gets one. So
+/// use calls with a limit, or calls that don't wait.
 #[derive(Drop)]
-pub struct Desk<D: Copy + Drop, N: Ledgers> {
+pub struct SeatPool<D: Copy + Drop, N: Ledgers> {
     free: Mutex<Free<D, N>>,
     came: Condvar,
 }
 
-impl<D: Copy + Drop, N: Ledgers> Desk<D, N> {
-    /// Creates a desk at which all seats of a place are free.
+impl<D: Copy + Drop, N: Ledgers> SeatPool<D, N> {
+    /// Creates a pool with all seats of a place, each free.
     ///
     /// # Errors
     /// - Memory, if the allocation fails; the seats are returned.
@@ -36,19 +37,20 @@ impl<D: Copy + Drop, N: Ledgers> Desk<D, N> {
                 back: seats,
             });
         };
-        Ok(Desk {
+        Ok(SeatPool {
             free: Mutex::new(Free::of(seats, backs)),
             came: Condvar::new(),
         })
     }
 
-    /// Returns the free seat that came back last, or None if no seat is free now. It waits only for the lock.
-    pub fn sit<R: Wait>(&self, rt: &R) -> Option<Seat<D, N>> {
+    /// Returns the seat that was released last, or None if no seat is free now. It waits only for the pool's lock. Java:
+    /// `Semaphore.tryAcquire`.
+    pub fn try_acquire<R: Wait>(&self, rt: &R) -> Option<Seat<D, N>> {
         self.free.lock(rt).take()
     }
 
-    /// Returns a seat after one is free. It waits for ever if no seat comes back.
-    pub fn wait_to_sit<R: Wait>(&self, rt: &R) -> Seat<D, N> {
+    /// Waits until a seat is free, and returns it. It waits for ever if no seat is released. Java: `Semaphore.acquire`.
+    pub fn acquire<R: Wait>(&self, rt: &R) -> Seat<D, N> {
         let mut free = self.free.lock(rt);
         for _ in rt.forever() {
             if let Some(seat) = free.take() {
@@ -59,14 +61,15 @@ impl<D: Copy + Drop, N: Ledgers> Desk<D, N> {
         unreachable!() // it loops for ever
     }
 
-    /// Gives a seat back, and wakes one thread that waits for a seat.
-    pub fn rise<R: Wait>(&self, rt: &R, seat: Seat<D, N>) {
+    /// Releases a seat, and wakes one thread that waits for a seat. Java: `Semaphore.release`.
+    pub fn release<R: Wait>(&self, rt: &R, seat: Seat<D, N>) {
         let left_over = self.free.lock(rt).put(seat);
         let _none = ManuallyDrop::new(left_over);
         self.came.notify_one();
     }
 
-    /// Returns the free seats, for the end of their place: all, if each thread rose that sat down. It takes no memory.
+    /// Returns the free seats, to close their place with: all, if each that was acquired was released. It doesn't
+    /// allocate.
     pub fn into_seats(self) -> Vec<Back<D, N>>
         ensures { vec_len result ≤ N.parts }
     {

@@ -1,6 +1,6 @@
 -- What stays true from turn to turn of `each_seat_is_given_out_once`, src/one_thread.rt.
 use Rattle.meet_tickets.specs.Limits.{most_records}
-use Rattle.meet_desk_tests.proofs.one_thread.each_seat_is_given_out_once.Given as goal
+use Rattle.meet_seats_tests.proofs.one_thread.each_seat_is_given_out_once.Given as goal
 
 -- the ledgers of the queue that is made
 abbrev pub ghosts-looked-N-Ledger : goal.ghosts-looked-N-Ledger

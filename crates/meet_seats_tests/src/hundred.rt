@@ -5,7 +5,7 @@ ghost use Rattle.meet_place.specs.Ledgers.{AreOf};
 ghost use Rattle.meet_tickets.specs.Limits.{most_records};
 
 use meet_cells::ParkGate;
-use meet_desk::Desk;
+use meet_seats::SeatPool;
 use meet_sync::{End, Ledgers, NewQueue, TransferQueue};
 use meet_tickets::{Deed, Refusal};
 use std::alloc::Global;
@@ -19,25 +19,25 @@ use std::time::Clock;
 /// What the threads share.
 struct Hall<N: Ledgers> {
     queue: TransferQueue<u64, ParkGate, N>,
-    desk: Desk<Deed, N>,
+    pool: SeatPool<Deed, N>,
     sum: AtomicU64,
     faults: AtomicU64,
 }
 
 /// One thread: it puts a number, and takes one, each with whichever seat it gets.
 fn visit<N: Ledgers, R: Wait + Clock>(rt: &R, hall: &Hall<N>, number: u64) {
-    let seat = hall.desk.wait_to_sit(rt);
+    let seat = hall.pool.acquire(rt);
     match hall.queue.put(rt, seat, number) {
-        Ok(ended) => hall.desk.rise(rt, ended.seat),
+        Ok(ended) => hall.pool.release(rt, ended.seat),
         Err(refused) => {
             hall.faults.fetch_add(1, Ordering::SeqCst);
-            hall.desk.rise(rt, refused.seat);
+            hall.pool.release(rt, refused.seat);
         }
     }
-    let seat = hall.desk.wait_to_sit(rt);
+    let seat = hall.pool.acquire(rt);
     match hall.queue.poll(rt, seat) {
         Ok(ended) => {
-            hall.desk.rise(rt, ended.seat);
+            hall.pool.release(rt, ended.seat);
             match ended.end {
                 End::Got(_, number) => {
                     hall.sum.fetch_add(number, Ordering::SeqCst);
@@ -49,7 +49,7 @@ fn visit<N: Ledgers, R: Wait + Clock>(rt: &R, hall: &Hall<N>, number: u64) {
         }
         Err(refused) => {
             hall.faults.fetch_add(1, Ordering::SeqCst);
-            hall.desk.rise(rt, refused.seat);
+            hall.pool.release(rt, refused.seat);
         }
     }
 }
@@ -87,24 +87,24 @@ where
         Ok(made) => made,
         Err(refused) => return Err(refused.into_why()),
     };
-    let desk = match Desk::new(alloc, seats) {
-        Ok(desk) => desk,
+    let pool = match SeatPool::new(alloc, seats) {
+        Ok(pool) => pool,
         Err(refused) => return Err(refused.why),
     };
     let hall = Hall {
         queue,
-        desk,
+        pool,
         sum: AtomicU64::new(0),
         faults: AtomicU64::new(0),
     };
     all_visit(rt, &hall);
     let Hall {
         queue,
-        desk,
+        pool,
         sum,
         faults,
     } = hall;
-    match queue.close(alloc, desk.into_seats()) {
+    match queue.close(alloc, pool.into_seats()) {
         Ok(chronicle) => Ok((
             sum.into_inner(),
             faults.into_inner(),

@@ -1,22 +1,22 @@
-//! What a desk gives out, looked at by one thread.
+//! What a pool of seats returns to one thread.
 
 ghost use Rattle.std.specs.Prelude.{◌≡◌, vec_len};
 ghost use Rattle.meet_place.specs.Ledgers.{AreOf};
 ghost use Rattle.meet_tickets.specs.Limits.{most_records};
 
 use meet_cells::ParkGate;
-use meet_desk::Desk;
+use meet_seats::SeatPool;
 use meet_sync::{Ledgers, NewQueue, TransferQueue};
 use meet_tickets::{Deed, Refusal};
 use std::alloc::Global;
 use std::marker::Brand;
 use std::sync::Wait;
 
-/// The number of the seat that a desk gives out now, which is given back at once.
-fn glance<N: Ledgers, R: Wait>(rt: &R, desk: &Desk<Deed, N>) -> Option<u64> {
-    let seat = desk.sit(rt)?;
+/// The number of the seat that a pool returns now; it is released at once.
+fn glance<N: Ledgers, R: Wait>(rt: &R, pool: &SeatPool<Deed, N>) -> Option<u64> {
+    let seat = pool.try_acquire(rt)?;
     let number = seat.number().number();
-    desk.rise(rt, seat);
+    pool.release(rt, seat);
     Some(number)
 }
 
@@ -35,29 +35,29 @@ fn looked<N: Ledgers, R: Wait>(
         Ok(made) => made,
         Err(refused) => return Err(refused.into_why()),
     };
-    let desk = match Desk::new(alloc, seats) {
-        Ok(desk) => desk,
+    let pool = match SeatPool::new(alloc, seats) {
+        Ok(pool) => pool,
         Err(refused) => return Err(refused.into_why()),
     };
     let mut numbers = Vec::new(alloc);
     let mut taken = Vec::new(alloc);
     for _ in 0..3 {
-        let seat = desk.sit(rt).ok_or(Refusal::NoSuchSeat)?;
+        let seat = pool.try_acquire(rt).ok_or(Refusal::NoSuchSeat)?;
         numbers
             .push(seat.number().number())
             .map_err(|_| Refusal::Memory)?;
         taken.push(seat).map_err(|_| Refusal::Memory)?;
     }
-    let none = glance(rt, &desk);
+    let none = glance(rt, &pool);
     let mut again = None;
     for seat in taken {
         let number = seat.number().number();
-        desk.rise(rt, seat);
+        pool.release(rt, seat);
         if number == 1 {
-            again = glance(rt, &desk);
+            again = glance(rt, &pool);
         }
     }
-    let backs = desk.into_seats();
+    let backs = pool.into_seats();
     let count = backs.len();
     match queue.close(alloc, backs) {
         Ok(_) => Ok((numbers, none, again, count)),

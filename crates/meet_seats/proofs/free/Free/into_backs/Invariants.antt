@@ -3,7 +3,7 @@ use Rattle.std.proofs.Common.{◌≡◌, ◌+◌, ◌≤◌, ◌++◌, map, vec_
 use Rattle.std.specs.Vec.{vec_capacity}
 use Rattle.std.specs.Vec.Iter.{into_iter_len, into_iter_items}
 use Rattle.meet_place.specs.declared.seats.Back.TheVariants.{Free as IsFree}
-use Rattle.meet_desk.proofs.free.Free.into_backs.Given as goal
+use Rattle.meet_seats.proofs.free.Free.into_backs.Given as goal
 
 abbrev pub invariant-loop-seat : goal.invariant-loop-seat
 invariant-loop-seat g l = record {

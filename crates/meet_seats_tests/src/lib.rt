@@ -1,4 +1,4 @@
-//! Tests of desks, on public calls alone.
+//! Tests of pools of seats, on public calls alone.
 #![tactic(auto)]
 
 mod at_size;
