@@ -130,6 +130,30 @@ enum {
 enum { IBIS_SIDE_GIVER = 0, IBIS_SIDE_TAKER = 1 };
 enum { IBIS_CAUSE_CANCELLED = 0, IBIS_CAUSE_EXPIRED = 1, IBIS_CAUSE_INTERRUPTED = 2 };
 
+/* What stands for the records that were folded away (a base): how many they are, their greatest ticket, and how many rows
+   tell where they left the queue. */
+typedef struct ibis_base {
+    uint64_t gone, last;
+    uint64_t line, pairs, cut, flags; /* rows of the wait queue, of IBIS_ROW_MATCHED, _INTERRUPTED and _FLAGGED */
+} ibis_base;
+
+/* A row of a base. What it hasn't is 0. */
+typedef struct ibis_base_row {
+    uint64_t what;
+    uint64_t seat, ticket;
+    uint64_t side;    /* IBIS_SIDE_GIVER or IBIS_SIDE_TAKER */
+    uint64_t mark;    /* the giver's item */
+    uint64_t partner; /* of IBIS_ROW_MATCHED: the partner's ticket */
+} ibis_base_row;
+
+enum {
+    IBIS_ROW_WAITS = 1,       /* a pending request in the wait queue */
+    IBIS_ROW_KEPT = 2,        /* an item that a transfer queue keeps, in the wait queue */
+    IBIS_ROW_MATCHED = 3,     /* a request that was matched, and needs a follow-up */
+    IBIS_ROW_INTERRUPTED = 4, /* a request that was interrupted, and needs a follow-up */
+    IBIS_ROW_FLAGGED = 5      /* a seat whose next wait ends at once */
+};
+
 /* What a checker found. What it hasn't is 0. */
 typedef struct ibis_found {
     uint64_t status;                     /* as returned */
@@ -164,6 +188,13 @@ uint64_t ibis_queue_records(ibis_handle *handle, size_t from, ibis_record *into,
 
 /* Folds the records away (a checkpoint), and sets how many these are since the first. If it fails nothing has changed. */
 uint64_t ibis_queue_cut(ibis_handle *handle, uint64_t *gone);
+
+/* Reads the numbers of the queue's base. */
+uint64_t ibis_queue_base(ibis_handle *handle, ibis_base *base);
+
+/* Reads a row of the base by its index, from 0: the wait queue in order of request, then the matched, the interrupted and
+   the flagged. IBIS_BAD_NUMBERS if there is none. */
+uint64_t ibis_queue_base_row(ibis_handle *handle, size_t index, ibis_base_row *row);
 
 /* Pushes the queue's new records on the checker, and folds them away if all are legal. */
 uint64_t ibis_queue_check(ibis_handle *queue, ibis_handle *checker, ibis_found *found);

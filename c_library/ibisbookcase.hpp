@@ -88,6 +88,18 @@ public:
         need(ibis_queue_cut(&handle, &gone));
         return gone;
     }
+
+    ibis_base base() {
+        ibis_base base;
+        need(ibis_queue_base(&handle, &base));
+        return base;
+    }
+
+    ibis_base_row base_row(size_t index) {
+        ibis_base_row row;
+        need(ibis_queue_base_row(&handle, index, &row));
+        return row;
+    }
 };
 
 } // namespace ibis

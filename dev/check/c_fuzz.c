@@ -49,6 +49,35 @@ static void start(place *p, uint64_t order) {
     memset(p->open, 0, sizeof p->open);
 }
 
+/* The base that stands for the records: its rows are the open tickets and the kept items, as the list of tickets has them. */
+static void read_base(place *p, const ibis_found *found) {
+    ibis_base base;
+    ibis_base_row row, last = {0};
+    NEED(ibis_queue_base(&p->core, &base) == IBIS_OK);
+    NEED(base.gone == p->records && base.last == p->tickets);
+    uint64_t rows = base.line + base.pairs + base.cut + base.flags, of[6] = {0};
+    NEED(ibis_queue_base_row(&p->core, rows, &last) == IBIS_BAD_NUMBERS && !last.what);
+    for (uint64_t i = 0; i < rows; i++, last = row) {
+        NEED(ibis_queue_base_row(&p->core, i, &row) == IBIS_OK && row.what >= IBIS_ROW_WAITS && row.what <= IBIS_ROW_FLAGGED);
+        of[row.what]++;
+        NEED((row.what <= IBIS_ROW_KEPT) == (i < base.line));
+        if (i && row.what == last.what && row.what >= IBIS_ROW_MATCHED)
+            NEED(row.what == IBIS_ROW_FLAGGED ? row.seat > last.seat : row.ticket > last.ticket);
+        if (row.what == IBIS_ROW_FLAGGED) {
+            NEED(row.seat < SEATS && !row.ticket && !row.side && !row.mark && !row.partner);
+            continue;
+        }
+        NEED(row.ticket && row.ticket <= p->tickets);
+        NEED(row.what == IBIS_ROW_KEPT ? p->stands[row.ticket] == KEPT : row.seat < SEATS && p->open[row.seat] == row.ticket);
+        if (row.what == IBIS_ROW_WAITS) NEED(p->stands[row.ticket] == (row.side == IBIS_SIDE_GIVER ? GIVER : TAKER));
+        if (row.what >= IBIS_ROW_MATCHED) NEED(p->stands[row.ticket] == OVER);
+        NEED(row.what == IBIS_ROW_MATCHED || row.side == IBIS_SIDE_GIVER ? row.mark == p->item[row.ticket] : !row.mark);
+        NEED((row.what == IBIS_ROW_MATCHED) == (row.partner != 0) && row.partner != row.ticket);
+    }
+    NEED(of[1] == found->waiting && of[2] == found->kept && of[3] + of[4] == found->uncollected);
+    NEED(of[3] == base.pairs && of[4] == base.cut && of[5] == base.flags);
+}
+
 static ibis_found check(place *p) {
     ibis_found found;
     NEED(ibis_queue_check(&p->core, &p->checker, &found) == IBIS_OK && found.status == IBIS_OK);
@@ -56,6 +85,7 @@ static ibis_found check(place *p) {
     ibis_look seen;
     NEED(ibis_queue_look(&p->core, &seen) == IBIS_OK && seen.records == 0 && seen.written == p->records);
     NEED(seen.waiting == found.waiting && seen.uncollected == found.uncollected && seen.kept == found.kept);
+    read_base(p, &found);
     return found;
 }
 
@@ -141,7 +171,9 @@ static void stray(ibis_handle *handle, ibis_handle *other, ibis_record *records)
     ibis_found found;
     uint64_t one = 77, status;
     size_t count = 99;
-    switch (below(11)) {
+    static ibis_base base;
+    static ibis_base_row row;
+    switch (below(13)) {
     case 0: status = ibis_queue_new(handle, number(5), number(3), number(4), number(3), number(80)); NEED(status == 0 || status == 41); break;
     case 1: status = ibis_checker_new(handle, number(5), number(3)); NEED(status == 0 || status == 41); break;
     case 2: status = ibis_queue_step(handle, number(11), number(4), number(9), &answer); NEED(status == answer.status && (status <= 6 || status >= 40)); break;
@@ -158,6 +190,8 @@ static void stray(ibis_handle *handle, ibis_handle *other, ibis_record *records)
         break;
     case 9: status = ibis_checker_standing(handle, &found); NEED(status == found.status && (status == 0 || status == 31 || status == 40)); break;
     case 10: if (below(4) == 0) ibis_free(handle); break;
+    case 11: status = ibis_queue_base(handle, &base); NEED(status == 0 || status == 40); break;
+    case 12: status = ibis_queue_base_row(handle, number(9), &row); NEED(status == 0 || status == 40 || status == 41); break;
     }
 }
 

@@ -7,7 +7,7 @@ import sys
 
 TOP = os.path.dirname(os.path.dirname(os.path.dirname(os.path.abspath(__file__))))
 # a struct of the crates, and its name in the header
-STRUCTS = {"Handle": "handle", "Answer": "answer", "Look": "look", "PlainRecord": "record", "Found": "found", "Verdict": "verdict", "Written": "written"}
+STRUCTS = {"Handle": "handle", "Answer": "answer", "Look": "look", "PlainRecord": "record", "PlainBase": "base", "BaseRow": "base_row", "Found": "found", "Verdict": "verdict", "Written": "written"}
 NUMBERS = {"u64": "uint64_t", "usize": "size_t", "u8": "uint8_t", "bool": "bool"}
 
 
@@ -84,6 +84,7 @@ def main():
     made = constants(code)
     # what only the exports' texts name
     named = {"OK": 0, "BAD_RECORD": 30, "ILLEGAL": 31, "NOT_HELD": 40, "BAD_NUMBERS": 41, "APART": 42}
+    named |= {f"ROW_{word}": at for at, word in enumerate(("WAITS", "KEPT", "MATCHED", "INTERRUPTED", "FLAGGED"), 1)}
     for what, ours, theirs in (
         ("call", exports(code), declared(header)),
         ("struct", fields_of(code), fields_declared(header)),

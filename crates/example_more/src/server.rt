@@ -1,5 +1,5 @@
 //! A server: one thread listens, and hands connections to twelve workers over a queue with four seats. Whoever makes a
-//! call takes a seat from a desk, and gives it back behind the call. The connections are made up.
+//! call acquires a seat from a pool, and releases it after the call. The connections are made up.
 mod serving;
 
 ghost use Rattle.std.specs.Prelude.{◌≡◌, vec_len};
@@ -7,7 +7,7 @@ ghost use Rattle.ibisbookcase.specs.Ledgers.{AreOf};
 ghost use Rattle.ibisbookcase.specs.Limits.{most_records};
 
 use self::serving::{Handover, Server, listen, serve};
-use ibisbookcase::queues::{Desk, Ledgers, NewQueue, ParkGate, QueueFault, Refusal};
+use ibisbookcase::queues::{Ledgers, NewQueue, ParkGate, QueueFault, Refusal, SeatPool};
 use std::alloc::Global;
 use std::marker::Brand;
 use std::sync::Wait;
@@ -67,13 +67,13 @@ where
         Ok(made) => made,
         Err(refused) => return Err(refused.into_why()),
     };
-    let desk = match Desk::new(alloc, seats) {
-        Ok(desk) => desk,
+    let pool = match SeatPool::new(alloc, seats) {
+        Ok(pool) => pool,
         Err(refused) => return Err(refused.into_why()),
     };
     let server = Server {
         queue,
-        desk,
+        pool,
         closing: AtomicBool::new(false),
         served: AtomicU64::new(0),
         sum: AtomicU64::new(0),
@@ -81,13 +81,13 @@ where
     run(rt, &server)?;
     let Server {
         queue,
-        desk,
+        pool,
         closing: _,
         served,
         sum,
     } = server;
     let closed = queue
-        .close(alloc, desk.into_seats())
+        .close(alloc, pool.into_seats())
         .map_err(QueueFault::into_why)?;
     Ok(Served {
         connections: served.into_inner(),

@@ -1,5 +1,5 @@
 -- What an export does to what its handle holds.
-use Rattle.std.specs.Prelude.{◌≡◌, ◌≢◌, ℕ, ◌≤◌, List, [], Option, Some, None}
+use Rattle.std.specs.Prelude.{◌≡◌, ◌≢◌, ℕ, ◌≤◌, List, [], slice_get, Option, Some, None}
 use Rattle.meet_tickets.specs.Bases.{no_base}
 use Rattle.meet_tickets.specs.BySeat.{nobody}
 use Rattle.meet_tickets.specs.declared.places.Kind.{Kind}
@@ -11,6 +11,8 @@ use Rattle.meet_history.specs.Pushing.{HasSeen}
 use Rattle.meet_c.specs.declared.held.Held.{Held}
 use Rattle.meet_c.specs.declared.held.Held.TheVariants.{Queue, Checker}
 use Rattle.meet_c.specs.declared.answers.Answer.{Answer}
+use Rattle.meet_c.specs.declared.bases.BaseRow.{BaseRow}
+use Rattle.meet_c.specs.declared.bases.PlainBase.{PlainBase}
 use Rattle.meet_c.specs.declared.entries.PlainRecord.{PlainRecord}
 use Rattle.meet_c.specs.declared.followers.Follower.{Follower}
 use Rattle.meet_c.specs.declared.followers.Found.{Found}
@@ -20,6 +22,7 @@ use Rattle.meet_c.specs.Entries.{AreCopied}
 use Rattle.meet_c.specs.Followed.{TakesMany, StandsAs, ChecksNew, status_with}
 use Rattle.meet_c.specs.Looks.{look_at, open_at}
 use Rattle.meet_c.specs.Names.{call_of, seat_in, kind_of}
+use Rattle.meet_c.specs.Rows.{rows_of, told_base}
 use Rattle.meet_c.specs.Stepped.{QueueBook, HasStepped, WasRefused, HasCut, WasNotCut}
 
 -- the numbers of a place: its kind, and its seats, first ticket and cap in their limits
@@ -98,6 +101,22 @@ abbrev pub Copies : Option Held → (from : ℕ) → List PlainRecord → (statu
 Copies (Some (Queue book)) from old status count new = (status ≡ 0) × AreCopied book.records from old count new
 Copies (Some (Checker f)) from old status count new = (status ≡ 40) × (count ≡ 0) × (new ≡ old)
 Copies None from old status count new = (status ≡ 40) × (count ≡ 0) × (new ≡ old)
+
+-- the numbers of a queue's base, or it is 40 and what was there stays
+abbrev pub TellsBase : Option Held → PlainBase → (status : ℕ) → PlainBase → Type 0
+TellsBase (Some (Queue book)) old status new = (status ≡ 0) × (new ≡ told_base book.base)
+TellsBase (Some (Checker f)) old status new = (status ≡ 40) × (new ≡ old)
+TellsBase None old status new = (status ≡ 40) × (new ≡ old)
+
+-- a row of a base, if there is one of this index
+abbrev pub TellsIfRow : Option BaseRow → BaseRow → (status : ℕ) → BaseRow → Type 0
+TellsIfRow (Some row) old status new = (status ≡ 0) × (new ≡ row)
+TellsIfRow None old status new = (status ≡ 41) × (new ≡ old)
+
+abbrev pub TellsRow : Option Held → (at : ℕ) → BaseRow → (status : ℕ) → BaseRow → Type 0
+TellsRow (Some (Queue book)) at old status new = TellsIfRow (slice_get (rows_of book.base) at) old status new
+TellsRow (Some (Checker f)) at old status new = (status ≡ 40) × (new ≡ old)
+TellsRow None at old status new = (status ≡ 40) × (new ≡ old)
 
 -- the records of a book were folded away, or not
 pub record BookCuts (old : QueueBook) (status gone : ℕ) (new : QueueBook) : Type 0 where

@@ -5,4 +5,5 @@ pub mod Handled
 pub mod Looks
 pub mod Names
 pub mod Owned
+pub mod Rows
 pub mod Stepped

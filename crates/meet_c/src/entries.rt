@@ -70,7 +70,7 @@ fn deed_mark(deed: Deed) -> u64
 }
 
 /// Returns a side's number.
-fn side_number(side: Side) -> u64
+pub(crate) fn side_number(side: Side) -> u64
     ensures { result ≡ side_number side }
 {
     match side {

@@ -4,6 +4,7 @@
 #![tactic(auto)]
 
 mod answers;
+mod bases;
 mod checker_exports;
 mod entries;
 mod followers;
@@ -14,6 +15,7 @@ mod queue_exports;
 mod queues;
 
 pub use answers::Answer;
+pub use bases::{BaseRow, PlainBase};
 pub use checker_exports::{
     ibis_checker_new, ibis_checker_push, ibis_checker_standing, ibis_free, ibis_queue_check,
 };
@@ -22,7 +24,7 @@ pub use followers::{Follower, Found};
 pub use held::Held;
 pub use loose::{Handle, Loose, handles_may_go};
 pub use queue_exports::{
-    ibis_queue_cut, ibis_queue_look, ibis_queue_new, ibis_queue_open, ibis_queue_records,
-    ibis_queue_step,
+    ibis_queue_base, ibis_queue_base_row, ibis_queue_cut, ibis_queue_look, ibis_queue_new,
+    ibis_queue_open, ibis_queue_records, ibis_queue_step,
 };
 pub use queues::Look;

@@ -2,9 +2,10 @@
 
 ghost use Rattle.std.specs.Prelude.{◌≡◌, ◌≢◌, ◌⊎◌, Some, None, IfSome};
 ghost use Rattle.meet_c.specs.Handled.{HoldsNewQueue, IsPlace, IsNoPlace, Steps, StepsHeld, Looks, Opens, Copies};
-ghost use Rattle.meet_c.specs.Handled.{Cuts, CutsHeld};
+ghost use Rattle.meet_c.specs.Handled.{Cuts, CutsHeld, TellsBase, TellsRow};
 
 use crate::answers::{Answer, failed};
+use crate::bases::{BaseRow, PlainBase, row_at, tell_base};
 use crate::entries::{PlainRecord, copy_records};
 use crate::held::Held;
 use crate::loose::Handle;
@@ -229,6 +230,80 @@ fn copy_held(held: &Held, from: usize, into: &mut [PlainRecord], count: &mut usi
             *count = 0;
             40
         }
+    }
+}
+
+/// Reads what stands for the records that were folded away: how many these are, and how many rows tell the rest.
+///
+/// # Errors
+/// - 40 if no queue is held.
+#[unsafe(no_mangle)]
+pub extern "C" fn ibis_queue_base(alloc: Global, handle: &mut Handle, base: &mut PlainBase) -> u64
+    ensures tells { TellsBase handle.old.loose.value base.old result base.new }
+    ensures same { handle.new.loose.value ≡ handle.old.loose.value }
+{
+    match handle.take(alloc) {
+        None => 40,
+        Some(held) => {
+            let status = base_of_held(&held, base);
+            *handle = Handle::of(held);
+            status
+        }
+    }
+}
+
+/// Reads the numbers of the base of what is held.
+fn base_of_held(held: &Held, base: &mut PlainBase) -> u64
+    ensures { TellsBase (Some held.now) base.old result base.new }
+{
+    match held {
+        Held::Queue(book) => {
+            *base = tell_base(book.base());
+            0
+        }
+        Held::Checker(_) => 40,
+    }
+}
+
+/// Reads a row of a queue's base by its index, from 0: first those of the wait queue, in order of request; then those of
+/// matched pairs and of interrupted requests, each by rising ticket; then those of pending interrupts, by rising seat.
+///
+/// # Errors
+/// - 40 if no queue is held.
+/// - 41 if the base has no such row.
+#[unsafe(no_mangle)]
+pub extern "C" fn ibis_queue_base_row(
+    alloc: Global,
+    handle: &mut Handle,
+    at: usize,
+    row: &mut BaseRow,
+) -> u64
+    ensures tells { TellsRow handle.old.loose.value at row.old result row.new }
+    ensures same { handle.new.loose.value ≡ handle.old.loose.value }
+{
+    match handle.take(alloc) {
+        None => 40,
+        Some(held) => {
+            let status = row_of_held(&held, at, row);
+            *handle = Handle::of(held);
+            status
+        }
+    }
+}
+
+/// Reads a row of the base of what is held.
+fn row_of_held(held: &Held, at: usize, row: &mut BaseRow) -> u64
+    ensures { TellsRow (Some held.now) at row.old result row.new }
+{
+    match held {
+        Held::Queue(book) => match row_at(book.base(), at) {
+            Some(found) => {
+                *row = found;
+                0
+            }
+            None => 41,
+        },
+        Held::Checker(_) => 40,
     }
 }
 

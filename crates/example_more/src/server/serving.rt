@@ -1,7 +1,7 @@
 //! What the listener and the workers do.
 
 use ibisbookcase::queues::{
-    Deed, Desk, End, FairLine, Ledgers, Marked, ParkGate, Refusal, Seat, SeatRefused, SyncQueue,
+    Deed, End, FairLine, Ledgers, Marked, ParkGate, Refusal, Seat, SeatPool, SeatRefused, SyncQueue,
 };
 use std::sync::Wait;
 use std::sync::atomic::{AtomicBool, AtomicU64, Ordering};
@@ -31,7 +31,7 @@ pub type Handover<N> = SyncQueue<Connection, FairLine<Connection>, ParkGate, N>;
 #[derive(Drop)]
 pub struct Server<N: Ledgers> {
     pub queue: Handover<N>,
-    pub desk: Desk<Deed, N>,
+    pub pool: SeatPool<Deed, N>,
     /// Whether no connection comes any more.
     pub closing: AtomicBool,
     /// How many connections were served, and the sum of their numbers.
@@ -39,35 +39,35 @@ pub struct Server<N: Ledgers> {
     pub sum: AtomicU64,
 }
 
-/// Tends the history, and gives the seat back.
-fn rise<N: Ledgers, R: Wait>(
+/// Tends the history, and releases the seat.
+fn tend_and_release<N: Ledgers, R: Wait>(
     rt: &R,
     server: &Server<N>,
     seat: Seat<Deed, N>,
 ) -> Result<(), Refusal> {
     match server.queue.tend(rt, seat) {
         Ok(seat) => {
-            server.desk.rise(rt, seat);
+            server.pool.release(rt, seat);
             Ok(())
         }
         Err(refused) => {
             let SeatRefused { why, seat, item: _ } = refused;
-            server.desk.rise(rt, seat);
+            server.pool.release(rt, seat);
             Err(why)
         }
     }
 }
 
-/// Sits down, and hands a connection to a worker; it comes back where none took it in time.
+/// Acquires a seat, and hands a connection to a worker. It comes back if none took it in time.
 fn hand<N: Ledgers, R: Wait + Clock>(
     rt: &R,
     server: &Server<N>,
     connection: Connection,
 ) -> Result<Option<Connection>, Refusal> {
-    let seat = server.desk.wait_to_sit(rt);
+    let seat = server.pool.acquire(rt);
     match server.queue.offer_for(rt, seat, connection, PATIENCE) {
         Ok(offered) => {
-            rise(rt, server, offered.seat)?;
+            tend_and_release(rt, server, offered.seat)?;
             match offered.end {
                 End::TimedOut(back) => Ok(back),
                 _ => Ok(None),
@@ -75,7 +75,7 @@ fn hand<N: Ledgers, R: Wait + Clock>(
         }
         Err(refused) => {
             let SeatRefused { why, seat, item: _ } = refused;
-            server.desk.rise(rt, seat);
+            server.pool.release(rt, seat);
             Err(why)
         }
     }
@@ -99,15 +99,15 @@ pub fn listen<N: Ledgers, R: Wait + Clock>(
     Ok(())
 }
 
-/// Sits down, and takes a connection, where one comes in time.
+/// Acquires a seat, and takes a connection, if one comes in time.
 fn next<N: Ledgers, R: Wait + Clock>(
     rt: &R,
     server: &Server<N>,
 ) -> Result<Option<Connection>, Refusal> {
-    let seat = server.desk.wait_to_sit(rt);
+    let seat = server.pool.acquire(rt);
     match server.queue.poll_for(rt, seat, PATIENCE) {
         Ok(polled) => {
-            rise(rt, server, polled.seat)?;
+            tend_and_release(rt, server, polled.seat)?;
             match polled.end {
                 End::Got(_, connection) => Ok(Some(connection)),
                 _ => Ok(None),
@@ -115,7 +115,7 @@ fn next<N: Ledgers, R: Wait + Clock>(
         }
         Err(refused) => {
             let SeatRefused { why, seat, item: _ } = refused;
-            server.desk.rise(rt, seat);
+            server.pool.release(rt, seat);
             Err(why)
         }
     }

@@ -1,0 +1,107 @@
+//! Concurrent histories, judged, and traces, explained, as text.
+
+ghost use Rattle.std.specs.Prelude.{◌≡◌};
+ghost use Rattle.meet_c_texts.specs.Written.{AreFirst, JudgedInto, ExplainedInto, told_as};
+
+use meet_explain::explain_trace;
+use meet_judge::judge_calls;
+use meet_run::RunFault;
+use std::alloc::Global;
+
+/// What came of a text: a status, 0 if the calls are explained or the trace is legal; the line that can't be read; and
+/// how many bytes there are to write. As many as have room are written.
+#[repr(C)]
+#[derive(Clone, Copy, PartialEq, Eq, Debug)]
+pub struct Written {
+    pub status: u64,
+    pub line: u64,
+    pub length: u64,
+}
+
+/// Copies the first bytes of a text, as many as have room.
+fn copy_first(text: &[u8], out: &mut [u8])
+    ensures { AreFirst text.now out.old out.new }
+{
+    let mut at = 0;
+    while at < text.len() && at < out.len() {
+        out[at] = text[at];
+        at += 1;
+    }
+}
+
+/// Tells what came of a text, of which there are this many bytes to write.
+fn tell(ended: Result<bool, RunFault>, length: u64) -> Written
+    ensures { result ≡ told_as ended length }
+{
+    match ended {
+        Ok(true) => Written {
+            status: 0,
+            line: 0,
+            length,
+        },
+        Ok(false) => Written {
+            status: 31,
+            line: 0,
+            length,
+        },
+        Err(RunFault { why, line }) => Written {
+            status: why.number(),
+            line: line.unwrap_or(0),
+            length,
+        },
+    }
+}
+
+/// Judges the text of a concurrent history, and writes the trace of a history that explains its calls, or a line that
+/// says why none does. Returns the status: 0 if a history explains them, 31 if none does.
+///
+/// # Errors
+/// - 14 if a line can't be read, with its number.
+/// - 1 if memory runs out.
+/// - 2 if a search had to be given up: that is no verdict.
+/// - 3 if there are more calls than tickets.
+/// - 7 if an order was found that can't be written: that was never seen.
+#[unsafe(no_mangle)]
+pub extern "C" fn ibis_judge(
+    alloc: Global,
+    text: &[u8],
+    out: &mut [u8],
+    written: &mut Written,
+) -> u64
+    ensures judged { JudgedInto text.now out.old written.new out.new }
+    ensures status { result ≡ written.new.status }
+{
+    let mut reader = text;
+    let mut all = Vec::new(alloc);
+    let ended = judge_calls(alloc, &mut reader, &mut all);
+    copy_first(all.as_slice(), out);
+    let told = tell(ended, all.len() as u64);
+    *written = told;
+    told.status
+}
+
+/// Checks the text of a trace, and writes the line that `meet check` prints; if a record can't stand also what explains
+/// it. Returns the status: 0 if the records are legal, 31 if one can't stand.
+///
+/// # Errors
+/// - 15 if a line can't be read, with its number.
+/// - 1 if memory runs out.
+/// - 16 if the text is longer than 2^32 - 1 bytes.
+#[unsafe(no_mangle)]
+pub extern "C" fn ibis_explain(
+    alloc: Global,
+    text: &[u8],
+    out: &mut [u8],
+    written: &mut Written,
+) -> u64
+    ensures explained { ExplainedInto text.now out.old written.new out.new }
+    ensures status { result ≡ written.new.status }
+{
+    let mut reader = text;
+    let mut all = Vec::new(alloc);
+    let ended = explain_trace(alloc, &mut reader, &mut all);
+    copy_first(all.as_slice(), out);
+    let told = tell(ended, all.len() as u64);
+    *written = told;
+    told.status
+}

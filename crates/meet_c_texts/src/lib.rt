@@ -1,0 +1,10 @@
+//! What programs in C, and in all languages that call C, use of the checkers of texts: traces that are checked and
+//! explained, and concurrent histories that are judged. Each reads memory and writes memory, and keeps nothing between
+//! two calls.
+#![tactic(auto)]
+
+mod checks;
+mod judges;
+
+pub use checks::{Verdict, ibis_check};
+pub use judges::{Written, ibis_explain, ibis_judge};

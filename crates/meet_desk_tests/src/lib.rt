@@ -1,6 +1,0 @@
-//! Tests of desks, on public calls alone.
-#![tactic(auto)]
-
-mod at_size;
-mod hundred;
-mod one_thread;
