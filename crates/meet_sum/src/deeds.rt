@@ -5,20 +5,32 @@ ghost use Rattle.meet_sum.specs.Deeds.{deeds_in, deeds_counted, with_deed};
 
 use meet_tickets::{Deed, Record};
 
-/// How many records have which deed, by the words of a trace.
+/// How many records have which deed. Each field is named as the deed is in a trace.
 #[derive(Clone, Copy, PartialEq, Eq, Debug)]
 pub struct DeedCounts {
+    /// Requests of producers that wait.
     pub give_waits: u64,
+    /// Requests of producers that met a consumer.
     pub give_meets: u64,
+    /// Requests of producers that found no consumer, and didn't wait.
     pub give_fails: u64,
+    /// Requests of producers whose item was buffered.
     pub give_kept: u64,
+    /// Requests of consumers that wait.
     pub take_waits: u64,
+    /// Requests of consumers that met a producer.
     pub take_meets: u64,
+    /// Requests of consumers that found no producer, and didn't wait.
     pub take_fails: u64,
+    /// Requests that were refused at their entry, since their seat had a pending interrupt.
     pub entry_interrupted: u64,
+    /// Completions of producers that were matched.
     pub done: u64,
+    /// Completions of consumers that were matched.
     pub got: u64,
+    /// Completions of requests that were cancelled, expired or interrupted.
     pub withdrawn: u64,
+    /// Interrupts of a seat.
     pub interrupt: u64,
 }
 
@@ -63,7 +75,7 @@ fn add(counts: &mut DeedCounts, deed: &Deed)
     }
 }
 
-/// How many of these records have which deed. It takes no memory, and reads each record once.
+/// Counts the records with each deed. It doesn't allocate, and reads each record once.
 pub fn count_deeds(records: &[Record<Deed>]) -> DeedCounts
     ensures { result ≡ deeds_in records.now }
 {

@@ -11,23 +11,23 @@ use meet_tickets::Cause;
 /// How many tickets have which fate.
 #[derive(Clone, Copy, PartialEq, Eq, Debug)]
 pub struct FateCounts {
-    /// They wait in the line.
+    /// They wait in the wait queue.
     pub waiting: u64,
-    /// Their items are kept in the line.
+    /// Their items are buffered.
     pub kept: u64,
-    /// They met somebody, and haven't learned so; those that didn't wait have nothing to learn.
+    /// They were matched, and aren't completed; those that didn't wait need no completion.
     pub paired: u64,
-    /// They waited, met somebody, and learned so.
+    /// They waited, were matched, and are completed.
     pub collected: u64,
-    /// They were taken back: given up,
+    /// They were cancelled.
     pub cancelled: u64,
-    /// timed out,
+    /// They timed out.
     pub expired: u64,
-    /// or cut, and learned so.
+    /// They were interrupted, and are completed.
     pub interrupted: u64,
-    /// They were cut, and haven't learned so.
+    /// They were interrupted, and aren't completed.
     pub cut: u64,
-    /// They found nobody, and didn't wait.
+    /// They found no counterpart, and didn't wait.
     pub failed: u64,
     /// They were refused at their entry.
     pub entry_refused: u64,
@@ -51,7 +51,7 @@ pub(crate) fn no_fates() -> FateCounts
     }
 }
 
-/// Counts a ticket more that met somebody.
+/// Counts a ticket more that was matched.
 fn add_met(counts: &mut FateCounts, learned: bool)
     requires { fates_counted counts.old + 1 < 2 ^ 64 }
     ensures { counts.new ≡ with_fate counts.old (fate_met learned) }
@@ -95,7 +95,7 @@ fn add_waits(counts: &mut FateCounts, story: &Story)
     }
 }
 
-/// Counts a ticket more whose item was kept.
+/// Counts a ticket more whose item was buffered.
 fn add_kept(counts: &mut FateCounts, story: &Story)
     requires { fates_counted counts.old + 1 < 2 ^ 64 }
     ensures { counts.new ≡ with_fate counts.old (fate_stood story.now Kept) }

@@ -1,7 +1,7 @@
-//! What a legal trace holds, as sums: how many records have which deed and how many tickets which fate, the longest
-//! line, the longest wait in it, and what each seat did.
+//! The contents of a legal trace as sums: how many records have which deed and how many tickets which fate, the longest
+//! wait queue, the longest wait in it, and the counts of each seat.
 //!
-//! `specs/` says each of these by the list of the records; the code goes over the records with a table that has the
+//! `specs/` defines each of these on the list of the records. The code goes over the records with a table that has the
 //! story of each ticket.
 #![tactic(auto)]
 

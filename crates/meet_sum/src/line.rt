@@ -1,4 +1,4 @@
-//! How long the line is, and where it was longest.
+//! How long the wait queue is, and where it was longest.
 
 ghost use Rattle.std.specs.Prelude.{◌≡◌, ◌+◌, ◌<◌, ◌≤◌, ◌^◌, length};
 ghost use Rattle.meet_tickets.specs.declared.places.Kind.{Kind};
@@ -7,16 +7,16 @@ ghost use Rattle.meet_sum.specs.Lines.{FindsLongestLine, IsNumbered};
 
 use meet_tickets::{Base, Cause, Deed, Record};
 
-/// The longest line that stood at any moment.
+/// The longest wait queue after any record.
 #[derive(Clone, Copy, PartialEq, Eq, Debug)]
 pub struct LongestLine {
-    /// How many entries it had.
+    /// Its nodes.
     pub entries: u64,
-    /// Behind which record it had so many first; those of a base count.
+    /// The number of the first record after which it had as many; those of the base count.
     pub behind: u64,
 }
 
-/// How many entries stand in the line behind one record more, which is legal there.
+/// How many nodes the wait queue has after one record more, which is legal there.
 fn line_after(line: u64, entry: &Record<Deed>) -> u64
     requires { line + 1 < 2 ^ 64 }
     ensures after { (k : Kind) (m : Moment) → line ≡ length m.seats.line → Fits k m entry.now → IsNumbered m
@@ -45,8 +45,8 @@ fn line_after(line: u64, entry: &Record<Deed>) -> u64
     }
 }
 
-/// The longest line behind a base and any of the records since, which are legal. It takes no memory, and reads each
-/// record once.
+/// Returns the longest wait queue after a base and after any of the records since, which are legal. It doesn't
+/// allocate, and reads each record once.
 pub fn longest_line(base: &Base, records: &[Record<Deed>]) -> LongestLine
     requires entries { length base.now.line + length records.now < 2 ^ 64 }
     requires numbers { base.now.gone + length records.now < 2 ^ 64 }

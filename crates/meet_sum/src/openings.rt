@@ -45,7 +45,7 @@ fn met_on(side: Side, mark: u64, ticket: Ticket) -> Deed
     }
 }
 
-/// Appends the request of an entry of the line.
+/// Appends the request of a node of the wait queue.
 fn push_entry(out: &mut Vec<Record<Deed>>, entry: &Entry<u64>) -> Result<(), AllocError>
     ensures { OnOk result (out.new.items ≡ out.old.items ++ line_record entry.now ∷ []) }
 {
@@ -91,7 +91,7 @@ fn push_cut(out: &mut Vec<Record<Deed>>, cut: &OpenCut) -> Result<(), AllocError
     Ok(())
 }
 
-/// Appends the records of a line.
+/// Appends the records of a wait queue.
 fn push_line(out: &mut Vec<Record<Deed>>, line: &[Entry<u64>]) -> Result<(), AllocError>
     ensures { OnOk result (out.new.items ≡ out.old.items ++ map line_record line.now) }
 {
@@ -132,7 +132,7 @@ pub(crate) fn opening(alloc: Global, base: &Base) -> Result<Vec<Record<Deed>>, A
     Ok(records)
 }
 
-/// Appends the tickets of a line.
+/// Appends the tickets of a wait queue.
 fn enter_line(tickets: &mut Vec<u64>, line: &[Entry<u64>]) -> Result<(), AllocError>
     ensures { OnOk result (tickets.new.items ≡ tickets.old.items ++ map (λ e. e.ticket) line.now) }
 {
@@ -187,7 +187,7 @@ fn entered(alloc: Global, base: &Base, records: &[Record<Deed>]) -> Result<Vec<u
 }
 
 /// The tickets that a base and the records since name as requested, each once and rising. Those of a legal trace
-/// without a base come so, and take no sorting.
+/// without a base come so, and need no sorting.
 pub(crate) fn requested(
     alloc: Global,
     base: &Base,

@@ -1,4 +1,4 @@
-//! What each seat did.
+//! The counts of each seat.
 
 ghost use Rattle.std.specs.Prelude.{◌≡◌, ℕ, ◌+◌, ◌<◌, ◌^◌, ◌∷◌, ◌++◌, [], List, Some, length, slice_get};
 ghost use Rattle.std.specs.Prelude.{slice_set, IfOk, vec_len, if◌then◌else◌};
@@ -13,16 +13,16 @@ use crate::waits::stay;
 use meet_tickets::{Deed, MOST_SEATS, Record, SeatNo};
 use std::alloc::{AllocError, Global};
 
-/// What a seat did.
+/// The counts of a seat.
 #[derive(Clone, Copy, PartialEq, Eq, Debug)]
 pub struct SeatSum {
     /// Whether it has a record, or an entry of the base.
     pub present: bool,
-    /// How many records it has.
+    /// Its records.
     pub records: u64,
-    /// How many of them are requests.
+    /// The requests among them.
     pub requests: u64,
-    /// How long one of its tickets stood in the line at most, if one did.
+    /// The longest time that one of its tickets stood in the wait queue, in records; None if none did.
     pub wait: Option<u64>,
 }
 
@@ -64,7 +64,7 @@ fn enter(sums: &mut Vec<SeatSum>, entry: &Record<Deed>)
     );
 }
 
-/// A number, with one more where this is so.
+/// A number, with one more if this is so.
 fn plus(number: u64, more: bool) -> u64
     ensures { number + 1 < 2 ^ 64 → result ≡ number + (if more then 1 else 0) }
 {
@@ -109,7 +109,7 @@ fn greater(one: Option<u64>, other: Option<u64>) -> Option<u64>
     }
 }
 
-/// Notes how long the ticket of a story stood in the line, at its seat.
+/// Notes how long the ticket of a story stood in the wait queue, at its seat.
 pub(crate) fn note(sums: &mut Vec<SeatSum>, story: &Story, opened: u64, all: u64)
     requires { vec_len sums.old ≡ most_seats }
     ensures every { vec_len sums.new ≡ most_seats }
@@ -162,8 +162,8 @@ fn count_all(sums: &mut Vec<SeatSum>, more: &[Record<Deed>])
     }
 }
 
-/// What each seat did by the records that open a base and those since, from seat 0 on: all but how long its tickets
-/// stood in the line.
+/// The counts of each seat by the records that open a base and those since, from seat 0 on: all but how long its
+/// tickets stood in the wait queue.
 pub(crate) fn seats_in(
     alloc: Global,
     before: &[Record<Deed>],

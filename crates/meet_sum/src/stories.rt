@@ -1,4 +1,4 @@
-//! What records tell of one ticket, record by record.
+//! What records state of one ticket, record by record.
 
 ghost use Rattle.std.specs.Prelude.{◌≡◌, ℕ, ◌+◌, ◌==◌, ◌&&◌, None, is_some, List, [], ◌∷◌, ◌++◌, length};
 ghost use Rattle.meet_tickets.specs.declared.records.Deed.{Deed};
@@ -8,49 +8,52 @@ ghost use Rattle.meet_sum.specs.Stories.{asks_for, takes_out, at_once, asked_by,
 
 use meet_tickets::{Cause, Deed, Record, SeatNo, Ticket};
 
-/// What a request came to at once.
+/// The immediate result of a request.
 #[derive(Clone, Copy, PartialEq, Eq, Debug)]
 pub enum AtOnce {
-    /// It stands in the line, and its ticket is open.
+    /// It waits in the wait queue, and its ticket is open.
     Waits,
-    /// Its item stands in the line, and its giver went on.
+    /// Its item is buffered, and its producer goes on.
     IsKept,
-    /// It met somebody who stood there.
+    /// It met a counterpart that stood there.
     Meets,
-    /// It found nobody, and didn't wait.
+    /// It found no counterpart, and didn't wait.
     Fails,
     /// It was refused at its entry.
     Refused,
 }
 
-/// What a ticket's request was.
+/// A ticket's request.
 #[derive(Clone, Copy, PartialEq, Eq, Debug)]
 pub struct Asked {
+    /// The seat that made it.
     pub seat: SeatNo,
+    /// Its ticket.
     pub ticket: Ticket,
+    /// Its immediate result.
     pub how: AtOnce,
 }
 
-/// What records tell of one ticket.
+/// What records state of one ticket.
 #[derive(Clone, Copy, PartialEq, Eq, Debug)]
 pub struct Story {
     /// Its request.
     pub asked: Option<Asked>,
-    /// The number of that record.
+    /// The number of the request's record.
     pub came: Option<u64>,
     /// Whether another request names it.
     pub met: bool,
-    /// Whether it learned that it was met.
+    /// Whether it is completed as matched.
     pub learned: bool,
-    /// Why it was taken back.
+    /// Why it was withdrawn.
     pub back: Option<Cause>,
-    /// Whether it was cut.
+    /// Whether it was interrupted in the wait queue.
     pub cut: bool,
-    /// The number of the record that took it out of the line.
+    /// The number of the record that took it out of the wait queue.
     pub went: Option<u64>,
 }
 
-/// What no record tells.
+/// What no record states.
 pub(crate) fn untold(asked: Option<Asked>) -> Story
     requires { asked ≡ None }
     ensures { (ticket : ℕ) → result ≡ story_in [] ticket }
@@ -66,7 +69,7 @@ pub(crate) fn untold(asked: Option<Asked>) -> Story
     }
 }
 
-/// What a request came to at once.
+/// The immediate result of a request.
 fn at_once(deed: &Deed) -> AtOnce
     ensures { result ≡ at_once deed.now }
 {
@@ -82,7 +85,7 @@ fn at_once(deed: &Deed) -> AtOnce
     }
 }
 
-/// What is told of a request by its record.
+/// What a request's record states of it.
 fn asked_by(entry: &Record<Deed>) -> Asked
     ensures { result ≡ asked_by entry.now }
 {
@@ -100,21 +103,21 @@ fn asks_for(entry: &Record<Deed>, ticket: Ticket) -> bool
     entry.deed.is_request() && entry.ticket == ticket
 }
 
-/// Whether a record tells this ticket that it was met.
+/// Whether a record completes this ticket as matched.
 fn tells(entry: &Record<Deed>, ticket: Ticket) -> bool
     ensures { result ≡ (tells_of_meeting entry.now.deed && (entry.now.ticket == ticket)) }
 {
     entry.deed.tells_of_meeting() && entry.ticket == ticket
 }
 
-/// Whether a record takes this ticket out of the line.
+/// Whether a record takes this ticket out of the wait queue.
 fn takes_out(entry: &Record<Deed>, ticket: Ticket) -> bool
     ensures { result ≡ takes_out ticket entry.now }
 {
     entry.meets(ticket) || entry.takes_back(ticket).is_some() || entry.cuts(ticket)
 }
 
-/// What is told of a ticket once the record of this number is heard too.
+/// The story of a ticket after the record of this number too.
 pub(crate) fn hear(story: Story, ticket: Ticket, entry: &Record<Deed>, number: u64) -> Story
     ensures { (history : List (Record Deed)) → story ≡ story_in history ticket → number ≡ 1 + length history
         → result ≡ story_in (history ++ entry.now ∷ []) ticket }

@@ -1,4 +1,4 @@
-//! What is said of a trace whose sums are asked for.
+//! The text that `meet sum` writes of a trace.
 
 ghost use Rattle.std.specs.Prelude.{◌≡◌, ℕ, ◌+◌, ◌<◌, ◌^◌, ◌++◌, List, None, IfSome, IfOk, IfErr, IsTrue, length};
 ghost use Rattle.meet_tickets.specs.declared.refusals.Refusal.TheVariants.{Memory};
@@ -23,7 +23,7 @@ use meet_tickets::{Base, Deed, Record, Refusal};
 use std::alloc::{AllocError, Global};
 use std::io::{Read, Write};
 
-/// Whether so many records can be numbered behind a base, and none makes its line too long to count.
+/// Whether this many records can be numbered after a base, and none makes its wait queue too long to count.
 fn may_follow(base: &Base, records: &[Record<Deed>]) -> bool
     ensures entries { IsTrue result → length base.now.line + length records.now < 2 ^ 64 }
     ensures numbers { IsTrue result → base.now.gone + length records.now < 2 ^ 64 }
@@ -41,7 +41,7 @@ fn illegal_text(alloc: Global, number: u64, why: Why) -> Result<Vec<u8>, AllocEr
     Ok(out)
 }
 
-/// The line that counts legal records and says what stands at their end, and their sums.
+/// The line that counts legal records and states what is left at their end, and their sums.
 fn legal_lines(
     alloc: Global,
     count: u64,
@@ -56,8 +56,8 @@ fn legal_lines(
     Ok(out)
 }
 
-/// What is said of a trace with these records that was read, and is legal: where its tickets and items are, and its
-/// sums. The only refusal is Memory.
+/// The text of a trace with these records that was read, and is legal: the status of its requests and items, and its
+/// sums. Fails only if an allocation fails.
 fn legal_text(
     alloc: Global,
     trace: &ReadTrace,
@@ -80,7 +80,7 @@ fn legal_text(
     }
 }
 
-/// What is said of a trace with these records that was read, and whether it is legal. The only refusal is Memory.
+/// The text of a trace with these records that was read, and whether it is legal. Fails only if an allocation fails.
 fn say(
     alloc: Global,
     trace: &ReadTrace,
@@ -100,16 +100,28 @@ fn say(
     }
 }
 
-/// Reads a trace, of either format, and says what it holds. Of a legal one it writes the line that `check` finds, and
-/// behind it its sums, a fact a line: how many records have which deed, and how many tickets which fate; the longest
-/// line, and behind which record it stood first; which ticket stood longest in the line, counted in records, and of
-/// several that with the lowest number; and of each seat that has a record, or an entry of the base, how many records
-/// and requests it has, and how long one of its tickets stood in the line at most. The answer is true then. Of another
-/// one it writes the line that `check` finds alone, and the answer is false. Its records are kept until it ends.
+/// Reads a trace, of either format, and writes its sums. It keeps the records until it returns. A read takes one byte,
+/// and there are at most 2^32 reads.
 ///
-/// A line that can't be read is BadTrace with its number, as `check` tells it; a read that fails, or an input of 2^32
-/// bytes or more, is ReadFault; where memory is wanted and not there, it is Memory. Then nothing is written. A write
-/// that fails or takes no byte is WriteFault, and a prefix of the text is written.
+/// If the records are legal it writes the line that `check` writes, and then its sums, a fact a line, and returns true:
+/// - how many records have which deed, and how many tickets which fate;
+/// - the longest wait queue, and the first record after which it was so long;
+/// - the ticket that stood longest in the wait queue, counted in records; of several the one with the lowest number;
+/// - of each seat that has a record, or an entry of the base, how many records and requests it has, and how long one of
+///   its tickets stood in the wait queue at most.
+///
+/// Otherwise it writes only the line that `check` writes, and returns false.
+///
+/// # Errors
+/// - BadTrace, with the line's number, from 1: the line can't be read, as `check_trace` returns it. Nothing is written.
+/// - ReadFault, if a read fails, or the input has 2^32 bytes or more: nothing is written.
+/// - Memory, if an allocation fails: nothing is written.
+/// - WriteFault, if a write fails or takes no byte: a prefix of the text is written.
+///
+/// # Example
+/// From `crates/meet/src/main.rt`:
+///
+///     Task::Sum => sum_trace(alloc, reader, writer),
 pub fn sum_trace<R: Read, W: Write>(
     alloc: Global,
     reader: &mut R,

@@ -24,19 +24,22 @@ use crate::waits::{Wait, longest_with};
 use meet_tickets::{Base, Deed, Record, Refusal};
 use std::alloc::{AllocError, Global};
 
-/// What a legal history holds.
+/// The sums of a legal history.
 #[derive(Debug, Drop)]
 pub struct Sums {
+    /// How many records have which deed.
     pub deeds: DeedCounts,
+    /// How many tickets have which fate.
     pub fates: FateCounts,
+    /// The longest wait queue.
     pub line: LongestLine,
-    /// None where no ticket stood in the line.
+    /// The longest wait of a ticket in the wait queue; None if no ticket stood there.
     pub wait: Option<Wait>,
-    /// By the seats' numbers, from 0.
+    /// The counts of each seat, by the seats' numbers, from 0.
     pub seats: Vec<SeatSum>,
 }
 
-/// What a base, which these records open, and the records since tell of these tickets.
+/// What a base, which these records open, and the records since state of these tickets.
 fn stories_of(
     alloc: Global,
     tickets: &[u64],
@@ -53,8 +56,8 @@ fn stories_of(
     Ok(stories)
 }
 
-/// What a base, which these records open, and the records since tell of the tickets that they name as requested. The
-/// only refusal is Memory.
+/// What a base, which these records open, and the records since state of the tickets that they name as requested. Fails
+/// only if an allocation fails.
 fn stories_on(
     alloc: Global,
     base: &Base,
@@ -76,8 +79,11 @@ fn stories_on(
     }
 }
 
-/// How many tickets have which fate, of those that a base and the records since name as requested. It takes memory for
-/// each ticket, and reads each record twice. The only refusal is Memory.
+/// Counts the tickets with each fate, of those that a base and the records since name as requested. It allocates for
+/// each ticket, and reads each record twice.
+///
+/// # Errors
+/// - Memory, if an allocation fails.
 pub fn count_fates(
     alloc: Global,
     base: &Base,
@@ -96,8 +102,8 @@ pub fn count_fates(
     Ok(count_stories(stories.as_slice()))
 }
 
-/// Notes how long the tickets of these stories stood in the line, each at its seat. The answer is how many have which
-/// fate, and which stood longest, the first such. Each story is read once.
+/// Notes how long the tickets of these stories stood in the wait queue, each at its seat. Returns how many have which
+/// fate, and the first of those that stood longest. Each story is read once.
 fn add_up(
     stories: &[Story],
     seats: &mut Vec<SeatSum>,
@@ -121,8 +127,10 @@ fn add_up(
     (fates, wait)
 }
 
-/// The sums of a base and the records since. It takes memory for each ticket, and reads each record five times. The
-/// only refusal is Memory.
+/// Returns the sums of a base and the records since. It allocates for each ticket, and reads each record five times.
+///
+/// # Errors
+/// - Memory, if an allocation fails.
 pub fn sum_records(alloc: Global, base: &Base, records: &[Record<Deed>]) -> Result<Sums, Refusal>
     requires entries { length base.now.line + length records.now < 2 ^ 64 }
     requires numbers { base.now.gone + length records.now < 2 ^ 64 }

@@ -1,4 +1,4 @@
-//! What records tell of many tickets: a story for each.
+//! What records state of many tickets: a story for each.
 
 ghost use Rattle.std.specs.Prelude.{◌≡◌, ◌≢◌, ℕ, ◌+◌, ◌<◌, ◌^◌, List, [], ◌∷◌, ◌++◌, length, map, IfOk, OnOk, IsTrue};
 ghost use Rattle.std.specs.Prelude.{MatchOption};
@@ -14,7 +14,7 @@ use crate::stories::{Asked, Story, hear, untold};
 use meet_tickets::{Deed, Record, Ticket};
 use std::alloc::{AllocError, Global};
 
-/// Appends a story that tells nothing.
+/// Appends a story that states nothing.
 fn push_untold(stories: &mut Vec<Story>) -> Result<(), AllocError>
     ensures { OnOk result ((ticket : ℕ) → stories.new.items ≡ stories.old.items ++ story_in [] ticket ∷ []) }
 {
@@ -23,7 +23,7 @@ fn push_untold(stories: &mut Vec<Story>) -> Result<(), AllocError>
     Ok(())
 }
 
-/// The stories of these tickets, of which nothing is told.
+/// The stories of these tickets, of which nothing is stated.
 pub(crate) fn untold_all(alloc: Global, tickets: &[u64]) -> Result<Vec<Story>, AllocError>
     ensures { IfOk result (λ stories. stories.items ≡ map (story_in []) tickets.now) }
 {
@@ -93,7 +93,7 @@ fn tell(
     }
 }
 
-/// Has all tickets hear the record of this number: it tells of its own ticket, and of the one that it names.
+/// Has all tickets hear the record of this number: it concerns its own ticket, and the one that it names.
 fn tell_all(tickets: &[u64], stories: &mut Vec<Story>, entry: &Record<Deed>, number: u64)
     requires rising { IsStrictlyIncreasing tickets.now }
     requires every { vec_len stories.old ≡ length tickets.now }
@@ -114,7 +114,7 @@ fn tell_all(tickets: &[u64], stories: &mut Vec<Story>, entry: &Record<Deed>, num
     }
 }
 
-/// Has all tickets hear these records, behind so many others.
+/// Has all tickets hear these records, after `before` others.
 pub(crate) fn hear_all(
     tickets: &[u64],
     stories: &mut Vec<Story>,

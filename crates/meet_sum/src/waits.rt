@@ -1,4 +1,4 @@
-//! How long tickets stood in the line.
+//! How long tickets stood in the wait queue.
 
 ghost use Rattle.std.specs.Prelude.{◌≡◌, ℕ, ◌∷◌, ◌++◌, [], List, None, Some, MatchOption};
 ghost use Rattle.meet_sum.specs.declared.stories.Story.{Story};
@@ -7,23 +7,25 @@ ghost use Rattle.meet_sum.specs.Waits.{joins, stay_told, IsStay, IsLongest};
 use crate::stories::{AtOnce, Story};
 use meet_tickets::{SeatNo, Ticket};
 
-/// How long a ticket stood in the line.
+/// How long a ticket stood in the wait queue.
 #[derive(Clone, Copy, PartialEq, Eq, Debug)]
 pub struct Wait {
+    /// The ticket.
     pub ticket: Ticket,
+    /// Its seat.
     pub seat: SeatNo,
-    /// From the number of its request's record to that of the record that took it out.
+    /// The time in records: from the number of its request's record to that of the record that took it out.
     pub records: u64,
 }
 
-/// Whether the ticket of a request stands in the line, at first.
+/// Whether the ticket of a request stands in the wait queue, at first.
 fn joins(how: AtOnce) -> bool
     ensures { result ≡ joins how }
 {
     matches!(how, AtOnce::Waits | AtOnce::IsKept)
 }
 
-/// How long the ticket of a story stood in the line, if it did.
+/// How long the ticket of a story stood in the wait queue, if it did.
 pub(crate) fn stay(story: &Story, opened: u64, all: u64) -> Option<u64>
     ensures { result ≡ stay_told opened all story.now }
 {
@@ -40,7 +42,7 @@ pub(crate) fn stay(story: &Story, opened: u64, all: u64) -> Option<u64>
     }
 }
 
-/// How long the ticket of a story stood in the line, with its seat, if it did.
+/// How long the ticket of a story stood in the wait queue, with its seat, if it did.
 fn wait_of(story: &Story, opened: u64, all: u64) -> Option<Wait>
     ensures { MatchOption result (stay_told opened all story.now ≡ None) (IsStay opened all story.now) }
 {

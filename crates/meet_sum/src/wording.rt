@@ -1,4 +1,4 @@
-//! The text of sums, a fact a line. Where memory runs out, nothing is said of what was appended.
+//! The text of sums, a fact a line. If memory runs out, nothing is stated of what was appended.
 
 ghost use Rattle.std.specs.Prelude.{◌≡◌, ◌++◌, OnOk};
 ghost use Rattle.meet_sum.specs.SumTexts.{count_line, give_deeds_text, take_deeds_text, end_deeds_text};
@@ -15,7 +15,7 @@ use crate::waits::Wait;
 use meet_run::text::wording::{push_numbered, push_pair};
 use std::alloc::AllocError;
 
-/// Appends a number behind a word, as a line.
+/// Appends a number after a word, as a line.
 #[tactic(auto, unfolding(crate::specs::SumTexts::count_line))]
 fn push_count(out: &mut Vec<u8>, word: &[u8], number: u64) -> Result<(), AllocError>
     ensures { OnOk result (out.new.items ≡ out.old.items ++ count_line word.now number) }
@@ -24,7 +24,7 @@ fn push_count(out: &mut Vec<u8>, word: &[u8], number: u64) -> Result<(), AllocEr
     out.extend_from_slice(b"\n")
 }
 
-/// Appends how many requests gave, by their deeds.
+/// Appends how many requests are producers', by their deeds.
 #[tactic(auto, unfolding(crate::specs::SumTexts::give_deeds_text))]
 fn push_give_deeds(out: &mut Vec<u8>, counts: &DeedCounts) -> Result<(), AllocError>
     ensures { OnOk result (out.new.items ≡ out.old.items ++ give_deeds_text counts.now) }
@@ -36,7 +36,7 @@ fn push_give_deeds(out: &mut Vec<u8>, counts: &DeedCounts) -> Result<(), AllocEr
     Ok(())
 }
 
-/// Appends how many requests took, by their deeds, and how many were refused at their entry.
+/// Appends how many requests are consumers', by their deeds, and how many were refused at their entry.
 #[tactic(auto, unfolding(crate::specs::SumTexts::take_deeds_text))]
 fn push_take_deeds(out: &mut Vec<u8>, counts: &DeedCounts) -> Result<(), AllocError>
     ensures { OnOk result (out.new.items ≡ out.old.items ++ take_deeds_text counts.now) }
@@ -48,7 +48,7 @@ fn push_take_deeds(out: &mut Vec<u8>, counts: &DeedCounts) -> Result<(), AllocEr
     Ok(())
 }
 
-/// Appends how many records ended a ticket, or interrupted a seat, by their deeds.
+/// Appends how many records completed a ticket, or interrupted a seat, by their deeds.
 #[tactic(auto, unfolding(crate::specs::SumTexts::end_deeds_text))]
 fn push_end_deeds(out: &mut Vec<u8>, counts: &DeedCounts) -> Result<(), AllocError>
     ensures { OnOk result (out.new.items ≡ out.old.items ++ end_deeds_text counts.now) }
@@ -60,7 +60,7 @@ fn push_end_deeds(out: &mut Vec<u8>, counts: &DeedCounts) -> Result<(), AllocErr
     Ok(())
 }
 
-/// Appends how many tickets stand in the line, and how many met somebody.
+/// Appends how many tickets stand in the wait queue, and how many were matched.
 #[tactic(auto, unfolding(crate::specs::SumTexts::open_fates_text))]
 fn push_open_fates(out: &mut Vec<u8>, counts: &FateCounts) -> Result<(), AllocError>
     ensures { OnOk result (out.new.items ≡ out.old.items ++ open_fates_text counts.now) }
@@ -72,7 +72,7 @@ fn push_open_fates(out: &mut Vec<u8>, counts: &FateCounts) -> Result<(), AllocEr
     Ok(())
 }
 
-/// Appends how many tickets were taken back, by their causes.
+/// Appends how many tickets were withdrawn, by their causes.
 #[tactic(auto, unfolding(crate::specs::SumTexts::ended_fates_text))]
 fn push_ended_fates(out: &mut Vec<u8>, counts: &FateCounts) -> Result<(), AllocError>
     ensures { OnOk result (out.new.items ≡ out.old.items ++ ended_fates_text counts.now) }
@@ -83,7 +83,7 @@ fn push_ended_fates(out: &mut Vec<u8>, counts: &FateCounts) -> Result<(), AllocE
     Ok(())
 }
 
-/// Appends how many tickets were cut, failed or were refused.
+/// Appends how many tickets were interrupted, failed or were refused.
 #[tactic(auto, unfolding(crate::specs::SumTexts::other_fates_text))]
 fn push_other_fates(out: &mut Vec<u8>, counts: &FateCounts) -> Result<(), AllocError>
     ensures { OnOk result (out.new.items ≡ out.old.items ++ other_fates_text counts.now) }
@@ -94,7 +94,7 @@ fn push_other_fates(out: &mut Vec<u8>, counts: &FateCounts) -> Result<(), AllocE
     Ok(())
 }
 
-/// Appends the longest line.
+/// Appends the longest wait queue.
 #[tactic(auto, unfolding(crate::specs::SumTexts::longest_line_text))]
 fn push_longest_line(out: &mut Vec<u8>, line: &LongestLine) -> Result<(), AllocError>
     ensures { OnOk result (out.new.items ≡ out.old.items ++ longest_line_text line.now) }
@@ -145,7 +145,7 @@ fn push_stay(out: &mut Vec<u8>, wait: Option<u64>) -> Result<(), AllocError>
     }
 }
 
-/// Appends what the seat of this number did, if it is there.
+/// Appends the counts of the seat of this number, if it is there.
 #[tactic(auto, unfolding(crate::specs::SumTexts::seat_text))]
 fn push_seat(out: &mut Vec<u8>, seat: u64, sum: &SeatSum) -> Result<(), AllocError>
     ensures { OnOk result (out.new.items ≡ out.old.items ++ seat_text seat sum.now) }
@@ -159,7 +159,7 @@ fn push_seat(out: &mut Vec<u8>, seat: u64, sum: &SeatSum) -> Result<(), AllocErr
     }
 }
 
-/// Appends what seats did, from 0 on.
+/// Appends the counts of seats, from 0 on.
 fn push_seats(out: &mut Vec<u8>, sums: &[SeatSum]) -> Result<(), AllocError>
     ensures { OnOk result (out.new.items ≡ out.old.items ++ seats_text 0 sums.now) }
 {
