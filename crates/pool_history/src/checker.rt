@@ -19,27 +19,29 @@ mod pool;
 /// Why a record can't come next: the first reason that applies.
 #[derive(Clone, Copy, PartialEq, Eq, Debug)]
 pub enum PoolWhy {
-    /// A caller's step of a seat that is none of the callers', or a worker's of one that is none of the workers'.
+    /// It is a caller's step, and the seat is none of the callers'; or a worker's step, and the seat is none of the
+    /// workers'.
     NoSuchSeat,
-    /// A worker's step that doesn't come from what the worker does, or isn't of the ticket that it has open there.
+    /// It is a worker's step that doesn't come from what the worker does, or isn't of its open ticket there.
     NotOpen,
-    /// A new ticket that isn't above all earlier ones.
+    /// It has a new ticket that isn't above all earlier ones.
     TicketOrder,
-    /// The rules give another deed, worker, job or number.
+    /// The specification requires another deed, worker, job or number.
     WrongReply,
 }
 
-/// What the checker finds against records.
+/// The error of a checker.
 #[derive(Clone, Copy, PartialEq, Eq, Debug)]
 pub enum PoolFault {
-    /// The record of this number, from 1 and with those of the base, is the first that can't stand, for this reason.
+    /// The record of number `place`, from 1 and with those of the base, is the first that can't stand, for the reason
+    /// `why`.
     Illegal { place: u64, why: PoolWhy },
-    /// Memory was wanted and not there.
+    /// An allocation failed.
     Memory,
 }
 
-/// Takes a pool's records one by one, and tells of each whether those so far are a legal history. It keeps none of
-/// them: the memory that it takes is that of the pool which they leave.
+/// Takes a pool's records one by one, and returns of each whether those so far are a legal history. It keeps none of
+/// them: its memory is that of the state to which they lead.
 #[derive(Drop)]
 pub struct PoolChecker {
     pool: CheckedPool,
@@ -60,8 +62,11 @@ impl Model for PoolChecker {
 }
 
 impl PoolChecker {
-    /// A checker of a pool of these settings that has seen no record. It refuses what doesn't fit, as BadSizes or
-    /// PolicyNeedsBuffer, and else Memory alone.
+    /// Creates a checker of a pool of these settings that has seen no record.
+    ///
+    /// # Errors
+    /// - BadSizes or PolicyNeedsBuffer, exactly if `settings_refusal` states it.
+    /// - Memory, if an allocation fails.
     pub fn new(alloc: Global, settings: Settings) -> Result<Self, Refusal>
         ensures settings { IfOk result (λ checker. checker.pool.settings ≡ settings) }
         ensures fits { IfOk result (λ _. settings_refusal settings ≡ None) }
@@ -79,9 +84,12 @@ impl PoolChecker {
         }
     }
 
-    /// Takes the next record in: the records so far are legal. Else it is the first that can't stand, for the first
-    /// reason that applies, and each push behind it answers the same fault again. Where memory is wanted and not there,
-    /// or 2^64 - 1 records were pushed, it is Memory, and the checker is as it was.
+    /// Takes the next record in. If it returns Ok, the records so far are legal.
+    ///
+    /// # Errors
+    /// - Illegal, if this is the first record that can't stand, with the first reason that applies. Each later push
+    ///   returns the same error.
+    /// - Memory, if an allocation fails or 2^64 - 1 records were pushed: the checker is as it was.
     pub fn push(&mut self, entry: Record<PoolDeed<u64>>) -> Result<(), PoolFault>
         ensures settings { self.new.pool.settings ≡ self.old.pool.settings }
         ensures seen { result ≢ Err Memory → TakesIn self.old entry self.new }
@@ -111,7 +119,10 @@ impl PoolChecker {
         }
     }
 
-    /// What the pool counts behind the records that were pushed; or the fault that was found. It takes no memory.
+    /// Returns what the pool counts after the records that were pushed. It doesn't allocate.
+    ///
+    /// # Errors
+    /// - Illegal, if a record that can't stand was found.
     pub fn counters(&self) -> Result<Counters, PoolFault>
         ensures counters { IfOk result (AreCountersOf self.now) }
         ensures sound { OnOk result (self.now.fault ≡ None) }
@@ -124,9 +135,18 @@ impl PoolChecker {
     }
 }
 
-/// Whether these records are a legal history of a new pool of these settings, and then what it counts. It refuses
-/// settings that no pool can have, as BadSizes or PolicyNeedsBuffer, and Memory. Else the answer names the last record
-/// of the shortest prefix that isn't legal, with the first reason that applies; or Memory.
+/// Checks whether these records are a legal history of a new pool of these settings, and returns what it counts.
+///
+/// # Errors
+/// - BadSizes or PolicyNeedsBuffer, as the outer error, exactly if `settings_refusal` states it.
+/// - Memory, as the outer error or as the inner one, if an allocation fails.
+/// - Illegal, as the inner error, if they aren't legal: with the last record of the shortest prefix that isn't legal,
+///   and the first reason that applies.
+///
+/// # Example
+/// From `crates/pool_drive/src/whole.rt`:
+///
+///     match check_pool(alloc, settings, records)? {
 pub fn check_pool(
     alloc: Global,
     settings: Settings,

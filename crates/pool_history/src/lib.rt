@@ -1,4 +1,4 @@
-//! The checker of a pool's records, and one thread's calls of a pool, whatever seats it speaks for.
+//! The checker of a pool's records, and the calls of a pool by one thread, for any of its seats.
 #![tactic(auto)]
 
 pub mod checker;

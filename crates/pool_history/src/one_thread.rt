@@ -1,4 +1,4 @@
-//! One thread's calls of a pool, whatever seats it speaks for, and the replies.
+//! The calls of a pool by one thread, for any of its seats, and the replies.
 
 mod replies;
 mod stepper;

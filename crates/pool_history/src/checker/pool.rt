@@ -72,7 +72,7 @@ impl CheckedPool {
     ghost use Rattle.pool_core.specs.Pools.{worker_of};
     ghost use Rattle.pool_core.specs.Steps.{placing, may_keep, oldest, may_expire};
 
-    /// A pool of these settings that nobody works in. It refuses what doesn't fit, and else Memory alone.
+    /// A pool of these settings without a worker. Fails if the settings don't fit, or an allocation fails.
     pub(super) fn new(alloc: Global, settings: Settings) -> Result<Self, Refusal>
         ensures settings { IfOk result (λ pool. pool.settings ≡ settings) }
         ensures fresh { IfOk result (λ pool. pool.moment ≡ moment_of_base settings no_base) }
@@ -101,7 +101,7 @@ impl CheckedPool {
         })
     }
 
-    /// Makes room for one entry more in the line. The only refusal is Memory.
+    /// Makes room for one entry more in the wait queue. Fails only if an allocation fails.
     pub(super) fn reserve(&mut self) -> Result<(), Refusal>
         ensures settings { self.new.settings ≡ self.old.settings }
         ensures moment { self.new.moment ≡ self.old.moment }
@@ -125,7 +125,7 @@ impl CheckedPool {
         }
     }
 
-    /// Whether one job more may be kept.
+    /// Whether one job more may be buffered.
     fn may_keep(&self) -> bool
         ensures { result ≡ may_keep self.now.settings self.now.moment.pool.line }
     {
@@ -160,7 +160,7 @@ impl CheckedPool {
         }
     }
 
-    /// The kept job that came first.
+    /// The oldest buffered job.
     fn oldest(&self) -> Option<Task<u64>>
         ensures { result ≡ oldest self.now.settings self.now.moment.pool }
     {
@@ -172,7 +172,7 @@ impl CheckedPool {
         })
     }
 
-    /// Whether the kept job that came first has this ticket and this tag.
+    /// Whether the oldest buffered job has this ticket and this tag.
     fn is_oldest(&self, ticket: Ticket, tag: u64) -> bool
         ensures { IsTrue result ↔ (oldest self.now.settings self.now.moment.pool
             ≡ Some (record { ticket = ticket; job = tag })) }
@@ -204,7 +204,7 @@ impl CheckedPool {
         }
     }
 
-    /// Takes the next record in, or tells why it can't stand: the first reason that applies.
+    /// Takes the next record in, or returns why it can't stand: the first reason that applies.
     pub(super) fn next(&mut self, entry: Record<PoolDeed<u64>>) -> Result<(), PoolWhy>
         requires room { 0 < self.old.room }
         ensures step { OnOk result (IsStep self.old.settings self.old.moment entry) }

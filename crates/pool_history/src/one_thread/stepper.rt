@@ -18,8 +18,8 @@ use pool_core::{
 use std::alloc::Global;
 use std::marker::Model;
 
-/// A pool that one thread uses, whatever seats it speaks for: a pool's core under a book, whose jobs are their tags,
-/// and the records that checkpoints folded away.
+/// A pool that one thread uses, for any of its seats: a pool's core under a log (a book), whose jobs are their tags,
+/// and the records that checkpoints compacted.
 #[derive(Drop)]
 pub struct PoolStepper {
     alloc: Global,
@@ -38,7 +38,7 @@ impl Model for PoolStepper {
     ghost invariant = { λ s. IsKept s };
 }
 
-/// What is told of an answer that writes no record.
+/// The result of an answer that writes no record.
 fn silent(answer: &PoolAnswer<u64>) -> PoolOutcome
     ensures { result ≡ silent answer.now }
 {
@@ -52,7 +52,7 @@ fn silent(answer: &PoolAnswer<u64>) -> PoolOutcome
     }
 }
 
-/// The reply that tells a receipt, where there is one, or else this.
+/// The reply that reports a receipt, if there is one, or else this.
 fn told(seat: SeatNo, silent: PoolOutcome, receipt: &Option<Receipt<PoolDeed<u64>>>) -> PoolReply
     ensures { result ≡ told_receipt seat silent receipt.now }
 {
@@ -76,7 +76,7 @@ fn told(seat: SeatNo, silent: PoolOutcome, receipt: &Option<Receipt<PoolDeed<u64
     }
 }
 
-/// Puts a reply behind others, where there is room.
+/// Puts a reply after others, if there is room.
 fn push_reserved(replies: &mut Vec<PoolReply>, reply: PoolReply)
     requires { vec_len replies.old < vec_capacity replies.old }
     ensures items { replies.new.items ≡ replies.old.items ++ reply ∷ [] }
@@ -88,7 +88,7 @@ fn push_reserved(replies: &mut Vec<PoolReply>, reply: PoolReply)
     replies.push_reserved(PoolReply { seat, outcome });
 }
 
-/// The replies that bring these jobs back.
+/// The replies that return these jobs.
 fn push_returned(replies: &mut Vec<PoolReply>, seat: SeatNo, jobs: &[Task<u64>])
     requires room { vec_len replies.old + length jobs.now ≤ vec_capacity replies.old }
     ensures items { replies.new.items ≡ replies.old.items ++ returned seat jobs.now }
@@ -104,7 +104,7 @@ fn push_returned(replies: &mut Vec<PoolReply>, seat: SeatNo, jobs: &[Task<u64>])
     }
 }
 
-/// The replies that bring the jobs of an answer back.
+/// The replies that return the jobs of an answer.
 fn push_jobs_back(replies: &mut Vec<PoolReply>, seat: SeatNo, answer: &PoolAnswer<u64>)
     requires room { vec_len replies.old + length (jobs_back seat answer.now) ≤ vec_capacity replies.old }
     ensures items { replies.new.items ≡ replies.old.items ++ jobs_back seat answer.now }
@@ -125,7 +125,7 @@ fn push_jobs_back(replies: &mut Vec<PoolReply>, seat: SeatNo, answer: &PoolAnswe
     }
 }
 
-/// The replies to a call that was answered: what its receipt tells, and the jobs that come back.
+/// The replies to a call: what its receipt reports, and the jobs that are returned.
 fn push_answer(
     replies: &mut Vec<PoolReply>,
     seat: SeatNo,
@@ -140,7 +140,7 @@ fn push_answer(
     push_jobs_back(replies, seat, &answer);
 }
 
-/// How many replies a call has at most, where so many jobs are kept.
+/// How many replies a call has at most, if `kept` jobs are buffered.
 fn most_replies(call: &PoolCall<u64>, kept: u64) -> u64
     requires { kept < 2 ^ 63 }
     ensures { result ≡ most_replies call.now kept }
@@ -161,7 +161,7 @@ fn refused(seat: SeatNo, why: Refusal) -> PoolReply
     }
 }
 
-/// The reply to a call that was refused; want of memory has none.
+/// The reply to a call that was refused; a failed allocation has none.
 fn push_refusal(replies: &mut Vec<PoolReply>, seat: SeatNo, why: Refusal) -> Result<(), Refusal>
     requires room { vec_len replies.old < vec_capacity replies.old }
     ensures told { OnOk result (replies.new.items ≡ replies.old.items ++ reply seat (PoolOutcome.Refused why) ∷ []) }
@@ -180,8 +180,16 @@ impl PoolStepper {
     ghost use Rattle.pool_history.specs.OneThread.{IsNew, IsCalled, IsCheckpoint, IsSame, IsTurn};
     ghost use Rattle.pool_history.specs.Pushing.{counters_of};
 
-    /// A pool of these settings, before any call. It refuses what doesn't fit, as BadSizes or PolicyNeedsBuffer, and
-    /// else Memory alone.
+    /// Creates a pool of these settings, before any call.
+    ///
+    /// # Errors
+    /// - BadSizes or PolicyNeedsBuffer, exactly if `settings_refusal` states it.
+    /// - Memory, if an allocation fails.
+    ///
+    /// # Example
+    /// From `crates/pool_run/src/trace.rt`:
+    ///
+    ///     let mut stepper = PoolStepper::new(alloc, settings)?;
     pub fn new(alloc: Global, settings: Settings) -> Result<Self, Refusal>
         ensures fresh { IfOk result (IsNew settings) }
         ensures fits { IfOk result (λ _. settings_refusal settings ≡ None) }
@@ -203,7 +211,7 @@ impl PoolStepper {
         }
     }
 
-    /// Makes a call of the pool, where there is room for its replies.
+    /// Makes a call of the pool, if there is room for its replies.
     fn make(
         &mut self,
         seat: SeatNo,
@@ -230,7 +238,7 @@ impl PoolStepper {
         Ok(())
     }
 
-    /// Folds the records so far away, and keeps them beside.
+    /// Compacts the records so far, and keeps them beside.
     fn fold(&mut self, seat: SeatNo, replies: &mut Vec<PoolReply>) -> Result<(), Refusal>
         requires none { replies.old.items ≡ [] }
         ensures turn { OnOk result (IsCheckpoint self.old seat replies.new.items self.new) }
@@ -268,8 +276,10 @@ impl PoolStepper {
         }
     }
 
-    /// Makes a call. Its replies stand in the list, whose own are let go. The only refusal is Memory; then nothing has
-    /// changed.
+    /// Makes a call, and puts its replies in the place of those in `replies`.
+    ///
+    /// # Errors
+    /// - Memory, if an allocation fails: the pool is as it was.
     pub fn answer(
         &mut self,
         request: PoolRequest,
@@ -308,35 +318,35 @@ impl PoolStepper {
         }
     }
 
-    /// How many records were written since the first, those that were folded away included.
+    /// Returns how many records were written, the compacted ones included.
     pub fn count(&self) -> u64
         ensures { result ≡ length self.now.written }
     {
         self.book.written()
     }
 
-    /// What the pool counts.
+    /// Returns what the pool counts.
     pub fn counters(&self) -> Counters
         ensures { result ≡ counters_of self.now.pool.pool }
     {
         self.book.probe().counters()
     }
 
-    /// The records that checkpoints folded away, in order.
+    /// Returns the compacted records, in order.
     pub fn past(&self) -> &[Record<PoolDeed<u64>>]
         ensures { result.now ≡ take self.now.gone self.now.written }
     {
         self.past.as_slice()
     }
 
-    /// The records since, in order.
+    /// Returns the records since, in order.
     pub fn since(&self) -> &[Record<PoolDeed<u64>>]
         ensures { result.now ≡ drop self.now.gone self.now.written }
     {
         self.book.records()
     }
 
-    /// All records are legal. It does nothing.
+    /// States that all records are legal. It does nothing.
     pub fn stays_legal(&self)
         ensures { IsLegalOn self.now.pool.settings no_base self.now.written }
     {

@@ -2,25 +2,27 @@
 
 use meet_tickets::SeatNo;
 
-/// A call: which seat makes it, and what it asks. A caller's seat comes first, a worker's behind all callers'.
+/// A call. The seats of workers have the numbers after all callers'.
 #[derive(Clone, Copy, PartialEq, Eq, Debug)]
 pub struct PoolRequest {
+    /// The seat that makes it.
     pub seat: SeatNo,
+    /// The operation.
     pub verb: PoolVerb,
 }
 
-/// What a call asks. Jobs are numbers, and their own tags.
+/// The operation of a call (its verb). Jobs are numbers, and their own tags.
 #[derive(Clone, Copy, PartialEq, Eq, Debug)]
 pub enum PoolVerb {
     /// `ThreadPoolExecutor.execute`, of the job with this tag.
     Execute(u64),
-    /// A worker that starts, or has finished a job, looks for one.
+    /// A worker that starts, or has finished a job, asks for one.
     Ready,
-    /// A worker whose take waited looks what became of it.
+    /// A worker whose take waits asks whether it was handed a job.
     Follow,
-    /// A worker's job answered this.
+    /// A worker's job returned this.
     Finish(u64),
-    /// A worker's keep-alive ran out.
+    /// A worker's keep-alive time ran out.
     Idle,
     /// A worker that starts without a job ends.
     Leave,
@@ -33,6 +35,6 @@ pub enum PoolVerb {
     /// What the pool counts (`getPoolSize`, `getActiveCount`, `getQueue().size()`, `getCompletedTaskCount`,
     /// `getLargestPoolSize`).
     Counters,
-    /// The records so far are folded away.
+    /// The records so far are compacted.
     Checkpoint,
 }

@@ -41,7 +41,7 @@ fn executes(deed: &PoolDeed<u64>) -> bool
 impl CheckedPool {
     ghost use Rattle.pool_core.specs.Steps.{drops_new};
 
-    /// Takes the next record in, which is a caller's, or tells why it can't stand: the first reason that applies.
+    /// Takes the next record in, which is a caller's, or returns why it can't stand: the first reason that applies.
     pub(super) fn next_of_caller(&mut self, entry: Record<PoolDeed<u64>>) -> Result<(), PoolWhy>
         requires room { 0 < self.old.room }
         requires caller { is_callers entry.deed ≡ true }
@@ -69,7 +69,7 @@ impl CheckedPool {
         }
     }
 
-    /// Takes an execute in, if the rules give it.
+    /// Takes an execute in, if the specification allows it.
     fn takes_execute(&mut self, seat: SeatNo, ticket: Ticket, deed: PoolDeed<u64>) -> bool
         requires room { 0 < self.old.room }
         requires caller { seat < self.old.settings.sizes.callers }
@@ -95,7 +95,7 @@ impl CheckedPool {
         }
     }
 
-    /// Takes a shutdown in, if the rules give it.
+    /// Takes a shutdown in, if the specification allows it.
     fn takes_shutdown(&mut self, seat: SeatNo, ticket: Ticket, deed: PoolDeed<u64>) -> bool
         requires caller { seat < self.old.settings.sizes.callers }
         requires callers { is_callers deed ≡ true }
@@ -137,7 +137,7 @@ impl CheckedPool {
         self.goes(Place::ToNew) && self.is_next(worker)
     }
 
-    /// Whether a new job is kept, and there are workers.
+    /// Whether a new job is buffered, and there are workers.
     fn may_keep_on(&self) -> bool
         ensures { IsTrue result ↔ ((placing self.now.settings self.now.moment.pool ≡ ToLine)
             × (0 < working self.now.moment.pool)) }
@@ -145,7 +145,7 @@ impl CheckedPool {
         self.goes(Place::ToLine) && self.workers.there() > 0
     }
 
-    /// Whether a new job is kept, and this worker is the first one.
+    /// Whether a new job is buffered, and this worker is the first one.
     fn may_keep_first(&self, worker: u64) -> bool
         ensures { IsTrue result ↔ ((placing self.now.settings self.now.moment.pool ≡ ToLine)
             × (working self.now.moment.pool ≡ 0) × (free self.now.moment.pool ≡ Some worker)) }
@@ -197,7 +197,7 @@ impl CheckedPool {
         true
     }
 
-    /// The job is kept, and there are workers.
+    /// The job is buffered, and there are workers.
     fn keeps(&mut self, seat: SeatNo, ticket: Ticket, tag: u64) -> bool
         requires room { 0 < self.old.room }
         requires caller { seat < self.old.settings.sizes.callers }
@@ -220,7 +220,7 @@ impl CheckedPool {
         true
     }
 
-    /// The job is kept, and the first worker starts.
+    /// The job is buffered, and the first worker starts.
     fn keeps_and_starts(&mut self, seat: SeatNo, ticket: Ticket, worker: u64, tag: u64) -> bool
         requires room { 0 < self.old.room }
         requires caller { seat < self.old.settings.sizes.callers }
@@ -254,7 +254,7 @@ impl CheckedPool {
         self.place() == Place::ToPolicy && self.settings.policy == policy
     }
 
-    /// The job comes back.
+    /// The job is returned.
     fn aborts(&mut self, seat: SeatNo, ticket: Ticket) -> bool
         requires caller { seat < self.old.settings.sizes.callers }
         requires above { self.old.moment.last < ticket }
@@ -328,7 +328,7 @@ impl CheckedPool {
         true
     }
 
-    /// The kept job that came first is dropped, and the new one is kept.
+    /// The oldest buffered job is dropped, and the new one is buffered.
     fn replaces(
         &mut self,
         seat: SeatNo,
@@ -378,7 +378,7 @@ impl CheckedPool {
         true
     }
 
-    /// The pool is shut, and its kept jobs come back.
+    /// The pool is shut, and its buffered jobs are returned.
     fn shuts_now(&mut self, seat: SeatNo, ticket: Ticket, count: u64) -> bool
         requires caller { seat < self.old.settings.sizes.callers }
         ensures allowed { IsTrue result

@@ -65,7 +65,7 @@ fn draws(stage: &Stage<u64>, deed: &PoolDeed<u64>) -> bool
 }
 
 impl CheckedPool {
-    /// Takes the next record in, which is a worker's, or tells why it can't stand: the first reason that applies.
+    /// Takes the next record in, which is a worker's, or returns why it can't stand: the first reason that applies.
     pub(super) fn next_of_worker(&mut self, entry: Record<PoolDeed<u64>>) -> Result<(), PoolWhy>
         requires room { 0 < self.old.room }
         requires worker { is_callers entry.deed ≡ false }
@@ -92,7 +92,7 @@ impl CheckedPool {
         }
     }
 
-    /// Takes a worker's step in, if the rules give it.
+    /// Takes a worker's step in, if the specification allows it.
     fn takes_step(&mut self, seat: SeatNo, ticket: Ticket, worker: u64, deed: PoolDeed<u64>) -> bool
         requires room { 0 < self.old.room }
         requires worker { seat ≡ self.old.settings.sizes.callers + worker }
@@ -117,7 +117,7 @@ impl CheckedPool {
         }
     }
 
-    /// The worker runs the job that it starts with or was handed, or the kept one that came first.
+    /// The worker runs the job that it starts with or was handed, or the oldest buffered one.
     fn runs(&mut self, seat: SeatNo, ticket: Ticket, worker: u64, job: Ticket, tag: u64) -> bool
         requires worker { seat ≡ self.old.settings.sizes.callers + worker }
         requires there { worker < length self.old.moment.pool.workers }
@@ -139,7 +139,7 @@ impl CheckedPool {
         true
     }
 
-    /// The worker, which has none in hand, runs the kept job that came first.
+    /// The worker, which has none in hand, runs the oldest buffered job.
     fn runs_kept(
         &mut self,
         seat: SeatNo,
@@ -200,7 +200,8 @@ impl CheckedPool {
         true
     }
 
-    /// Whether a worker that does this ends, the pool being shut: its take was cut, or it starts and finds no job.
+    /// Whether a worker that does this ends, the pool being shut: its take was interrupted, or it starts and finds no
+    /// job.
     fn may_exit(&self, stage: &Stage<u64>, ticket: Ticket) -> bool
         ensures { IsTrue result ↔ (IsOwn stage.now ticket
             × MayExit self.now.settings self.now.moment.pool stage.now) }
@@ -231,7 +232,7 @@ impl CheckedPool {
         true
     }
 
-    /// The worker's job answered.
+    /// The worker's job returned.
     fn finishes(&mut self, seat: SeatNo, ticket: Ticket, worker: u64) -> bool
         requires worker { seat ≡ self.old.settings.sizes.callers + worker }
         requires there { worker < length self.old.moment.pool.workers }
@@ -285,7 +286,7 @@ impl CheckedPool {
         true
     }
 
-    /// The worker couldn't be started, and its first job comes back.
+    /// The worker couldn't be started, and its first job is returned.
     fn fails(&mut self, seat: SeatNo, ticket: Ticket, worker: u64) -> bool
         requires worker { seat ≡ self.old.settings.sizes.callers + worker }
         requires there { worker < length self.old.moment.pool.workers }
@@ -306,7 +307,7 @@ impl CheckedPool {
     }
 }
 
-/// Whether the take of a worker that does this stands in the line, with this ticket.
+/// Whether the take of a worker that does this waits in the wait queue, with this ticket.
 fn waits_with(stage: &Stage<u64>, ticket: Ticket) -> bool
     ensures { IsTrue result ↔ (stage.now ≡ Stage.Waiting ticket) }
 {
@@ -326,7 +327,7 @@ fn runs_with(stage: &Stage<u64>, ticket: Ticket) -> bool
     }
 }
 
-/// Whether a worker that does this starts, with the job of this ticket, or with none where it is 0.
+/// Whether a worker that does this starts, with the job of this ticket, or with none if it is 0.
 fn starts_with(stage: &Stage<u64>, ticket: Ticket) -> bool
     ensures { IsTrue result ↔ Starts stage.now ticket }
 {
