@@ -18,7 +18,7 @@ fn none() -> Ticket {
     Ticket::new(0).unwrap()
 }
 
-/// The ticket, and the mark of a giver's item, of whom a request of this side would meet; zeros where nobody is there.
+/// The ticket, and the mark of a producer's item, that a request of this side would meet; zeros if it would meet none.
 fn partner_of(kind: Kind, base: &Base, side: Side) -> (Ticket, u64)
     ensures { (ticket : ℕ) (item : Option ℕ) → Finds kind base.now.line side ticket item
         → (result.0 ≡ ticket) × IfSome item (λ mark. result.1 ≡ mark) }
@@ -29,7 +29,7 @@ fn partner_of(kind: Kind, base: &Base, side: Side) -> (Ticket, u64)
     }
 }
 
-/// The giver whom a seat's open ticket met, and the mark of the item; zeros where it met none.
+/// The producer that a seat's open ticket met, and the mark of the item; zeros if it met none.
 fn giver_of(base: &Base, seat: SeatNo) -> (Ticket, u64)
     ensures { (t giver mark : ℕ) → (moment_of_base base.now).seats.holds seat ≡ Served t giver mark
         → (result.0 ≡ giver) × (result.1 ≡ mark) }
@@ -40,7 +40,7 @@ fn giver_of(base: &Base, seat: SeatNo) -> (Ticket, u64)
     }
 }
 
-/// A deed joins a list, if it may. The only error is want of memory.
+/// Appends a deed to a list, if it may come. Fails only if an allocation fails.
 fn joins(list: &mut Vec<Deed>, deed: Deed, may: bool) -> Result<(), AllocError>
     ensures { OnOk result (list.new.items ≡ (if may then list.old.items ++ deed ∷ [] else list.old.items)) }
 {
@@ -50,7 +50,7 @@ fn joins(list: &mut Vec<Deed>, deed: Deed, may: bool) -> Result<(), AllocError>
     Ok(())
 }
 
-/// Those of these deeds that may come next. The only error is want of memory.
+/// The deeds among these that may come next. Fails only if an allocation fails.
 fn chosen(
     alloc: Global,
     kind: Kind,
@@ -69,7 +69,7 @@ fn chosen(
     Ok(list)
 }
 
-/// The answers of a giver.
+/// The answers of a producer.
 fn of_giver(
     alloc: Global,
     kind: Kind,
@@ -92,7 +92,7 @@ fn of_giver(
     Ok(list)
 }
 
-/// The answers of a taker.
+/// The answers of a consumer.
 fn of_taker(
     alloc: Global,
     kind: Kind,
@@ -113,7 +113,7 @@ fn of_taker(
     Ok(list)
 }
 
-/// The endings of a seat's open ticket.
+/// The completions of a seat's open ticket.
 fn of_ending(
     alloc: Global,
     kind: Kind,
@@ -135,7 +135,7 @@ fn of_ending(
     Ok(list)
 }
 
-/// The one record of an interrupt, where it may come.
+/// The one record of an interrupt, if it may come.
 fn of_interrupt(
     alloc: Global,
     kind: Kind,
@@ -150,8 +150,11 @@ fn of_interrupt(
     Ok(list)
 }
 
-/// Each answer to what a seat tries that may come next behind a base, as a record with this ticket; and no other
-/// deed. The only error is want of memory.
+/// Returns each answer to what a seat tries that may come next after a base, as a record with this ticket; and no other
+/// deed.
+///
+/// # Errors
+/// - `AllocError`, if an allocation fails.
 pub fn answers(
     alloc: Global,
     kind: Kind,

@@ -1,4 +1,4 @@
-//! What a seat tries, as far as a record tells.
+//! What a seat tries, as far as a record states it.
 
 ghost use Rattle.meet_tickets.specs.declared.records.Deed.TheVariants.{EntryInterrupted};
 ghost use Rattle.std.specs.Prelude.{◌≡◌};
@@ -9,11 +9,11 @@ use meet_tickets::{Deed, SeatNo, Side};
 /// What a seat tries.
 #[derive(Clone, Copy, PartialEq, Eq, Debug)]
 pub enum Attempt {
-    /// It gives an item with this mark, and waits for a taker or doesn't.
+    /// It gives an item with this mark, and waits for a consumer or doesn't.
     Give(u64),
-    /// It takes, and waits for a giver or doesn't.
+    /// It takes an item, and waits for a producer or doesn't.
     Take,
-    /// It ends its open ticket, by a follow-up, a cancel or because its time ran out.
+    /// It completes its open ticket, by a follow-up, a cancel or because its time ran out.
     End,
     /// It interrupts this seat.
     Interrupt(SeatNo),
@@ -31,8 +31,8 @@ fn at_entry(side: Side) -> Attempt
 }
 
 impl Attempt {
-    /// What a seat tried whose record has this deed. A record of a giver that was interrupted at its entry tells no
-    /// mark: there it is 0.
+    /// Returns what a seat tried whose record has this deed. The record of a producer that was interrupted at its entry
+    /// states no mark: there it is 0.
     pub fn of(deed: Deed) -> Attempt
         ensures answers { Answers result deed }
         ensures is { result ≡ attempt_of deed }

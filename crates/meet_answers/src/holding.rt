@@ -1,4 +1,4 @@
-//! What a base says of a seat, and whom a request would meet there.
+//! What a base states of a seat, and which entry a request would meet there.
 
 ghost use Rattle.std.specs.Prelude.{◌≡◌, option_map};
 ghost use Rattle.std.specs.Option.{option_map_or};
@@ -9,7 +9,7 @@ ghost use Rattle.meet_answers.specs.Holding.{waiting_of, paired_of, cut_of, hold
 
 use meet_tickets::{Base, Entry, Hold, Kind, OpenCut, OpenPair, SeatNo, Side, Ticket};
 
-/// The ticket with which a seat stands in a line.
+/// The ticket with which a seat waits in a wait queue.
 fn waiting(line: &[Entry<u64>], seat: SeatNo) -> Option<Ticket>
     ensures { result ≡ option_map (λ e. e.ticket) (waiting_of line.now seat) }
 {
@@ -19,7 +19,7 @@ fn waiting(line: &[Entry<u64>], seat: SeatNo) -> Option<Ticket>
     }
 }
 
-/// What a seat holds whose ticket was met.
+/// What a seat holds whose ticket was matched.
 fn hold_met(pair: OpenPair) -> Hold<u64>
     ensures { result ≡ hold_met pair.side pair.ticket pair.partner pair.mark }
 {
@@ -29,7 +29,7 @@ fn hold_met(pair: OpenPair) -> Hold<u64>
     }
 }
 
-/// What the seat holds whose open ticket was met.
+/// What the seat holds whose open ticket was matched.
 fn paired(pairs: &[OpenPair], seat: SeatNo) -> Option<Hold<u64>>
     ensures { result ≡ option_map (λ p. hold_met p.side p.ticket p.partner p.mark) (paired_of pairs.now seat) }
 {
@@ -39,7 +39,7 @@ fn paired(pairs: &[OpenPair], seat: SeatNo) -> Option<Hold<u64>>
     }
 }
 
-/// What the seat holds whose open ticket was cut.
+/// What the seat holds whose open ticket was interrupted.
 fn cut(gone: &[OpenCut], seat: SeatNo) -> Option<Hold<u64>>
     ensures { result ≡ option_map (λ c. Cut c.ticket c.item) (cut_of gone.now seat) }
 {
@@ -65,14 +65,14 @@ fn held(base: &Base, seat: SeatNo) -> Hold<u64>
     }
 }
 
-/// What a seat has open behind a base.
+/// Returns what a seat has open after a base.
 pub fn hold(base: &Base, seat: SeatNo) -> Hold<u64>
     ensures { result ≡ (moment_of_base base.now).seats.holds seat }
 {
     held(base, seat)
 }
 
-/// The ticket with which a seat stands in a line, by its number; 0 where it doesn't.
+/// The ticket with which a seat waits in a wait queue, by its number; 0 if it doesn't.
 fn number_waiting(line: &[Entry<u64>], seat: SeatNo) -> u64
     ensures { result ≡ option_map_or (λ e. e.ticket) (waiting_of line.now seat) 0 }
 {
@@ -82,14 +82,15 @@ fn number_waiting(line: &[Entry<u64>], seat: SeatNo) -> u64
     }
 }
 
-/// The ticket that an interrupt of this seat cuts behind a base; 0 where it doesn't stand in the line, and is flagged.
+/// Returns the ticket that an interrupt of this seat ends after a base; 0 if the seat doesn't wait, so that its
+/// interrupt becomes pending.
 pub fn cut_by(base: &Base, target: SeatNo) -> u64
     ensures { result ≡ cut_ticket (moment_of_base base.now).seats target }
 {
     number_waiting(base.line.as_slice(), target)
 }
 
-/// Whether a seat is flagged behind a base.
+/// Whether a seat has a pending interrupt after a base.
 pub(crate) fn is_flagged(base: &Base, seat: SeatNo) -> bool
     ensures { result ≡ (moment_of_base base.now).seats.flags seat }
 {

@@ -1,4 +1,5 @@
-//! A law: that what may come next is legal, told by lists. It is the contract of a function that does nothing.
+//! A law: what may come next is legal by the specification as lists. It is the contract of a function that does
+//! nothing.
 
 ghost use Rattle.std.specs.Prelude.{◌∷◌, [], ◌↔◌};
 ghost use Rattle.meet_tickets.specs.Bases.{Based, IsWellFormed, IsLegalOn};
@@ -9,7 +10,8 @@ ghost use Rattle.meet_answers.specs.Answers.{MayCome};
 
 use meet_tickets::tellings_agree_on;
 
-/// What may come next behind a well-formed base is what makes a legal history there. It does nothing.
+/// States that what may come next after a well-formed base is exactly what makes a legal history there. It does
+/// nothing.
 pub fn comers_are_legal()
     ensures { (k : Kind) (base : Based) (r : Record Deed) → IsWellFormed k base
         → MayCome k base r.seat r.ticket r.deed ↔ IsLegalOn k base (r ∷ []) }

@@ -1,7 +1,8 @@
-//! What may come next in a history: of what a seat tries, each answer that the rules give behind a base, and no other.
-//! So whoever reads a trace that isn't legal can be told what would have stood in the place of the record that can't.
+//! The records that may come next in a history: of what a seat tries, each answer that the specification allows after a
+//! base, and no other. So a reader of a trace that isn't legal can learn what may stand in the place of the record that
+//! can't.
 //!
-//! It knows the rules and a base, and neither the records before it nor any text.
+//! It knows the specification and a base, and neither the records before it nor any text.
 #![tactic(auto)]
 
 mod answering;

@@ -1,4 +1,4 @@
-//! Whether a record may come next behind a base.
+//! Whether a record may come next after a base.
 
 ghost use Rattle.std.specs.Prelude.{◌≡◌, ℕ, ◌<◌, ◌↔◌, Option, true, false, IsTrue, IsSome};
 ghost use Rattle.meet_tickets.specs.Bases.{moment_of_base};
@@ -12,14 +12,14 @@ ghost use Rattle.meet_answers.specs.Answers.{MayCome};
 use crate::holding::{cut_by, hold, is_flagged, whom};
 use meet_tickets::{Base, Cause, Deed, Hold, Kind, SeatNo, Side, Ticket};
 
-/// Whether a request of this side finds nobody.
+/// Whether a request of this side finds no counterpart.
 fn is_alone(kind: Kind, base: &Base, side: Side) -> bool
     ensures { IsTrue result ↔ Alone kind base.now.line side }
 {
     whom(kind, base, side).is_none()
 }
 
-/// Whether a request of this side finds this ticket, and this item of a giver.
+/// Whether a request of this side finds this ticket, and this item of a producer.
 fn finds(kind: Kind, base: &Base, side: Side, ticket: Ticket, item: Option<u64>) -> bool
     ensures { IsTrue result ↔ Finds kind base.now.line side ticket item }
 {
@@ -39,28 +39,28 @@ fn is_new(base: &Base, seat: SeatNo, ticket: Ticket) -> bool
     }
 }
 
-/// Whether a request that would wait may: it finds nobody, and its seat isn't flagged.
+/// Whether a request that would wait may: it finds no counterpart, and its seat has no pending interrupt.
 fn may_wait(kind: Kind, base: &Base, seat: SeatNo, side: Side) -> bool
     ensures { IsTrue result ↔ (Alone kind base.now.line side × ((moment_of_base base.now).seats.flags seat ≡ false)) }
 {
     is_alone(kind, base, side) && !is_flagged(base, seat)
 }
 
-/// Whether a request may be interrupted at its entry: it finds nobody, and its seat is flagged.
+/// Whether a request may be interrupted at its entry: it finds no counterpart, and its seat has a pending interrupt.
 fn may_stop(kind: Kind, base: &Base, seat: SeatNo, side: Side) -> bool
     ensures { IsTrue result ↔ (Alone kind base.now.line side × ((moment_of_base base.now).seats.flags seat ≡ true)) }
 {
     is_alone(kind, base, side) && is_flagged(base, seat)
 }
 
-/// Whether an item may be kept that finds no taker.
+/// Whether an item that finds no consumer may be buffered.
 fn may_be_kept(kind: Kind, base: &Base) -> bool
     ensures { IsTrue result ↔ (Alone kind base.now.line Giver × MayKeep kind base.now.line) }
 {
     is_alone(kind, base, Side::Giver) && kind.may_keep(base.line.as_slice())
 }
 
-/// Whether this is a request's deed, and the rules allow it to a seat that has nothing open.
+/// Whether this is a request's deed, and the specification allows it to a seat that has nothing open.
 fn may_request(kind: Kind, base: &Base, seat: SeatNo, ticket: Ticket, deed: Deed) -> bool
     requires { IsFree (moment_of_base base.now).seats seat }
     ensures { IsTrue result ↔ ((is_request deed ≡ true)
@@ -89,7 +89,7 @@ fn holds(base: &Base, seat: SeatNo, ticket: Ticket) -> bool
     }
 }
 
-/// The same; then the ticket stands in the line.
+/// The same; then the ticket stands in the wait queue.
 fn waits(base: &Base, seat: SeatNo, ticket: Ticket) -> bool
     ensures { IsTrue result ↔ (((moment_of_base base.now).seats.holds seat ≡ Waiting ticket)
         × IsSome (entry_of base.now.line ((moment_of_base base.now).seats.holds seat))) }
@@ -97,7 +97,7 @@ fn waits(base: &Base, seat: SeatNo, ticket: Ticket) -> bool
     holds(base, seat, ticket)
 }
 
-/// Whether a giver's ticket was met.
+/// Whether a producer's ticket was matched.
 fn is_handed(base: &Base, seat: SeatNo, ticket: Ticket) -> bool
     ensures { IsTrue result ↔ ((u : ℕ) × (mark : ℕ)
         × ((moment_of_base base.now).seats.holds seat ≡ Handed ticket u mark)) }
@@ -108,7 +108,7 @@ fn is_handed(base: &Base, seat: SeatNo, ticket: Ticket) -> bool
     }
 }
 
-/// Whether a taker's ticket was met by this giver, whose item has this mark.
+/// Whether a consumer's ticket was matched by this producer, whose item has this mark.
 fn is_served(base: &Base, seat: SeatNo, ticket: Ticket, giver: Ticket, mark: u64) -> bool
     ensures { IsTrue result ↔ ((moment_of_base base.now).seats.holds seat ≡ Served ticket giver mark) }
 {
@@ -118,7 +118,7 @@ fn is_served(base: &Base, seat: SeatNo, ticket: Ticket, giver: Ticket, mark: u64
     }
 }
 
-/// Whether a ticket was cut.
+/// Whether a ticket was interrupted.
 fn is_cut(base: &Base, seat: SeatNo, ticket: Ticket) -> bool
     ensures { IsTrue result ↔ ((item : Option ℕ) × ((moment_of_base base.now).seats.holds seat ≡ Cut ticket item)) }
 {
@@ -128,7 +128,7 @@ fn is_cut(base: &Base, seat: SeatNo, ticket: Ticket) -> bool
     }
 }
 
-/// Whether a ticket may be taken back for this cause.
+/// Whether a ticket may be withdrawn for this cause.
 fn may_leave(kind: Kind, base: &Base, seat: SeatNo, ticket: Ticket, cause: Cause) -> bool
     ensures { IsTrue result ↔ Allows kind (moment_of_base base.now).seats seat ticket (Withdrawn cause) }
 {
@@ -139,7 +139,7 @@ fn may_leave(kind: Kind, base: &Base, seat: SeatNo, ticket: Ticket, cause: Cause
     }
 }
 
-/// Whether this deed ends a ticket, and the rules allow it.
+/// Whether this deed completes a ticket, and the specification allows it.
 fn may_end(kind: Kind, base: &Base, seat: SeatNo, ticket: Ticket, deed: Deed) -> bool
     ensures { IsTrue result ↔ ((is_request deed ≡ false)
         × Allows kind (moment_of_base base.now).seats seat ticket deed) }
@@ -153,7 +153,7 @@ fn may_end(kind: Kind, base: &Base, seat: SeatNo, ticket: Ticket, deed: Deed) ->
     }
 }
 
-/// Whether this is a request's deed, which the rules allow to this seat with this ticket.
+/// Whether this is a request's deed that the specification allows to this seat with this ticket.
 fn may_ask(kind: Kind, base: &Base, seat: SeatNo, ticket: Ticket, deed: Deed) -> bool
     ensures { IsTrue result ↔ ((is_request deed ≡ true)
         × MayCome kind base.now seat ticket deed) }
@@ -164,7 +164,7 @@ fn may_ask(kind: Kind, base: &Base, seat: SeatNo, ticket: Ticket, deed: Deed) ->
     may_request(kind, base, seat, ticket, deed)
 }
 
-/// Whether a record of this seat with this ticket and deed may come next behind a base.
+/// Returns true exactly if a record of this seat with this ticket and deed may come next after a base.
 pub fn may_come(kind: Kind, base: &Base, seat: SeatNo, ticket: Ticket, deed: Deed) -> bool
     ensures { IsTrue result ↔ MayCome kind base.now seat ticket deed }
 {

@@ -17,11 +17,13 @@ use std::alloc::{AllocError, Global};
 /// What may come in the place of a record: with this ticket, each of these deeds.
 #[derive(Debug, Drop)]
 pub struct Instead {
+    /// The ticket.
     pub ticket: Ticket,
+    /// The deeds.
     pub deeds: Vec<Deed>,
 }
 
-/// A ticket that is new behind a base, this one where it is; this one too where there is none.
+/// A ticket that is new after a base: this one if it is new, and also if there is none.
 fn new_ticket(base: &Base, ticket: Ticket) -> Ticket
     ensures new { (t : ℕ) → t ≤ last_ticket → base.now.last < t → base.now.last < result }
     ensures is { IsNew base.now.last ticket result }
@@ -35,7 +37,7 @@ fn new_ticket(base: &Base, ticket: Ticket) -> Ticket
     }
 }
 
-/// The ticket that an interrupt of a seat cuts behind a base, or 0.
+/// The ticket that an interrupt of a seat ends after a base, or 0.
 fn cut_ticket(base: &Base, target: SeatNo, ticket: Ticket) -> Ticket
     ensures { cut_ticket (moment_of_base base.now).seats target ≤ last_ticket
         → result ≡ cut_ticket (moment_of_base base.now).seats target }
@@ -43,14 +45,14 @@ fn cut_ticket(base: &Base, target: SeatNo, ticket: Ticket) -> Ticket
     Ticket::new(cut_by(base, target)).unwrap_or(ticket)
 }
 
-/// The ticket that a seat has open behind a base; this one where it has none.
+/// The ticket that a seat has open after a base; this one if it has none.
 fn open_ticket(base: &Base, seat: SeatNo, ticket: Ticket) -> Ticket
     ensures { IfSome (open_ticket ((moment_of_base base.now).seats.holds seat)) (λ own. result ≡ own) }
 {
     hold(base, seat).open_ticket().unwrap_or(ticket)
 }
 
-/// The ticket with which a seat may answer what it tries: its open one; that which an interrupt cuts, or 0; or a new
+/// The ticket with which a seat may answer what it tries: its open one; the one that an interrupt ends, or 0; or a new
 /// one.
 fn ticket_for(base: &Base, seat: SeatNo, attempt: &Attempt, ticket: Ticket) -> Ticket
     ensures best { (k : Kind) → IsBest k base.now seat attempt.now result }
@@ -64,7 +66,7 @@ fn ticket_for(base: &Base, seat: SeatNo, attempt: &Attempt, ticket: Ticket) -> T
     }
 }
 
-/// What a seat may try in the place of this deed: a seat whose ticket is open may make no request, and may end it.
+/// What a seat may try in the place of this deed: a seat whose ticket is open may make no request, and may complete it.
 fn attempt_for(deed: &Deed, is_open: bool) -> Attempt
     ensures tried { Answers result deed.now ⊎ ((result ≡ End) × (is_open ≡ true)) }
     ensures ends { is_open ≡ true → is_request deed.now ≡ true → result ≡ End }
@@ -76,9 +78,17 @@ fn attempt_for(deed: &Deed, is_open: bool) -> Attempt
     Attempt::of(*deed)
 }
 
-/// What may come in the place of a record that can't, behind a base: each answer to what its seat tried, with the
-/// ticket that it may have; or, where the seat asks while its ticket is open, each ending of that. There is none where
-/// a seat that has none open ends a ticket. The only error is want of memory.
+/// Returns what may come in the place of a record that can't, after a base: each answer to what its seat tried, with
+/// the ticket that it may have. If the seat makes a request while its ticket is open, it is each completion of that
+/// ticket. If a seat that has none open completes a ticket, there is no deed.
+///
+/// # Errors
+/// - `AllocError`, if an allocation fails.
+///
+/// # Example
+/// From `crates/meet_explain/src/explaining.rt`:
+///
+///     let instead = comes_instead(alloc, kind, base, *entry)?;
 pub fn comes_instead(
     alloc: Global,
     kind: Kind,
