@@ -1,4 +1,4 @@
-//! The text of a row's columns. Where memory runs out, nothing is said of what was appended.
+//! The text of a row's columns. If memory runs out, nothing is stated of what was appended.
 
 ghost use Rattle.std.specs.Prelude.{◌≡◌, ◌++◌, nat_le, nat_lt, ◌&&◌, OnOk, IfOk, slice_get};
 ghost use Rattle.std.specs.List.{repeat};
@@ -10,7 +10,7 @@ use itoa::Buffer;
 use meet_tickets::SeatNo;
 use std::alloc::AllocError;
 
-/// Appends a sign so many times.
+/// Appends a sign `times` times.
 pub(crate) fn push_repeated(out: &mut Vec<u8>, sign: &[u8], times: usize) -> Result<(), AllocError>
     ensures text { OnOk result (out.new.items ≡ out.old.items ++ repeat times sign.now) }
 {
@@ -20,7 +20,7 @@ pub(crate) fn push_repeated(out: &mut Vec<u8>, sign: &[u8], times: usize) -> Res
     Ok(())
 }
 
-/// Appends a number that ends behind so many characters.
+/// Appends a number that ends after `wide` characters.
 pub(crate) fn push_right(out: &mut Vec<u8>, wide: usize, number: u64) -> Result<(), AllocError>
     ensures { OnOk result (out.new.items ≡ out.old.items ++ right_aligned wide number) }
 {
@@ -30,7 +30,7 @@ pub(crate) fn push_right(out: &mut Vec<u8>, wide: usize, number: u64) -> Result<
     out.extend_from_slice(text)
 }
 
-/// Appends what stands in a column. The answer is how many characters that is.
+/// Appends what stands in a column. Returns how many characters that is.
 fn push_lane(out: &mut Vec<u8>, style: Style, lane: Lane) -> Result<usize, AllocError>
     ensures text { OnOk result (out.new.items ≡ out.old.items ++ (lane_mark style lane).text) }
     ensures wide { IfOk result (λ wide. wide ≡ (lane_mark style lane).wide) }
@@ -48,7 +48,7 @@ fn push_lane(out: &mut Vec<u8>, style: Style, lane: Lane) -> Result<usize, Alloc
     }
 }
 
-/// Appends the mark of a column in a row of this seat. The answer is how many characters that is.
+/// Appends the mark of a column in a row of this seat. Returns how many characters that is.
 fn push_mark(
     out: &mut Vec<u8>,
     style: Style,
@@ -73,7 +73,7 @@ fn push_mark(
     }
 }
 
-/// Appends one column of a row, with a link behind its mark or without.
+/// Appends one column of a row, with a link after its mark or without.
 fn push_cell(
     out: &mut Vec<u8>,
     style: Style,
@@ -88,21 +88,21 @@ fn push_cell(
     push_repeated(out, fill, COLUMN_WIDTH.saturating_sub(wide))
 }
 
-/// Whether a place is from one on, and before another.
+/// Whether an index is from one on, and before another.
 fn is_within(span: (usize, usize), at: usize) -> bool
     ensures { result ≡ (nat_le span.0 at && nat_lt at span.1) }
 {
     span.0 <= at && at < span.1
 }
 
-/// The column at this place, if there is one.
+/// The column of this index, if there is one.
 fn column_at(columns: &[Column], at: usize) -> Option<Column>
     ensures { result ≡ slice_get columns.now at }
 {
     columns.get(at).copied()
 }
 
-/// Appends so many columns of a row.
+/// Appends `count` columns of a row.
 pub(crate) fn push_cells(
     out: &mut Vec<u8>,
     style: Style,

@@ -13,30 +13,33 @@ use std::alloc::AllocError;
 pub(crate) enum Lane {
     /// Nothing: its seat has no ticket open.
     Clear,
-    /// A bar: this ticket waits in the line.
+    /// A bar: this ticket waits in the wait queue.
     Waits(Ticket),
-    /// Dots: the ticket was met or cut, and its seat wasn't told.
+    /// Dots: the ticket was matched or interrupted, and isn't completed.
     Settled,
 }
 
 /// A column.
 #[derive(Clone, Copy)]
 pub(crate) struct Column {
+    /// Its seat.
     pub seat: SeatNo,
+    /// What is drawn in it.
     pub lane: Lane,
 }
 
 /// What a row changes in the columns.
 #[derive(Clone, Copy)]
 pub(crate) enum Change {
+    /// Nothing.
     Nothing,
     /// This ticket of the row's seat waits from now on.
     Opens(Ticket),
-    /// The open ticket of the row's seat ends.
+    /// The open ticket of the row's seat is completed.
     Ends,
-    /// The row's seat has a ticket open that was met or cut.
+    /// The row's seat has an open ticket that was matched or interrupted.
     Owed,
-    /// This ticket, which waits, is met or cut.
+    /// This ticket, which waits, is matched or interrupted.
     Settles(Ticket),
 }
 
@@ -86,7 +89,7 @@ impl Lane {
         }
     }
 
-    /// What is left where this ticket is met or cut.
+    /// What is left in a column if this ticket is matched or interrupted.
     fn settled(self, ticket: Ticket) -> Lane
         ensures { result ≡ (if waits_as ticket self then Lane.Settled else self) }
     {
@@ -117,7 +120,7 @@ impl Lane {
     }
 }
 
-/// A seat's column where nothing is drawn.
+/// A seat's column in which nothing is drawn.
 fn clear(seat: SeatNo) -> Column
     ensures { result ≡ clear_column seat }
 {
@@ -136,7 +139,7 @@ fn has_column(columns: &[Column], seat: SeatNo) -> bool
         .any(|column| column.seat.number() == seat.number())
 }
 
-/// The place of this seat's column.
+/// The index of this seat's column.
 fn place_of(columns: &[Column], seat: SeatNo) -> Option<usize>
     ensures { result ≡ position (λ c. c.seat == seat) columns.now }
 {
@@ -145,14 +148,14 @@ fn place_of(columns: &[Column], seat: SeatNo) -> Option<usize>
         .position(|column| column.seat.number() == seat.number())
 }
 
-/// The place of the first column that is clear.
+/// The index of the first column that is clear.
 fn clear_place(columns: &[Column]) -> Option<usize>
     ensures { result ≡ position (λ c. is_clear c.lane) columns.now }
 {
     columns.iter().position(|column| column.lane.is_clear())
 }
 
-/// The place of the column in which this ticket waits.
+/// The index of the column in which this ticket waits.
 fn place_of_ticket(columns: &[Column], ticket: Ticket) -> Option<usize>
     ensures { result ≡ position (λ c. waits_as ticket c.lane) columns.now }
 {
@@ -161,8 +164,8 @@ fn place_of_ticket(columns: &[Column], ticket: Ticket) -> Option<usize>
         .position(|column| column.lane.waits_as(ticket))
 }
 
-/// Gives a column to a seat that has none: a new one where there are fewer than so many, else the first that is clear,
-/// if one is.
+/// Gives a column to a seat that has none: a new one if there are fewer than `most`, else the first that is clear, if
+/// one is.
 pub(crate) fn give_column(
     columns: &mut Vec<Column>,
     most: usize,
@@ -183,7 +186,7 @@ pub(crate) fn give_column(
     Ok(())
 }
 
-/// A column behind a change by this seat.
+/// A column after a change by this seat.
 fn behind(column: Column, seat: SeatNo, change: &Change) -> Column
     ensures { result ≡ column_after seat change.now column }
 {
@@ -203,7 +206,7 @@ pub(crate) fn change_columns(columns: &mut Vec<Column>, seat: SeatNo, change: &C
     }
 }
 
-/// From the left one of two places up to the right one, if there are both.
+/// From the left one of two indexes up to the right one, if there are both.
 fn span_between(one: Option<usize>, other: Option<usize>) -> (usize, usize)
     ensures { result ≡ between one other }
 {
@@ -216,7 +219,7 @@ fn span_between(one: Option<usize>, other: Option<usize>) -> (usize, usize)
     }
 }
 
-/// From where to where a row of this seat links: its column, and that of the ticket which it meets or cuts.
+/// From where to where a row of this seat links: its column, and the column of the ticket that it meets or interrupts.
 pub(crate) fn span(columns: &[Column], seat: SeatNo, change: &Change) -> (usize, usize)
     ensures { result ≡ span_of seat change.now columns.now }
 {

@@ -25,7 +25,7 @@ fn may_follow(base: &Base, records: &[Record<Deed>]) -> bool
     records.len() as u64 <= u64::MAX - base.gone
 }
 
-/// Draws a trace with these records that was read, and returns whether it is legal. It fails where memory runs out.
+/// Draws a trace with these records that was read, and returns whether it is legal. Fails only if an allocation fails.
 fn picture_of(
     alloc: Global,
     style: Style,
@@ -59,7 +59,7 @@ fn picture_of(
     }
 }
 
-/// Reads a trace up to its first faulty line, and draws it where it has none; returns whether it is legal, and the
+/// Reads a trace up to its first faulty line, and draws it if it has none; returns whether it is legal, and the
 /// picture.
 fn picture_in<R: Read>(
     alloc: Global,
@@ -80,17 +80,26 @@ fn picture_in<R: Read>(
     }
 }
 
-/// Draws a trace, of either format, as text: a row for each piece of its base and for each record, a column for each
-/// seat, and in it a bar while its ticket waits in the line, and dots from when it was met or cut until its seat is
-/// told. A seat keeps its column; one that has none takes a new one where the width leaves room beside the longest
-/// line, else the first in which nothing is drawn, else it has none. Behind the rows stands the line that `check`
-/// writes.
+/// Draws a trace, of either format, as text. Each piece of its base and each record has a row, each seat a column. A
+/// column shows a bar while the seat's ticket waits in the wait queue, and then dots until it is completed. There are
+/// as many columns as `width` leaves room for beside the longest line, and at least one. A seat keeps its column. A
+/// seat that has none takes a new one, else the first in which nothing is drawn, else none. After the rows comes the
+/// line that `check` writes.
 ///
-/// Where the trace is legal the answer is true. Else only the records up to the first that can't stand are drawn, which
-/// is marked, and the answer is false. The text is read to its end before anything is written, or up to the first line
-/// that can't be read: no byte after that line is asked for. It refuses BadTrace with that line, ReadFault (also for a
-/// text of 2^32 bytes or more) and Memory, and then nothing is written; and WriteFault, and then a prefix of the picture
-/// is.
+/// If the records are legal it returns true. Otherwise it draws only the records up to the first that can't stand,
+/// marks it, and returns false. The text is read to its end before anything is written, or up to the first line that
+/// can't be read: no byte after that line is read.
+///
+/// # Errors
+/// - BadTrace, with the line's number, from 1: the line can't be read. Nothing is written.
+/// - ReadFault, if a read fails, or the text has 2^32 bytes or more: nothing is written.
+/// - Memory, if an allocation fails: nothing is written.
+/// - WriteFault, if a write fails or takes no byte: a prefix of the picture is written.
+///
+/// # Example
+/// From `crates/meet/src/main.rt`:
+///
+///     Task::Draw(style, width) => draw_trace(alloc, reader, writer, *style, *width),
 pub fn draw_trace<R: Read, W: Write>(
     alloc: Global,
     reader: &mut R,

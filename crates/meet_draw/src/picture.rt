@@ -1,4 +1,4 @@
-//! The picture of a base and the records behind it. Where memory runs out, nothing is said of what was appended.
+//! The picture of a base and the records after it. If memory runs out, nothing is stated of what was appended.
 
 ghost use Rattle.std.specs.Prelude.{◌≡◌, ◌+◌, ◌^◌, ◌<◌, ◌++◌, length, OnOk, IfOk, decimal};
 ghost use Rattle.meet_draw.specs.Pictures.{shown_of, most_columns, layout_of, place_line, drawn};
@@ -12,7 +12,7 @@ use meet_run::trace::wording::order_word;
 use meet_tickets::{Base, Deed, Entry, Kind, Record};
 use std::alloc::{AllocError, Global};
 
-/// What is shown of a base and the records behind it.
+/// What is shown of a base and the records after it.
 fn rows_of(alloc: Global, base: &Base, records: &[Record<Deed>]) -> Result<Vec<Shown>, AllocError>
     requires { base.now.gone + length records.now < 2 ^ 64 }
     ensures shown { IfOk result (λ rows. rows.items ≡ shown_of base.now records.now) }
@@ -52,7 +52,8 @@ fn count_digits(number: u64) -> usize
     buffer.format(number).len()
 }
 
-/// How many columns there may be: what fits into a row beside its number, two characters and the longest line, but one.
+/// How many columns there may be: as many as fit into a row beside its number, two characters and the longest line, and
+/// at least one.
 fn columns_within(width: Width, digits: usize, long: usize) -> usize
     ensures { result ≡ most_columns width digits long }
 {
@@ -97,7 +98,7 @@ fn push_place(out: &mut Vec<u8>, kind: Kind) -> Result<(), AllocError>
     out.extend_from_slice(b"\n")
 }
 
-/// The picture of a base and the records behind it, of which this one can't stand, if one can't.
+/// The picture of a base and the records after it, of which this one can't stand, if one can't.
 #[tactic(auto, unfolding(crate::specs::Pictures::drawn))]
 pub(crate) fn draw_records(
     alloc: Global,

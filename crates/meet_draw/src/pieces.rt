@@ -1,4 +1,4 @@
-//! The lines of a base's pieces, as a trace spells them. Where memory runs out, nothing is said of what was appended.
+//! The lines of a base's pieces, as a trace spells them. If memory runs out, nothing is stated of what was appended.
 
 ghost use Rattle.std.specs.Prelude.{◌≡◌, ◌++◌, OnOk};
 ghost use Rattle.meet_run.specs.Tracing.BaseWording.{piece_line};
@@ -22,7 +22,7 @@ pub(crate) fn seat_of(piece: &Piece) -> SeatNo
     }
 }
 
-/// What a piece says of its ticket.
+/// What a piece states of its ticket.
 pub(crate) fn change_of(piece: &Piece) -> Change
     ensures { result ≡ piece_change piece.now }
 {

@@ -1,4 +1,4 @@
-//! The rows of a picture. Where memory runs out, nothing is said of what was appended.
+//! The rows of a picture. If memory runs out, nothing is stated of what was appended.
 
 ghost use Rattle.std.specs.Prelude.{◌≡◌, ◌++◌, [], length, OnOk, IfOk};
 ghost use Rattle.meet_draw.specs.Rows.{columns_after, link_in, row_text, rows_text, columns_behind, longest};
@@ -24,6 +24,7 @@ pub(crate) enum Shown {
 /// How rows are laid out.
 #[derive(Clone, Copy)]
 pub(crate) struct Layout {
+    /// The signs with which the picture is drawn.
     pub style: Style,
     /// How many characters a number has.
     pub digits: usize,
@@ -66,7 +67,7 @@ impl Shown {
         }
     }
 
-    /// Appends the row's number, where it is a record's.
+    /// Appends the row's number, if it is a record's.
     fn push_number(&self, out: &mut Vec<u8>, wide: usize) -> Result<(), AllocError>
         ensures { OnOk result (out.new.items ≡ out.old.items ++ number_text wide self.now) }
     {
@@ -90,7 +91,7 @@ impl Shown {
     }
 }
 
-/// Takes a row into the columns. The answer is from where to where it links.
+/// Takes a row into the columns. Returns from where to where it links.
 #[tactic(auto, unfolding(crate::specs::Rows::columns_after, crate::specs::Rows::link_in))]
 fn take_row(
     columns: &mut Vec<Column>,
@@ -152,7 +153,7 @@ pub(crate) fn push_rows(
     Ok(())
 }
 
-/// How many columns rows need, where there may be so many.
+/// How many columns rows need, if there may be `most`.
 pub(crate) fn count_columns(alloc: Global, most: usize, rows: &[Shown]) -> Result<usize, AllocError>
     ensures count { IfOk result (λ count. count ≡ length (columns_behind most [] rows.now)) }
 {

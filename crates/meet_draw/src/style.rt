@@ -8,7 +8,7 @@ use std::marker::Model;
 /// The signs with which a picture is drawn.
 #[derive(Clone, Copy, PartialEq, Eq, Debug)]
 pub enum Style {
-    /// ASCII alone.
+    /// ASCII only.
     Plain,
     /// The box drawing signs of Unicode, in UTF-8.
     Unicode,
@@ -27,7 +27,7 @@ impl Style {
         }
     }
 
-    /// Where a ticket was met or cut, and its seat wasn't told.
+    /// Where a ticket was matched or interrupted, and isn't completed.
     pub(crate) fn dots(self) -> &'static [u8]
         ensures { result.now ≡ dots_sign self }
     {
@@ -37,7 +37,7 @@ impl Style {
         }
     }
 
-    /// Between a seat and the one whose ticket it meets or cuts.
+    /// Between a seat and the one whose ticket it meets or interrupts.
     pub(crate) fn link(self) -> &'static [u8]
         ensures { result.now ≡ link_sign self }
     {
@@ -48,19 +48,19 @@ impl Style {
     }
 }
 
-/// How many characters a column has: the digits of the last seat, and a space.
+/// The characters of a column: the digits of the last seat, and a space.
 pub(crate) const COLUMN_WIDTH: usize = 6;
 
-/// How many characters a row has at least.
+/// The fewest characters that a row may be given: 20.
 pub const LEAST_WIDTH: u64 = 20;
 
-/// How many characters a row has at most.
+/// The most characters that a row may be given: 1,000.
 pub const MOST_WIDTH: u64 = 1000;
 
-/// How many characters a row has where nothing else is asked.
+/// The characters of a row by default: 100.
 pub const USUAL_WIDTH: u64 = 100;
 
-/// How many characters a row of a picture may have, 20 to 1000.
+/// How many characters a row of a picture may have, 20 to 1,000.
 #[derive(Clone, Copy, PartialEq, Eq, Debug)]
 pub struct Width {
     number: u64,
@@ -77,7 +77,12 @@ impl Model for Width {
 }
 
 impl Width {
-    /// The width of this number, or none where the number is below 20 or above 1000.
+    /// Returns the width of this many characters; None exactly if `number` is below 20 or above 1,000.
+    ///
+    /// # Example
+    /// From `crates/meet/src/command_line.rt`:
+    ///
+    ///     Task::Draw(style, Width::new(columns).unwrap_or(Width::usual()))
     pub fn new(number: u64) -> Option<Self>
         ensures { SomeIff result ((least_width ≤ number) × (number ≤ most_width)) number }
     {
@@ -88,7 +93,7 @@ impl Width {
         }
     }
 
-    /// The width where nothing else is asked.
+    /// Returns the default width, 100 characters.
     pub fn usual() -> Self
         ensures { result ≡ usual_width }
     {
@@ -97,7 +102,7 @@ impl Width {
         }
     }
 
-    /// How many characters it is.
+    /// Returns its characters, 20 to 1,000.
     pub fn number(&self) -> u64
         ensures value { result ≡ self.now }
         ensures least { least_width ≤ self.now }

@@ -1,4 +1,4 @@
-//! What is left of records where the tickets that were cut or taken back are erased.
+//! Records without the tickets that were interrupted or withdrawn.
 
 ghost use Rattle.std.specs.Prelude.{◌≡◌, ◌++◌, ◌∷◌, [], ◌&&◌, not, if◌then◌else◌, IfOk, IfErr, OnOk};
 ghost use Rattle.std.specs.List.Sorted.{IsNonDecreasing, IsPermutation};
@@ -9,7 +9,7 @@ ghost use Rattle.meet_laws.specs.Gone.{ends_early, gone_tickets, is_among, stays
 use meet_tickets::{Deed, Record, Refusal};
 use std::alloc::Global;
 
-/// Whether a record takes its ticket back, or cuts it.
+/// Whether a record withdraws its ticket, or interrupts it.
 fn ends_early(entry: &Record<Deed>) -> bool
     ensures { result ≡ ends_early entry.now }
 {
@@ -20,7 +20,7 @@ fn ends_early(entry: &Record<Deed>) -> bool
     }
 }
 
-/// Puts an item that passes at the end of a list. The only refusal is Memory.
+/// Puts an item that passes at the end of a list. Fails only if an allocation fails.
 fn push_where<T: Copy + Drop>(list: &mut Vec<T>, item: T, passes: bool) -> Result<(), Refusal>
     ensures pushed { OnOk result (list.new.items ≡ list.old.items ++ (if passes then item ∷ [] else [])) }
     ensures memory { IfErr result (λ why. why ≡ Memory) }
@@ -31,7 +31,7 @@ fn push_where<T: Copy + Drop>(list: &mut Vec<T>, item: T, passes: bool) -> Resul
     Ok(())
 }
 
-/// The tickets that these records take back or cut, in the records' order. The only refusal is Memory.
+/// The tickets that these records withdraw or interrupt, in the records' order. Fails only if an allocation fails.
 fn gone_tickets(alloc: Global, records: &[Record<Deed>]) -> Result<Vec<u64>, Refusal>
     ensures gone { IfOk result (λ gone. gone.items ≡ gone_tickets records.now) }
     ensures memory { IfErr result (λ why. why ≡ Memory) }
@@ -67,7 +67,7 @@ fn stays(deed: &Deed) -> bool
     !matches!(deed, Deed::Interrupt(_) | Deed::EntryInterrupted(_))
 }
 
-/// Whether a record is left where these tickets, which rise, are gone.
+/// Whether a record is left if these tickets, which rise, are gone.
 fn may_stay(entry: &Record<Deed>, gone: &[u64]) -> bool
     requires rising { IsNonDecreasing gone.now }
     ensures { result ≡ (stays entry.now.deed && not (is_among gone.now entry.now.ticket)) }
@@ -75,7 +75,7 @@ fn may_stay(entry: &Record<Deed>, gone: &[u64]) -> bool
     stays(&entry.deed) && !is_among(gone, entry.ticket.number())
 }
 
-/// The records that are left where these tickets, which rise, are gone. The only refusal is Memory.
+/// The records that are left if these tickets, which rise, are gone. Fails only if an allocation fails.
 fn staying_of(
     alloc: Global,
     records: &[Record<Deed>],
@@ -92,9 +92,11 @@ fn staying_of(
     Ok(staying)
 }
 
-/// What is left of these records without those of tickets that were cut or taken back, the interrupts, and the requests
-/// that were refused at their entry. The only refusal is Memory. It reads the records twice, and sorts the tickets that
-/// are gone.
+/// Returns these records without those of tickets that were interrupted or withdrawn, the interrupts, and the requests
+/// that were refused at their entry. It reads the records twice, and sorts the tickets that are gone.
+///
+/// # Errors
+/// - Memory, if an allocation fails.
 pub fn erase(alloc: Global, records: &[Record<Deed>]) -> Result<Vec<Record<Deed>>, Refusal>
     ensures erased { IfOk result (λ staying. staying.items ≡ erase records.now) }
     ensures memory { IfErr result (λ why. why ≡ Memory) }

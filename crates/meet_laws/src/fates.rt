@@ -1,4 +1,4 @@
-//! The fate of a ticket, read from a base and records.
+//! The outcome of a ticket (its fate), computed from a base and records.
 
 ghost use Rattle.std.specs.Prelude.{◌≡◌, ℕ, ◌==◌, Some, None, ◌++◌, ◌∷◌, [], List, map};
 ghost use Rattle.std.specs.List.{flat_map, list_any};
@@ -17,18 +17,18 @@ use meet_tickets::{
     Base, Cause, Deed, Entry, Fate, OpenCut, OpenPair, Record, SeatNo, Side, Ticket,
 };
 
-/// What records tell of one ticket.
+/// What records state of one ticket.
 #[derive(Clone, Copy)]
 struct Told {
     /// Its request.
     asked: Option<Deed>,
     /// The ticket whose request names it.
     met: Option<Ticket>,
-    /// Whether it learned that it was met.
+    /// Whether it is completed as matched.
     learned: bool,
-    /// Why it was taken back.
+    /// Why it was withdrawn.
     back: Option<Cause>,
-    /// Whether it was cut.
+    /// Whether it was interrupted in the wait queue.
     cut: bool,
 }
 
@@ -39,7 +39,7 @@ fn is_of(entry: &Record<Deed>, ticket: Ticket) -> bool
     entry.ticket == ticket
 }
 
-/// What is told of a ticket once this record is heard too.
+/// What is stated of a ticket after this record too.
 fn hear(told: Told, ticket: Ticket, entry: Record<Deed>) -> Told
     ensures { (history : List (Record Deed)) → told ≡ told_in history ticket
         → result ≡ told_in (history ++ entry ∷ []) ticket }
@@ -73,7 +73,7 @@ fn asked_for(item: Option<u64>, waits: bool) -> Deed
     }
 }
 
-/// The request of an entry of a base's line.
+/// The request of a node of a base's wait queue.
 fn line_record(entry: &Entry<u64>) -> Record<Deed>
     ensures { result ≡ line_record entry.now }
 {
@@ -104,7 +104,7 @@ fn met_on(side: Side, mark: u64, ticket: Ticket) -> Deed
     }
 }
 
-/// Hears the request of an entry of a base's line.
+/// Hears the request of a node of a base's wait queue.
 fn hear_entry(told: Told, ticket: Ticket, entry: &Entry<u64>) -> Told
     ensures { (history : List (Record Deed)) → told ≡ told_in history ticket
         → result ≡ told_in (history ++ line_record entry.now ∷ []) ticket }
@@ -130,7 +130,7 @@ fn hear_pair(told: Told, ticket: Ticket, pair: &OpenPair) -> Told
     hear(hear(told, ticket, own), ticket, other)
 }
 
-/// Hears the request and the interrupt of a ticket of a base that was cut.
+/// Hears the request and the interrupt of a ticket of a base that was interrupted.
 fn hear_cut(told: Told, ticket: Ticket, cut: &OpenCut) -> Told
     ensures { (history : List (Record Deed)) → told ≡ told_in history ticket
         → result ≡ told_in (history ++ cut_records cut.now) ticket }
@@ -148,7 +148,7 @@ fn hear_cut(told: Told, ticket: Ticket, cut: &OpenCut) -> Told
     hear(hear(told, ticket, own), ticket, interrupt)
 }
 
-/// Hears a base's line.
+/// Hears a base's wait queue.
 fn hear_line(start: Told, ticket: Ticket, line: &[Entry<u64>]) -> Told
     ensures { (history : List (Record Deed)) → start ≡ told_in history ticket
         → result ≡ told_in (history ++ map line_record line.now) ticket }
@@ -172,7 +172,7 @@ fn hear_pairs(start: Told, ticket: Ticket, pairs: &[OpenPair]) -> Told
     told
 }
 
-/// Hears a base's tickets that were cut.
+/// Hears a base's tickets that were interrupted.
 fn hear_cuts(start: Told, ticket: Ticket, cuts: &[OpenCut]) -> Told
     ensures { (history : List (Record Deed)) → start ≡ told_in history ticket
         → result ≡ told_in (history ++ flat_map cut_records cuts.now) ticket }
@@ -196,7 +196,7 @@ fn hear_all(start: Told, ticket: Ticket, records: &[Record<Deed>]) -> Told
     told
 }
 
-/// What no record tells.
+/// What no record states.
 fn nothing() -> Told
     ensures { (ticket : ℕ) → result ≡ told_in [] ticket }
 {
@@ -209,7 +209,7 @@ fn nothing() -> Told
     }
 }
 
-/// What a base and the records since tell of a ticket.
+/// What a base and the records since state of a ticket.
 fn told_on(base: &Base, records: &[Record<Deed>], ticket: Ticket) -> Told
     ensures { result ≡ told_in (opening base.now ++ records.now) ticket }
 {
@@ -226,7 +226,7 @@ fn waits_first(deed: &Deed) -> bool
     matches!(deed, Deed::GiveWaits(_) | Deed::TakeWaits)
 }
 
-/// The fate of a ticket of which this is told, whose request neither failed nor was refused.
+/// The fate of a ticket of which this is stated, whose request neither failed nor was refused.
 fn settled(told: &Told, deed: &Deed) -> Fate
     ensures { result ≡ fate_settled told.now deed.now }
 {
@@ -242,7 +242,7 @@ fn settled(told: &Told, deed: &Deed) -> Fate
     }
 }
 
-/// The fate of one that met nobody.
+/// The fate of one that met no counterpart.
 fn unmet(told: &Told, deed: &Deed) -> Fate
     ensures { result ≡ option_map_or (λ cause. Withdrawn cause) told.now.back
         (if told.now.cut then Cut else (if waits_first deed.now then Waiting else Kept)) }
@@ -261,7 +261,7 @@ fn unmet(told: &Told, deed: &Deed) -> Fate
     }
 }
 
-/// The fate of a ticket of which this is told.
+/// The fate of a ticket of which this is stated.
 fn fate_told(told: &Told) -> Fate
     ensures { result ≡ fate_told told.now }
 {
@@ -274,7 +274,7 @@ fn fate_told(told: &Told) -> Fate
     }
 }
 
-/// Whether a base's line has an entry of this ticket.
+/// Whether a base's wait queue has a node of this ticket.
 fn is_in_line(line: &[Entry<u64>], ticket: Ticket) -> bool
     ensures { result ≡ list_any (λ u. u == ticket) (map (λ e. e.ticket) line.now) }
 {
@@ -296,7 +296,7 @@ fn is_in_pairs(pairs: &[OpenPair], ticket: Ticket) -> bool
     found
 }
 
-/// Whether a base has this ticket as one that was cut.
+/// Whether a base has this ticket as one that was interrupted.
 fn is_in_cut(cut: &[OpenCut], ticket: Ticket) -> bool
     ensures { result ≡ list_any (λ u. u == ticket) (map (λ c. c.ticket) cut.now) }
 {
@@ -323,7 +323,7 @@ fn is_past(base: &Base, ticket: Ticket) -> bool
     (ticket.number() > 0) & (ticket.number() <= base.last.number()) & !is_entered(base, ticket)
 }
 
-/// The fate of a ticket, as a base and the records since tell it. It takes no memory, and reads each record once.
+/// Returns the fate of a ticket by a base and the records since. It doesn't allocate, and reads each record once.
 pub fn fate(base: &Base, records: &[Record<Deed>], ticket: Ticket) -> Fate
     ensures { result ≡ fate_on base.now records.now ticket }
 {

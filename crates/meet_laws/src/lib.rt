@@ -1,5 +1,6 @@
-//! What holds of every legal history, with cancels that race: how fates move, who is with whom, in which order tickets
-//! are met, and what is left where those that were cut or taken back are erased. It knows records alone, and no queue.
+//! Laws of every legal history, with cancels that race: how fates move, which ticket is matched with which, in which
+//! order tickets are matched, and what is left if those that were interrupted or withdrawn are erased. It knows records
+//! alone, and no queue.
 #![tactic(auto)]
 
 mod erasing;

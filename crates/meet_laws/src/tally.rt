@@ -1,4 +1,4 @@
-//! Where the items are that were given, by number.
+//! Where the items of producers are, as counts.
 
 ghost use Rattle.std.specs.Prelude.{◌≡◌, ℕ, ◌++◌, ◌+◌, ◌<◌, ◌≤◌, ◌^◌, not, is_some, count_by, length};
 ghost use Rattle.meet_tickets.specs.Bases.{IsWellFormed, IsLegalOn};
@@ -11,20 +11,20 @@ ghost use Rattle.meet_laws.specs.Tally.{met_on, gave_on, takers_met_on};
 use meet_core::{Left, LeftStanding};
 use meet_tickets::{Base, Deed, Entry, OpenCut, OpenPair, Record, Side};
 
-/// Where the items are that were given, by number.
+/// Where the items of producers are, as counts.
 #[derive(Clone, Copy, PartialEq, Eq, Debug)]
 pub struct Tally {
-    /// How many were handed over to a taker.
+    /// Items that went to a consumer.
     pub delivered: u64,
-    /// How many came back to their giver.
+    /// Items that were returned to their producer.
     pub returned: u64,
-    /// How many are kept in the line.
+    /// Items that are buffered.
     pub kept: u64,
-    /// How many are in the line, or their giver was cut and hasn't learned so.
+    /// Items whose producer waits, or was interrupted and isn't completed.
     pub offered: u64,
 }
 
-/// Whether a request gives.
+/// Whether a request is a producer's.
 fn gives(deed: &Deed) -> bool
     ensures { result ≡ gives deed.now }
 {
@@ -38,14 +38,14 @@ fn gives(deed: &Deed) -> bool
     )
 }
 
-/// Whether a request met somebody.
+/// Whether a request met a counterpart.
 fn meets(deed: &Deed) -> bool
     ensures { result ≡ meets deed.now }
 {
     matches!(deed, Deed::GiveMeets(_, _) | Deed::TakeMeets(_, _))
 }
 
-/// How many of these requests gave.
+/// How many of these requests are producers'.
 fn count_gives(records: &[Record<Deed>]) -> u64
     ensures count { result ≡ count_by (λ r. gives r.deed) records.now }
     ensures few { result < 2 ^ 63 }
@@ -53,7 +53,7 @@ fn count_gives(records: &[Record<Deed>]) -> u64
     records.iter().filter(|entry| gives(&entry.deed)).count() as u64
 }
 
-/// How many of these requests met somebody.
+/// How many of these requests met a counterpart.
 fn count_meets(records: &[Record<Deed>]) -> u64
     ensures count { result ≡ count_by (λ r. meets r.deed) records.now }
     ensures few { result < 2 ^ 63 }
@@ -61,7 +61,7 @@ fn count_meets(records: &[Record<Deed>]) -> u64
     records.iter().filter(|entry| meets(&entry.deed)).count() as u64
 }
 
-/// How many of these requests are givers that met a taker.
+/// How many of these requests are of producers that met a consumer.
 fn count_give_meets(records: &[Record<Deed>]) -> u64
     ensures count { result ≡ count_by (λ r. is_give_meets r.deed) records.now }
     ensures few { result < 2 ^ 63 }
@@ -72,7 +72,7 @@ fn count_give_meets(records: &[Record<Deed>]) -> u64
     met.count() as u64
 }
 
-/// How many of these records are of takers that learned that they were met.
+/// How many of these records complete a consumer as matched.
 fn count_gots(records: &[Record<Deed>]) -> u64
     ensures count { result ≡ count_by (λ r. is_got r.deed) records.now }
     ensures few { result < 2 ^ 63 }
@@ -83,7 +83,7 @@ fn count_gots(records: &[Record<Deed>]) -> u64
     got.count() as u64
 }
 
-/// How many entries of a line are givers.
+/// How many nodes of a wait queue are producers'.
 fn count_givers(line: &[Entry<u64>]) -> u64
     ensures count { result ≡ count_by (λ e. is_some e.item) line.now }
     ensures few { result < 2 ^ 63 }
@@ -91,7 +91,7 @@ fn count_givers(line: &[Entry<u64>]) -> u64
     line.iter().filter(|entry| entry.item.is_some()).count() as u64
 }
 
-/// How many tickets that were cut are givers.
+/// How many tickets that were interrupted are producers'.
 fn count_cut(cut: &[OpenCut]) -> u64
     ensures count { result ≡ count_by (λ c. is_some c.item) cut.now }
     ensures few { result < 2 ^ 63 }
@@ -99,7 +99,7 @@ fn count_cut(cut: &[OpenCut]) -> u64
     cut.iter().filter(|cut| cut.item.is_some()).count() as u64
 }
 
-/// How many open pairs are of takers that waited.
+/// How many open pairs are of consumers that waited.
 fn count_takers(pairs: &[OpenPair]) -> u64
     ensures count { result ≡ count_by (λ p. is_taker p.side) pairs.now }
     ensures few { result < 2 ^ 63 }
@@ -108,14 +108,14 @@ fn count_takers(pairs: &[OpenPair]) -> u64
     takers.count() as u64
 }
 
-/// Whether an item is left as kept.
+/// Whether an item is left as buffered.
 fn stands_kept(standing: LeftStanding) -> bool
     ensures { result ≡ stands_kept standing }
 {
     matches!(standing, LeftStanding::Kept)
 }
 
-/// How many of these items are kept.
+/// How many of these items are buffered.
 fn count_kept<T>(left: &[Left<T>]) -> u64
     ensures count { result ≡ count_by (λ a. stands_kept a.standing) left.now }
 {
@@ -149,7 +149,7 @@ fn count_pairs(pairs: &[OpenPair]) -> u64
     pairs.len() as u64
 }
 
-/// What is left of so many where these are taken off; it is at most this many.
+/// How many are left of `gave` without these; they are at most `most`.
 fn rest_of(gave: u128, delivered: u64, kept: u64, offered: u64, most: usize) -> u64
     ensures { (rest : ℕ) → gave ≡ delivered + rest + kept + offered → rest ≤ most → result ≡ rest }
 {
@@ -159,7 +159,7 @@ fn rest_of(gave: u128, delivered: u64, kept: u64, offered: u64, most: usize) -> 
     rest.min(most as u128) as u64
 }
 
-/// How many requests gave, by a base and the records since.
+/// How many requests are producers', by a base and the records since.
 fn gave_on(base: &Base, records: &[Record<Deed>]) -> u128
     ensures { result ≡ gave_on base.now records.now }
 {
@@ -169,8 +169,8 @@ fn gave_on(base: &Base, records: &[Record<Deed>]) -> u128
     line + pairs + cut + count_gives(records) as u128
 }
 
-/// How many items were handed over to a taker, by a base and the records since: so many requests met somebody. It takes
-/// no memory, and reads each record once.
+/// Counts the items that went to a consumer, by a base and the records since: the requests that met a counterpart. It
+/// doesn't allocate, and reads each record once.
 pub fn delivered(base: &Base, records: &[Record<Deed>]) -> u64
     ensures met { result ≡ met_on base.now records.now }
     ensures tally { (k : Kind) → IsWellFormed k base.now → IsLegalOn k base.now records.now
@@ -179,15 +179,15 @@ pub fn delivered(base: &Base, records: &[Record<Deed>]) -> u64
     count_pairs(base.pairs.as_slice()) + count_meets(records)
 }
 
-/// How many takers that waited were met, by a base and the records since.
+/// How many consumers that waited were matched, by a base and the records since.
 fn takers_met_on(base: &Base, records: &[Record<Deed>]) -> u64
     ensures { result ≡ takers_met_on base.now records.now }
 {
     count_takers(base.pairs.as_slice()) + count_give_meets(records)
 }
 
-/// Where the items are that were given, by number, where these records and what is left of the items are of one place,
-/// since its base. It takes no memory, and reads each of them a few times.
+/// Counts the items of producers by where they are, if these records and the items that are left are of one place,
+/// since its base. It doesn't allocate, and reads each of them a few times.
 pub fn reckon<T>(base: &Base, records: &[Record<Deed>], left: &[Left<T>]) -> Tally
     ensures delivered { result.delivered ≡ met_on base.now records.now }
     ensures tally { (k : Kind) → (mark : T → ℕ) → IsWellFormed k base.now → IsLegalOn k base.now records.now
