@@ -1,4 +1,4 @@
-//! What is said of a trace.
+//! The text that `meet explain` writes of a trace.
 
 ghost use Rattle.std.specs.Prelude.{IfOk, IfSome};
 ghost use Rattle.meet_run.specs.Texts.Reading.{lines_of};
@@ -20,7 +20,7 @@ use meet_tickets::{Base, Deed, Kind, Record, Refusal};
 use std::alloc::{AllocError, Global};
 use std::io::{Read, Write};
 
-/// Reads these bytes as a trace; none where they are none, or there is no memory.
+/// Reads these bytes as a trace; None if they are none, or an allocation fails.
 fn trace_in(alloc: Global, text: &[u8]) -> Option<ReadTrace> {
     let mut reader = text;
     match read_trace(alloc, &mut reader, MOST_READS) {
@@ -29,7 +29,7 @@ fn trace_in(alloc: Global, text: &[u8]) -> Option<ReadTrace> {
     }
 }
 
-/// The base that these bytes leave, which are a legal trace; none where they are none, or there is no memory.
+/// The base to which these bytes lead, which are a legal trace; None if they are none, or an allocation fails.
 fn base_behind(alloc: Global, text: &[u8]) -> Option<Base> {
     let trace = trace_in(alloc, text)?;
     match trace.checker.base(alloc) {
@@ -38,7 +38,7 @@ fn base_behind(alloc: Global, text: &[u8]) -> Option<Base> {
     }
 }
 
-/// The number of the line of the record that can't stand, where one can't.
+/// The number of the line of the record that can't stand, if one can't.
 fn faulty_line(text: &[u8], trace: &ReadTrace) -> Option<u64> {
     match trace.checker.standing() {
         Err(CheckFault::Illegal { place, why: _ }) => {
@@ -50,8 +50,8 @@ fn faulty_line(text: &[u8], trace: &ReadTrace) -> Option<u64> {
     }
 }
 
-/// Appends what is said of a record that can't stand, which stands in this line: what may come in its place, and where
-/// the place stands.
+/// Appends the explanation of a record that can't stand, which stands in this line: what may come in its place, and the
+/// state of the place.
 fn push_all(
     alloc: Global,
     out: &mut Vec<u8>,
@@ -66,7 +66,7 @@ fn push_all(
     push_moment(out, base)
 }
 
-/// What is said of a trace that isn't legal. The only error is want of memory.
+/// The explanation of a trace that isn't legal. Fails only if an allocation fails.
 fn explanation(alloc: Global, text: &[u8]) -> Result<Vec<u8>, AllocError> {
     let mut out = Vec::new(alloc);
     let Some(trace) = trace_in(alloc, text) else {
@@ -85,8 +85,8 @@ fn explanation(alloc: Global, text: &[u8]) -> Result<Vec<u8>, AllocError> {
     Ok(out)
 }
 
-/// Reads a trace up to its first faulty line, and returns whether it is legal, and what is said of it: what the checker
-/// finds, and behind it what explains it.
+/// Reads a trace up to its first faulty line, and returns whether it is legal, and its text: what the checker finds,
+/// and after it what explains it.
 fn told<R: Read>(alloc: Global, tee: &mut Tee<R>) -> Result<(bool, Vec<u8>), RunFault>
     ensures { IfOk result (λ told. IfSome (R.remaining tee.old.reader) (λ input.
         IsTold (lines_of input) told.0 told.1.items)) }
@@ -106,8 +106,8 @@ fn told<R: Read>(alloc: Global, tee: &mut Tee<R>) -> Result<(bool, Vec<u8>), Run
     }
 }
 
-/// Writes what explains the fault of a line, if it is one; that it can't be written is told by nothing, as the fault is
-/// told in any case.
+/// Writes what explains the fault of a line, if it is one. If it can't be written nothing reports it, since the fault
+/// is reported in any case.
 fn write_fault<W: Write>(alloc: Global, text: &[u8], writer: &mut W, fault: RunFault) {
     if let Some(number) = fault.line {
         let mut out = Vec::new(alloc);
@@ -118,7 +118,7 @@ fn write_fault<W: Write>(alloc: Global, text: &[u8], writer: &mut W, fault: RunF
 }
 
 /// Reads as much more as the explanation of a line's fault takes, and writes the explanation. It returns the fault; or
-/// ReadFault or Memory, where the text can't be read on or kept.
+/// ReadFault or Memory, if the text can't be read on or kept.
 fn explain_fault<R: Read, W: Write>(
     alloc: Global,
     tee: &mut Tee<R>,
@@ -141,14 +141,28 @@ fn explain_fault<R: Read, W: Write>(
     }
 }
 
-/// Reads a trace, of either format, and writes the line that `check` finds. Where the trace is legal that is all, and
-/// the answer is true. Else the answer is false, and behind that line stand the record that can't stand, with the
-/// number of its line; each record that may come in its place; and where the place stands there: its line from the
-/// front, the open tickets that were met or cut, and the flagged seats. It refuses BadTrace with the line that can't be
-/// read, ReadFault, WriteFault and Memory.
+/// Reads a trace, of either format, and writes the line that `check` writes. If the records are legal that is all, and
+/// it returns true. Otherwise it returns false, and writes after that line:
+/// - the record that can't stand, with the number of its line;
+/// - each record that may come in its place;
+/// - the state of the place there: its wait queue from the front, the pending requests that were matched or
+///   interrupted, and the seats with a pending interrupt.
 ///
 /// The text is read, and kept, to its end or to its first faulty line, of which at most 1,024 bytes; a script, which is
 /// no trace, to its first line that is no call.
+///
+/// # Errors
+/// Its clauses state nothing of an error.
+/// - BadTrace, with the line's number, from 1: the line can't be read. What was found in it and what can stand there is
+///   written.
+/// - ReadFault, if a read fails, or the text has 2^32 bytes or more.
+/// - Memory, if an allocation fails.
+/// - WriteFault, if a write fails or takes no byte.
+///
+/// # Example
+/// From `crates/meet/src/main.rt`:
+///
+///     Task::Explain => explain_trace(alloc, reader, writer),
 pub fn explain_trace<R: Read, W: Write>(
     alloc: Global,
     reader: &mut R,

@@ -1,4 +1,4 @@
-//! What is said of a line that can't be read: what was found there, and what can stand.
+//! The explanation of a line that can't be read: what was found there, and what can stand.
 
 use crate::flaws::{Flaw, mended};
 use crate::lines::{count_lines, line_at};
@@ -32,14 +32,14 @@ enum Reads {
     Call(Order),
 }
 
-/// Appends a line that says what was found.
+/// Appends a line with what was found.
 fn push_found(out: &mut Vec<u8>, found: &[u8]) -> Result<(), AllocError> {
     out.extend_from_slice(b"found: ")?;
     out.extend_from_slice(found)?;
     out.extend_from_slice(b"\n")
 }
 
-/// Appends a line that says what a word is.
+/// Appends a line with what a word is.
 fn push_word(out: &mut Vec<u8>, word: &[u8], is: &[u8]) -> Result<(), AllocError> {
     out.extend_from_slice(b"found: ")?;
     if word.is_empty() {
@@ -93,7 +93,7 @@ fn number_flaw(word: &[u8]) -> &'static [u8] {
     }
 }
 
-/// These words, each with a space behind it.
+/// These words, each with a space after it.
 fn spaced(alloc: Global, words: &[&[u8]]) -> Result<Vec<u8>, AllocError> {
     let mut out = Vec::new(alloc);
     for word in words {
@@ -124,7 +124,7 @@ fn push_misspelt(
     }
 }
 
-/// What is said of a word that is none of those that can stand there: that it is missing, or that it is none of them.
+/// What is wrong with a word that is none of those that can stand there: it is missing, or it is none of them.
 fn missing_or(word: &[u8], missing: &'static [u8], unknown: &'static [u8]) -> &'static [u8] {
     if word.is_empty() { missing } else { unknown }
 }
@@ -143,7 +143,7 @@ fn push_seat_flaw(out: &mut Vec<u8>, seat: &[u8]) -> Result<(), AllocError> {
     push_can(out, b"", (b"a seat from 0 to 65535", b""))
 }
 
-/// Appends what is wrong with the words of a record: its seat, its ticket, its deed, or what stands behind that.
+/// Appends what is wrong with the words of a record: its seat, its ticket, its deed, or the words after that.
 fn push_record_flaw(alloc: Global, out: &mut Vec<u8>, line: &[u8]) -> Result<(), AllocError> {
     let (seat, ticket, deed) = (word_at(line, 0), word_at(line, 1), word_at(line, 2));
     if seat == b"trace".as_slice() {
@@ -194,7 +194,7 @@ fn push_record_flaw(alloc: Global, out: &mut Vec<u8>, line: &[u8]) -> Result<(),
     }
 }
 
-/// Appends what is wrong with the words of a call: its seat, its verb, or what stands behind that.
+/// Appends what is wrong with the words of a call: its seat, its verb, or the words after that.
 fn push_call_flaw(
     alloc: Global,
     out: &mut Vec<u8>,
@@ -325,7 +325,7 @@ fn can_stand(reads: Reads, line: &[u8]) -> bool {
     }
 }
 
-/// Appends what is said of a line that can't be read so.
+/// Appends what is wrong with a line that can't be read so.
 fn push_flaws(
     alloc: Global,
     out: &mut Vec<u8>,
@@ -351,8 +351,8 @@ fn push_flaws(
     }
 }
 
-/// What is said of a script: of its first line that can't be read as a call, or else of the first whose seat it doesn't
-/// have; or that it is one.
+/// Appends what is wrong with a script: its first line that can't be read as a call, or else the first whose seat it
+/// doesn't have; or that it is a script.
 fn push_script(
     alloc: Global,
     out: &mut Vec<u8>,
@@ -393,7 +393,7 @@ fn push_script(
     push_can(out, b"", (b"trace 1 fair", b""))
 }
 
-/// Appends what is said of a text in which this line can't be read as a trace's.
+/// Appends the explanation of a text in which this line can't be read as a trace's.
 pub(crate) fn push_faulty(
     alloc: Global,
     out: &mut Vec<u8>,

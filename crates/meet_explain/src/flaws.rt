@@ -1,4 +1,4 @@
-//! What is wrong with the bytes of a line, whatever its words say.
+//! What is wrong with the bytes of a line, whatever its words are.
 
 use meet_run::text::reading::LONGEST_LINE;
 use std::alloc::{AllocError, Global};
@@ -12,14 +12,23 @@ const BYTE_ORDER_MARK: &[u8] = b"\xEF\xBB\xBF";
 /// What is wrong with the bytes of a line.
 #[derive(Clone, Copy, PartialEq, Eq, Debug)]
 pub(crate) enum Flaw {
+    /// It is empty.
     Nothing,
+    /// It begins with a byte order mark.
     ByteOrderMark,
+    /// It ends with a carriage return.
     CarriageReturn,
+    /// It has a tab.
     Tab,
+    /// It begins with a space.
     SpaceBefore,
+    /// It ends with a space.
     SpaceBehind,
+    /// It has two spaces together.
     TwoSpaces,
+    /// It has a byte that is no printable ASCII.
     Unprintable,
+    /// It has more than 128 bytes.
     TooLong,
 }
 
@@ -68,7 +77,7 @@ impl Flaw {
         }
     }
 
-    /// What it is.
+    /// Its text.
     pub(crate) fn told(self) -> &'static [u8] {
         match self {
             Flaw::Nothing => b"an empty line",

@@ -1,8 +1,8 @@
-//! Explains traces that aren't legal: the line of the record that can't stand, what may come in its place, and where
-//! the place stands there, a line each.
+//! Explains traces that aren't legal: the line of the record that can't stand, what may come in its place, and the
+//! state of the place there, a line each.
 //!
-//! What it finds of a trace is what the checker finds, to the byte; what it says of the moment is read from the base
-//! that the records before leave.
+//! What it finds of a trace is what the checker finds, to the byte. The state is read from the base to which the
+//! records before lead.
 #![tactic(auto)]
 
 mod explaining;

@@ -11,7 +11,7 @@ pub(crate) fn count_lines(text: &[u8]) -> u64 {
     }
 }
 
-/// Where the line of this number begins, from 1; the end of the text where there are fewer.
+/// Where the line of this number begins, from 1; the end of the text if there are fewer.
 pub(crate) fn begin_of(text: &[u8], number: u64) -> usize {
     let mut line = 1u64;
     for (index, byte) in text.iter().enumerate() {

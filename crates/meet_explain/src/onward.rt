@@ -50,8 +50,9 @@ fn read_calls<R: Read>(alloc: Global, tee: &mut Tee<R>, order: Order) -> Result<
     Ok(())
 }
 
-/// Reads a text on after its faulty line of this number, as far as the explanation takes: a line that is too long to its
-/// end, or until as many bytes were read as are shown; a script, whose first line it is, to the first that is no call.
+/// Reads a text on after its faulty line of this number, as far as the explanation takes: a line that is too long to
+/// its end, or until as many bytes were read as are shown; a script, if this is its first line, to the first that is no
+/// call.
 pub(crate) fn read_on<R: Read>(
     alloc: Global,
     tee: &mut Tee<R>,

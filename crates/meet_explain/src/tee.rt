@@ -6,7 +6,7 @@ use std::alloc::{AllocError, Global};
 use std::io;
 use std::io::Read;
 
-/// A reader that keeps a copy of each byte that is read through it, and asks its own reader for nothing else.
+/// A reader that keeps a copy of each byte that is read through it, and reads nothing else from its own reader.
 #[derive(Drop)]
 pub(crate) struct Tee<R> {
     reader: R,

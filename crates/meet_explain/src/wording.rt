@@ -38,7 +38,7 @@ pub(crate) fn push_instead(
     Ok(())
 }
 
-/// Appends a ticket and its seat behind a word.
+/// Appends a ticket and its seat after a word.
 fn push_ticket(
     out: &mut Vec<u8>,
     word: &[u8],
@@ -57,7 +57,7 @@ fn push_item(out: &mut Vec<u8>, item: Option<u64>, verb: &[u8]) -> Result<(), Al
     }
 }
 
-/// Appends an entry of the line.
+/// Appends a node of the wait queue.
 fn push_entry(out: &mut Vec<u8>, entry: &Entry<u64>) -> Result<(), AllocError> {
     push_ticket(out, b"in line: ", entry.ticket.number(), entry.seat)?;
     if entry.waits {
@@ -68,7 +68,7 @@ fn push_entry(out: &mut Vec<u8>, entry: &Entry<u64>) -> Result<(), AllocError> {
     out.extend_from_slice(b"\n")
 }
 
-/// Appends an open ticket that was met.
+/// Appends a pending request that was matched.
 fn push_met(out: &mut Vec<u8>, pair: &OpenPair) -> Result<(), AllocError> {
     push_ticket(out, b"met: ", pair.ticket.number(), pair.seat)?;
     match pair.side {
@@ -90,20 +90,21 @@ fn push_met(out: &mut Vec<u8>, pair: &OpenPair) -> Result<(), AllocError> {
     out.extend_from_slice(b"\n")
 }
 
-/// Appends an open ticket that was cut.
+/// Appends a pending request that was interrupted.
 fn push_cut(out: &mut Vec<u8>, cut: &OpenCut) -> Result<(), AllocError> {
     push_ticket(out, b"cut: ", cut.ticket.number(), cut.seat)?;
     push_item(out, cut.item, b" gives ")?;
     out.extend_from_slice(b"\n")
 }
 
-/// Appends a flagged seat.
+/// Appends a seat with a pending interrupt.
 fn push_flag(out: &mut Vec<u8>, seat: SeatNo) -> Result<(), AllocError> {
     push_numbered(out, b"flagged: seat ", seat.number())?;
     out.extend_from_slice(b"\n")
 }
 
-/// Appends where a place stands: its line from the front, the open tickets that were met or cut, and the flagged seats.
+/// Appends the state of a place: its wait queue from the front, the pending requests that were matched or interrupted,
+/// and the seats with a pending interrupt.
 pub(crate) fn push_moment(out: &mut Vec<u8>, base: &Base) -> Result<(), AllocError> {
     for entry in base.line.iter() {
         push_entry(out, entry)?;

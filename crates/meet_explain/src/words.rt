@@ -3,7 +3,7 @@
 use meet_run::text::words::split_word;
 use std::alloc::{AllocError, Global};
 
-/// A word, and what stands behind it, each number by a letter.
+/// A word, and the words after it, each number by a letter.
 pub(crate) type Form = (&'static [u8], &'static [u8]);
 
 /// The deeds of a trace.
@@ -68,7 +68,7 @@ pub(crate) const HEADS: [Form; 6] = [
     (b"calls", b""),
 ];
 
-/// The word of this number of a line, from 0; nothing where there are fewer.
+/// The word of this number of a line, from 0; nothing if there are fewer.
 pub(crate) fn word_at(line: &[u8], number: usize) -> &[u8] {
     let mut rest = line;
     for _ in 0..number {
@@ -91,7 +91,7 @@ fn behind_common<'a>(one: &'a [u8], other: &'a [u8]) -> (&'a [u8], &'a [u8]) {
     )
 }
 
-/// What stands behind the first byte.
+/// All after the first byte.
 fn tail(word: &[u8]) -> &[u8] {
     word.get(1..).unwrap_or(word)
 }
@@ -120,7 +120,7 @@ fn lowered(alloc: Global, word: &[u8]) -> Result<Vec<u8>, AllocError> {
 }
 
 /// The first of these words that is this one, in small letters; else the first that it becomes by one byte, or by two
-/// where it has at least four.
+/// if it has at least four.
 pub(crate) fn nearest(
     alloc: Global,
     word: &[u8],
