@@ -1,4 +1,4 @@
-//! Calls of a drive: each split, so that a thread that waits can be stopped.
+//! Calls of a demo run: each is split, so that a thread that waits can be stopped.
 
 use crate::history::History;
 use crate::progress::Progress;
@@ -15,7 +15,8 @@ use std::time::Clock;
 /// A second, in milliseconds.
 const SECOND: u64 = 1_000;
 
-/// What the threads of a drive share: the queue, what it handed out, whether all are to stop, and how far they are.
+/// What the threads of a demo run share: the queue, the chapters that it handed out, whether all are to stop, and how
+/// far they are.
 #[derive(Drop)]
 pub struct Course<G, N: Ledgers> {
     queue: SyncQueue<u64, FairLine<u64>, G, N>,
@@ -28,27 +29,27 @@ pub struct Course<G, N: Ledgers> {
     stopped: AtomicBool,
     /// How many items were taken so far.
     taken: AtomicU64,
-    /// How many threads are at work, who starts them included while it does.
+    /// How many threads are at work, the one that starts them included while it does.
     busy: AtomicU64,
     /// Woken once none is.
     ended: ParkGate,
 }
 
-/// How a call of a drive ended.
+/// How a call of a demo run ended.
 #[derive(Clone, Copy, PartialEq, Eq, Debug)]
 pub enum Passed {
-    /// The giver's item was taken.
+    /// The producer's item was taken.
     Gave,
-    /// The taker got this item.
+    /// The consumer got this item.
     Got(u64),
     /// All are to stop.
     Stopped,
-    /// The queue refused the call.
+    /// The call failed with this reason.
     Refused(Refusal),
 }
 
 impl<G, N: Ledgers> Course<G, N> {
-    /// A course over this queue, whose records are handed out once there are more than so many.
+    /// Creates a course over this queue, whose records are handed out after more than `most` were written.
     pub fn new(alloc: Global, queue: SyncQueue<u64, FairLine<u64>, G, N>, most: u64) -> Self {
         Course {
             queue,
@@ -63,14 +64,14 @@ impl<G, N: Ledgers> Course<G, N> {
         }
     }
 
-    /// The queue, and the records that it handed out.
+    /// Returns the queue, and the records that it handed out.
     pub fn into_parts(self) -> (SyncQueue<u64, FairLine<u64>, G, N>, Vec<Record<Deed>>) {
         let Course { queue, history, .. } = self;
         (queue, history.into_inner().into_records())
     }
 
-    /// Has the records so far handed out once there may be more than `most`, so that the history never fills. The seat,
-    /// and why that was refused, if it was.
+    /// Has the records so far handed out if there may be more than `most`, so that the log never fills. Returns the
+    /// seat, and the reason, if that failed.
     pub fn tend<R: Wait>(&self, rt: &R, seat: Seat<Deed, N>) -> (Seat<Deed, N>, Option<Refusal>) {
         let last = seat.receipts().last().map_or(0, |receipt| receipt.place());
         if last.saturating_sub(self.told.load(Ordering::Relaxed)) <= self.most {
@@ -90,24 +91,24 @@ impl<G, N: Ledgers> Course<G, N> {
         }
     }
 
-    /// One more thread is at work.
+    /// Counts one more thread at work.
     pub fn begin(&self) {
         self.busy.fetch_add(1, Ordering::SeqCst);
     }
 
-    /// One thread less is at work.
+    /// Counts one thread less at work, and wakes the one that watches after the last.
     pub fn end(&self) {
         if self.busy.fetch_sub(1, Ordering::SeqCst) == 1 {
             self.ended.wake();
         }
     }
 
-    /// One more item was taken.
+    /// Counts one more item that was taken.
     pub fn count_taken(&self) {
         self.taken.fetch_add(1, Ordering::Relaxed);
     }
 
-    /// Waits until no thread is at work; each second it tells how many of all items were taken so far.
+    /// Waits until no thread is at work; each second it reports how many of all items were taken so far.
     pub fn watch<R: Wait + Clock, P: Progress>(&self, rt: &R, progress: &P, all: u64) {
         for _ in rt.forever() {
             if self.ended.wait(rt, Some(SECOND)) == Turn::Woken {
@@ -120,14 +121,14 @@ impl<G, N: Ledgers> Course<G, N> {
         }
     }
 
-    /// Whether all are to stop.
+    /// Returns true if all are to stop.
     pub fn is_stopped(&self) -> bool {
         self.stopped.load(Ordering::SeqCst)
     }
 }
 
 impl<G: Gate, N: Ledgers> Course<G, N> {
-    /// Stops all: who waits is woken, and takes its ticket back.
+    /// Stops all: a thread that waits is woken, and cancels its request.
     pub fn stop(&self) {
         self.stopped.store(true, Ordering::SeqCst);
         for number in 0..self.queue.seats() {
@@ -137,7 +138,7 @@ impl<G: Gate, N: Ledgers> Course<G, N> {
         }
     }
 
-    /// Follows an open ticket up: its seat, and how its call ended; or the ticket as it was.
+    /// Follows an open ticket up. Returns its seat, and how its call ended; or the ticket as it was.
     fn look<R: Wait>(
         &self,
         rt: &R,
@@ -152,7 +153,7 @@ impl<G: Gate, N: Ledgers> Course<G, N> {
         }
     }
 
-    /// Waits for the ending of an open ticket; where all are to stop, it is taken back, unless it was met before.
+    /// Waits for the completion of an open ticket. If all are to stop it is cancelled, unless it was matched before.
     fn await_end<R: Wait + Clock>(
         &self,
         rt: &R,
@@ -176,7 +177,7 @@ impl<G: Gate, N: Ledgers> Course<G, N> {
         unreachable!() // it loops for ever
     }
 
-    /// Makes a call, and waits for its ending: the seat, and how it ended.
+    /// Makes a call, and waits for its completion. Returns the seat, and how the call ended.
     pub fn pass<R: Wait + Clock>(
         &self,
         rt: &R,

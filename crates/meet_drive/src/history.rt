@@ -1,4 +1,4 @@
-//! The history of a drive, written down while its queue goes on: chapter by chapter.
+//! The log of a demo run, put together chapter by chapter while its queue goes on.
 
 ghost use Rattle.std.specs.Prelude.{◌≡◌, ◌++◌, [], length, OnOk, OnErr};
 
@@ -7,7 +7,7 @@ use meet_tickets::{Deed, Record, Refusal};
 use std::alloc::Global;
 use std::mem;
 
-/// The records that a drive's queue handed out so far, in order, and a list for those to come.
+/// The records that a demo run's queue handed out so far, in order, and a list for those to come.
 #[derive(Drop)]
 pub struct History {
     records: Vec<Record<Deed>>,
@@ -15,7 +15,7 @@ pub struct History {
 }
 
 impl History {
-    /// Nothing was handed out yet.
+    /// Creates a history without a record.
     pub fn new(alloc: Global) -> Self
         ensures { result.records.items ≡ [] }
     {
@@ -25,22 +25,26 @@ impl History {
         }
     }
 
-    /// How many records were handed out.
+    /// Returns how many records were handed out.
     pub fn count(&self) -> u64
         ensures { result ≡ length self.now.records.items }
     {
         self.records.len() as u64
     }
 
-    /// A list into which the queue may write from now on, with what room the chapter before had.
+    /// Returns a list into which the queue may write from now on, with the room of the chapter before.
     pub fn take_room(&mut self, alloc: Global) -> Vec<Record<Deed>>
         ensures { self.new.records ≡ self.old.records }
     {
         mem::replace(&mut self.room, Vec::new(alloc))
     }
 
-    /// Writes a chapter down behind those before it; its list is the room of the next but one. It refuses Differs where
-    /// the chapter doesn't begin where these end, and Memory; then nothing is written.
+    /// Appends a chapter to those before it; its list is the room of the next but one.
+    ///
+    /// # Errors
+    /// Nothing is appended. The first that applies:
+    /// - Differs, if the chapter doesn't begin where these end.
+    /// - Memory, if an allocation fails.
     pub fn append(&mut self, chapter: Chapter) -> Result<(), Refusal>
         ensures written { OnOk result (self.new.records.items ≡ self.old.records.items ++ chapter.records.items) }
         ensures begins { OnOk result (chapter.base.gone ≡ length self.old.records.items) }
@@ -60,7 +64,7 @@ impl History {
         Ok(())
     }
 
-    /// The records that were handed out.
+    /// Returns the records that were handed out.
     pub fn into_records(self) -> Vec<Record<Deed>>
         ensures { result ≡ self.records }
     {

@@ -1,5 +1,5 @@
-//! A drive: givers and takers, each a thread, pass items through one synchronous queue in fair mode. What came of it is
-//! counted by the takers and told by the queue's own history, and is written as text.
+//! A demo run: producers and consumers, each a thread, pass items through one synchronous queue in fair mode. The
+//! consumers count what they get, the queue's own log states it, and the outcome is written as text.
 #![tactic(auto)]
 
 mod course;

@@ -1,18 +1,18 @@
-//! What comes of a drive.
+//! The outcome of a demo run.
 
 use meet_history::Standing;
 
-/// What came of a drive.
+/// The outcome of a demo run.
 #[derive(Clone, Copy, PartialEq, Eq, Debug)]
 pub struct Drive {
-    /// How many items the takers counted.
+    /// The items that the consumers counted.
     pub items: u64,
     /// The sum of these items.
     pub sum: u64,
-    /// How many pairs of a giver and a taker the history tells of.
+    /// The pairs of a producer and a consumer in the log.
     pub pairs: u64,
-    /// How many records the history has.
+    /// The records of the log.
     pub records: u64,
-    /// What stands in the queue at its end.
+    /// The status of the queue's requests and items at its end.
     pub standing: Standing,
 }

@@ -1,12 +1,12 @@
-//! How far a drive is, told while it lasts.
+//! The progress of a demo run, reported while it lasts.
 
-/// Who is told how far a drive is, each second that it lasts.
+/// Receives the progress of a demo run, each second that it lasts.
 pub trait Progress {
-    /// So many of all its items were taken so far.
+    /// Reports that `taken` of all items were taken so far.
     fn tell(&self, taken: u64, all: u64);
 }
 
-/// Nobody, who is told nothing.
+/// Ignores the progress.
 #[derive(Drop)]
 pub struct Silent {}
 

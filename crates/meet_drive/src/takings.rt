@@ -1,4 +1,4 @@
-//! What the takers of a drive got, by its records.
+//! What the consumers of a demo run got, by its records.
 
 ghost use Rattle.std.specs.Prelude.{◌≡◌, IfSome};
 ghost use Rattle.meet_drive.specs.Driven.{mark_got, items_got, sum_got};
@@ -16,7 +16,7 @@ fn mark_got(deed: Deed) -> Option<u64>
     }
 }
 
-/// How many items were got.
+/// Counts the items that were got.
 pub fn count_got(records: &[Record<Deed>]) -> u64
     ensures { result ≡ items_got records.now }
 {
@@ -26,7 +26,7 @@ pub fn count_got(records: &[Record<Deed>]) -> u64
     got.count() as u64
 }
 
-/// The sum of their marks, or none where it is 2^64 or more.
+/// Returns the sum of their marks; None if it is 2^64 or more.
 pub fn sum_got(records: &[Record<Deed>]) -> Option<u64>
     ensures { IfSome result (λ sum. sum ≡ sum_got records.now) }
 {

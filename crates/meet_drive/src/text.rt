@@ -1,4 +1,4 @@
-//! What came of a drive, as text.
+//! The outcome of a demo run as text.
 
 ghost use Rattle.std.specs.Prelude.{◌≡◌, ◌++◌, OnOk};
 ghost use Rattle.meet_drive.specs.Driven.{IsSized};
@@ -18,8 +18,11 @@ use std::sync::Wait;
 use std::thread::Threads;
 use std::time::Clock;
 
-/// Appends what came of a drive: how many items the takers counted, their sum, how many pairs the history tells of, and
-/// the line at the end of a script; four lines.
+/// Appends the outcome of a demo run, four lines: how many items the consumers counted, their sum, how many pairs the
+/// log has, and the line at the end of a script.
+///
+/// # Errors
+/// - `AllocError`, if an allocation fails: nothing is stated of what was appended.
 #[tactic(auto, unfolding(crate::specs::Text::drive_text))]
 pub fn push_drive(out: &mut Vec<u8>, drive: Drive) -> Result<(), AllocError>
     ensures { OnOk result (out.new.items ≡ out.old.items ++ drive_text drive) }
@@ -30,11 +33,25 @@ pub fn push_drive(out: &mut Vec<u8>, drive: Drive) -> Result<(), AllocError>
     push_last_line(out, drive.records, drive.standing)
 }
 
-/// So many givers put the items from 1 up to `each` into a synchronous queue in fair mode, as many takers take as many,
-/// as in `drive`, and each second progress is told; then what came of it is written, and the answer is true.
+/// Makes the demo run `drive_told`, writes its outcome, and returns true.
 ///
-/// What `drive` refuses is a fault in no line, and nothing is written; where memory is wanted for the text and not
-/// there, it is Memory. A write that fails or takes no byte is WriteFault, and a prefix of the text is written.
+/// # Errors
+/// Each is a fault in no line.
+/// - The errors of `drive`: nothing is written.
+/// - Memory, if an allocation fails for the text: nothing is written.
+/// - WriteFault, if a write fails or takes no byte: a prefix of the text is written.
+///
+/// # Example
+/// From `crates/meet/src/main.rt`:
+///
+///     &run_drive(
+///         &rt,
+///         rt.alloc(),
+///         &mut rt.stdout(),
+///         givers,
+///         each,
+///         &Teller { rt: &rt },
+///     ),
 pub fn run_drive<R, W: Write, P: Progress>(
     rt: &R,
     alloc: Global,

@@ -1,5 +1,5 @@
-//! The threads of a drive. Each works with a seat that it takes out of its slot, and puts it back there at its end: so
-//! a seat comes back whatever happens, also where its thread can't be started.
+//! The threads of a demo run. Each takes a seat out of its slot, and puts it back there at its end: so a seat is
+//! returned whatever happens, also if its thread can't be started.
 
 ghost use Rattle.std.specs.Prelude.{◌≡◌, false, Some, None};
 
@@ -14,34 +14,39 @@ use std::thread::Threads;
 use std::time::Clock;
 use std::{mem, thread};
 
-/// What a thread does in a drive.
+/// What a thread does in a demo run.
 #[derive(Clone, Copy)]
 pub enum Task {
     /// Gives the items from 1 up to this many, one after another.
     Give(u64),
-    /// Takes so many items.
+    /// Takes this many items.
     Take(u64),
 }
 
-/// What a thread counted: the items that it took, their sum, and why it ended early, where the queue refused it.
+/// What a thread counted.
 #[derive(Clone, Copy, PartialEq, Eq, Debug)]
 pub struct Count {
+    /// The items that it took.
     pub items: u64,
+    /// Their sum.
     pub sum: u64,
+    /// Why it ended early, if a call failed.
     pub why: Option<Refusal>,
 }
 
-/// Nothing was taken.
+/// The count of a thread that took nothing.
 pub const NOTHING: Count = Count {
     items: 0,
     sum: 0,
     why: None,
 };
 
-/// Where a seat lies before its thread starts and after it ended, and what the thread counted.
+/// The slot of a thread.
 #[derive(Drop)]
 pub struct Slot<N: Ledgers> {
+    /// Its seat, before the thread starts and after it ended.
     pub seat: Option<Seat<Deed, N>>,
+    /// What it counted.
     pub count: Count,
 }
 
@@ -72,7 +77,7 @@ impl Count {
         }
     }
 
-    /// Both counts together, and the first reason.
+    /// Returns both counts together, with the first reason.
     pub fn with(self, other: Count) -> Count
         ensures first { (why : Refusal) → self.why ≡ Some why → result.why ≡ Some why }
         ensures second { self.why ≡ None → result.why ≡ other.why }
@@ -103,8 +108,8 @@ impl Task {
     }
 }
 
-/// Does a task with a seat, which tends the history behind each call, until it is done, or all are to stop, or
-/// something is refused; then all are stopped.
+/// Does a task with a seat, which compacts the log after each call, until it is done, or all are to stop, or a call
+/// fails; then all are stopped.
 fn perform<G: Gate, N: Ledgers, R: Wait + Clock>(
     rt: &R,
     course: &Course<G, N>,
@@ -149,8 +154,8 @@ fn work<G: Gate, N: Ledgers, R: Wait + Clock>(
     course.end();
 }
 
-/// Each of the first half of the slots gives so many items, each of the others takes as many, all at once, and progress
-/// is told; whether every thread could be started. Where one couldn't, all are stopped.
+/// Runs all threads at once: each of the first half of the slots gives `each` items, each of the others takes as many.
+/// Progress is reported. Returns whether every thread could be started; if one couldn't, all are stopped.
 pub fn run_all<G, N, R, P>(
     rt: &R,
     course: &Course<G, N>,

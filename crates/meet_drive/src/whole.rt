@@ -1,4 +1,4 @@
-//! A drive from its start to its end.
+//! A demo run from its start to its end.
 
 ghost use Rattle.std.specs.Prelude.{◌≡◌, ◌<◌, ◌≤◌, ◌*◌, true, false, Some, [], length, IfOk, vec_len};
 ghost use Rattle.std.specs.Vec.{vec_capacity};
@@ -22,13 +22,13 @@ use std::sync::{Mutex, Wait};
 use std::thread::Threads;
 use std::time::Clock;
 
-/// How many threads of a drive give at most, and how many take.
+/// The most producers of a demo run, and the most consumers: 64.
 pub const MOST_GIVERS: u64 = 64;
 
-/// How many items each of them gives or takes at most.
+/// The most items that each of them gives or takes: 1,000.
 pub const MOST_EACH: u64 = 1000;
 
-/// How many records a drive's queue holds for each of its seats.
+/// How many records a demo run's queue holds for each of its seats.
 const RECORDS_OF_A_SEAT: u64 = 64;
 
 /// The queue's kind.
@@ -56,8 +56,7 @@ fn slots_of<N: Ledgers>(
     slots
 }
 
-/// The seats of these slots, to be given back, and what their threads counted together. The empty list has room for
-/// them.
+/// The seats of these slots, to be returned, and what their threads counted together. The empty list has room for them.
 fn seats_of<N: Ledgers>(
     slots: Vec<Mutex<Slot<N>>>,
     empty: Vec<Back<Deed, N>>,
@@ -77,7 +76,8 @@ fn seats_of<N: Ledgers>(
     (backs, counted)
 }
 
-/// Why a drive ended early, if it did: a thread couldn't be started, or else what the queue refused first.
+/// Why a demo run ended early, if it did: a thread couldn't be started, or else the reason of the first call that
+/// failed.
 fn ended_early(all_started: bool, counted: Count) -> Option<Refusal>
     ensures unstarted { all_started ≡ false → result ≡ Some NoThread }
     ensures refused { all_started ≡ true → result ≡ counted.why }
@@ -89,8 +89,8 @@ fn ended_early(all_started: bool, counted: Count) -> Option<Refusal>
     }
 }
 
-/// What a history tells of a drive of so many givers and takers of so many items each, whose takers counted so. By the
-/// records the takers got what they counted, and all that was given: were it otherwise, Differs were told.
+/// What a log states of a demo run of this many producers and consumers of `each` items, whose consumers counted so. By
+/// the records the consumers got what they counted, and all that was given; otherwise it is Differs.
 fn told(
     alloc: Global,
     records: &[Record<Deed>],
@@ -125,8 +125,8 @@ fn told(
     }
 }
 
-/// What the threads of a drive leave: the records that were handed out while they ran, the queue's own at its end, and
-/// what was counted.
+/// What the threads of a demo run leave: the records that were handed out while they ran, the queue's own at its end,
+/// and what was counted.
 #[derive(Drop)]
 struct Ended {
     handed: Vec<Record<Deed>>,
@@ -134,8 +134,8 @@ struct Ended {
     counted: Count,
 }
 
-/// The threads of a drive, from the first to the last, and the end of their queue: one of these parts, whose records
-/// are this many at most, and are handed out once there are more than `most`. Half of its seats give, the others take.
+/// The threads of a demo run, from the first to the last, and the end of their queue: one of these parts, whose records
+/// are this many at most, and are handed out after there are more than `most`. Half of its seats give, the others take.
 fn driving<G, N, R, P>(
     rt: &R,
     alloc: Global,
@@ -185,11 +185,22 @@ where
     }
 }
 
-/// So many givers, at most `MOST_GIVERS`, put the items from 1 up to `each`, at most `MOST_EACH`, into a synchronous
-/// queue in fair mode, as many takers take as many, each in a thread of its own; then the queue is closed, and its
-/// history is checked. The queue holds 64 records a seat, and its history is handed out chapter by chapter meanwhile.
-/// It refuses NoThread where a thread can't be started, what the queue refuses, or Memory; then every thread has been
-/// stopped, and the queue closed all the same.
+/// Makes a demo run of a synchronous queue in fair mode. Each of `givers` producers, 1 to `MOST_GIVERS`, puts the items
+/// from 1 up to `each`, at most `MOST_EACH`; as many consumers take as many. Each is a thread. Then the queue is
+/// closed, and its log is checked. The queue holds 64 records a seat, and its log is handed out chapter by chapter
+/// meanwhile.
+///
+/// # Errors
+/// Every thread has been stopped, and the queue closed all the same.
+/// - NoThread, if a thread can't be started.
+/// - The error of the first call of the queue that failed.
+/// - Differs, if the log states other items than were counted, which none of a queue does.
+/// - Memory, if an allocation fails.
+///
+/// # Example
+/// From `crates/meet_drive_tests/src/drives.rt`:
+///
+///     assert_eq!(&rt; drive(&rt, rt.alloc(), 4, 100), whole(400, 20_200));
 pub fn drive<R>(rt: &R, alloc: Global, givers: u64, each: u64) -> Result<Drive, Refusal>
 where
     R: Threads + Wait + Clock + Sync,
@@ -199,7 +210,10 @@ where
     drive_told(rt, alloc, givers, each, &Silent {})
 }
 
-/// The same, and each second that it lasts progress is told.
+/// Makes a demo run as `drive` does, and reports progress each second that it lasts.
+///
+/// # Errors
+/// - The errors of `drive`.
 pub fn drive_told<R, P>(
     rt: &R,
     alloc: Global,
@@ -217,8 +231,13 @@ where
     in_chapters(rt, alloc, givers, each, cap, progress)
 }
 
-/// The same with a queue that holds so many records at most, a sixteenth of which is enough for its seats: BadSizes
-/// where these are none or more than 1,048,576. Where they are fewer it may end early with HistoryFull.
+/// Makes a demo run as `drive` does, with a queue that holds `cap` records at most. 16 records for each of its seats
+/// are enough.
+///
+/// # Errors
+/// - BadSizes, if `cap` is 0 or above 1,048,576.
+/// - HistoryFull, if these are too few: fewer than 16 a seat may be.
+/// - The errors of `drive`.
 pub fn drive_in_chapters<R>(
     rt: &R,
     alloc: Global,
@@ -234,8 +253,12 @@ where
     in_chapters(rt, alloc, givers, each, cap, &Silent {})
 }
 
-/// The same in one chapter of at most so many records: BadSizes where these are none or more than 1,048,576, and
-/// HistoryFull where the drive needs more.
+/// Makes a demo run as `drive` does, in one chapter of at most `cap` records.
+///
+/// # Errors
+/// - BadSizes, if `cap` is 0 or above 1,048,576.
+/// - HistoryFull, if the run needs more records.
+/// - The errors of `drive`.
 pub fn drive_within<R>(
     rt: &R,
     alloc: Global,
@@ -257,8 +280,8 @@ where
     told(alloc, records, ended.counted, givers, each)
 }
 
-/// A drive with so many records at a time, which are handed out once there are more than half as many; put together at
-/// its end, they are one history.
+/// A demo run with `cap` records at a time, which are handed out after there are more than half as many; put together
+/// at its end, they are one log.
 fn in_chapters<R, P>(
     rt: &R,
     alloc: Global,
@@ -291,7 +314,7 @@ where
     told(alloc, records.as_slice(), counted, givers, each)
 }
 
-/// The threads of a drive, with gates and ledgers for them.
+/// The threads of a demo run, with gates and ledgers for them.
 fn started<R, P>(
     rt: &R,
     alloc: Global,

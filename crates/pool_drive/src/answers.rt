@@ -1,4 +1,4 @@
-//! What the jobs of a drive answered, by its records.
+//! What the jobs of a demo run returned, by its records.
 
 ghost use Rattle.std.specs.Prelude.{◌≡◌, IfSome};
 ghost use Rattle.pool_drive.specs.Driven.{answer_of, done_in, sum_in};
@@ -6,7 +6,7 @@ ghost use Rattle.pool_drive.specs.Driven.{answer_of, done_in, sum_in};
 use meet_tickets::Record;
 use pool_core::PoolDeed;
 
-/// What a job answered, where this deed tells it.
+/// What a job returned, if this deed states it.
 fn answer_of(deed: PoolDeed<u64>) -> Option<u64>
     ensures { result ≡ answer_of deed }
 {
@@ -16,7 +16,7 @@ fn answer_of(deed: PoolDeed<u64>) -> Option<u64>
     }
 }
 
-/// How many jobs are done.
+/// Counts the jobs that are done.
 pub fn count_done(records: &[Record<PoolDeed<u64>>]) -> u64
     ensures { result ≡ done_in records.now }
 {
@@ -26,7 +26,7 @@ pub fn count_done(records: &[Record<PoolDeed<u64>>]) -> u64
     done.count() as u64
 }
 
-/// The sum of what they answered, or none where it is 2^64 or more.
+/// Returns the sum of what they returned; None if it is 2^64 or more.
 pub fn sum_answered(records: &[Record<PoolDeed<u64>>]) -> Option<u64>
     ensures { IfSome result (λ sum. sum ≡ sum_in records.now) }
 {

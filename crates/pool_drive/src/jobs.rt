@@ -1,17 +1,18 @@
-//! The jobs of a drive.
+//! The jobs of a demo run.
 
 use pool_threads::{Call, Work};
 
-/// A job is worth its own number.
+/// The value of a job: its own number.
 pub struct ItsNumber;
 
 impl Work for ItsNumber {
     ghost worth = { λ tag. tag };
 }
 
-/// A job that answers its own number.
+/// A job that returns its own number.
 #[derive(Drop)]
 pub struct Numbered {
+    /// Its number.
     pub number: u64,
 }
 

@@ -1,5 +1,5 @@
-//! A drive of a pool: callers, each a thread, hand numbered jobs in to a fixed pool of workers. What came of it is told
-//! by the pool's own records, which are checked.
+//! A demo run of a pool: callers, each a thread, execute numbered jobs on a fixed pool of workers. The pool's own
+//! records, which are checked, state the outcome.
 #![tactic(auto)]
 
 mod answers;

@@ -1,5 +1,5 @@
-//! A drive from its start to its end. Each caller works with a seat that it takes out of its slot, and puts it back
-//! there at its end: so a seat comes back whatever happens, also where its thread can't be started.
+//! A demo run from its start to its end. Each caller takes a seat out of its slot, and puts it back there at its end:
+//! so a seat is returned whatever happens, also if its thread can't be started.
 
 ghost use Rattle.std.specs.Prelude.{◌≡◌, ◌+◌, ◌≤◌, true, false, [], Some, IfOk, vec_len};
 ghost use Rattle.std.specs.Vec.{vec_capacity};
@@ -24,31 +24,31 @@ use std::thread::Threads;
 use std::time::Clock;
 use std::{mem, thread};
 
-/// How many callers a drive has at most.
+/// The most callers of a demo run: 64.
 pub const MOST_CALLERS: u64 = 64;
 
-/// How many jobs each of them hands in at most.
+/// The most jobs that each of them executes: 1,000.
 pub const MOST_EACH: u64 = 1000;
 
-/// How many workers a drive has at most.
+/// The most workers of a demo run: 64.
 pub const MOST_WORKERS: u64 = 64;
 
-/// What came of a drive.
+/// The outcome of a demo run.
 #[derive(Clone, Copy, PartialEq, Eq, Debug)]
 pub struct PoolDrive {
-    /// How many jobs were handed in.
+    /// The jobs that were executed.
     pub jobs: u64,
-    /// The sum of what they answered.
+    /// The sum of what they returned.
     pub sum: u64,
-    /// How many are done by the records.
+    /// The jobs that are done by the records.
     pub done: u64,
-    /// How many records there are.
+    /// The records.
     pub records: u64,
     /// What the pool counts at its end.
     pub counters: Counters,
 }
 
-/// The pool of a drive.
+/// The pool of a demo run.
 type Ours<N> = Pool<ItsNumber, Numbered, ParkGate, ThreadStarter, N>;
 
 /// A caller's seat of it.
@@ -80,8 +80,8 @@ fn slots_of<N: PoolLedgers>(
     slots
 }
 
-/// The seats of these slots, to be given back, and the first reason for which a job was refused. The empty list has
-/// room for them.
+/// The seats of these slots, to be returned, and the first reason for which a job was refused. The empty list has room
+/// for them.
 fn seats_of<N: PoolLedgers>(
     slots: Vec<Mutex<Slot<N>>>,
     empty: Vec<Back<PoolDeed<u64>, N>>,
@@ -160,7 +160,7 @@ where
     })
 }
 
-/// Shuts the pool down from one of these seats, and waits until nobody works; then the seats are there again.
+/// Shuts the pool down from one of these seats, and waits until no worker is left; then the seats are there again.
 fn shut<N, R>(
     rt: &R,
     pool: &Ours<N>,
@@ -184,8 +184,8 @@ where
     }
 }
 
-/// What the records of a pool tell of a drive of so many callers, of so many jobs each, and so many workers: all jobs
-/// were done, and answered their numbers; were it otherwise, Differs were told. It refuses that and Memory.
+/// What the records of a pool state of a demo run of this many callers, of `each` jobs each, and workers: all jobs were
+/// done, and returned their numbers; otherwise it is Differs. Fails only so, or if an allocation fails.
 fn told(
     alloc: Global,
     records: &[Record<PoolDeed<u64>>],
@@ -219,13 +219,13 @@ fn told(
     }
 }
 
-/// What the callers of a drive leave behind the end of its pool: their seats, and why it ended early, if it did.
+/// What the callers of a demo run leave after the end of its pool: their seats, and why it ended early, if it did.
 struct CallersDone<N: PoolLedgers> {
     backs: Vec<Back<PoolDeed<u64>, N>>,
     early: Option<Refusal>,
 }
 
-/// Why a drive ended early, if it did: a caller couldn't be started, or else why a job was refused.
+/// Why a demo run ended early, if it did: a caller couldn't be started, or else why a job was refused.
 fn ended_early(all_started: bool, why: Option<Refusal>) -> Option<Refusal>
     ensures unstarted { all_started ≡ false → result ≡ Some NoThread }
     ensures refused { all_started ≡ true → result ≡ why }
@@ -237,8 +237,8 @@ fn ended_early(all_started: bool, why: Option<Refusal>) -> Option<Refusal>
     }
 }
 
-/// The callers' jobs are handed in, and the pool has ended. It refuses Memory before the first job, or what `shutdown`
-/// refuses behind the last one; then seats are let go, and the pool can't be closed.
+/// Executes the callers' jobs, and ends the pool. It fails with Memory before the first job, or as `shutdown` fails
+/// after the last one; then seats are dropped, and the pool can't be closed.
 fn called<N, R>(
     rt: &R,
     alloc: Global,
@@ -286,7 +286,7 @@ where
     }
 }
 
-/// The records of a drive at this pool.
+/// The records of a demo run at this pool.
 fn driven<N, R>(
     rt: &R,
     alloc: Global,
@@ -306,7 +306,7 @@ where
     }
 }
 
-/// A drive at a pool of these parts, with whatever ledgers.
+/// A demo run at a pool of these parts, with any ledgers.
 fn driving<N, R>(
     rt: &R,
     alloc: Global,
@@ -342,13 +342,16 @@ where
     driving::<Brand, R>(rt, alloc, parts, each)
 }
 
-/// So many callers, each a thread, hand the jobs from 1 up to `each` in, one after another, to a pool of so many
-/// workers that keeps them; a job answers its own number. Then the pool is shut down, its end awaited, it is closed,
-/// and its records are checked.
+/// Makes a demo run of a pool. Each of `callers` threads executes the jobs from 1 up to `each`, one after another, on a
+/// pool of this many workers that buffers them; a job returns its own number. Then the pool is shut down, its end
+/// awaited, it is closed, and its records are checked.
 ///
-/// It refuses NoThread where a caller or a worker can't be started, what else the pool refuses, and Memory; Differs
-/// where its records told of other jobs or answers, which none of a pool do. Where `shutdown` itself is refused, the
-/// pool's workers go on waiting, and the pool isn't closed.
+/// # Errors
+/// - NoThread, if a caller or a worker can't be started.
+/// - The error of the first call of the pool that failed. If `shutdown` itself fails, the pool's workers go on waiting,
+///   and the pool isn't closed.
+/// - Differs, if its records state other jobs or values, which none of a pool do.
+/// - Memory, if an allocation fails.
 pub fn drive_pool<R>(
     rt: &R,
     alloc: Global,

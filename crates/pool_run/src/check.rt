@@ -1,4 +1,4 @@
-//! What is found of a pool's trace.
+//! The check of a pool's trace.
 
 ghost use Rattle.std.specs.Prelude.{◌≡◌, ◌+◌, ◌^◌, ◌<◌, ◌≤◌, ◌↔◌, ◌++◌, [], None, Err, IsTrue, IfSome, IfOk, IfErr};
 ghost use Rattle.std.specs.Prelude.{OnOk};
@@ -41,7 +41,10 @@ fn why_word(why: PoolWhy) -> &'static [u8]
     }
 }
 
-/// Appends the line of a trace that isn't legal. Where memory runs out, nothing is said of what was appended.
+/// Appends the line of a trace that isn't legal.
+///
+/// # Errors
+/// - `AllocError`, if an allocation fails: nothing is stated of what was appended.
 #[tactic(auto, unfolding(crate::specs::Checks::pool_illegal_line))]
 pub fn push_pool_illegal(out: &mut Vec<u8>, number: u64, why: PoolWhy) -> Result<(), AllocError>
     ensures { OnOk result (out.new.items ≡ out.old.items ++ pool_illegal_line number why) }
@@ -52,7 +55,7 @@ pub fn push_pool_illegal(out: &mut Vec<u8>, number: u64, why: PoolWhy) -> Result
     out.extend_from_slice(b"\n")
 }
 
-/// Whether a push found no memory.
+/// Whether a push failed since an allocation failed.
 fn is_memory(pushed: Result<(), PoolFault>) -> bool
     ensures { IsTrue result ↔ (pushed ≡ Err NoMemory) }
 {
@@ -63,7 +66,7 @@ fn is_memory(pushed: Result<(), PoolFault>) -> bool
     }
 }
 
-/// Reads the records behind a trace's first line, and pushes each on the checker. The answer is how many they are.
+/// Reads the records after a trace's first line, and pushes each on the checker. Returns how many they are.
 fn push_records<R: Read>(
     reader: &mut R,
     turns: &mut u64,
@@ -100,7 +103,7 @@ fn push_records<R: Read>(
     }
 }
 
-/// What the checker found of so many records, and the line that says so. The only refusal is Memory.
+/// What the checker found of `count` records, and the line that states it. Fails only if an allocation fails.
 fn verdict(alloc: Global, checker: &PoolChecker, count: u64) -> Result<(bool, Vec<u8>), Refusal>
     ensures verdict { IfOk result (λ found. IsVerdictOf checker.now count found.0 found.1.items) }
     ensures memory { IfErr result (λ why. why ≡ Memory) }
@@ -119,8 +122,8 @@ fn verdict(alloc: Global, checker: &PoolChecker, count: u64) -> Result<(bool, Ve
     }
 }
 
-/// Reads the records behind the first line of a trace of such a pool, and says what is found of them, and the line that
-/// says so.
+/// Reads the records after the first line of a trace of such a pool, and returns whether they are legal, and the line
+/// that states it.
 fn find_records<R: Read>(
     alloc: Global,
     reader: &mut R,
@@ -150,7 +153,7 @@ fn find_records<R: Read>(
     }
 }
 
-/// Reads a whole trace, and says what is found of it, and the line that says so.
+/// Reads a whole trace, and returns whether it is legal, and the line that states it.
 fn find_trace<R: Read>(
     alloc: Global,
     reader: &mut R,
@@ -176,18 +179,21 @@ fn find_trace<R: Read>(
 }
 
 /// Checks the pool's trace that this reader gives. The whole of it is read before anything is written, and none of its
-/// records is kept: it takes the memory of the pool that they leave. A read of the reader takes one byte and costs a
-/// turn.
+/// records is kept: its memory is that of the state to which they lead. A read takes one byte; `turns` is the most
+/// reads.
 ///
-/// Where its records are legal it writes one line that counts them and says what the pool counts at their end, and the
-/// answer is true. Else it writes one line that names the first record that can't stand, and why, and the answer is
-/// false.
+/// If its records are legal it writes one line that counts them and states what the pool counts at their end, and
+/// returns true. Otherwise it writes one line that names the first record that can't stand, with the reason, and
+/// returns false.
 ///
-/// A line that can't be read, or that stands behind the 1,048,576th record, is BadTrace with its number, from 1, and so
-/// is a first line whose pool can't be made; a text without a first line is a fault of line 1. That wins over an
-/// illegal record before it. A read that fails, or no turn left for it, is ReadFault; where memory is wanted and not
-/// there, it is Memory. Then nothing is written. A write that fails or takes no byte is WriteFault, and a prefix of the
-/// line is written. Without a turn it is ReadFault, whether or not there is memory.
+/// # Errors
+/// - BadTrace, with the line's number, from 1: the line can't be read, it stands after the 1,048,576th record, or it is
+///   a first line whose pool can't be made. A text without a first line is a fault of line 1. That wins over an illegal
+///   record before it. Nothing is written.
+/// - ReadFault, if a read fails, or no turn is left for it: nothing is written. Without a turn it is this error in any
+///   case.
+/// - Memory, if an allocation fails: nothing is written.
+/// - WriteFault, if a write fails or takes no byte: a prefix of the line is written.
 pub fn check_pool_trace_within<R: Read, W: Write>(
     alloc: Global,
     reader: &mut R,
@@ -209,6 +215,14 @@ pub fn check_pool_trace_within<R: Read, W: Write>(
 }
 
 /// Checks a pool's trace as `check_pool_trace_within` does, with 2^32 reads.
+///
+/// # Errors
+/// - BadTrace, ReadFault, Memory or WriteFault, as `check_pool_trace_within`.
+///
+/// # Example
+/// From `crates/meet/src/main.rt`:
+///
+///     Task::PoolCheck => check_pool_trace(alloc, reader, writer),
 pub fn check_pool_trace<R: Read, W: Write>(
     alloc: Global,
     reader: &mut R,

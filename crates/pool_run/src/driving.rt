@@ -1,4 +1,4 @@
-//! A drive of a pool, and what came of it as text.
+//! A demo run of a pool, and its outcome as text.
 
 ghost use Rattle.std.specs.Prelude.{◌≡◌, ◌++◌, OnOk};
 ghost use Rattle.pool_drive.specs.Driven.{IsPoolSized};
@@ -17,8 +17,11 @@ use std::sync::Wait;
 use std::thread::Threads;
 use std::time::Clock;
 
-/// Appends what came of a drive: how many jobs were handed in, the sum of what they answered, how many are done by the
-/// records, and the line at the end of a script; four lines.
+/// Appends the outcome of a demo run, four lines: how many jobs were executed, the sum of what they returned, how many
+/// are done by the records, and the line at the end of a script.
+///
+/// # Errors
+/// - `AllocError`, if an allocation fails: nothing is stated of what was appended.
 #[tactic(auto, unfolding(crate::specs::Driving::pool_drive_text))]
 pub fn push_pool_drive(out: &mut Vec<u8>, drive: PoolDrive) -> Result<(), AllocError>
     ensures { OnOk result (out.new.items ≡ out.old.items ++ pool_drive_text drive) }
@@ -29,11 +32,18 @@ pub fn push_pool_drive(out: &mut Vec<u8>, drive: PoolDrive) -> Result<(), AllocE
     push_pool_last_line(out, drive.records, drive.counters)
 }
 
-/// So many callers hand the jobs from 1 up to `each` in to a pool of so many workers, as in `drive_pool`; then what
-/// came of it is written, and the answer is true.
+/// Makes the demo run `drive_pool`, writes its outcome, and returns true.
 ///
-/// What `drive_pool` refuses is a fault in no line, and nothing is written; where memory is wanted for the text and not
-/// there, it is Memory. A write that fails or takes no byte is WriteFault, and a prefix of the text is written.
+/// # Errors
+/// Each is a fault in no line.
+/// - The errors of `drive_pool`: nothing is written.
+/// - Memory, if an allocation fails for the text: nothing is written.
+/// - WriteFault, if a write fails or takes no byte: a prefix of the text is written.
+///
+/// # Example
+/// From `crates/meet/src/main.rt`:
+///
+///     &run_pool_drive(&rt, rt.alloc(), &mut rt.stdout(), callers, each, workers),
 pub fn run_pool_drive<R, W: Write>(
     rt: &R,
     alloc: Global,

@@ -1,4 +1,4 @@
-//! The texts of pools: scripts and their replies, traces and what is found of them, and drives.
+//! The texts of pools: scripts and their replies, traces and the check of them, and demo runs.
 #![tactic(auto)]
 
 pub mod check;

@@ -1,4 +1,4 @@
-//! What the next line of a pool's text is.
+//! The next line of a pool's text.
 
 ghost use Rattle.std.specs.Prelude.{◌+◌, ◌≤◌};
 ghost use Rattle.std.specs.Vec.{vec_capacity};
@@ -63,7 +63,7 @@ pub fn next_pool_head<R: Read>(
     next_of(came, read_head(line.as_slice()))
 }
 
-/// Reads the line of a record, behind so many lines.
+/// Reads the line of a record, after `read` lines.
 pub fn next_pool_record<R: Read>(
     reader: &mut R,
     turns: &mut u64,

@@ -1,4 +1,4 @@
-//! What the lines of a pool's trace say, but for the first: each is a record.
+//! The grammar of a pool's trace after its first line: each line is a record.
 
 ghost use Rattle.std.specs.Prelude.{◌≡◌, ◌+◌, IfSome};
 ghost use Rattle.pool_run.specs.Records.{bare_deed_of, numbered_deed_of, paired_deed_of, tripled_deed_of};
@@ -35,7 +35,7 @@ fn bare_deed(word: &[u8]) -> Option<PoolDeed<u64>>
     }
 }
 
-/// The deed of a word with one number behind it: a job, what a job answered, or how many jobs come back.
+/// The deed of a word with one number after it: a job, what a job returned, or how many jobs are returned.
 #[tactic(auto, unfolding(crate::specs::Records::numbered_deed_of))]
 fn numbered_deed(word: &[u8], number: u64) -> Option<PoolDeed<u64>>
     ensures { result ≡ numbered_deed_of word.now number }
@@ -57,7 +57,7 @@ fn numbered_deed(word: &[u8], number: u64) -> Option<PoolDeed<u64>>
     }
 }
 
-/// The deed of a word with two numbers behind it: a worker or a ticket, and a job.
+/// The deed of a word with two numbers after it: a worker or a ticket, and a job.
 #[tactic(auto, unfolding(crate::specs::Records::paired_deed_of, meet_run::specs::Tracing::TraceGrammar::ticket_in))]
 fn paired_deed(word: &[u8], number: u64, job: u64) -> Option<PoolDeed<u64>>
     ensures { result ≡ paired_deed_of word.now number job }
@@ -76,7 +76,7 @@ fn paired_deed(word: &[u8], number: u64, job: u64) -> Option<PoolDeed<u64>>
     }
 }
 
-/// The deed of a word with a ticket and two jobs behind it.
+/// The deed of a word with a ticket and two jobs after it.
 #[tactic(auto, unfolding(crate::specs::Records::tripled_deed_of))]
 fn tripled_deed(word: &[u8], ticket: Ticket, oldest: u64, job: u64) -> Option<PoolDeed<u64>>
     ensures { result ≡ tripled_deed_of word.now ticket oldest job }
@@ -141,7 +141,7 @@ fn read_deed(word: &[u8], rest: &[u8]) -> Option<PoolDeed<u64>>
     }
 }
 
-/// The deed behind a ticket.
+/// The deed after a ticket.
 #[tactic(auto, unfolding(crate::specs::Records::deed_behind))]
 fn read_deed_behind(rest: &[u8]) -> Option<PoolDeed<u64>>
     ensures { result ≡ deed_behind rest.now }
@@ -155,7 +155,7 @@ fn read_deed_behind(rest: &[u8]) -> Option<PoolDeed<u64>>
     }
 }
 
-/// The record of a seat, by what stands behind the seat.
+/// The record of a seat, by the words after the seat.
 #[tactic(auto, unfolding(crate::specs::Records::record_behind))]
 fn read_record_of(seat: SeatNo, rest: &[u8]) -> Option<Record<PoolDeed<u64>>>
     ensures { result ≡ record_behind seat rest.now }
@@ -181,7 +181,7 @@ fn read_long_record(line: &[u8]) -> Option<Record<PoolDeed<u64>>>
     read_record_of(seat, rest)
 }
 
-/// The record of a line of a pool's trace, or none where the line is at fault.
+/// Returns the record of a line of a pool's trace, or None if the line is at fault.
 #[tactic(auto, unfolding(crate::specs::Records::pool_record_of))]
 pub fn read_record(line: &[u8]) -> Option<Record<PoolDeed<u64>>>
     ensures read { result ≡ pool_record_of line.now }
@@ -193,8 +193,8 @@ pub fn read_record(line: &[u8]) -> Option<Record<PoolDeed<u64>>>
     read_long_record(line)
 }
 
-/// The record of a line behind so many others, a trace's first line and one for each record; or none where the line is
-/// at fault, or one too many.
+/// Returns the record of a line after `read` others, a trace's first line and one for each record; or None if the line
+/// is at fault, or one too many.
 pub fn read_record_behind(read: u64, line: &[u8]) -> Option<Record<PoolDeed<u64>>>
     ensures { result ≡ pool_record_at (read + 1) line.now }
 {

@@ -1,4 +1,4 @@
-//! What the lines of a pool's script say, but for the first: each is a call.
+//! The grammar of a pool's script after its first line: each line is a call.
 
 ghost use Rattle.std.specs.Prelude.{◌≡◌, IfSome};
 ghost use Rattle.pool_run.specs.Requests.{bare_verb_of, numbered_verb_of, verb_of, verb_behind, request_in, request_of};
@@ -37,7 +37,7 @@ fn bare_verb(word: &[u8]) -> Option<PoolVerb>
     }
 }
 
-/// The verb of a word with a number behind it.
+/// The verb of a word with a number after it.
 #[tactic(auto, unfolding(crate::specs::Requests::numbered_verb_of))]
 fn numbered_verb(word: &[u8], number: u64) -> Option<PoolVerb>
     ensures { result ≡ numbered_verb_of word.now number }
@@ -65,7 +65,7 @@ fn read_verb(word: &[u8], rest: &[u8]) -> Option<PoolVerb>
     }
 }
 
-/// The verb behind a line's first word.
+/// The verb after a line's first word.
 #[tactic(auto, unfolding(crate::specs::Requests::verb_behind))]
 fn read_verb_behind(rest: &[u8]) -> Option<PoolVerb>
     ensures { result ≡ verb_behind rest.now }
@@ -90,7 +90,7 @@ fn read_long_request(line: &[u8]) -> Option<PoolRequest>
     Some(PoolRequest { seat, verb })
 }
 
-/// The call of a line of a pool's script, or none where the line is at fault.
+/// Returns the call of a line of a pool's script, or None if the line is at fault.
 #[tactic(auto, unfolding(crate::specs::Requests::request_of))]
 pub fn read_request(line: &[u8]) -> Option<PoolRequest>
     ensures read { result ≡ request_of line.now }

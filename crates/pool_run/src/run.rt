@@ -75,7 +75,7 @@ fn close<W: Write>(stepper: &PoolStepper, out: &mut Vec<u8>, writer: &mut W) -> 
     }
 }
 
-/// Runs the calls behind the first line. Where no turn is left it is ReadFault, whether or not there is memory.
+/// Runs the calls after the first line. If no turn is left it is ReadFault, whether or not there is memory.
 fn run_requests<R: Read, W: Write>(
     alloc: Global,
     reader: &mut R,
@@ -122,14 +122,17 @@ fn run_requests<R: Read, W: Write>(
     }
 }
 
-/// Runs the pool's script that this reader gives, and writes its replies: the first line names what the pool is made
-/// with, each other line is a call. Each reply is written before the next line is read. A read of the reader takes one
-/// byte and costs a turn.
+/// Runs the pool's script that this reader gives, and writes its replies: the first line names the settings, each other
+/// line is a call. Each reply is written before the next line is read. Returns true. A read takes one byte; `turns` is
+/// the most reads.
 ///
-/// The answer is true. A pool that can't be made is BadSizes or PolicyNeedsBuffer. A line that can't be read ends the
-/// run with BadLine and its number, from 1, as soon as it is known; a text without a first line is a fault of line 1. A
-/// read that fails, or no turn left for it, is ReadFault; a write that fails or takes no byte is WriteFault; where
-/// memory is wanted and not there, it is Memory. Without a turn it is ReadFault, whether or not there is memory.
+/// # Errors
+/// - BadSizes or PolicyNeedsBuffer, if no pool can have these settings.
+/// - BadLine, with the line's number, from 1: the line can't be read, and ends the run as soon as that is known. A text
+///   without a first line is a fault of line 1.
+/// - ReadFault, if a read fails, or no turn is left for it. Without a turn it is this error in any case.
+/// - WriteFault, if a write fails or takes no byte.
+/// - Memory, if an allocation fails.
 pub fn run_pool_within<R: Read, W: Write>(
     alloc: Global,
     reader: &mut R,
@@ -154,6 +157,14 @@ pub fn run_pool_within<R: Read, W: Write>(
 }
 
 /// Runs a pool's script as `run_pool_within` does, with 2^32 reads.
+///
+/// # Errors
+/// - BadSizes, PolicyNeedsBuffer, BadLine, ReadFault, WriteFault or Memory, as `run_pool_within`.
+///
+/// # Example
+/// From `crates/meet/src/main.rt`:
+///
+///     Task::PoolRun => run_pool(alloc, reader, writer),
 pub fn run_pool<R: Read, W: Write>(
     alloc: Global,
     reader: &mut R,

@@ -1,4 +1,4 @@
-//! What a first line says: a script's names what a pool is made with, and so does a trace's, behind its format.
+//! The grammar of a first line: a script's names a pool's settings, and so does a trace's, after its format.
 
 ghost use Rattle.std.specs.Prelude.{◌≡◌, IfSome};
 ghost use Rattle.std.specs.Option.{option_map};
@@ -11,7 +11,7 @@ use meet_run::text::words::{behind_prefix, read_number, split_word};
 use meet_tickets::Order;
 use pool_core::{Policy, PoolQueue, Settings, Sizes};
 
-/// A number behind its name, and the rest of the line.
+/// A number after its name, and the rest of the line.
 #[tactic(auto, unfolding(crate::specs::FirstLines::number_behind))]
 fn read_number_behind<'a>(name: &[u8], rest: &'a [u8]) -> Option<(u64, &'a [u8])>
     ensures { option_map (λ found. (found.0, found.1.now)) result ≡ number_behind name.now rest.now }
@@ -121,7 +121,7 @@ fn read_long_settings(line: &[u8]) -> Option<Settings>
     })
 }
 
-/// What the pool of a script's first line is made with, whether or not it can be made; or none where the line is at
+/// Returns the settings of a script's first line, whether or not such a pool can be made; or None if the line is at
 /// fault.
 #[tactic(auto, unfolding(crate::specs::FirstLines::settings_of))]
 pub fn read_settings(line: &[u8]) -> Option<Settings>
@@ -156,8 +156,7 @@ fn read_long_head(line: &[u8]) -> Option<Settings>
     if_makeable(settings)
 }
 
-/// What the pool of a trace's first line is made with, or none where the line is at fault: also where such a pool can't
-/// be made.
+/// Returns the settings of a trace's first line, or None if the line is at fault, or no such pool can be made.
 #[tactic(auto, unfolding(crate::specs::FirstLines::pool_head_of))]
 pub fn read_head(line: &[u8]) -> Option<Settings>
     ensures read { result ≡ pool_head_of line.now }

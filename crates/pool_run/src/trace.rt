@@ -47,8 +47,11 @@ fn write_records<W: Write>(
     Ok(())
 }
 
-/// Writes the trace of a pool of these settings, whole: of these records, and then of those. It refuses Memory or
-/// WriteFault, and then a prefix of it is written.
+/// Writes the whole trace of a pool of these settings: the records `past`, and then the records `since`.
+///
+/// # Errors
+/// - Memory, if an allocation fails: a prefix of it is written.
+/// - WriteFault, if a write fails or takes no byte: a prefix of it is written.
 pub fn write_pool_trace<W: Write>(
     alloc: Global,
     settings: Settings,
@@ -72,7 +75,7 @@ pub fn write_pool_trace<W: Write>(
     write_records(&mut out, since, writer)
 }
 
-/// Makes the calls behind a script's first line, up to the first line that is none, and tells that line's number. Where
+/// Makes the calls after a script's first line, up to the first line that is none, and returns that line's number. If
 /// no turn is left it is ReadFault, whether or not there is memory.
 fn make_requests<R: Read>(
     alloc: Global,
@@ -111,7 +114,7 @@ fn make_requests<R: Read>(
     }
 }
 
-/// Writes the trace of the calls behind a script's first line.
+/// Writes the trace of the calls after a script's first line.
 fn trace_requests<R: Read, W: Write>(
     alloc: Global,
     reader: &mut R,
@@ -144,7 +147,12 @@ fn trace_requests<R: Read, W: Write>(
 }
 
 /// Runs the pool's script that this reader gives as `run_pool_within` does, and writes its trace instead of the
-/// replies: all records since the first, once the script has ended, or at a bad line those of the calls before it.
+/// replies: all records since the first, after the script has ended. Returns true.
+///
+/// # Errors
+/// - BadLine, as `run_pool_within`: the trace of the calls before the line is written.
+/// - BadSizes, PolicyNeedsBuffer, ReadFault, WriteFault or Memory, as `run_pool_within`: a prefix of the trace is
+///   written.
 pub fn trace_pool_within<R: Read, W: Write>(
     alloc: Global,
     reader: &mut R,
@@ -171,6 +179,14 @@ pub fn trace_pool_within<R: Read, W: Write>(
 }
 
 /// Writes the trace of a pool's script as `trace_pool_within` does, with 2^32 reads.
+///
+/// # Errors
+/// - BadSizes, PolicyNeedsBuffer, BadLine, ReadFault, WriteFault or Memory, as `trace_pool_within`.
+///
+/// # Example
+/// From `crates/meet/src/main.rt`:
+///
+///     Task::PoolTrace => trace_pool(alloc, reader, writer),
 pub fn trace_pool<R: Read, W: Write>(
     alloc: Global,
     reader: &mut R,

@@ -1,4 +1,4 @@
-//! The text of a pool's replies and of its trace, one line each. Where memory runs out, nothing is said of what was
+//! The text of a pool's replies and of its trace, one line each. If memory runs out, nothing is stated of what was
 //! appended.
 
 ghost use Rattle.std.specs.Prelude.{◌≡◌, ◌∷◌, ◌++◌, OnOk, decimal};
@@ -68,6 +68,9 @@ fn push_deed(out: &mut Vec<u8>, deed: PoolDeed<u64>) -> Result<(), AllocError>
 }
 
 /// Appends a record's line.
+///
+/// # Errors
+/// - `AllocError`, if an allocation fails.
 #[tactic(auto, unfolding(crate::specs::Wording::pool_record_line))]
 pub fn push_pool_record(out: &mut Vec<u8>, entry: Record<PoolDeed<u64>>) -> Result<(), AllocError>
     ensures { OnOk result (out.new.items ≡ out.old.items ++ pool_record_line entry) }
@@ -85,7 +88,7 @@ fn push_from(out: &mut Vec<u8>, word: &[u8], job: u64, ticket: Ticket) -> Result
     push_pair(out, word, job, b" from t", ticket.number())
 }
 
-/// Appends a deed as a reply tells it.
+/// Appends a deed as a reply reports it.
 #[tactic(auto, unfolding(crate::specs::Wording::answer_text))]
 fn push_answer(out: &mut Vec<u8>, deed: PoolDeed<u64>) -> Result<(), AllocError>
     ensures { OnOk result (out.new.items ≡ out.old.items ++ answer_text deed) }
@@ -170,6 +173,9 @@ fn push_outcome(out: &mut Vec<u8>, seat: SeatNo, outcome: PoolOutcome) -> Result
 }
 
 /// Appends a reply's line.
+///
+/// # Errors
+/// - `AllocError`, if an allocation fails.
 #[tactic(auto, unfolding(crate::specs::Wording::pool_reply_line))]
 pub fn push_pool_reply(out: &mut Vec<u8>, reply: &PoolReply) -> Result<(), AllocError>
     ensures { OnOk result (out.new.items ≡ out.old.items ++ pool_reply_line reply.now) }
@@ -178,14 +184,14 @@ pub fn push_pool_reply(out: &mut Vec<u8>, reply: &PoolReply) -> Result<(), Alloc
     out.extend_from_slice(b"\n")
 }
 
-/// The word of a timeout, where there is one.
+/// The word of a timeout, if there is one.
 fn timeout_word(core_timeout: bool) -> &'static [u8]
     ensures { result.now ≡ timeout_text core_timeout }
 {
     if core_timeout { b" timeout" } else { b"" }
 }
 
-/// Appends the sizes, each behind its name.
+/// Appends the sizes, each after its name.
 fn push_sizes(out: &mut Vec<u8>, sizes: Sizes) -> Result<(), AllocError>
     ensures { OnOk result (out.new.items ≡ out.old.items ++ sizes_text sizes) }
 {
