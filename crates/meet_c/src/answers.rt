@@ -1,4 +1,4 @@
-//! Answers of calls, as structs of numbers.
+//! Results of calls, as structs of numbers.
 
 ghost use Rattle.std.specs.Prelude.{◌≡◌};
 ghost use Rattle.meet_c.specs.Answers.{told_gave, told_put, told_offered, told_took, told_polled, told_followed};
@@ -7,18 +7,23 @@ ghost use Rattle.meet_c.specs.Answers.{told_interrupted, told, done, failed, ite
 
 use meet_core::{Followed, Gave, Interrupted, Offered, Polled, Put, QueueAnswer, TakenBack, Took};
 
-/// What came of a call: a status, 0 if the call was made; the outcome, 1 to 13; the ticket of the call and that of its
-/// partner, 0 for none; whether an item is handed out, and the item; and one more than the number of the seat that may
-/// go on, 0 for none. The last is a hint.
+/// The result of a call. What it hasn't is 0.
 #[repr(C)]
 #[derive(Clone, Copy, PartialEq, Eq, Debug)]
 pub struct Answer {
+    /// 0 if the call was made, else the error.
     pub status: u64,
+    /// The outcome, 1 to 13.
     pub outcome: u64,
+    /// The ticket of the request, or of the request that an interrupt ended.
     pub ticket: u64,
+    /// The partner's ticket.
     pub partner: u64,
+    /// 1 if an item is returned.
     pub has_item: u64,
+    /// The item.
     pub item: u64,
+    /// One more than the number of the seat that may go on. A hint.
     pub wake: u64,
 }
 
@@ -52,7 +57,7 @@ fn done(outcome: u64, ticket: u64, partner: u64) -> Answer
     }
 }
 
-/// Adds the item that is handed out, if there is one.
+/// Adds the item that is returned, if there is one.
 fn with_item(answer: Answer, item: Option<u64>) -> Answer
     ensures { result ≡ item_of answer item }
 {
@@ -66,7 +71,7 @@ fn with_item(answer: Answer, item: Option<u64>) -> Answer
     }
 }
 
-/// Tells what came of a give.
+/// Returns the answer of a give.
 fn tell_gave(gave: Gave<u64>) -> Answer
     ensures { result ≡ told_gave gave }
 {
@@ -77,7 +82,7 @@ fn tell_gave(gave: Gave<u64>) -> Answer
     }
 }
 
-/// Tells what came of a put of a queue that keeps items.
+/// Returns the answer of a put of a queue that buffers items.
 fn tell_put(put: Put<u64>) -> Answer
     ensures { result ≡ told_put put }
 {
@@ -88,7 +93,7 @@ fn tell_put(put: Put<u64>) -> Answer
     }
 }
 
-/// Tells what came of an offer.
+/// Returns the answer of an offer.
 fn tell_offered(offered: Offered<u64>) -> Answer
     ensures { result ≡ told_offered offered }
 {
@@ -98,7 +103,7 @@ fn tell_offered(offered: Offered<u64>) -> Answer
     }
 }
 
-/// Tells what came of a take.
+/// Returns the answer of a take.
 fn tell_took(took: Took<u64>) -> Answer
     ensures { result ≡ told_took took }
 {
@@ -111,7 +116,7 @@ fn tell_took(took: Took<u64>) -> Answer
     }
 }
 
-/// Tells what came of a poll.
+/// Returns the answer of a poll.
 fn tell_polled(polled: Polled<u64>) -> Answer
     ensures { result ≡ told_polled polled }
 {
@@ -123,7 +128,7 @@ fn tell_polled(polled: Polled<u64>) -> Answer
     }
 }
 
-/// Tells what came of a follow-up.
+/// Returns the answer of a follow-up.
 fn tell_followed(followed: Followed<u64>) -> Answer
     ensures { result ≡ told_followed followed }
 {
@@ -135,7 +140,7 @@ fn tell_followed(followed: Followed<u64>) -> Answer
     }
 }
 
-/// Tells what came of a cancel or an expiry.
+/// Returns the answer of a cancel or an expiry.
 fn tell_back(back: TakenBack<u64>) -> Answer
     ensures { result ≡ told_back back }
 {
@@ -145,7 +150,7 @@ fn tell_back(back: TakenBack<u64>) -> Answer
     }
 }
 
-/// Tells what came of an interrupt.
+/// Returns the answer of an interrupt.
 fn tell_interrupted(interrupted: Interrupted) -> Answer
     ensures { result ≡ told_interrupted interrupted }
 {
@@ -155,7 +160,7 @@ fn tell_interrupted(interrupted: Interrupted) -> Answer
     }
 }
 
-/// Tells what came of a call, without the seat that may go on.
+/// Returns the answer of a call, without the seat that may go on.
 pub(crate) fn tell(answer: QueueAnswer<u64>) -> Answer
     ensures { result ≡ told answer }
 {

@@ -7,34 +7,44 @@ ghost use Rattle.meet_c.specs.Rows.{told_base};
 use crate::entries::side_number;
 use meet_tickets::{Base, Entry, OpenCut, OpenPair, SeatNo};
 
-/// What stands for the records that were folded away: how many these are, and the greatest ticket among them; how many
-/// rows there are of the wait queue, of matched pairs, of interrupted requests, and of pending interrupts.
+/// The snapshot of the compacted records (a base): their numbers, and how many rows state the rest.
 #[repr(C)]
 #[derive(Clone, Copy, PartialEq, Eq, Debug)]
 pub struct PlainBase {
+    /// How many records were compacted.
     pub gone: u64,
+    /// The greatest ticket among them.
     pub last: u64,
+    /// The rows of the wait queue.
     pub line: u64,
+    /// The rows of matched pairs.
     pub pairs: u64,
+    /// The rows of interrupted requests.
     pub cut: u64,
+    /// The rows of pending interrupts.
     pub flags: u64,
 }
 
-/// A row of a base: 1 a pending request that waits, 2 a kept item, 3 a pending request that was matched, 4 one that was
-/// interrupted, 5 a pending interrupt; its seat, ticket and side; the mark of a giver's item; and the partner's ticket.
-/// What the row hasn't is 0.
+/// A row of a base. What it hasn't is 0.
 #[repr(C)]
 #[derive(Clone, Copy, PartialEq, Eq, Debug)]
 pub struct BaseRow {
+    /// 1 a pending request that waits, 2 a buffered item, 3 a pending request that was matched, 4 one that was
+    /// interrupted, 5 a pending interrupt.
     pub what: u64,
+    /// Its seat.
     pub seat: u64,
+    /// Its ticket.
     pub ticket: u64,
+    /// Its side: 0 a producer, 1 a consumer.
     pub side: u64,
+    /// The mark of a producer's item.
     pub mark: u64,
+    /// The partner's ticket.
     pub partner: u64,
 }
 
-/// Returns the side of a request with this item, 0 for a giver, 1 for a taker, which has none.
+/// Returns the side of a request with this item: 0 for a producer, 1 for a consumer, which has none.
 fn side_of(item: Option<u64>) -> u64
     ensures { result ≡ side_of item }
 {

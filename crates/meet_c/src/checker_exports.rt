@@ -11,12 +11,13 @@ use crate::loose::Handle;
 use crate::queue_exports::read_setup;
 use std::alloc::Global;
 
-/// Creates a checker of a place of this order and bound that has no history yet. The handle holds it then, and what it
+/// Creates a checker of a place of this order and bound, with an empty log. The handle holds it after that, and what it
 /// held is dropped.
 ///
 /// # Errors
-/// - 1 if memory runs out. The handle holds what it held then.
-/// - 41 if no place has these numbers. The handle holds what it held then.
+/// The handle holds what it held.
+/// - 1 if memory runs out.
+/// - 41 if no place has these numbers.
 #[unsafe(no_mangle)]
 pub extern "C" fn ibis_checker_new(
     alloc: Global,
@@ -64,7 +65,7 @@ fn push_held(held: &mut Held, entries: &[PlainRecord]) -> Found
 /// # Errors
 /// - 1 if memory runs out: those that were taken in count, and the next may be pushed again.
 /// - 30 if a record's numbers are those of none: it isn't taken in.
-/// - 31 if a record can't stand, with its number and why: it is taken in, and each later push finds the same.
+/// - 31 if a record can't stand, with its number and the reason: it is taken in, and each later push returns the same.
 /// - 40 if no checker is held.
 #[unsafe(no_mangle)]
 pub extern "C" fn ibis_checker_push(
@@ -89,10 +90,11 @@ pub extern "C" fn ibis_checker_push(
     told.status
 }
 
-/// Finds where a checker's records leave the place, or what was found against them: the verdict. It takes no memory.
+/// Returns the verdict on the records that were pushed: their status, and where they leave the place. It doesn't
+/// allocate.
 ///
 /// # Errors
-/// - 31 if a record can't stand, with its number and why.
+/// - 31 if a record can't stand, with its number and the reason.
 /// - 40 if no checker is held.
 #[unsafe(no_mangle)]
 pub extern "C" fn ibis_checker_standing(
@@ -147,16 +149,15 @@ fn check_at(alloc: Global, held: &mut Held, checker: &mut Handle) -> Found
     }
 }
 
-/// Pushes all new records of a queue on a checker, and folds them away if they are legal. New are those that the
-/// checker hasn't taken in. Returns the finding's status, 0 if all records since the first are legal, with where they
-/// leave the queue.
+/// Pushes all new records of a queue on a checker, and compacts them if they are legal. New are those that the checker
+/// hasn't taken in. Returns the finding's status, 0 if all records since the first are legal, with where they leave the
+/// queue.
 ///
 /// # Errors
-/// - 31 if a record can't stand: nothing is folded away.
-/// - 1 or 2 as a cut does, and 1 if memory runs out for the checker: the call may be repeated.
-/// - 40 if the handles don't hold a queue and a checker. Nothing has changed then.
-/// - 42 if the checker has taken in fewer records than were folded away, or more than there are. Nothing has changed
-///   then.
+/// - 31 if a record can't stand: nothing is compacted.
+/// - 1 or 2 as `ibis_queue_cut`, and 1 if memory runs out for the checker: the call may be repeated.
+/// - 40 if the handles don't hold a queue and a checker. Nothing has changed.
+/// - 42 if the checker has taken in fewer records than were compacted, or more than there are. Nothing has changed.
 #[unsafe(no_mangle)]
 pub extern "C" fn ibis_queue_check(
     alloc: Global,
@@ -181,7 +182,7 @@ pub extern "C" fn ibis_queue_check(
     told.status
 }
 
-/// Drops what a handle holds, if anything. It holds nothing then.
+/// Drops what a handle holds, if anything. It holds nothing after that.
 #[unsafe(no_mangle)]
 pub extern "C" fn ibis_free(alloc: Global, handle: &mut Handle)
     ensures { handle.new.loose.value ≡ None }

@@ -7,15 +7,19 @@ ghost use Rattle.meet_c.specs.Entries.{deed_of, record_of, side_in, cause_in, re
 use crate::names::{seat_in, ticket_in};
 use meet_tickets::{Cause, Deed, Record, SeatNo, Side, Ticket};
 
-/// A record: its seat, its ticket, the number of its deed, 1 to 12, the deed's mark, and the deed's partner, side,
-/// cause or target. What the deed hasn't is 0.
+/// A record. What it hasn't is 0.
 #[repr(C)]
 #[derive(Clone, Copy, PartialEq, Eq, Debug)]
 pub struct PlainRecord {
+    /// Its seat.
     pub seat: u64,
+    /// Its ticket.
     pub ticket: u64,
+    /// The number of its deed, 1 to 12.
     pub deed: u64,
+    /// The deed's mark.
     pub mark: u64,
+    /// The deed's partner, side, cause or target.
     pub other: u64,
 }
 
@@ -106,7 +110,7 @@ fn deed_other(deed: Deed) -> u64
     }
 }
 
-/// Tells a record.
+/// Returns a record as numbers.
 fn tell_record(entry: &Record<Deed>) -> PlainRecord
     ensures { result ≡ told_record entry.now }
 {

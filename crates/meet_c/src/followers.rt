@@ -19,22 +19,29 @@ use std::alloc::Global;
 /// A checker, and how many records it has taken in.
 #[derive(Drop)]
 pub struct Follower {
+    /// The checker.
     pub checker: Checker,
+    /// How many records it has taken in.
     pub taken: u64,
 }
 
-/// What a checker found: a status, 0 if the records so far are legal; how many records it has taken in; the number of
-/// the first record that can't stand, from 1, and why, 1 to 4; and how many open tickets wait, how many were met or cut
-/// and await their follow-up, and how many items are kept.
+/// The finding of a checker. What it hasn't is 0.
 #[repr(C)]
 #[derive(Clone, Copy, PartialEq, Eq, Debug)]
 pub struct Found {
+    /// 0 if the records so far are legal, else the error.
     pub status: u64,
+    /// How many records the checker has taken in.
     pub records: u64,
+    /// The number of the first record that can't stand, from 1.
     pub place: u64,
+    /// The reason, 1 to 4.
     pub why: u64,
+    /// Pending requests that wait.
     pub waiting: u64,
+    /// Pending requests that were matched or interrupted, and need a follow-up.
     pub uncollected: u64,
+    /// Items that are buffered.
     pub kept: u64,
 }
 
@@ -65,7 +72,7 @@ fn number_of_why(why: Why) -> u64
     }
 }
 
-/// Tells a fault, after this many records.
+/// Returns the finding of a fault, after this many records.
 fn fault_with(fault: CheckFault, records: u64) -> Found
     ensures { result ≡ fault_with fault records }
 {
@@ -79,7 +86,7 @@ fn fault_with(fault: CheckFault, records: u64) -> Found
     }
 }
 
-/// Makes a checker of a place of this kind that has no history. Returns none only if memory runs out.
+/// Makes a checker of a place of this kind with an empty log. Returns None only if memory runs out.
 pub(crate) fn new_follower(alloc: Global, kind: Kind) -> Option<Follower>
     ensures kind { IfSome result (λ f. f.checker.place.kind ≡ kind) }
     ensures seen { IfSome result (λ f. HasSeen no_base f.checker []) }
@@ -139,7 +146,7 @@ pub(crate) fn take_many(follower: &mut Follower, entries: &[PlainRecord]) -> Fou
     status_with(0, follower.taken)
 }
 
-/// Finds where the tickets and items are, or the fault. It takes no memory.
+/// Finds the status of the requests and items, or the fault. It doesn't allocate.
 pub(crate) fn standing(follower: &Follower) -> Found
     ensures { StandsAs follower.now result }
 {
@@ -176,7 +183,7 @@ fn follow(follower: &mut Follower, records: &[Record<Deed>]) -> bool
     true
 }
 
-/// Takes a queue's new records in, and folds them away if they are legal.
+/// Takes a queue's new records in, and compacts them if they are legal.
 pub(crate) fn check(book: &mut Book<AnyQueue>, follower: &mut Follower) -> Found
     ensures { ChecksNew book.old follower.old result book.new follower.new }
 {

@@ -1,6 +1,6 @@
-//! What programs in C, and in all languages that call C, use of the queues of one thread: a queue under its book, and a
-//! checker of records, each behind a handle. It starts no thread and takes no lock: a program that shares a handle
-//! among threads calls it under a lock of its own.
+//! The exports of the queues of one thread, for programs in C and in all languages that call C: a queue under its log
+//! (a book), and a checker of records, each behind a handle. It starts no thread and takes no lock: a program that
+//! shares a handle among threads calls it under a lock of its own.
 #![tactic(auto)]
 
 mod answers;

@@ -1,4 +1,4 @@
-//! A box behind a plain pointer, which C keeps between two calls.
+//! A box that C keeps between two calls as a plain pointer.
 
 ghost use Rattle.std.specs.Prelude.{◌≡◌, Option, Some, None, true, IfSome};
 ghost use Rattle.std.specs.Option.{is_some};
@@ -18,6 +18,7 @@ use std::marker::{Model, Send};
 pub struct Loose {
     at: *mut u8,
     alloc: Global,
+    /// What is held.
     pub ghost value: { Option Held },
 }
 
@@ -62,11 +63,12 @@ impl Loose {
     }
 }
 
-/// A handle, as C keeps it: a flag and an address. Where the flag isn't set it holds nothing.
+/// A handle, as C keeps it: a flag and an address. If the flag isn't set it holds nothing.
 #[repr(C)]
 #[derive(Drop)]
 pub struct Handle {
     live: bool,
+    /// The box of what it holds.
     pub loose: Loose,
     ghost live_is: { live ≡ is_some loose.value },
 }
@@ -105,7 +107,7 @@ impl Handle {
         }
     }
 
-    /// Takes out what it holds, if anything; it holds nothing then.
+    /// Takes out what it holds, if anything; it holds nothing after that.
     pub(crate) fn take(&mut self, alloc: Global) -> Option<Box<Held, Global>>
         ensures some { IfSome result (λ held. self.old.loose.value ≡ Some held.value) }
         ensures none { result ≡ None → self.old.loose.value ≡ None }
@@ -118,7 +120,7 @@ impl Handle {
 /// Whether a value of this type may go to another thread.
 fn may_go<T: Send>() {}
 
-/// A law: C may hand a handle from thread to thread, one call at a time. It does nothing.
+/// States that C may hand a handle from thread to thread, one call at a time. It does nothing.
 pub fn handles_may_go() {
     may_go::<Handle>();
 }

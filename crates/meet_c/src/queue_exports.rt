@@ -26,15 +26,16 @@ pub(crate) fn read_setup(order: u64, bound: u64, seats: u64, first: u64, cap: u6
     }
 }
 
-/// Creates a queue of this order (1 fair, 2 unfair, 3 transfer), with this bound on the items that a transfer queue
-/// keeps, 0 for none, with 1 to 65,536 seats, this first ticket, 1 to 2^63 - 1, and at most this many records at a
-/// time, 1 to 1,048,576. The handle holds it then, and what it held is dropped.
+/// Creates a queue of this order (1 fair, 2 unfair, 3 transfer). `bound` is the most items that a transfer queue
+/// buffers, 0 for no bound. It has 1 to 65,536 seats; `first` is the first ticket, 1 to 2^63 - 1; `cap` is the most
+/// records at a time, 1 to 1,048,576. The handle holds it after that, and what it held is dropped.
 ///
 /// # Errors
-/// - 1 if memory runs out. The handle holds what it held then.
-/// - 41 if a number is out of its limits. The handle holds what it held then.
+/// The handle holds what it held.
+/// - 1 if memory runs out.
+/// - 41 if a number is out of its limits.
 ///
-/// `SynchronousQueue`, `LinkedTransferQueue`.
+/// Java: `SynchronousQueue`, `LinkedTransferQueue`.
 #[unsafe(no_mangle)]
 pub extern "C" fn ibis_queue_new(
     alloc: Global,
@@ -86,8 +87,8 @@ fn step_held(held: &mut Held, verb: u64, seat: u64, value: u64) -> Answer
 /// that isn't matched is pending, and its seat asks by a follow-up. Returns the answer's status.
 ///
 /// # Errors
-/// Nothing has changed then.
-/// - 1 Memory, 2 HistoryFull, 3 TicketsSpent, 4 SeatOpen, 5 NoSuchSeat or 6 NotOpen: the queue refuses the call.
+/// Nothing has changed.
+/// - 1 Memory, 2 HistoryFull, 3 TicketsSpent, 4 SeatOpen, 5 NoSuchSeat or 6 NotOpen: the queue's error.
 /// - 40 if no queue is held.
 /// - 41 if the numbers are no call and seat.
 #[unsafe(no_mangle)]
@@ -115,7 +116,7 @@ pub extern "C" fn ibis_queue_step(
     told.status
 }
 
-/// Looks at a queue: its probes, and the counts of its log. It takes no memory.
+/// Looks at a queue: its read-only queries (probes), and the counts of its log. It doesn't allocate.
 ///
 /// # Errors
 /// - 40 if no queue is held.
@@ -147,7 +148,7 @@ fn look_held(held: &Held, seen: &mut Look) -> u64
     }
 }
 
-/// Finds a seat's open ticket, 0 for none, also of a seat that the queue hasn't. It takes no memory.
+/// Finds a seat's open ticket, 0 for none, also of a seat that the queue hasn't. It doesn't allocate.
 ///
 /// # Errors
 /// - 40 if no queue is held.
@@ -189,7 +190,7 @@ fn open_held(held: &Held, seat: u64, ticket: &mut u64) -> u64
 }
 
 /// Copies the queue's records since the last cut, from this index on, from 0, as many as there are and as have room,
-/// and sets how many. It takes no memory.
+/// and sets how many. It doesn't allocate.
 ///
 /// # Errors
 /// - 40 if no queue is held.
@@ -233,7 +234,7 @@ fn copy_held(held: &Held, from: usize, into: &mut [PlainRecord], count: &mut usi
     }
 }
 
-/// Reads what stands for the records that were folded away: how many these are, and how many rows tell the rest.
+/// Reads the snapshot of the compacted records: how many these are, and how many rows state the rest.
 ///
 /// # Errors
 /// - 40 if no queue is held.
@@ -307,13 +308,13 @@ fn row_of_held(held: &Held, at: usize, row: &mut BaseRow) -> u64
     }
 }
 
-/// Folds the records away (a checkpoint): from then on the queue's base stands for them, and there is room for as many
-/// as at first. Sets how many records were folded away since the first.
+/// Compacts the records (a checkpoint): from then on the queue's base stands for them, and there is room for as many as
+/// at first. Sets how many records were compacted since the first.
 ///
 /// # Errors
-/// Nothing has changed then.
+/// Nothing has changed.
 /// - 1 if memory runs out.
-/// - 2 if more than 2^63 - 1 records would be folded away.
+/// - 2 if more than 2^63 - 1 records would be compacted.
 /// - 40 if no queue is held.
 #[unsafe(no_mangle)]
 pub extern "C" fn ibis_queue_cut(alloc: Global, handle: &mut Handle, gone: &mut u64) -> u64

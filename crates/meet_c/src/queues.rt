@@ -1,4 +1,4 @@
-//! A queue under its book, as the exports call it.
+//! A queue under its log (a book), as the exports call it.
 
 ghost use Rattle.std.specs.Prelude.{◌≡◌, ◌≢◌, ◌<◌, ◌≤◌, Some, None, IfSome, IfOk, IfErr, OnErr, [], ℕ};
 ghost use Rattle.meet_tickets.specs.Bases.{no_base};
@@ -17,25 +17,32 @@ use meet_queues::{AnyQueue, QueueCall, READY_RECORDS};
 use meet_tickets::{Refusal, SeatNo};
 use std::alloc::Global;
 
-/// What is seen of a queue: `Collection.size` and `BlockingQueue.remainingCapacity`; whether there is a first item
-/// (`Queue.peek`), and which; how many open tickets wait, and how many were met or cut and await their follow-up; how
-/// many items are kept; how many records there are since the last cut, and since the first.
+/// The state of a queue. What it hasn't is 0.
 #[repr(C)]
 #[derive(Clone, Copy, PartialEq, Eq, Debug)]
 pub struct Look {
+    /// Java: `Collection.size`.
     pub size: u64,
+    /// Java: `BlockingQueue.remainingCapacity`.
     pub remaining_capacity: u64,
+    /// 1 if there is a first item.
     pub has_first: u64,
+    /// The first item. Java: `Queue.peek`.
     pub first: u64,
+    /// Pending requests that wait.
     pub waiting: u64,
+    /// Pending requests that were matched or interrupted, and need a follow-up.
     pub uncollected: u64,
+    /// Items that are buffered.
     pub kept: u64,
+    /// The records since the last cut.
     pub records: u64,
+    /// The records since the first.
     pub written: u64,
 }
 
-/// Makes the book of a new queue, with room for a waiting request of every seat, and for the records up to its cap or
-/// 4,096, the lesser. Fails only with Memory.
+/// Makes the log of a new queue, with room for a waiting request of every seat, and for the records up to its cap or
+/// 4,096, the lesser. Fails only if an allocation fails.
 pub(crate) fn new_book(alloc: Global, setup: Setup) -> Result<Book<AnyQueue>, Refusal>
     requires { IsInLimits setup }
     ensures kind { IfOk result (λ book. book.object.kind ≡ setup.kind) }
@@ -124,7 +131,7 @@ pub(crate) fn open_at(book: &Book<AnyQueue>, seat: SeatNo) -> u64
     }
 }
 
-/// Folds the records away, and returns a status, and how many records are folded away since the first.
+/// Compacts the records, and returns a status, and how many records are compacted since the first.
 pub(crate) fn cut(book: &mut Book<AnyQueue>) -> (u64, u64)
     ensures made { result.0 ≡ 0 → HasCut book.old result.1 book.new }
     ensures refused { result.0 ≢ 0 → WasNotCut book.old result.0 book.new }

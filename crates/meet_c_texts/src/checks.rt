@@ -1,4 +1,4 @@
-//! A trace in memory, checked.
+//! The check of a trace in memory.
 
 ghost use Rattle.std.specs.Prelude.{◌≡◌};
 ghost use Rattle.meet_c_texts.specs.Found.{FoundIn, VerdictOf, number_of_why, status_at};
@@ -8,19 +8,25 @@ use meet_run::trace::check::{ReadTrace, read_trace};
 use meet_run::{MOST_READS, RunFault};
 use std::alloc::Global;
 
-/// What was found of a trace: a status, 0 if its records are legal; the line that can't be read; how many records there
-/// are; the number of the first that can't stand, from 1, and why, 1 to 4; how many open tickets wait, how many were
-/// met or cut and await their follow-up, and how many items are kept.
+/// The verdict on a trace. What it hasn't is 0.
 #[repr(C)]
 #[derive(Clone, Copy, PartialEq, Eq, Debug)]
 pub struct Verdict {
+    /// 0 if its records are legal, else the error.
     pub status: u64,
+    /// The line that can't be read, from 1.
     pub line: u64,
+    /// How many records there are, if they are legal.
     pub records: u64,
+    /// The number of the first record that can't stand, from 1.
     pub place: u64,
+    /// The reason, 1 to 4.
     pub why: u64,
+    /// Pending requests that wait.
     pub waiting: u64,
+    /// Pending requests that were matched or interrupted, and need a follow-up.
     pub uncollected: u64,
+    /// Items that are buffered.
     pub kept: u64,
 }
 
@@ -52,7 +58,7 @@ fn number_of_why(why: Why) -> u64
     }
 }
 
-/// Tells what was found of a trace that was read.
+/// Returns the verdict on a trace that was read.
 fn found_of(trace: &ReadTrace) -> Verdict
     ensures { VerdictOf trace.now result }
 {
@@ -94,7 +100,7 @@ fn check(alloc: Global, text: &[u8]) -> Verdict
 /// Checks the text of a trace, with a base or without. Returns the verdict's status, 0 if its records are legal.
 ///
 /// # Errors
-/// - 31 if a record can't stand, with its number and why.
+/// - 31 if a record can't stand, with its number and the reason.
 /// - 15 if a line can't be read, with its number.
 /// - 1 if memory runs out.
 /// - 16 if the text is longer than 2^32 - 1 bytes.

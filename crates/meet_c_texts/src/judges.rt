@@ -8,13 +8,15 @@ use meet_judge::judge_calls;
 use meet_run::RunFault;
 use std::alloc::Global;
 
-/// What came of a text: a status, 0 if the calls are explained or the trace is legal; the line that can't be read; and
-/// how many bytes there are to write. As many as have room are written.
+/// The result of a text. What it hasn't is 0.
 #[repr(C)]
 #[derive(Clone, Copy, PartialEq, Eq, Debug)]
 pub struct Written {
+    /// 0 if a history explains the calls or the trace is legal, else the error.
     pub status: u64,
+    /// The line that can't be read, from 1.
     pub line: u64,
+    /// How many bytes there are to write. As many as have room are written.
     pub length: u64,
 }
 
@@ -29,7 +31,7 @@ fn copy_first(text: &[u8], out: &mut [u8])
     }
 }
 
-/// Tells what came of a text, of which there are this many bytes to write.
+/// Returns the result of a text, of which there are this many bytes to write.
 fn tell(ended: Result<bool, RunFault>, length: u64) -> Written
     ensures { result ≡ told_as ended length }
 {
@@ -52,8 +54,8 @@ fn tell(ended: Result<bool, RunFault>, length: u64) -> Written
     }
 }
 
-/// Judges the text of a concurrent history, and writes the trace of a history that explains its calls, or a line that
-/// says why none does. Returns the status: 0 if a history explains them, 31 if none does.
+/// Judges the text of a concurrent history. Writes the trace of a history that explains its calls, or a line with the
+/// reason why none does. Returns the status: 0 if a history explains them, 31 if none does.
 ///
 /// # Errors
 /// - 14 if a line can't be read, with its number.
@@ -80,8 +82,8 @@ pub extern "C" fn ibis_judge(
     told.status
 }
 
-/// Checks the text of a trace, and writes the line that `meet check` prints; if a record can't stand also what explains
-/// it. Returns the status: 0 if the records are legal, 31 if one can't stand.
+/// Checks the text of a trace, and writes the line that `meet check` prints; if a record can't stand also its
+/// explanation. Returns the status: 0 if the records are legal, 31 if one can't stand.
 ///
 /// # Errors
 /// - 15 if a line can't be read, with its number.

@@ -1,6 +1,6 @@
-//! What programs in C, and in all languages that call C, use of the checkers of texts: traces that are checked and
-//! explained, and concurrent histories that are judged. Each reads memory and writes memory, and keeps nothing between
-//! two calls.
+//! The exports of the checkers of texts, for programs in C and in all languages that call C: traces that are checked
+//! and explained, and concurrent histories that are judged. Each reads memory and writes memory, and keeps nothing
+//! between two calls.
 #![tactic(auto)]
 
 mod checks;

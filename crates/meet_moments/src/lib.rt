@@ -1,4 +1,4 @@
-//! Moments: what is known of a count that only grows. They take no bytes, and their functions do nothing at run time.
+//! Moments: lower bounds of a count that only grows. They take no bytes, and their functions do nothing at run time.
 #![tactic(auto)]
 
 ghost use Rattle.std.specs.Prelude.{◌≡◌, ◌+◌, ◌≤◌, ℕ, max};
@@ -10,7 +10,9 @@ use std::marker::{Model, PhantomData};
 /// A count that only grows, such as the number of records in a log. Each name has one counter.
 pub struct Counter {
     marker: PhantomData<()>,
+    /// The name, which no other counter has.
     pub ghost name: { ℕ },
+    /// The count.
     pub ghost now: { ℕ },
 }
 
@@ -22,7 +24,9 @@ impl Model for Counter {
 /// sent to any thread.
 pub struct Moment {
     marker: PhantomData<()>,
+    /// The name of the counter.
     pub ghost name: { ℕ },
+    /// The count that it has reached.
     pub ghost at: { ℕ },
 }
 
@@ -33,7 +37,7 @@ impl Model for Moment {
 }
 
 impl Counter {
-    /// Makes a counter with a name of its own, at 0.
+    /// Creates a counter with a name of its own, at 0.
     pub fn new() -> Counter
         ensures { result.now ≡ 0 }
     {
@@ -52,8 +56,8 @@ impl Counter {
         }
     }
 
-    /// Raises the counter by `by`, and the moment to the counter's new count. No moment was above the old count, so
-    /// whatever is recorded now stands behind all that the moment's owner has seen.
+    /// Raises the counter by `by`, and the moment to the counter's new count. No moment was above the old count, so a
+    /// record that is logged now comes after all that the moment's owner has seen.
     pub fn advance(&mut self, moment: &mut Moment, by: u64)
         requires { moment.old.name ≡ self.old.name }
         ensures before { moment.old.at ≤ self.old.now }

@@ -43,7 +43,7 @@ impl<D: Copy + Drop, N: Ledgers> Free<D, N> {
         }
     }
 
-    /// Removes and returns the seat that came back last; None exactly if no seat is free.
+    /// Removes and returns the seat that was released last; None exactly if no seat is free.
     pub(crate) fn take(&mut self) -> Option<Seat<D, N>>
         ensures { MatchOption result ((self.old ≡ []) × (self.new ≡ [])) (λ seat. self.old ≡ self.new ++ seat ∷ []) }
     {

@@ -6,9 +6,13 @@ ghost use Rattle.std.specs.Box.Ownership.{box_owns};
 use std::alloc::Allocator;
 use std::marker::Model;
 
+/// A box, taken apart.
 pub struct Parts<T, A: Allocator> {
+    /// Where the value is.
     pub(super) ptr: *mut T,
+    /// Its allocator.
     pub(super) alloc: A,
+    /// The value.
     pub ghost value: { T },
 }
 
@@ -17,7 +21,7 @@ impl<T, A: Allocator> Model for Parts<T, A> {
 }
 
 impl<T, A: Allocator> Parts<T, A> {
-    /// The box, taken apart.
+    /// Takes a box apart.
     pub fn of(b: Box<T, A>) -> Parts<T, A>
     where
         T: Drop,
@@ -27,7 +31,7 @@ impl<T, A: Allocator> Parts<T, A> {
         Parts { ptr, alloc }
     }
 
-    /// The box again.
+    /// Returns the box.
     pub fn into_box(self) -> Box<T, A>
         ensures { result.value ≡ self.value }
     {
