@@ -112,6 +112,14 @@ pub trait ExchangeChair<T: Marked> {
     /// # Errors
     /// - Worn or Memory, as `exchange_within`.
     ///
+    /// # Example
+    /// From `crates/meet_exchanger_tests/src/crews.rt`:
+    ///
+    ///     item = match chair.exchange(item) {
+    ///         Ok(other) => other,
+    ///         Err(unmet) => unmet.into_item(),
+    ///     };
+    ///
     /// Java: `Exchanger.exchange(V)`.
     final fn exchange(&mut self, item: T) -> Result<T, Unmet<T>>
         ensures called { CalledAs T.mark_of site.slots ⊥ (seat_of self.old) (seat_of self.new) (T.mark_of item) result }

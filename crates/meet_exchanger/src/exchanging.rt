@@ -21,6 +21,14 @@ impl<T: Marked> Exchanger<T> {
     /// - `Exchanged::Worn`, if a slot had its last round, of 2^44: the item is returned.
     /// - `Exchanged::Memory`, if the seat's list can't grow: the item is returned.
     ///
+    /// # Example
+    /// From `crates/meet_exchanger_tests/src/shared.rt`:
+    ///
+    ///     match exchanger.exchange(rt, seat, item) {
+    ///         Exchanged::Swapped(_, got) => Some(got),
+    ///         _ => None,
+    ///     }
+    ///
     /// Java: `Exchanger.exchange(V)`.
     pub fn exchange<R: Wait + Clock>(&self, rt: &R, seat: Seat<T>, item: T) -> Exchanged<T>
         requires place { seat.arena ≡ self.now.id }
