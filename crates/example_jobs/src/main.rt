@@ -1,5 +1,5 @@
-//! Ten jobs, each a closure, that a pool of two threads runs. Its answers are collected from the records of the pool,
-//! once it is shut down, at its end and closed.
+//! Ten jobs, each a closure, that a pool of two threads runs. Their results are collected from the records of the pool,
+//! after it was shut down, has ended and was closed.
 //!
 //! A job ends: that each function returns is proved of it, as of every function. Nor does it end its thread alone:
 //! there is no panic, and a job that stops the program, for which it needs a handle (`Abort`), stops all of it.
@@ -37,7 +37,7 @@ where
     run_all::<Brand, R>(rt, alloc, parts, jobs)
 }
 
-/// How many jobs were done, and the sum of what they answered.
+/// Returns how many jobs were done, and the sum of what they returned.
 fn collected(chronicle: &PoolChronicle<Boxed>) -> (u64, u64) {
     let mut done = 0u64;
     let mut sum = 0u64;

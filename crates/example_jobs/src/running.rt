@@ -1,4 +1,4 @@
-//! A pool that runs jobs, and is closed behind them.
+//! A pool that runs jobs, and is closed after them.
 
 ghost use Rattle.std.specs.Prelude.{◌≡◌, ◌+◌, IfOk, vec_len};
 ghost use Rattle.ibisbookcase.specs.Histories.{IsLegalOn};
@@ -14,17 +14,17 @@ use std::sync::Wait;
 use std::thread::Threads;
 use std::time::Clock;
 
-/// What came of a pool that ran jobs.
+/// The outcome of a pool that ran jobs.
 #[derive(Drop)]
 pub struct Ran {
-    /// Its history, and the jobs that are left.
+    /// Its log, and the jobs that are left.
     pub chronicle: PoolChronicle<Boxed>,
     /// Why a job was refused, if one was.
     pub refused: Option<Refusal>,
 }
 
-/// Hands jobs in to a pool of these parts, waits until all are done, and closes it: its records are a legal history of
-/// a pool with these very settings. It refuses what the pool does when it is made, shut down or closed.
+/// Executes jobs on a pool of these parts, waits until all are done, and closes it: its records are a legal history of
+/// a pool with these very settings. It fails as the pool does when it is made, shut down or closed.
 pub fn run_all<N, R>(
     rt: &R,
     alloc: Global,

@@ -12,7 +12,7 @@ use std::thread::Threads;
 /// How many times a buffer is filled.
 const ROUNDS: u64 = 5;
 
-/// What came of it: the sum of what was taken out of the buffers, and how many exchanges there were.
+/// The outcome: the sum of what was taken out of the buffers, and how many exchanges there were.
 #[derive(Drop)]
 pub struct Exchanges {
     pub sum: u64,

@@ -1,5 +1,5 @@
 //! More programs over the library, each in a module of its own: a pipeline of three stages, a server whose threads
-//! outnumber its seats, two buffers that change hands, and a thread that polls once it was told of a put. They share a
+//! outnumber its seats, two buffers that change hands, and a thread that polls after it learned of a put. They share a
 //! crate, since each crate costs the gate minutes.
 #![tactic(auto)]
 

@@ -8,7 +8,7 @@ ghost use Rattle.ibisbookcase.specs.Seats.{AreFresh};
 use ibisbookcase::queues::{Back, Deed, Ledgers, NewQueue, ParkGate, Refusal, Seat, TransferQueue};
 use std::alloc::Global;
 
-/// A transfer queue of numbers, and who sits there.
+/// A transfer queue of numbers.
 pub type Numbers<N> = TransferQueue<u64, ParkGate, N>;
 
 pub type Sitting<N> = Seat<Deed, N>;

@@ -1,5 +1,5 @@
 //! A pipeline of three stages over two transfer queues: the numbers from 1 to 10 are made, squared, and added up, each
-//! stage in a thread of its own. Once a stage is done, it interrupts the one behind it.
+//! stage in a thread of its own. After a stage is done, it interrupts the next one.
 mod stages;
 
 ghost use Rattle.std.specs.Prelude.{◌≡◌, vec_len};
@@ -16,14 +16,14 @@ use std::thread;
 use std::thread::Threads;
 use std::time::Clock;
 
-/// What came of it: the sum, and how many items are left in both queues.
+/// The outcome: the sum, and how many items are left in both queues.
 #[derive(Drop)]
 pub struct Piped {
     pub sum: u64,
     pub left: usize,
 }
 
-/// What the stages hand back: the seats of each queue's two threads, and the sum.
+/// What the stages return: the seats of each queue's two threads, and the sum.
 #[derive(Drop)]
 struct Stopped<M: Ledgers, N: Ledgers> {
     maker: Sitting<M>,
@@ -33,7 +33,7 @@ struct Stopped<M: Ledgers, N: Ledgers> {
     sum: u64,
 }
 
-/// What the stages came to, or the first reason against it.
+/// The outcome of the stages, or the first error.
 fn outcome<M: Ledgers, N: Ledgers>(
     made: Result<Sitting<M>, Refusal>,
     squared: Result<(Sitting<M>, Sitting<N>), Refusal>,
@@ -80,8 +80,8 @@ where
     outcome(made, squared, added)
 }
 
-/// The stages between a queue that is there, with its two seats, and another of these parts: its seats, and what came
-/// of it.
+/// The stages between a queue that is there, with its two seats, and another of these parts. Returns the seats, and the
+/// outcome.
 fn run_to<M, N, R>(
     rt: &R,
     alloc: Global,

@@ -1,5 +1,5 @@
-//! A server: one thread listens, and hands connections to twelve workers over a queue with four seats. Whoever makes a
-//! call acquires a seat from a pool, and releases it after the call. The connections are made up.
+//! A server: one thread listens, and hands connections to twelve workers over a queue with four seats. A thread that
+//! makes a call acquires a seat from a pool, and releases it after the call. The connections are made up.
 mod serving;
 
 ghost use Rattle.std.specs.Prelude.{◌≡◌, vec_len};
@@ -23,7 +23,7 @@ const SEATS: u64 = 4;
 
 const CONNECTIONS: u64 = 30;
 
-/// What came of it.
+/// The outcome.
 #[derive(Drop)]
 pub struct Served {
     pub connections: u64,

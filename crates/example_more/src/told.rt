@@ -1,6 +1,6 @@
-//! An order that a program can observe. One thread puts an item into a transfer queue, which keeps it, and then raises
-//! a flag. Another waits for the flag, and polls. The flag carries a moment of the first thread's seat, and the second
-//! thread's seat is shown it. So it is proved that the record of the poll stands behind that of the put.
+//! An order that a program can observe. One thread puts an item into a transfer queue, which buffers it, and then
+//! raises a flag. Another waits for the flag, and polls. The flag carries a moment of the first thread's seat, and the
+//! second thread's seat is shown it. So it is proved that the record of the poll stands after the record of the put.
 
 ghost use Rattle.std.specs.Prelude.{◌≡◌, ◌<◌, ◌≤◌, ℕ, [], All, IfOk, IfSome, vec_len};
 ghost use Rattle.ibisbookcase.specs.Ledgers.{AreOf};
@@ -16,7 +16,7 @@ use std::thread;
 use std::thread::Threads;
 use std::time::Clock;
 
-/// A put, by the number of its record, and a moment behind it.
+/// A put, by the number of its record, and a moment after it.
 #[derive(Drop)]
 struct Note<N: Ledgers> {
     put: u64,
@@ -24,7 +24,7 @@ struct Note<N: Ledgers> {
     ghost behind: { put ≤ moment },
 }
 
-/// What one thread tells the other.
+/// What one thread shows the other.
 #[derive(Drop)]
 enum Flag<N: Ledgers> {
     /// Nothing yet.
@@ -35,7 +35,7 @@ enum Flag<N: Ledgers> {
     Refused,
 }
 
-/// Where the one thread tells the other.
+/// Where one thread shows the other.
 #[derive(Drop)]
 struct Board<N: Ledgers> {
     flag: Mutex<Flag<N>>,
@@ -73,7 +73,7 @@ impl<N: Ledgers> Board<N> {
     }
 }
 
-/// What was put and polled: the number of each record in the history, and the item that was got.
+/// What was put and polled: the number of each record in the log, and the item that was got.
 #[derive(Drop)]
 pub struct Told {
     pub put: u64,
@@ -91,7 +91,7 @@ fn last_record<N: Ledgers>(seat: &Sitting<N>) -> Option<u64>
     Some(seat.receipts().last()?.place())
 }
 
-/// The last record of a seat, which is a put, and the moment behind it.
+/// The last record of a seat, which is a put, and the moment after it.
 fn note_of<N: Ledgers>(seat: &Sitting<N>) -> Option<Note<N>>
     requires within { (before : ℕ) × IsLater before seat.now.moment [] seat.now.list }
 {
@@ -188,8 +188,8 @@ where
     told.ok_or(Refusal::Memory)
 }
 
-/// Puts an item in one thread, and polls in another that was told of it: the poll's record stands behind that of the
-/// put. Only memory can run out.
+/// Puts an item in one thread, and polls in another that learned of it: the poll's record stands after the put's. Only
+/// memory can run out.
 pub fn put_then_poll<R>(rt: &R, alloc: Global) -> Result<Told, Refusal>
 where
     R: Threads + Wait + Clock + Sync,

@@ -14,8 +14,8 @@ use meet_core::{Dual, Polled};
 use meet_line::{FairLine, Line};
 use meet_tickets::{Refusal, Refused, SeatNo, Ticket};
 
-/// `SynchronousQueue.poll` of this seat: the parcel of the giver that is met, or none where nobody is met. It refuses
-/// what `Dual::poll` does.
+/// Takes the parcel of a producer that waits; None if none does. It fails as `Dual::poll` does. Java:
+/// `SynchronousQueue.poll`.
 pub fn take_now<L: Line<Parcel>>(
     queue: &mut Dual<Parcel, L>,
     seat: SeatNo,
@@ -32,7 +32,7 @@ pub fn take_now<L: Line<Parcel>>(
 /// A synchronous queue of parcels in fair mode.
 type Counter = Dual<Parcel, FairLine<Parcel>>;
 
-/// One seat gives a parcel, another takes it, and the first is told so. Then it gives another, and takes that one back.
+/// One seat gives a parcel, another takes it, and the first follows up. Then it gives another, and cancels that.
 pub fn hand_over(rt: &HostRuntime, seat_0: SeatNo, seat_1: SeatNo) -> Result<()> {
     let alloc = rt.alloc();
     let mut queue: Dual<Parcel, FairLine<Parcel>> = Dual::new(alloc, 3, 1)?; // seats 0 to 2, first ticket 1
@@ -54,7 +54,7 @@ fn two_parcels(
     interrupt(rt, queue, seat_0)
 }
 
-/// A seat gives the parcel of this number: its ticket.
+/// Gives the parcel of this number, and returns the ticket.
 fn give(rt: &HostRuntime, queue: &mut Counter, seat_0: SeatNo, mark: u64) -> Result<Ticket> {
     let item = parcel_of(mark);
     // A refusal would bring the parcel back; `into_why` lets it go.
@@ -68,13 +68,13 @@ fn take(rt: &HostRuntime, queue: &mut Counter, seat_1: SeatNo) -> Result<()> {
     tell_took(rt, took)
 }
 
-/// A seat asks what became of its ticket.
+/// A seat asks whether its ticket was matched.
 fn follow_up(rt: &HostRuntime, queue: &mut Counter, seat_0: SeatNo, ticket: Ticket) -> Result<()> {
     let followed = queue.follow_up(seat_0, ticket)?; // Followed::Done, Followed::Got(with, item), ..
     tell_followed(rt, followed)
 }
 
-/// A seat takes its ticket back.
+/// A seat cancels its ticket.
 fn cancel(rt: &HostRuntime, queue: &mut Counter, seat_0: SeatNo, ticket: Ticket) -> Result<()> {
     let back = queue.cancel(seat_0, ticket)?; // TakenBack::Back(Some(item)), TakenBack::Late, ..
     tell_back(rt, back)
@@ -86,13 +86,13 @@ fn interrupt(rt: &HostRuntime, queue: &mut Counter, seat_0: SeatNo) -> Result<()
     tell_interrupted(rt, interrupted)
 }
 
-/// A seat polls: what it brought is told.
+/// A seat polls, and prints what it got.
 fn poll(rt: &HostRuntime, queue: &mut Counter, seat: SeatNo) -> Result<()> {
     let taken = take_now(queue, seat)?;
     tell_taken(rt, taken)
 }
 
-/// A seat polls twice: where nobody gives, and where another seat does.
+/// A seat polls twice: if no seat gives, and if another seat does.
 pub fn poll_twice(rt: &HostRuntime, seat_0: SeatNo, seat_1: SeatNo) -> Result<()> {
     let mut queue: Counter = Dual::new(rt.alloc(), 3, 1)?;
     two_polls(rt, &mut queue, seat_0, seat_1)

@@ -1,4 +1,4 @@
-//! A book of a synchronous queue of parcels: each step has its record.
+//! A synchronous queue of parcels under a log (a book): each step has its record.
 
 ghost use Rattle.std.specs.Prelude.{◌≡◌, ◌↔◌, None, IsNone, IfOk, IfSome, option_map};
 ghost use Rattle.std.specs.Option.{option_and_then};
@@ -14,8 +14,8 @@ use meet_line::{FairLine, Line};
 use meet_queues::queue_book;
 use meet_tickets::{Deed, Refusal, Refused, SeatNo};
 
-/// `SynchronousQueue.poll` of this seat, on record: the parcel of the giver that is met, and the receipt for the record
-/// that names it, or none where nobody is met. It refuses what `Book::step` does.
+/// Takes the parcel of a producer that waits, and returns it with the receipt for the record that names it; None if
+/// none waits. It fails as `Book::step` does. Java: `SynchronousQueue.poll`.
 pub fn take_on_record<L: Line<Parcel>>(
     book: &mut Book<Dual<Parcel, L>>,
     seat: SeatNo,
@@ -38,7 +38,7 @@ pub fn take_on_record<L: Line<Parcel>>(
     }
 }
 
-/// A book of a synchronous queue of parcels in fair mode.
+/// A synchronous queue of parcels in fair mode, under a log.
 type Recorded = Book<Dual<Parcel, FairLine<Parcel>>>;
 
 /// One seat gives a parcel, and another polls it; a third gives one, which is drained. Each step has its record.
@@ -63,7 +63,7 @@ fn all_calls(
     fold(rt, book)
 }
 
-/// A seat gives a parcel, and its record is told.
+/// A seat gives a parcel, and its record is printed.
 fn give(rt: &HostRuntime, book: &mut Recorded, seat: SeatNo, item: Parcel) -> Result<()> {
     // A refusal would bring the call back, and the parcel in it; `into_why` lets both go.
     let given = book.step(seat, QueueCall::Give(item));
@@ -75,7 +75,7 @@ fn give(rt: &HostRuntime, book: &mut Recorded, seat: SeatNo, item: Parcel) -> Re
     Ok(())
 }
 
-/// A seat polls, and the record of what came is told.
+/// A seat polls, and the record of what it got is printed.
 fn poll(rt: &HostRuntime, book: &mut Recorded, seat: SeatNo) -> Result<()> {
     if let Some((parcel, receipt)) = take_on_record(book, seat)? {
         println!(rt; "record {} brought {}", receipt.place(), parcel.mark)?;
@@ -90,7 +90,7 @@ fn drain(rt: &HostRuntime, book: &mut Recorded, seat: SeatNo) -> Result<()> {
     Ok(())
 }
 
-/// The records are folded away.
+/// The records are compacted.
 fn fold(rt: &HostRuntime, book: &mut Recorded) -> Result<()> {
     let records = book.records(); // the records since the book was cut last
     println!(rt; "{} records", records.len())?;

@@ -68,7 +68,7 @@ fn end(rt: &HostRuntime, arena: &Arena<Parcel>, back: Back<Parcel>) -> Result<Ba
     }
 }
 
-/// What the arena came to.
+/// Prints how the arena ended.
 fn tell(rt: &HostRuntime, closed: &Closed<Parcel>) -> Result<()> {
     for rounds in &closed.slots {
         println!(rt; "{} rounds", rounds.len())?;
@@ -85,7 +85,7 @@ fn tell(rt: &HostRuntime, closed: &Closed<Parcel>) -> Result<()> {
     Ok(())
 }
 
-/// Two parcels change seats, one comes back, and one is left.
+/// Two parcels change seats, one is returned, and one is left.
 pub fn swap_parcels(rt: &HostRuntime) -> Result<()> {
     let alloc = rt.alloc();
     let (arena, mut seats) = Arena::<Parcel>::new(alloc, 1, 2)?; // one slot, two seats

@@ -1,11 +1,11 @@
-//! Answers as lines on standard output.
+//! Results as lines on standard output.
 
 use crate::parcels::Parcel;
 use anyhow::Result;
 use meet_core::{Followed, Gave, Interrupted, Offered, Put, TakenBack, Took};
 use meet_tickets::Ticket;
 
-/// The answer to a give, which has this ticket.
+/// Prints the result of a give, and returns its ticket.
 pub fn tell_gave(rt: &HostRuntime, gave: Gave<Parcel>) -> Result<Ticket> {
     match gave {
         Gave::Waits(own) => {
@@ -27,7 +27,7 @@ pub fn tell_gave(rt: &HostRuntime, gave: Gave<Parcel>) -> Result<Ticket> {
     }
 }
 
-/// The answer to a take.
+/// Prints the result of a take.
 pub fn tell_took(rt: &HostRuntime, took: Took<Parcel>) -> Result<()> {
     match took {
         Took::Waits(own) => println!(rt; "t{} waits", own.number())?,
@@ -45,7 +45,7 @@ pub fn tell_took(rt: &HostRuntime, took: Took<Parcel>) -> Result<()> {
     Ok(())
 }
 
-/// The answer to a follow-up.
+/// Prints the result of a follow-up.
 pub fn tell_followed(rt: &HostRuntime, followed: Followed<Parcel>) -> Result<()> {
     match followed {
         Followed::Done => println!(rt; "done")?,
@@ -59,7 +59,7 @@ pub fn tell_followed(rt: &HostRuntime, followed: Followed<Parcel>) -> Result<()>
     Ok(())
 }
 
-/// The answer to a cancel.
+/// Prints the result of a cancel.
 pub fn tell_back(rt: &HostRuntime, back: TakenBack<Parcel>) -> Result<()> {
     match back {
         TakenBack::Back(Some(item)) => println!(rt; "took {} back", item.mark)?,
@@ -69,7 +69,7 @@ pub fn tell_back(rt: &HostRuntime, back: TakenBack<Parcel>) -> Result<()> {
     Ok(())
 }
 
-/// The answer to an interrupt.
+/// Prints the result of an interrupt.
 pub fn tell_interrupted(rt: &HostRuntime, interrupted: Interrupted) -> Result<()> {
     match interrupted {
         Interrupted::Cut(ticket) => println!(rt; "t{} was cut", ticket.number())?,
@@ -78,7 +78,7 @@ pub fn tell_interrupted(rt: &HostRuntime, interrupted: Interrupted) -> Result<()
     Ok(())
 }
 
-/// The answer to a put.
+/// Prints the result of a put.
 pub fn tell_put(rt: &HostRuntime, put: Put<Parcel>) -> Result<()> {
     match put {
         Put::Kept(own) => println!(rt; "t{} is kept", own.number())?,
@@ -92,7 +92,7 @@ pub fn tell_put(rt: &HostRuntime, put: Put<Parcel>) -> Result<()> {
     Ok(())
 }
 
-/// The answer to an immediate transfer.
+/// Prints the result of an immediate transfer.
 pub fn tell_offered(rt: &HostRuntime, offered: Offered<Parcel>) -> Result<()> {
     match offered {
         Offered::Meets(own, with) => println!(rt; "t{} gave to t{}", own.number(), with.number())?,
@@ -105,7 +105,7 @@ pub fn tell_offered(rt: &HostRuntime, offered: Offered<Parcel>) -> Result<()> {
     Ok(())
 }
 
-/// What a poll brought.
+/// Prints what a poll got.
 pub fn tell_taken(rt: &HostRuntime, taken: Option<Parcel>) -> Result<()> {
     match taken {
         Some(parcel) => println!(rt; "polled {}", parcel.mark)?,

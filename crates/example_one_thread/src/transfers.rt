@@ -1,4 +1,4 @@
-//! The transfer queue: parcels that are kept, and parcels that wait.
+//! The transfer queue: parcels that are buffered, and parcels whose producer waits.
 
 use crate::parcels::{Parcel, parcel_of};
 use crate::telling::{tell_gave, tell_offered, tell_put};
@@ -6,7 +6,7 @@ use anyhow::Result;
 use meet_tickets::{Refused, SeatNo};
 use meet_transfer::Transfer;
 
-/// One seat leaves a parcel in the line, and waits with another; a second seat finds no taker.
+/// One seat leaves a parcel in the queue, and waits with another; a second seat finds no consumer.
 pub fn leave_and_wait(rt: &HostRuntime, seat_0: SeatNo, seat_1: SeatNo) -> Result<()> {
     let alloc = rt.alloc();
     let mut queue: Transfer<Parcel> = Transfer::with_bound(alloc, 3, 1, 100)?; // keeps at most 100 items
@@ -42,7 +42,7 @@ fn transfer(rt: &HostRuntime, queue: &mut Transfer<Parcel>, seat_0: SeatNo) -> R
     Ok(())
 }
 
-/// A seat gives a parcel to who waits for one, if anybody does.
+/// A seat gives a parcel to a consumer that waits, if one does.
 fn try_transfer(rt: &HostRuntime, queue: &mut Transfer<Parcel>, seat_1: SeatNo) -> Result<()> {
     let third = parcel_of(10);
     let offered = queue.try_transfer(seat_1, third);
@@ -50,7 +50,7 @@ fn try_transfer(rt: &HostRuntime, queue: &mut Transfer<Parcel>, seat_1: SeatNo) 
     tell_offered(rt, offered)
 }
 
-/// How many givers there are.
+/// Prints how many producers there are.
 fn size(rt: &HostRuntime, queue: &Transfer<Parcel>) -> Result<()> {
     let size = queue.size(); // the givers in the line, kept or waiting
     println!(rt; "size {size}")?;

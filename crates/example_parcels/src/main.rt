@@ -1,6 +1,6 @@
-//! Parcels between threads: one thread transfers them, another takes them. Then the queue is closed, and what came,
-//! what came back and its records are counted on standard output; or, as `example_parcels trace`, the records are
-//! written there as a trace, which `meet check` accepts.
+//! Parcels between threads: one thread transfers them, another takes them. Then the queue is closed. The parcels that
+//! were taken, those that were returned, and the records are counted on standard output. With `example_parcels trace`,
+//! the records are written there as a trace, which `meet check` accepts.
 #![tactic(auto)]
 
 mod passing;
@@ -33,7 +33,7 @@ const FIVE: Plan = Plan {
     cap: MOST_RECORDS,
 };
 
-/// Passes parcels between two threads: what came of it.
+/// Passes parcels between two threads, and returns the outcome.
 fn pass_by_plan<R>(rt: &R, alloc: Global, plan: Plan) -> Result<Passed, Refusal>
 where
     R: Threads + Wait + Clock + Sync,
@@ -48,7 +48,7 @@ fn is_trace_wanted(rt: &HostRuntime) -> io::Result<bool> {
     Ok(words.len() > 1) // the first is the program's name
 }
 
-/// Writes on standard output what came of it, or the records as a trace; a thread that was refused is told as that.
+/// Writes the outcome on standard output, or the records as a trace; and why a thread stopped, if its call failed.
 fn tell(rt: &HostRuntime, passed: &Passed) -> Result<(), Refusal> {
     let records = passed.chronicle.records.as_slice();
     match is_trace_wanted(rt) {

@@ -33,7 +33,7 @@ impl Marked for Parcel {
 /// What the threads are to do.
 #[derive(Clone, Copy)]
 pub struct Plan {
-    /// How many parcels are given, each once the one before it was taken or came back.
+    /// How many parcels are given, each after the one before it was taken or returned.
     pub gives: u64,
     /// How many are taken.
     pub takes: u64,
@@ -69,12 +69,12 @@ impl Hand {
     }
 }
 
-/// What came of a plan.
+/// The outcome of a plan.
 #[derive(Drop)]
 pub struct Passed {
-    /// What the taker took.
+    /// What the consumer took.
     pub came: Hand,
-    /// What came back to the giver.
+    /// What was returned to the producer.
     pub back: Hand,
     /// Why a thread stopped before its end, if one did.
     pub refused: Option<Refusal>,
@@ -85,7 +85,7 @@ pub struct Passed {
 /// The queue that the threads share.
 type Counter<N> = TransferQueue<Parcel, ParkGate, N>;
 
-/// What a thread comes back with, whatever happened: its seat, without which the queue can't be closed; what it has in
+/// What a thread returns in any case: its seat, without which the queue can't be closed; the parcels that it has in
 /// hand; and why it stopped before its end, if it did.
 #[derive(Drop)]
 struct Part<N: Ledgers> {
@@ -94,7 +94,7 @@ struct Part<N: Ledgers> {
     refused: Option<Refusal>,
 }
 
-/// The parcel that a call ended with: the one that was taken, or that came back.
+/// The parcel that a call ended with: the one that was taken or returned.
 fn parcel_of(end: End<Parcel>) -> Option<Parcel> {
     match end {
         End::Got(_, parcel) => Some(parcel),
@@ -108,7 +108,7 @@ fn parcel_of(end: End<Parcel>) -> Option<Parcel> {
     }
 }
 
-/// A thread whose call was refused stops: the parcel that went in comes back.
+/// A thread whose call failed stops: its parcel is returned.
 fn stopped<N: Ledgers>(refused: SeatRefused<Parcel, N>, hand: Hand) -> Part<N> {
     let SeatRefused { why, seat, item } = refused;
     Part {
@@ -118,8 +118,8 @@ fn stopped<N: Ledgers>(refused: SeatRefused<Parcel, N>, hand: Hand) -> Part<N> {
     }
 }
 
-/// Transfers parcels, each once the one before it was taken or came back. Those that came back are in
-/// hand then. Behind each call the queue is tended, so that its history never fills.
+/// Transfers parcels, each after the one before it was taken or returned. Those that were returned are in hand then.
+/// After each call the queue is tended, so that its log never fills.
 fn send<N: Ledgers, R: Wait + Clock>(
     rt: &R,
     counter: &Counter<N>,
@@ -148,7 +148,7 @@ fn send<N: Ledgers, R: Wait + Clock>(
     }
 }
 
-/// Takes parcels, which are in hand then. Behind each call the queue is tended.
+/// Takes parcels, which are in hand then. After each call the queue is tended.
 fn receive<N: Ledgers, R: Wait + Clock>(
     rt: &R,
     counter: &Counter<N>,
@@ -176,9 +176,9 @@ fn receive<N: Ledgers, R: Wait + Clock>(
     }
 }
 
-/// Passes parcels between two threads, over a queue of these parts, which has two seats: what came of it. It is refused
-/// only where the queue can't be made or closed, for want of memory or of a sound cap. Its records are a legal history,
-/// whatever the threads' order.
+/// Passes parcels between two threads, over a queue of these parts, which has two seats, and returns the outcome. It
+/// fails only if the queue can't be made or closed: an allocation fails, or the cap isn't sound. Its records are a
+/// legal history, whatever the threads' order.
 pub fn pass<N, R>(
     rt: &R,
     alloc: Global,

@@ -1,11 +1,11 @@
-//! Plans that go otherwise: nobody takes, or the queue has no room for more records.
+//! Plans that go otherwise: no thread takes, or the queue has no room for more records.
 
 use crate::passing::{Hand, Plan};
 use crate::{FIVE, pass_by_plan};
 use meet_tickets::Refusal;
 use std::test::Fail;
 
-/// So many parcels, each of this weight.
+/// This many parcels, each of 250 g.
 fn of_250_grams(parcels: u64) -> Hand {
     Hand {
         parcels,
@@ -43,8 +43,8 @@ fn what_nobody_takes_comes_back(rt: HostRuntime) -> Result<(), Fail> {
     Ok(())
 }
 
-/// A call that may wait is promised two records, so where there is room for one it is refused, and its parcel comes
-/// back.
+/// Two records are reserved for a call that may wait. If there is room for one the call fails, and its parcel is
+/// returned.
 #[test]
 fn a_full_history_is_told(rt: HostRuntime) -> Result<(), Fail> {
     let plan = Plan {
@@ -61,7 +61,7 @@ fn a_full_history_is_told(rt: HostRuntime) -> Result<(), Fail> {
     Ok(())
 }
 
-/// Each of a hundred handoffs takes three records, where there is room for 32 at a time.
+/// Each of a hundred handoffs takes three records, and there is room for 32 at a time.
 #[test]
 fn a_tended_queue_goes_on(rt: HostRuntime) -> Result<(), Fail> {
     let plan = Plan {

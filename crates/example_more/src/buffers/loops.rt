@@ -44,7 +44,7 @@ impl Buffer {
         Ok(())
     }
 
-    /// Empties it: the sum of what was in it.
+    /// Empties it, and returns the sum of what was in it.
     fn empty(&mut self) -> u64 {
         let mut sum = 0u64;
         for item in &self.items {
@@ -74,7 +74,7 @@ fn exchange<R: Wait>(
     }
 }
 
-/// Fills a buffer and exchanges it for an empty one, so many times.
+/// Fills a buffer and exchanges it for an empty one, `rounds` times.
 pub fn fill_all<R: Wait>(
     rt: &R,
     arena: &Arena<Buffer>,
@@ -97,7 +97,8 @@ pub fn fill_all<R: Wait>(
     Ok(seat)
 }
 
-/// Exchanges a buffer that is empty for a full one and empties that, so many times: the sum of what was in them.
+/// Exchanges a buffer that is empty for a full one and empties that, `rounds` times. Returns the sum of what was in
+/// them.
 pub fn empty_all<R: Wait>(
     rt: &R,
     arena: &Arena<Buffer>,

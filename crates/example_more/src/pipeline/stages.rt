@@ -5,7 +5,7 @@ use ibisbookcase::queues::{End, Ledgers, Refusal, SeatRefused};
 use std::sync::Wait;
 use std::time::Clock;
 
-/// Puts the numbers from 1 up to this one, and interrupts who takes them: it takes what is there, and then ends.
+/// Puts the numbers from 1 up to this one, and interrupts the consumer: it takes what is there, and then ends.
 pub fn make<N: Ledgers, R: Wait + Clock>(
     rt: &R,
     out: &Numbers<N>,
@@ -20,7 +20,7 @@ pub fn make<N: Ledgers, R: Wait + Clock>(
     out.interrupt_all(rt, seat).map_err(SeatRefused::into_why)
 }
 
-/// Squares what comes, and passes it on, until it is interrupted; then it interrupts who comes next.
+/// Squares what comes, and passes it on, until it is interrupted; then it interrupts the next stage.
 pub fn square<M: Ledgers, N: Ledgers, R: Wait + Clock>(
     rt: &R,
     numbers: &Numbers<M>,

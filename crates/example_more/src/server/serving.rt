@@ -7,7 +7,7 @@ use std::sync::Wait;
 use std::sync::atomic::{AtomicBool, AtomicU64, Ordering};
 use std::time::Clock;
 
-/// How long somebody waits at the queue before it rises, in milliseconds.
+/// How long a thread waits at the queue before it releases its seat, in milliseconds.
 const PATIENCE: u64 = 20;
 
 /// A connection, known by its number. It is made up.
@@ -58,7 +58,7 @@ fn tend_and_release<N: Ledgers, R: Wait>(
     }
 }
 
-/// Acquires a seat, and hands a connection to a worker. It comes back if none took it in time.
+/// Acquires a seat, and hands a connection to a worker. It is returned if no worker took it in time.
 fn hand<N: Ledgers, R: Wait + Clock>(
     rt: &R,
     server: &Server<N>,
@@ -81,7 +81,7 @@ fn hand<N: Ledgers, R: Wait + Clock>(
     }
 }
 
-/// Hands so many connections on.
+/// Hands on the connections from 1 up to `last`.
 pub fn listen<N: Ledgers, R: Wait + Clock>(
     rt: &R,
     server: &Server<N>,
