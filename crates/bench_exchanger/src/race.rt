@@ -3,8 +3,8 @@
 //! THREADS threads, each of which has an item, exchange what they have EACH times, ROUNDS times, each time at a new
 //! exchanger. The item of a thread is its number, from 1. A thread ends early if no other is still at work that could
 //! come. A line per round on standard output says how many items the threads have in the end, and their sum. Two on
-//! standard error say how many exchanges there were, each counted at both of its threads, and after how many nanoseconds
-//! the last thread but one had made its last.
+//! standard error say how many exchanges there were, each counted at both of its threads, and after how many
+//! nanoseconds the last thread but one had made its last.
 
 use meet_exchanger::{ExchangeChair, ExchangeCrew, Unmet, at_exchanger};
 use meet_tickets::Refusal;
@@ -19,8 +19,8 @@ const BOUT: u64 = 50;
 /// How many bouts an exchange takes at most.
 const MOST_BOUTS: u64 = 1_000;
 
-/// What threads have in the end, how many exchanges they made, and how many nanoseconds after the begin the last but one
-/// of them had made its last.
+/// What threads have in the end, how many exchanges they made, and how many nanoseconds after the begin the last but
+/// one of them had made its last.
 #[derive(Clone, Copy, Debug)]
 struct Tally {
     at_work: u64,

@@ -6,8 +6,8 @@
 //!
 //! With `tails` each put is timed by itself, and a line on standard error more tells the median of a round's, and what
 //! 99 in 100 and 999 in 1,000 didn't exceed. With `steady` as many items are handed on before, over the same queue and
-//! untimed: what is timed takes no memory that wasn't in use. CAP is how many records the queue may have at a time: each
-//! seat tends it after each call, and makes a checkpoint if more than half of them are there.
+//! untimed: what is timed takes no memory that wasn't in use. CAP is how many records the queue may have at a time:
+//! each seat tends it after each call, and makes a checkpoint if more than half of them are there.
 
 mod bare;
 mod round;

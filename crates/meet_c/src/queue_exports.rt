@@ -266,8 +266,9 @@ fn base_of_held(held: &Held, base: &mut PlainBase) -> u64
     }
 }
 
-/// Reads a row of a queue's base by its index, from 0: first those of the wait queue, in order of request; then those of
-/// matched pairs and of interrupted requests, each by rising ticket; then those of pending interrupts, by rising seat.
+/// Reads a row of a queue's base by its index, from 0: first those of the wait queue, in order of request; then those
+/// of matched pairs and of interrupted requests, each by rising ticket; then those of pending interrupts, by rising
+/// seat.
 ///
 /// # Errors
 /// - 40 if no queue is held.

@@ -83,7 +83,8 @@ fn sink_of(alloc: Global, failed_write: u64, gives_up: bool) -> Sink {
     }
 }
 
-/// A verdict is written byte by byte. If a write fails, or takes no byte, a part of it was written, and the error says so.
+/// A verdict is written byte by byte. If a write fails, or takes no byte, a part of it was written, and the error says
+/// so.
 fn writes(rt: &impl Abort, alloc: Global, row: Row, failed: u64, gives_up: bool) {
     let (text, _, whole) = row;
     let mut reader = feed_of(text, 0, ErrorKind::BrokenPipe);

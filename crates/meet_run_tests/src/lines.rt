@@ -47,8 +47,8 @@ fn trace_before(rt: &impl Abort, alloc: Global, line: u64) -> Vec<u8> {
     written
 }
 
-/// In a script a line that is none ends the run behind a reply, or a record, for each line before it. In a trace it ends
-/// the check, which finds nothing.
+/// In a script a line that is none ends the run behind a reply, or a record, for each line before it. In a trace it
+/// ends the check, which finds nothing.
 #[test]
 fn faulty_lines_far_down(rt: HostRuntime) {
     let alloc = rt.alloc();

@@ -10,8 +10,8 @@ use meet_shop::Told;
 use soak_stamps::Stamped;
 use std::alloc::Global;
 
-/// The items that a thread gave, those that it took or got back, its calls that wrote records, its calls as a judge sees
-/// them, how many checkpoints it made, and what went wrong first.
+/// The items that a thread gave, those that it took or got back, its calls that wrote records, its calls as a judge
+/// sees them, how many checkpoints it made, and what went wrong first.
 #[derive(Drop)]
 pub struct Account {
     pub given: Vec<u64>,

@@ -52,8 +52,8 @@ fn entries(alloc: Global, calls: &[Call], partners: &Partners) -> Result<Vec<Ent
     Ok(entries)
 }
 
-/// When an interrupt of this seat that cut nothing flags it: as late as it can, but before the seat's next call that was
-/// interrupted at its entry.
+/// When an interrupt of this seat that cut nothing flags it: as late as it can, but before the seat's next call that
+/// was interrupted at its entry.
 fn flagged(entries: &[Entry], seat: u64, call: &Call, number: usize) -> Flag {
     let sought = Entry {
         seat,

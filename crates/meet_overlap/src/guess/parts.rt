@@ -182,8 +182,9 @@ impl Known<'_> {
         self.flags.has(call.seat.number(), at)
     }
 
-    /// Whether the consumer of a pair is the one that waits: a call that was seen to wait does, one that doesn't wait or
-    /// whose seat is flagged doesn't, and else the one that began first does; a transfer queue's producers wait rather.
+    /// Whether the consumer of a pair is the one that waits: a call that was seen to wait does, one that doesn't wait
+    /// or whose seat is flagged doesn't, and else the one that began first does; a transfer queue's producers wait
+    /// rather.
     fn taker_waits(&self, giver: &Call, taker: &Call) -> bool {
         if let Verb::Give(Patience::Now, _) = giver.verb {
             return true;

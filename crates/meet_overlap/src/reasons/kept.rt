@@ -8,8 +8,8 @@ use std::alloc::{AllocError, Global};
 /// How many stays are tried for one look.
 const FEW: usize = 8;
 
-/// A call that stood in the wait queue, or whose item did: from when it surely stood there, and when the call began that
-/// met it.
+/// A call that stood in the wait queue, or whose item did: from when it surely stood there, and when the call began
+/// that met it.
 #[derive(Clone, Copy, PartialEq, Eq, PartialOrd, Ord)]
 struct Stay {
     from: u64,
@@ -142,8 +142,8 @@ fn last_until(calls: &[Call], partners: &Partners, there: &[Stay], number: usize
     None
 }
 
-/// The stays that began, as far as one of them is looked for: the one that stays longest, or all of them, where the line
-/// is met at its back.
+/// The stays that began, as far as one of them is looked for: the one that stays longest, or all of them, where the
+/// line is met at its back.
 #[derive(Drop)]
 struct Begun {
     end: End,

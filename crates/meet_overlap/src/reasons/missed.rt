@@ -37,8 +37,8 @@ fn misses(verb: Verb, answer: Answer, other: Verb) -> bool
     }
 }
 
-/// Whether a call's answer is that it was met, and none can have met it by this time. If it gives an item, it is the call
-/// of this number.
+/// Whether a call's answer is that it was met, and none can have met it by this time. If it gives an item, it is the
+/// call of this number.
 pub(super) fn unmet(calls: &[Call], number: usize, verb: Verb, answer: Answer, by: u64) -> bool
     ensures { IsTrue result → IsUnmet calls.now verb answer by }
 {

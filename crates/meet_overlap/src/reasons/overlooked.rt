@@ -29,8 +29,8 @@ fn finds_nothing(verb: Verb, answer: Answer) -> bool
     }
 }
 
-/// That the second call found nothing, though the first one had put an item before it began, and nobody can have got that
-/// by its end; if it is so.
+/// That the second call found nothing, though the first one had put an item before it began, and no call can have got
+/// that by its end; if it is so.
 fn overlooked(kind: Kind, calls: &[Call], first: usize, second: usize) -> Option<Reason>
     requires put { first < length calls.now }
     requires looked { second < length calls.now }

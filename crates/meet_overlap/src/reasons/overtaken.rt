@@ -13,8 +13,8 @@ use crate::reasons::Reason;
 use meet_tickets::{End, Kind};
 use std::alloc::{AllocError, Global};
 
-/// That the second call got an item which was given after the first call had put its own, and nobody can have got that by
-/// then; if it is so.
+/// That the second call got an item which was given after the first call had put its own, and no call can have got that
+/// by then; if it is so.
 fn overtaken(kind: Kind, calls: &[Call], first: usize, second: usize) -> Option<Reason>
     requires put { first < length calls.now }
     requires taken { second < length calls.now }
