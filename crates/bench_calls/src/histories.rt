@@ -72,7 +72,7 @@ fn check_records(
 }
 
 /// Makes these calls on a place of this setup, `runs` times, and checks what they write, `checks` times, each at
-/// least once. The only refusal is Memory.
+/// least once. Fails only if an allocation fails.
 fn find_history(
     alloc: Global,
     setup: Setup,
@@ -95,7 +95,7 @@ fn find_history(
     })
 }
 
-/// Does a task on a place of this setup. The only refusal is Memory.
+/// Does a task on a place of this setup. Fails only if an allocation fails.
 pub fn perform(alloc: Global, setup: Setup, task: Task) -> Result<Finding, Refusal>
     requires limits { IsInLimits setup }
     requires task { FitsTask task }

@@ -27,7 +27,7 @@ use std::io::{IsTerminal, Read, Write};
 use std::process::ExitCode;
 use std::{env, io};
 
-/// Want of memory outside any line.
+/// A failed allocation outside any line.
 const MEMORY: RunFault = RunFault {
     why: Refusal::Memory,
     line: None,

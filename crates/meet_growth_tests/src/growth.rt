@@ -105,7 +105,7 @@ fn takes_turn<N: Ledgers, R: Abort + Wait>(
     back
 }
 
-/// The seat of a call that was refused for want of memory, and brought no item.
+/// The seat of a call that was refused since an allocation failed, and brought no item.
 pub(crate) fn came_back<N: Ledgers>(
     rt: &impl Abort,
     refused: SeatRefused<u64, N>,
@@ -164,7 +164,7 @@ fn receipts_of<N: Ledgers>(rt: &impl Abort, seats: &[Back<Deed, N>]) -> usize {
     receipts
 }
 
-/// A queue that wasn't closed for want of memory, and its seats.
+/// A queue that wasn't closed since an allocation failed, and its seats.
 pub(crate) fn open<Q: Drop, B: Drop, N: Ledgers>(
     rt: &impl Abort,
     fault: QueueFault<Q, B, N>,

@@ -92,7 +92,7 @@ where
     }
 }
 
-/// A job that was refused for want of memory or of a thread comes back, with the seat.
+/// A job that was refused since an allocation or a start failed is returned, with the seat.
 fn comes_back<N: Ledgers>(
     rt: &impl Abort,
     refused: PoolRefused<Tagged, N>,
@@ -279,7 +279,7 @@ where
 }
 
 /// A pool is made, gets five jobs, is shut down and closed: each job was done, or came back. None where the pool wasn't
-/// made for want of memory.
+/// made since an allocation failed.
 fn lives<N, R>(rt: &R, alloc: Global, parts: Parts) -> Option<u64>
 where
     N: PoolLedgers + Send + Sync + 'static,

@@ -93,7 +93,7 @@ impl Moment {
     }
 }
 
-/// Puts both moments of a call behind others. The only refusal is for memory.
+/// Puts both moments of a call behind others. Fails only if an allocation fails.
 fn push_both(moments: &mut Vec<Moment>, call: Stamped) -> Result<(), &'static str>
     ensures { OnOk result (moments.new.items ≡ moments.old.items ++ Begins call ∷ Ends call ∷ []) }
 {
@@ -105,7 +105,7 @@ fn push_both(moments: &mut Vec<Moment>, call: Stamped) -> Result<(), &'static st
     Ok(())
 }
 
-/// The moments of these calls, in order of their stamps. The only refusal is for memory.
+/// The moments of these calls, in order of their stamps. Fails only if an allocation fails.
 fn moments(alloc: Global, calls: &[Stamped]) -> Result<Vec<Moment>, &'static str>
     ensures moments { IfOk result (λ moments. AreMoments calls.now moments.items) }
     ensures sorted { IfOk result (λ moments. IsNonDecreasingBy stamp_of moments.items) }
@@ -154,7 +154,7 @@ fn first_disorder(moments: &[Moment]) -> Option<Disorder>
 
 /// Two of these calls that are in wrong order, exactly where there are such: an earlier one that had ended before a
 /// later one began, and wrote a record that isn't before all of the later one's. Two stamps that are the same may be
-/// taken for either order; those of one counter never are. The only refusal is for memory. It costs n log n.
+/// taken for either order; those of one counter never are. Fails only if an allocation fails. It costs n log n.
 pub fn find_disorder(alloc: Global, calls: &[Stamped]) -> Result<Option<Disorder>, &'static str>
     ensures found { IfOk result (λ told. IfSome told (λ found. Contains calls.now found.earlier
         × Contains calls.now found.later × (found.earlier.end ≤ found.later.begin)
