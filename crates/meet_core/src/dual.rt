@@ -196,6 +196,7 @@ impl<T: Marked, L: Line<T>> Dual<T, L> {
     /// Returns true if the seat's open ticket is this one, with this mark. While its item lies here, since it waits or
     /// was interrupted, the item has to have this mark, or there has to be none if this is none. A ticket that waits is
     /// looked for in the wait queue.
+    #[inline(always)]
     pub fn awaits(&self, seat: SeatNo, ticket: Ticket, mark: Option<u64>) -> bool
         ensures { IsTrue result ↔ AwaitsAs T.mark_of (seats_of self.now) seat ticket mark }
     {

@@ -18,8 +18,8 @@ use Rattle.pool_core.specs.declared.deeds.PoolDeed.TheVariants.{Handed, Started,
 use Rattle.pool_core.specs.declared.deeds.PoolDeed.TheVariants.{CallerRuns as CallerRunsIt, Dropped, DroppedOldest}
 use Rattle.pool_core.specs.declared.deeds.PoolDeed.TheVariants.{Runs, Waits, Exits, Finished, IdleExit, Leaves}
 use Rattle.pool_core.specs.declared.deeds.PoolDeed.TheVariants.{StartFailed, ShutDown, ShutDownNow}
-use Rattle.pool_core.specs.declared.placing.Place.{Place}
-use Rattle.pool_core.specs.declared.placing.Place.TheVariants.{ToPolicy, ToNew, ToTaker, ToLine}
+use Rattle.pool_core.specs.declared.placing.Placement.{Placement}
+use Rattle.pool_core.specs.declared.placing.Placement.TheVariants.{ToPolicy, ToNew, ToTaker, ToLine}
 use Rattle.pool_core.specs.Pools.{Pool, queue_end, bound_of, working, free, worker_of, stage_of, staged, started, kept}
 use Rattle.pool_core.specs.Pools.{met_one, shut_down, jobs_at}
 
@@ -28,7 +28,7 @@ abbrev pub may_keep : {X : Type 0} → Settings → List (Entry X) → Bool
 may_keep s line = option_map_or (λ most. nat_lt (kept_count line) most) (bound_of s.queue) true
 
 -- where a new job goes: the first that applies (ThreadPoolExecutor.execute; shutdown first)
-abbrev pub placing : {X : Type 0} → Settings → Pool X → Place
+abbrev pub placing : {X : Type 0} → Settings → Pool X → Placement
 placing s p =
     if p.shut then ToPolicy
     else (if nat_lt (working p) s.sizes.core then ToNew

@@ -10,7 +10,7 @@ ghost use Rattle.pool_core.specs.declared.stages.Stage.TheVariants.{Absent};
 use crate::answers::Counters;
 use crate::crew::Crew;
 use crate::line::JobLine;
-use crate::placing::Place;
+use crate::placing::Placement;
 use crate::settings::{Policy, PoolQueue, Settings, Sizes};
 use crate::stages::Task;
 use meet_tickets::{LAST_TICKET, Refusal, SeatNo, Side, Ticket};
@@ -209,7 +209,7 @@ impl<J> PoolCore<J> {
     }
 
     /// Where a new job goes.
-    pub(crate) fn place(&self) -> Place
+    pub(crate) fn place(&self) -> Placement
         ensures { result ≡ placing self.now.settings self.now.pool }
     {
         let workers = self.workers();
@@ -218,17 +218,17 @@ impl<J> PoolCore<J> {
         let keeps = self.may_keep();
         let more = workers < self.settings.sizes.maximum;
         if self.shut {
-            Place::ToPolicy
+            Placement::ToPolicy
         } else if few {
-            Place::ToNew
+            Placement::ToNew
         } else if met {
-            Place::ToTaker
+            Placement::ToTaker
         } else if keeps {
-            Place::ToLine
+            Placement::ToLine
         } else if more {
-            Place::ToNew
+            Placement::ToNew
         } else {
-            Place::ToPolicy
+            Placement::ToPolicy
         }
     }
 

@@ -227,6 +227,7 @@ impl<T: Marked, L: Line<T>> QueuePlace for Dual<T, L> {
         Ok(queue)
     }
 
+    #[inline(always)]
     fn awaits(&self, seat: SeatNo, ticket: Ticket, mark: Option<u64>) -> bool {
         Dual::awaits(self, seat, ticket, mark)
     }

@@ -15,7 +15,7 @@ use crate::checker::PoolWhy;
 use meet_tickets::{Record, Refusal, SeatNo, Side, Ticket};
 use pool_core::crew::Crew;
 use pool_core::line::JobLine;
-use pool_core::{Counters, Place, PoolDeed, PoolQueue, Settings, Stage, Task};
+use pool_core::{Counters, Placement, PoolDeed, PoolQueue, Settings, Stage, Task};
 use std::alloc::Global;
 use std::marker::Model;
 
@@ -137,7 +137,7 @@ impl CheckedPool {
     }
 
     /// Where a new job goes.
-    fn place(&self) -> Place
+    fn place(&self) -> Placement
         ensures { result ≡ placing self.now.settings self.now.moment.pool }
     {
         let workers = self.workers.there();
@@ -146,17 +146,17 @@ impl CheckedPool {
         let keeps = self.may_keep();
         let more = workers < self.settings.sizes.maximum;
         if self.shut {
-            Place::ToPolicy
+            Placement::ToPolicy
         } else if few {
-            Place::ToNew
+            Placement::ToNew
         } else if met {
-            Place::ToTaker
+            Placement::ToTaker
         } else if keeps {
-            Place::ToLine
+            Placement::ToLine
         } else if more {
-            Place::ToNew
+            Placement::ToNew
         } else {
-            Place::ToPolicy
+            Placement::ToPolicy
         }
     }
 

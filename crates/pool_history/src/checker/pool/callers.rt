@@ -3,7 +3,7 @@
 ghost use Rattle.std.specs.Prelude.{◌≡◌, ℕ, ◌<◌, ◌↔◌, true, false, Some, IsTrue, OnOk, IfErr};
 ghost use Rattle.pool_core.specs.Pools.{free, working};
 ghost use Rattle.pool_core.specs.Steps.{Allows, placing};
-ghost use Rattle.pool_core.specs.declared.placing.Place.TheVariants.{ToPolicy, ToNew, ToLine};
+ghost use Rattle.pool_core.specs.declared.placing.Placement.TheVariants.{ToPolicy, ToNew, ToLine};
 ghost use Rattle.pool_core.specs.Standings.{executes};
 ghost use Rattle.pool_core.specs.Histories.{next_moment, IsStep};
 ghost use Rattle.pool_core.specs.declared.deeds.PoolDeed.TheVariants.{Handed, Started, Kept, KeptStart, DroppedOldest};
@@ -16,7 +16,7 @@ use crate::checker::pool::{CheckedPool, later};
 use meet_tickets::{Entry, Record, SeatNo, Side, Ticket};
 use pool_core::crew::cut_all;
 use pool_core::line::JobLine;
-use pool_core::{Place, Policy, PoolDeed, Stage, Task};
+use pool_core::{Placement, Policy, PoolDeed, Stage, Task};
 
 /// Whether a caller's step executes a job; else it shuts the pool.
 fn executes(deed: &PoolDeed<u64>) -> bool
@@ -113,7 +113,7 @@ impl CheckedPool {
     }
 
     /// Whether a new job goes there.
-    fn goes(&self, place: Place) -> bool
+    fn goes(&self, place: Placement) -> bool
         ensures { IsTrue result ↔ (placing self.now.settings self.now.moment.pool ≡ place) }
     {
         self.place() == place
@@ -134,7 +134,7 @@ impl CheckedPool {
         ensures { IsTrue result ↔ ((placing self.now.settings self.now.moment.pool ≡ ToNew)
             × (free self.now.moment.pool ≡ Some worker)) }
     {
-        self.goes(Place::ToNew) && self.is_next(worker)
+        self.goes(Placement::ToNew) && self.is_next(worker)
     }
 
     /// Whether a new job is buffered, and there are workers.
@@ -142,7 +142,7 @@ impl CheckedPool {
         ensures { IsTrue result ↔ ((placing self.now.settings self.now.moment.pool ≡ ToLine)
             × (0 < working self.now.moment.pool)) }
     {
-        self.goes(Place::ToLine) && self.workers.there() > 0
+        self.goes(Placement::ToLine) && self.workers.there() > 0
     }
 
     /// Whether a new job is buffered, and this worker is the first one.
@@ -150,7 +150,7 @@ impl CheckedPool {
         ensures { IsTrue result ↔ ((placing self.now.settings self.now.moment.pool ≡ ToLine)
             × (working self.now.moment.pool ≡ 0) × (free self.now.moment.pool ≡ Some worker)) }
     {
-        self.goes(Place::ToLine) && self.workers.there() == 0 && self.is_next(worker)
+        self.goes(Placement::ToLine) && self.workers.there() == 0 && self.is_next(worker)
     }
 
     /// The waiting worker that is met gets the job.
@@ -163,7 +163,7 @@ impl CheckedPool {
             (record { seat = seat; ticket = ticket; deed = Handed worker tag }) }
         ensures settings { self.new.settings ≡ self.old.settings }
     {
-        if !self.goes(Place::ToTaker) {
+        if !self.goes(Placement::ToTaker) {
             return false;
         }
         let Some(taker) = self.line.partner(Side::Giver) else {
@@ -251,7 +251,7 @@ impl CheckedPool {
         ensures { IsTrue result ↔ ((placing self.now.settings self.now.moment.pool ≡ ToPolicy)
             × (self.now.settings.policy ≡ policy)) }
     {
-        self.place() == Place::ToPolicy && self.settings.policy == policy
+        self.place() == Placement::ToPolicy && self.settings.policy == policy
     }
 
     /// The job is returned.
@@ -307,7 +307,7 @@ impl CheckedPool {
         ensures { IsTrue result ↔ ((placing self.now.settings self.now.moment.pool ≡ ToPolicy)
             × (drops_new self.now.settings.policy self.now.moment.pool.shut ≡ true)) }
     {
-        self.place() == Place::ToPolicy && self.drops_new()
+        self.place() == Placement::ToPolicy && self.drops_new()
     }
 
     /// The job is dropped.
