@@ -82,7 +82,7 @@ impl<T: Marked, L: Line<T>, G: Gate, N: Ledgers> Queue<Dual<T, L>, G, N> {
     ///
     ///     match server.queue.offer_for(rt, seat, connection, PATIENCE) {
     ///         Ok(offered) => {
-    ///             rise(rt, server, offered.seat)?;
+    ///             tend_and_release(rt, server, offered.seat)?;
     ///             match offered.end {
     ///                 End::TimedOut(back) => Ok(back),
     ///                 _ => Ok(None),
