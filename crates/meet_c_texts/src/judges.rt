@@ -83,7 +83,8 @@ pub extern "C" fn ibis_judge(
 }
 
 /// Checks the text of a trace, and writes the line that `meet check` prints; if a record can't stand also its
-/// explanation. Returns the status: 0 if the records are legal, 31 if one can't stand.
+/// explanation. If a line can't be read it writes only what explains that. Returns the status: 0 if the records are
+/// legal, 31 if one can't stand.
 ///
 /// # Errors
 /// - 15 if a line can't be read, with its number.

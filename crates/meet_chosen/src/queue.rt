@@ -37,8 +37,8 @@ macro_rules! whichever {
 
 pub(crate) use whichever;
 
-/// A queue for threads of the order that was chosen. It has the calls that all three queues have; a call that only some
-/// have, such as `transfer`, is made at the queue in the variant.
+/// A queue for threads of the order that was chosen. It has most of the calls that all three queues have. Any other
+/// call, such as `transfer` or `rotate`, is made at the queue in the variant.
 ///
 /// Java: `new SynchronousQueue(fair)`, or `new LinkedTransferQueue()`.
 #[derive(Drop)]
@@ -130,7 +130,8 @@ impl<T: Marked, G: Drop, N: Ledgers> ChosenQueue<T, G, N> {
         }
     }
 
-    /// Creates a queue of this order with a seat for each gate, numbered from 0. Its log has 1,048,576 records.
+    /// Creates a queue of this order with a seat for each gate, numbered from 0. The capacity of its log is
+    /// 1,048,576 records.
     ///
     /// # Errors
     /// The parts are returned.

@@ -217,7 +217,7 @@ impl<T: Marked, L: Line<T>> Dual<T, L> {
         self.meetings.seats()
     }
 
-    /// Returns how many pending requests have room.
+    /// Returns for how many more pending requests there is room.
     pub fn room(&self) -> u64
         ensures { result ≡ self.now.room }
     {

@@ -22,8 +22,8 @@ mod moves;
 mod partners;
 mod probes;
 
-/// The meetings of one thread's queue: its wait queue, its seats, its last ticket and the next, and how many producers
-/// wait and how many items are buffered there.
+/// The meetings of one thread's queue: its wait queue, its seats, its last ticket and the next. It counts the producers
+/// that stand in the wait queue, those of buffered items included, and the items that are buffered there.
 ///
 /// What each call writes stands together, at the end of the wait queue, here, and at the head of the seats. Fields lie
 /// in memory in their order, and each cache line that a call writes has to come from the thread that called before.

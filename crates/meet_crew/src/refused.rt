@@ -7,9 +7,9 @@ use meet_tickets::{Deed, Refusal};
 use std::fmt;
 use std::fmt::{Debug, Display, Formatter, Write};
 
-/// The error of a chair's call: nothing was logged, and the item is returned. Its text is the name of the reason. It is
-/// no error type, and no `From` makes it a `Refusal`, since that would drop the item: a `?` returns it whole or doesn't
-/// compile.
+/// The error of a chair's call: the item is returned. Nothing was logged, but for the interrupts that `interrupt_all`
+/// had made before. Its text is the name of the reason. It is no error type, and no `From` makes it a `Refusal`, since
+/// that would drop the item: a `?` returns it whole or doesn't compile.
 #[derive(Drop)]
 pub struct CallRefused<T> {
     /// The reason.

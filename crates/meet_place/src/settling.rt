@@ -15,7 +15,7 @@ use meet_book::{Book, Object, Receipt, Same, compare};
 use meet_tickets::{Record, SeatNo};
 use std::alloc::Global;
 
-/// Empty lists, each with room for as many seats.
+/// Empty lists, each with room for the same number of seats.
 #[derive(Drop)]
 pub struct SeatRoom<D: Copy, N: Ledgers> {
     bares: Vec<BareSeat<D, N>>,

@@ -51,13 +51,15 @@ pub enum Asked<T, N: Ledgers> {
     Parked(Pending<Deed, N>),
 }
 
-/// The error of a call: nothing was logged, and the seat and the item are returned. Its text is the name of the reason.
-/// It is no error type, and no `From` makes it a `Refusal`: a `?` returns it whole or doesn't compile.
+/// The error of a call: the seat and the item are returned. Nothing was logged, but for the interrupts that
+/// `interrupt_all` had made before. Its text is the name of the reason. It is no error type, and no `From` makes it a
+/// `Refusal`: a `?` returns it whole or doesn't compile.
 // The seat stands first, as in `Ended` and `Asked`, so that it lies at the same place in both variants of a result. Were
 // it a word further here, each layer that hands a result on would take the seat's words apart, into one byte and seven.
 #[derive(Drop)]
 pub struct SeatRefused<T, N: Ledgers> {
-    /// The seat as it was, with room for more receipts perhaps.
+    /// The seat as it was, with room for more receipts perhaps. After `interrupt_all` it has the receipts of the
+    /// interrupts that were made; after `tend` the receipts for what was compacted before are dropped.
     pub seat: Seat<Deed, N>,
     /// The item that the call brought.
     pub item: Option<T>,

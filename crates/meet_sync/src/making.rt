@@ -177,7 +177,8 @@ impl<O: QueuePlace, G: Drop, N: Ledgers> Queue<O, G, N> {
         }
     }
 
-    /// Creates a queue with a seat for each gate, numbered from 0. Its log has 1,048,576 records.
+    /// Creates a queue with a seat for each gate, numbered from 0. The capacity of its log is 1,048,576
+    /// records.
     ///
     /// # Errors
     /// The parts are returned.

@@ -64,7 +64,7 @@ impl Deed {
 pub struct Record<D> {
     /// The seat that made it.
     pub seat: SeatNo,
-    /// The ticket of the request.
+    /// The ticket of the request that it is about; of an interrupt, the ticket that it cut. 0 if there is none.
     pub ticket: Ticket,
     /// What it did.
     pub deed: D,

@@ -12,15 +12,16 @@ use std::fmt::{Debug, Display, Formatter, Write};
 pub enum Refusal {
     /// An allocation failed.
     Memory,
-    /// The records that this call and the pending requests may need don't fit into the log.
+    /// The records that this call and the pending requests may need don't fit into the log; or more than 2^63 - 1
+    /// records would be compacted.
     HistoryFull,
-    /// All request ids (tickets) are used.
+    /// Fewer request ids (tickets) are left than the call may need.
     TicketsSpent,
     /// The seat has a pending request (an open ticket).
     SeatOpen,
-    /// The place has no such seat.
+    /// The place has no such seat; or a pool's seat isn't of the kind that makes this call.
     NoSuchSeat,
-    /// The ticket isn't the open one of that seat.
+    /// The ticket isn't the open one of that seat; or a pool's worker isn't in the state that the call names.
     NotOpen,
     /// A seat's receipts aren't its records.
     Differs,

@@ -130,7 +130,7 @@ pub enum Policy {
     CallerRuns,
     /// It is dropped. Java: `DiscardPolicy`.
     Discard,
-    /// The oldest buffered job is dropped, and it is executed again. Java: `DiscardOldestPolicy`.
+    /// The oldest buffered job is dropped, and the rejected one is executed again. Java: `DiscardOldestPolicy`.
     DiscardOldest,
 }
 

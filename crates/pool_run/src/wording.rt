@@ -243,6 +243,9 @@ fn push_settings(out: &mut Vec<u8>, settings: Settings) -> Result<(), AllocError
 }
 
 /// Appends a trace's first line.
+///
+/// # Errors
+/// - `AllocError`, if an allocation fails.
 #[tactic(auto, unfolding(crate::specs::Wording::pool_head_line))]
 pub fn push_pool_head(out: &mut Vec<u8>, settings: Settings) -> Result<(), AllocError>
     ensures { OnOk result (out.new.items ≡ out.old.items ++ pool_head_line settings) }
@@ -253,6 +256,9 @@ pub fn push_pool_head(out: &mut Vec<u8>, settings: Settings) -> Result<(), Alloc
 }
 
 /// Appends the line at the end of a script: how many records there are, and what the pool counts.
+///
+/// # Errors
+/// - `AllocError`, if an allocation fails.
 #[tactic(auto, unfolding(crate::specs::Wording::pool_last_line))]
 pub fn push_pool_last_line(
     out: &mut Vec<u8>,

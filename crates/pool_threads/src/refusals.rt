@@ -64,7 +64,7 @@ impl<C: Drop, N: Ledgers> PoolRefused<C, N> {
 // `PoolRefused` it doesn't: there the job would come to lie at two places.
 #[derive(Drop)]
 pub struct SeatRefused<N: Ledgers> {
-    /// The seat, as it was.
+    /// The seat, as it was; after `tend` without the receipts for what was compacted before.
     pub seat: Seat<PoolDeed<u64>, N>,
     /// The reason.
     pub why: Refusal,

@@ -69,7 +69,7 @@ impl<T: Marked, L: Line<T>> Meetings<T, L> {
         self.seats.count()
     }
 
-    /// Returns how many pending requests have room.
+    /// Returns for how many more nodes of the wait queue there is room.
     pub fn room(&self) -> u64
         ensures { result ≡ self.now.room }
     {

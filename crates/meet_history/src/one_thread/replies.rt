@@ -23,8 +23,8 @@ pub struct Reply {
 pub enum Outcome {
     /// The record of this number, from 1, was written: of this ticket, with this answer.
     Recorded(u64, Ticket, Answer),
-    /// The record of this number was written: this seat was interrupted. Its waiting request ended, or its interrupt is
-    /// pending.
+    /// The record of this number was written: this seat was interrupted. Its waiting request, of this ticket, was
+    /// interrupted; without a ticket its interrupt is pending.
     Interrupted(u64, SeatNo, Option<Ticket>),
     /// The request still waits in the wait queue.
     NotYet,

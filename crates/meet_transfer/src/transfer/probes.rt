@@ -107,7 +107,7 @@ impl<T: Marked> Transfer<T> {
         self.meetings.seats()
     }
 
-    /// Returns how many requests that wait or leave their item buffered have room.
+    /// Returns for how many more requests that wait or leave their item buffered there is room.
     pub fn room(&self) -> u64
         ensures { result ≡ self.now.queue.room }
     {
