@@ -46,7 +46,6 @@ impl<T: Marked> Arena<T> {
     ///
     ///     match arena.offer(seat, 0, Parcel { mark, grams: 250 }) {
     ///         Offered::Posted(pending) => {
-    ///         Offered::Swapped(seat, parcel) => {
     pub fn offer(&self, seat: Seat<T>, slot: usize, item: T) -> Offered<T>
         requires place { seat.arena ≡ self.now.id }
         requires slot { slot < self.now.slots }

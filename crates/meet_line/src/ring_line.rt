@@ -1,5 +1,5 @@
 //! Wait queues in a ring: one type over the end at which it is met. If nodes leave at that end, as the buffered jobs of
-//! a pool do, it is faster than a wait queue of linked nodes: a node is written once, and nothing else. A node that
+//! a pool do, it writes less than a wait queue of linked nodes: a node is written once, and nothing else. A node that
 //! leaves from elsewhere is looked for from the first one on, and those on one side of it move.
 
 ghost use Rattle.std.specs.Prelude.{◌≡◌, ◌≢◌, ◌+◌, ◌<◌, [], ◌∷◌, ◌++◌, All};
