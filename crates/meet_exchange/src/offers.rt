@@ -46,6 +46,13 @@ impl<T: Marked> Arena<T> {
     ///
     ///     match arena.offer(seat, 0, Parcel { mark, grams: 250 }) {
     ///         Offered::Posted(pending) => {
+    ///             println!(rt; "seat {number} posted {mark}")?;
+    ///             Ok(Back::Held(pending))
+    ///         }
+    ///         Offered::Swapped(seat, parcel) => {
+    ///             println!(rt; "seat {number} swapped {mark} for {}", parcel.mark)?;
+    ///             Ok(Back::Free(seat))
+    ///         }
     pub fn offer(&self, seat: Seat<T>, slot: usize, item: T) -> Offered<T>
         requires place { seat.arena ≡ self.now.id }
         requires slot { slot < self.now.slots }
