@@ -35,7 +35,7 @@ pub trait Chair<T: Marked> {
     type Handle: Wait + Clock;
 
     /// A moment of its queue: how many records had been written by then. It takes no bytes.
-    type Moment;
+    type Moment: Drop;
 
     /// The number of records that a moment states.
     ghost written_by: { Self.Moment → ℕ };
