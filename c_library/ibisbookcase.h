@@ -249,6 +249,10 @@ uint64_t ibis_judge(const uint8_t *text, size_t length, uint8_t *out, size_t roo
    be read, what explains it (docs/SCRIPTS.md). */
 uint64_t ibis_explain(const uint8_t *text, size_t length, uint8_t *out, size_t room, ibis_written *written);
 
+/* Checks the text of a pool's trace (docs/POOLS.md), and writes the line that `meet pool check` prints: with IBIS_ILLEGAL
+   it has the number of the first record that can't stand, and why. */
+uint64_t ibis_pool_check(const uint8_t *text, size_t length, uint8_t *out, size_t room, ibis_written *written);
+
 #ifdef __cplusplus
 }
 #endif

@@ -6,6 +6,7 @@ use Rattle.meet_run.specs.declared.text.faults.RunFault.{RunFault}
 use Rattle.meet_run.specs.Texts.Reading.{lines_of}
 use Rattle.meet_judge.specs.Judging.{JudgeEnds}
 use Rattle.meet_explain.specs.Explained.{ExplainEnds}
+use Rattle.pool_run.specs.Checks.{PoolCheckEnds}
 use Rattle.meet_c_texts.specs.declared.judges.Written.{Written}
 
 -- the first bytes are those of the text, as many as have room; the others are what they were
@@ -32,5 +33,13 @@ pub record ExplainedInto (text old : List ℕ) (told : Written) (new : List ℕ)
   pub ended : Result Bool RunFault
   pub written : List ℕ
   pub explained : ExplainEnds (lines_of text) ended (Some []) (Some written)
+  pub is_told : told ≡ told_as ended (length written)
+  pub first : AreFirst written old new
+
+-- the pool's trace of the text was checked, and the first bytes of what is written stand there
+pub record PoolCheckedInto (text old : List ℕ) (told : Written) (new : List ℕ) : Type 0 where
+  pub ended : Result Bool RunFault
+  pub written : List ℕ
+  pub checked : PoolCheckEnds (lines_of text) ended (Some []) (Some written)
   pub is_told : told ≡ told_as ended (length written)
   pub first : AreFirst written old new

@@ -21,7 +21,7 @@ pub struct Written {
 }
 
 /// Copies the first bytes of a text, as many as have room.
-fn copy_first(text: &[u8], out: &mut [u8])
+pub(crate) fn copy_first(text: &[u8], out: &mut [u8])
     ensures { AreFirst text.now out.old out.new }
 {
     let mut at = 0;
@@ -32,7 +32,7 @@ fn copy_first(text: &[u8], out: &mut [u8])
 }
 
 /// Returns the result of a text, of which there are this many bytes to write.
-fn tell(ended: Result<bool, RunFault>, length: u64) -> Written
+pub(crate) fn tell(ended: Result<bool, RunFault>, length: u64) -> Written
     ensures { result ≡ told_as ended length }
 {
     match ended {

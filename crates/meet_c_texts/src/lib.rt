@@ -5,6 +5,8 @@
 
 mod checks;
 mod judges;
+mod pools;
 
 pub use checks::{Verdict, ibis_check};
 pub use judges::{Written, ibis_explain, ibis_judge};
+pub use pools::ibis_pool_check;

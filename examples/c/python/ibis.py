@@ -41,6 +41,7 @@ for call, words in {
     "check": [*text, POINTER(Verdict)],
     "judge": [*text, *text, POINTER(Written)],
     "explain": [*text, *text, POINTER(Written)],
+    "pool_check": [*text, *text, POINTER(Written)],
 }.items():
     getattr(LIB, f"ibis_{call}").argtypes, getattr(LIB, f"ibis_{call}").restype = words, c_uint64
 LIB.ibis_free.argtypes, LIB.ibis_free.restype = [handle], None
@@ -75,3 +76,7 @@ def judge(calls):
 
 def explain(trace):
     return written(LIB.ibis_explain, trace)
+
+
+def pool_check(trace):
+    return written(LIB.ibis_pool_check, trace)

@@ -14,6 +14,9 @@ SWAPPED = [HANDED[0], (1, 2, ibis.TAKE_MEETS, 6, 1)]
 TRACE = b"trace 1 fair\n0 1 give-waits 5\n1 2 take-meets 5 1\n0 1 done\n"
 WRONG = TRACE.replace(b"take-meets 5", b"take-meets 6")
 
+# A job of a pool (docs/POOLS.md), and what `meet pool check` prints of it.
+POOL = b"trace 1 pool core 1 maximum 1 callers 1 keep 60000 unbounded policy discard\n0 1 started 0 7\n1 2 runs 1 7\n1 1 finished 9\n"
+
 # What two threads saw of a queue with a fault (docs/JUDGE.md): one returned that nobody took its item, which the other one got.
 TOP = f"{os.path.dirname(os.path.abspath(__file__))}/../../.."
 HASTY = open(f"{TOP}/recorders/hasty.calls", "rb").read()
@@ -45,6 +48,12 @@ def test_a_wrong_text():
 def test_a_line_that_is_none():
     found = ibis.check(TRACE + b"1 3 gives 8\n")
     assert (found.status, found.line) == (15, 5)
+
+
+def test_a_pool():
+    assert ibis.pool_check(POOL) == (ibis.OK, "legal 3 workers 1 running 0 kept 0 done 1 largest 1\n")
+    status, line = ibis.pool_check(POOL.replace(b"runs 1", b"runs 2"))
+    assert status == ibis.ILLEGAL and line.startswith("illegal 2 ")
 
 
 def test_what_threads_saw():
