@@ -1,14 +1,7 @@
 -- What is found of a trace that was read, or of one that can't be read.
-use Rattle.std.proofs.Common.{◌≡◌, ◌≢◌, ◌⊎◌, ℕ, List, Option, Some, None, refl, sym, ap, subst, ◌∙◌, inl, inr, arith}
+use Rattle.std.proofs.Common.{◌≡◌, ◌≢◌, ℕ, List, Some, sym, ap, subst, ◌∙◌, inl, inr, arith}
 use Rattle.std.specs.Option.{unwrap_or}
-use Rattle.meet_tickets.specs.declared.places.Kind.{Kind}
-use Rattle.meet_tickets.specs.declared.records.Record.{Record}
-use Rattle.meet_tickets.specs.declared.records.Deed.{Deed}
-use Rattle.meet_tickets.specs.declared.refusals.Refusal.{Refusal}
-use Rattle.meet_tickets.specs.declared.refusals.Refusal.TheVariants.{Memory, BadTrace, ReadFault}
 use Rattle.meet_tickets.specs.Refusals.{number_of}
-use Rattle.meet_history.specs.declared.checker.CheckFault.{CheckFault}
-use Rattle.meet_history.specs.declared.checker.CheckFault.TheVariants.{Illegal}
 use Rattle.meet_history.specs.Checking.{IsIllegalAt}
 use Rattle.meet_history.specs.Pushing.{SeenWith}
 use Rattle.meet_history.proofs.Pushed.{taken-all}

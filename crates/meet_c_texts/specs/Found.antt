@@ -1,10 +1,9 @@
 -- What a caller in C is told of a trace.
-use Rattle.std.specs.Prelude.{◌≡◌, ◌≢◌, ◌⊎◌, ℕ, ◌+◌, Option, Some, None, List, length}
+use Rattle.std.specs.Prelude.{◌≡◌, ◌≢◌, ◌⊎◌, ℕ, ◌+◌, Some, None, List, length}
 use Rattle.meet_tickets.specs.declared.places.Kind.{Kind}
 use Rattle.meet_tickets.specs.declared.records.Record.{Record}
 use Rattle.meet_tickets.specs.declared.records.Deed.{Deed}
 use Rattle.meet_tickets.specs.Bases.{Based, IsLegalOn}
-use Rattle.meet_history.specs.declared.checker.CheckFault.{CheckFault}
 use Rattle.meet_history.specs.declared.checker.CheckFault.TheVariants.{Illegal}
 use Rattle.meet_history.specs.declared.checker.Why.{Why}
 use Rattle.meet_history.specs.declared.checker.Why.TheVariants.{SeatOpen, TicketOrder, NotOpen, WrongReply}

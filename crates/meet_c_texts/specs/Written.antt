@@ -1,5 +1,5 @@
 -- What a caller in C is told of a text that was written.
-use Rattle.std.specs.Prelude.{◌≡◌, ℕ, ◌<◌, ◌≤◌, min, Bool, true, false, Option, Some, None, List, [], length, slice_get, Result, Ok, Err}
+use Rattle.std.specs.Prelude.{◌≡◌, ℕ, ◌<◌, ◌≤◌, min, Bool, true, false, Some, List, [], length, slice_get, Result, Ok, Err}
 use Rattle.std.specs.Option.{unwrap_or}
 use Rattle.meet_tickets.specs.Refusals.{number_of}
 use Rattle.meet_run.specs.declared.text.faults.RunFault.{RunFault}
