@@ -103,6 +103,13 @@ pub trait Chair<T: Marked> {
     /// - HistoryFull, if the log has no room for the record.
     /// - Memory, if an allocation fails.
     ///
+    /// # Example
+    /// From `crates/meet_crew_tests/src/calls.rt`:
+    ///
+    ///     if chair.number() == 0 {
+    ///         return chair.interrupt(1).is_ok();
+    ///     }
+    ///
     /// Java: `Thread.interrupt`.
     fn interrupt(&mut self, target: u64) -> Result<(), CallRefused<T>>
         ensures interrupted { IfOk result (λ _. InterruptsAs (seat_of self.old) (seat_of self.new) (target ∷ [])) }
@@ -186,6 +193,15 @@ pub trait Chair<T: Marked> {
     /// # Errors
     /// - Memory, HistoryFull, TicketsSpent or SeatOpen, as `ask`.
     ///
+    /// # Example
+    /// From `crates/meet_crew_tests/src/calls.rt`:
+    ///
+    ///     return match chair.transfer(5) {
+    ///         Ok(End::Gave(_)) => true,
+    ///         Ok(End::Done) => true,
+    ///         _ => false,
+    ///     };
+    ///
     /// Java: `TransferQueue.transfer`.
     final fn transfer(&mut self, item: T) -> Result<End<T>, CallRefused<T>>
         ensures ended { IfOk result (λ end. CalledAs kind ⊥ T.mark_of
@@ -201,6 +217,14 @@ pub trait Chair<T: Marked> {
     ///
     /// # Errors
     /// - Memory, HistoryFull, TicketsSpent or SeatOpen, as `ask`.
+    ///
+    /// # Example
+    /// From `crates/meet_crew_tests/src/calls.rt`:
+    ///
+    ///     match chair.try_transfer(7) {
+    ///         Ok(End::Failed(Some(item))) => item == 7,
+    ///         _ => false,
+    ///     }
     ///
     /// Java: `TransferQueue.tryTransfer`, `SynchronousQueue.offer`.
     final fn try_transfer(&mut self, item: T) -> Result<End<T>, CallRefused<T>>
@@ -247,6 +271,14 @@ pub trait Chair<T: Marked> {
     ///
     /// # Errors
     /// - Memory, HistoryFull, TicketsSpent or SeatOpen, as `ask`.
+    ///
+    /// # Example
+    /// From `crates/meet_crew_tests/src/calls.rt`:
+    ///
+    ///     match chair.take() {
+    ///         Ok(End::Got(_, item)) => item == 5,
+    ///         _ => false,
+    ///     }
     ///
     /// Java: `BlockingQueue.take`.
     final fn take(&mut self) -> Result<End<T>, CallRefused<T>>
