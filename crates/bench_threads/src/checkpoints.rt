@@ -320,7 +320,7 @@ where
     };
     let (queue, seats) = match Keeping::<N>::new(alloc, parts) {
         Ok(made) => made,
-        Err(refused) => return Err(refused.into_why()), // the gates and the ledgers are let go
+        Err(refused) => return Err(refused.into_why()), // the gates and the ledgers are dropped
     };
     let slots = slots_of::<N>(alloc, seats, slots, 0);
     let mut times = Times::new(alloc);

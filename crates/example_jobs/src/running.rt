@@ -52,13 +52,13 @@ where
             Ok((after, _outcome)) => seat = after, // Outcome::Started(worker), Outcome::Kept, ..
             Err(turned_away) => {
                 refused = Some(turned_away.why);
-                seat = turned_away.seat; // its job, turned_away.job, is let go
+                seat = turned_away.seat; // its job, turned_away.job, is dropped
             }
         }
     }
     match pool.shutdown(rt, seat) {
         Ok(after) => backs.push_reserved(Back::Free(after)),
-        Err(turned_away) => return Err(turned_away.into_why()), // the pool is let go, with its one seat
+        Err(turned_away) => return Err(turned_away.into_why()), // the pool is dropped, with its one seat
     }
     pool.await_end(rt); // no more jobs, no more workers
     match pool.close(rt, alloc, backs) {

@@ -101,6 +101,6 @@ pub fn swap_parcels(rt: &HostRuntime) -> Result<()> {
     let mut backs = Vec::new(alloc);
     backs.push(zero)?;
     backs.push(one)?;
-    let closed = arena.close(alloc, backs).map_err(CloseFault::into_why)?; // what comes back at a fault is let go
+    let closed = arena.close(alloc, backs).map_err(CloseFault::into_why)?; // what comes back at a fault is dropped
     tell(rt, &closed)
 }

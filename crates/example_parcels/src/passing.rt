@@ -199,7 +199,7 @@ where
     let made = TransferQueue::<Parcel, ParkGate, N>::with_cap(alloc, parts, plan.cap);
     let (counter, mut seats) = match made {
         Ok(made) => made,
-        Err(refused) => return Err(refused.into_why()), // the gates and the ledgers are let go
+        Err(refused) => return Err(refused.into_why()), // the gates and the ledgers are dropped
     };
     let taker = seats.pop().unwrap();
     let giver = seats.pop().unwrap();

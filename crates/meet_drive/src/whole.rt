@@ -164,7 +164,7 @@ where
     };
     let (queue, seats) = match SyncQueue::with_cap(alloc, parts, cap) {
         Ok(made) => made,
-        Err(refused) => return Err(refused.into_why()), // the gates and the ledgers are let go
+        Err(refused) => return Err(refused.into_why()), // the gates and the ledgers are dropped
     };
     let course = Course::new(alloc, queue, most);
     let slots = slots_of::<N>(seats, slots);
@@ -173,7 +173,7 @@ where
     let (queue, handed) = course.into_parts();
     let chronicle = match queue.close(alloc, backs) {
         Ok(chronicle) => chronicle,
-        Err(fault) => return Err(fault.into_why()), // the queue and the seats are let go
+        Err(fault) => return Err(fault.into_why()), // the queue and the seats are dropped
     };
     match ended_early(all_started, counted) {
         Some(why) => Err(why),

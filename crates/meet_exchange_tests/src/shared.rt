@@ -39,7 +39,7 @@ fn last_three(rt: &impl Abort, alloc: Global, slots: usize, seats: u64) -> Opene
     (arena, last, other, first)
 }
 
-/// The first two of an arena's new seats; the others are let go.
+/// The first two of an arena's new seats; the others are dropped.
 fn first_two(rt: &impl Abort, arena: &Arena<u64>, all: Vec<Seat<u64>>) -> (Seat<u64>, Seat<u64>)
     requires { AreNew arena.now.id 0 all.items }
     ensures first { result.0.arena ≡ arena.now.id }

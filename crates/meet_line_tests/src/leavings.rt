@@ -188,7 +188,7 @@ fn takers_leave_nothing(rt: HostRuntime) {
     leaves::<StackLine<Seal>>(&rt, rt.alloc(), &TAKERS, &[]);
 }
 
-/// A queue in which nobody is there is let go.
+/// A queue in which nobody is there is dropped.
 fn goes_empty<L: Line<Seal>>(rt: &impl Abort, alloc: Global) {
     let mut queue: Meetings<Seal, L> = Meetings::new(alloc, 8, 1).expect(rt, "memory");
     queue.reserve(8).expect(rt, "memory");

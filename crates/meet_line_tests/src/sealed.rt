@@ -33,7 +33,7 @@ fn opened(entry: Option<Entry<Sealed>>) -> Option<u64> {
     Some(serial)
 }
 
-/// The serial number of the one item of a line, which is met; then the line is let go empty.
+/// The serial number of the one item of a line, which is met; then the line is dropped empty.
 fn goes_through<L: Line<Sealed>>(rt: &impl Abort, alloc: Global) -> Option<u64> {
     let (ticket, seat) = (ticket(rt, 7), seat(rt, 0));
     let mut line = L::empty(alloc);

@@ -124,7 +124,7 @@ impl<O: Drains, N: Ledgers> Shared<O, N> {
     }
 }
 
-/// Room for a drain of so many items, or none if an allocation fails.
+/// Room for a drain of this many items, or none if an allocation fails.
 fn room_for<O: Drains>(alloc: Global, items: usize) -> Option<DrainRoom<O>>
     ensures room { IfSome result (λ room. items ≤ vec_capacity room.polled) }
     ensures empty { IfSome result (λ room. (room.polled.items ≡ []) × (room.answers.items ≡ [])) }

@@ -183,7 +183,7 @@ fn small_list(rt: &impl Abort, alloc: Global) -> Vec<Record<Deed>> {
 }
 
 /// Hands the records of a book out, and lends it a list: the records. Where there was no memory the list comes back
-/// with its room, and is lent again.
+/// with its room, and is borrowed again.
 fn handed_out(rt: &impl Abort, alloc: Global, book: &mut Book<Fair>) -> Vec<Record<Deed>> {
     let lent = small_list(rt, alloc);
     let room = lent.capacity();

@@ -1,4 +1,4 @@
-//! A lock over a queue's book is let go, whatever the items and the line, with all that waits there.
+//! A lock over a queue's book is dropped, whatever the items and the line, with all that waits there.
 
 use crate::parcels::{Ask, Parcel, Told};
 use crate::places::plays;
@@ -19,7 +19,7 @@ fn let_go<X: Drop>(value: X) {
     let _value = value;
 }
 
-/// A lock is let go as it is.
+/// A lock is dropped as it is.
 fn let_go_as_it_is<T: Marked + Drop, L: Line<T> + Drop>(lock: Locked<T, L>) {
     let _lock = lock;
 }
@@ -29,7 +29,7 @@ fn let_go_as_it_is_made<T: Marked + Drop, L: Line<T> + Drop>(book: Book<Dual<T, 
     let _lock = Mutex::new(book);
 }
 
-/// A lock is let go through a bound.
+/// A lock is dropped through a bound.
 fn let_go_through_a_bound<T: Marked + Drop, L: Line<T> + Drop>(lock: Locked<T, L>) {
     let_go(lock);
 }
@@ -49,7 +49,7 @@ fn lock_of<L: Line<Parcel> + Drop>(rt: &(impl Abort + Wait), alloc: Global) -> L
     lock
 }
 
-/// A lock over a queue in which a taker waits is let go in each way.
+/// A lock over a queue in which a taker waits is dropped in each way.
 fn is_let_go<L: Line<Parcel> + Drop>(rt: &(impl Abort + Wait), alloc: Global) {
     let_go_as_it_is::<Parcel, L>(lock_of(rt, alloc));
     let_go_as_it_is_made::<Parcel, L>(book_of(rt, alloc));

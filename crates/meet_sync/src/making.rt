@@ -148,7 +148,7 @@ impl<O: QueuePlace, G: Drop, N: Ledgers> Queue<O, G, N> {
     ///     let made = TransferQueue::<Parcel, ParkGate, N>::with_cap(alloc, parts, plan.cap);
     ///     let (counter, mut seats) = match made {
     ///         Ok(made) => made,
-    ///         Err(refused) => return Err(refused.into_why()), // the gates and the ledgers are let go
+    ///         Err(refused) => return Err(refused.into_why()), // the gates and the ledgers are dropped
     ///     };
     pub fn with_cap(
         alloc: Global,

@@ -225,7 +225,7 @@ impl<W: Work, C: Drop, G: Gate + Drop, S: Drop, N: PoolLedgers> Pool<W, C, G, S,
     ///
     ///     match pool.shutdown(rt, seat) {
     ///         Ok(after) => backs.push_reserved(Back::Free(after)),
-    ///         Err(turned_away) => return Err(turned_away.into_why()), // the pool is let go, with its one seat
+    ///         Err(turned_away) => return Err(turned_away.into_why()), // the pool is dropped, with its one seat
     ///     }
     ///     pool.await_end(rt); // no more jobs, no more workers
     ///

@@ -184,7 +184,7 @@ impl<W: Work, C: Call<W> + Drop, G: Gate + Drop, S: Starter, N: PoolLedgers> Poo
     ///         Ok((after, _outcome)) => seat = after, // Outcome::Started(worker), Outcome::Kept, ..
     ///         Err(turned_away) => {
     ///             refused = Some(turned_away.why);
-    ///             seat = turned_away.seat; // its job, turned_away.job, is let go
+    ///             seat = turned_away.seat; // its job, turned_away.job, is dropped
     ///         }
     ///     }
     ///

@@ -141,7 +141,7 @@ where
     let nanoseconds = watch.nanoseconds(rt)?;
     let backs = worked.map_err(|_| Refusal::Memory)?;
     if let Err(fault) = arena.close(alloc, backs) {
-        return Err(fault.into_why()); // the arena and the seats are let go
+        return Err(fault.into_why()); // the arena and the seats are dropped
     }
     total.into_inner().finish(nanoseconds)
 }

@@ -154,7 +154,7 @@ where
     };
     let (queue, seats) = match Fair::<G, N>::with_cap(alloc, parts, race.cap) {
         Ok(made) => made,
-        Err(refused) => return Err(refused.into_why()), // the gates and the ledgers are let go
+        Err(refused) => return Err(refused.into_why()), // the gates and the ledgers are dropped
     };
     let slots = slots_of::<N>(alloc, seats, slots, race.timed());
     let timed = run_timed(rt, alloc, &queue, slots.as_slice(), race);

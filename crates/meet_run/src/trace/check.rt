@@ -85,7 +85,7 @@ fn push_records<R: Read>(
     }
 }
 
-/// What the checker found of so many records, and the line that says so. Fails only if an allocation fails.
+/// What the checker found of this many records, and the line that says so. Fails only if an allocation fails.
 fn verdict(alloc: Global, checker: &Checker, count: u64) -> Result<(bool, Vec<u8>), Refusal>
     ensures verdict { IfOk result (λ found. IsVerdictOf checker.now count found.0 found.1.items) }
     ensures memory { IfErr result (λ why. why ≡ Memory) }

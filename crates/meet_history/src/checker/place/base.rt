@@ -137,7 +137,7 @@ impl CheckedPlace {
         })
     }
 
-    /// The base that stands for this place, where so many records were folded away. Fails only if an allocation fails.
+    /// The base that stands for this place after `gone` records were folded away. Fails only if an allocation fails.
     pub(crate) fn base(&self, alloc: Global, gone: u64) -> Result<Base, Refusal>
         ensures base { IfOk result (IsBaseOf (moment_at self.now) gone) }
         ensures memory { IfErr result (λ why. why ≡ Memory) }
