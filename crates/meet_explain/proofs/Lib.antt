@@ -1,1 +1,5 @@
+pub mod Choosing
+pub mod Covering
+pub mod Lookups
 pub mod Telling
+pub mod Tickets

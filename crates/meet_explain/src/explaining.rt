@@ -4,12 +4,12 @@ ghost use Rattle.std.specs.Prelude.{IfOk, IfSome};
 ghost use Rattle.meet_run.specs.Texts.Reading.{lines_of};
 ghost use Rattle.meet_explain.specs.Explained.{IsTold, ExplainEnds};
 
+use crate::answers::comes_instead;
 use crate::faulty::push_faulty;
 use crate::lines::{before, count_lines, line_at};
 use crate::onward::read_on;
 use crate::tee::Tee;
 use crate::wording::{push_instead, push_line, push_moment};
-use meet_answers::comes_instead;
 use meet_history::CheckFault;
 use meet_run::text::faults::cut_short;
 use meet_run::text::output::write_whole;

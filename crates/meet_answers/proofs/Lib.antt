@@ -1,4 +1,0 @@
-pub mod Choosing
-pub mod Covering
-pub mod Lookups
-pub mod Tickets
