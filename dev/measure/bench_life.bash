@@ -6,22 +6,21 @@
 #
 # A row is so many handoffs through one queue, the nanoseconds that one took by the clock, and the most memory that the program had, in
 # KiB. Each run's items and their sum are compared with what they must be. The status is 1 where they differ, or the memory of ten times
-# as many handoffs is more than 2 MiB above that of the fewer.
+# as many handoffs is more than 2 MiB above that of the fewer. Then the same of a crew's queue, by runs of `soak_crews`, which calls no
+# `tend`; there as many items are put and polled by one thread as well.
 set -euo pipefail
 . "$(dirname "$0")/../../bin/built.bash"
 few=1000000
 [ "${1:-}" = quick ] && few=300000
 
 build bench_threads
+build soak_crews
 work=$(mktemp -d)
 trap 'rm -rf "$work"' EXIT
 
-# Hands so many items on between so many pairs of threads, prints a row, and leaves the memory in peak.
-live() {
-    local pairs=$1 each=$2 items nanoseconds
-    items=$((pairs * each))
-    echo "items $items sum $((pairs * each * (each + 1) / 2))" >"$work/expected"
-    python3 - "$work" "$(program_of bench_threads)" park "$pairs" "$each" 1 <<'END'
+# Runs these words, whose output is to be $work/expected, and leaves the most memory in peak.
+measured() {
+    python3 - "$work" "$@" <<'END'
 import resource, subprocess, sys
 
 work = sys.argv[1]
@@ -33,8 +32,31 @@ sys.exit(status)
 END
     cmp "$work/expected" "$work/told"
     peak=$(cat "$work/peak")
+}
+
+# Hands so many items on between so many pairs of threads, and prints a row.
+live() {
+    local pairs=$1 each=$2 items nanoseconds
+    items=$((pairs * each))
+    echo "items $items sum $((pairs * each * (each + 1) / 2))" >"$work/expected"
+    measured "$(program_of bench_threads)" park "$pairs" "$each" 1
     nanoseconds=$(sed -n 's/^nanoseconds //p' "$work/times")
     printf '%12s %6d %12d %10d\n' "$items" "$pairs" "$((nanoseconds / items))" "$peak"
+}
+
+# The same by a crew of two; then one thread puts and polls as many.
+live_crew() {
+    printf '%d items handed from thread to thread\n%d items put and polled\n' "$1" "$1" >"$work/expected"
+    measured "$(program_of soak_crews)" "$1" "$1"
+    printf '%12s %6s %12s %10d\n' "$1" crew - "$peak"
+}
+
+# Fails if the memory is more than 2 MiB above this.
+is_flat() {
+    if [ "$peak" -gt $(($1 + 2048)) ]; then
+        echo "dev/measure/bench life: the memory grows" >&2
+        exit 1
+    fi
 }
 
 echo "handoffs through one tended queue: $(nproc) processors, $(date -u +%F)"
@@ -42,8 +64,9 @@ printf '%12s %6s %12s %10s\n' handoffs pairs nanoseconds KiB
 live 1 "$few"
 before=$peak
 live 1 $((few * 10))
-if [ "$peak" -gt $((before + 2048)) ]; then
-    echo "dev/measure/bench life: the memory grows" >&2
-    exit 1
-fi
+is_flat "$before"
+live_crew "$few"
+before=$peak
+live_crew $((few * 10))
+is_flat "$before"
 [ "${1:-}" != long ] || live 4 25000000

@@ -1,5 +1,6 @@
 //! A first use of the library by one thread: parcels go from seat to seat, by queues and by an exchanger. What it
-//! prints is in `stdout`.
+//! prints is in `stdout`. It names the crates that it uses, in place of `ibisbookcase`: it needs none of those for
+//! threads.
 #![tactic(auto)]
 
 mod handoff;

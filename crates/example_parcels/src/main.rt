@@ -1,6 +1,7 @@
 //! Parcels between threads: one thread transfers them, another takes them. Then the queue is closed. The parcels that
 //! were taken, those that were returned, and the records are counted on standard output. With `example_parcels trace`,
-//! the records are written there as a trace, which `meet check` accepts.
+//! the records are written there as a trace, which `meet check` accepts. It names the crates that it uses, in place of
+//! `ibisbookcase`: so it is proved before the judge and the pools are.
 #![tactic(auto)]
 
 mod passing;

@@ -14,7 +14,16 @@
 //!         }
 //!     }
 //!
-//! `Exchanger` is for a program that holds its seats itself. `Arena` has the single steps of an exchange.
+//! `Exchanger` is for a program that holds its seats itself.
+//!
+//! Two seats exchange items in a slot of an `Arena`, by single steps (`offer`, `collect`, `withdraw`) or by a call that
+//! waits (`exchange`). From `crates/example_one_thread/src/swapped.rt`, whose `offer` and `end` print what the steps
+//! return:
+//!
+//!     let (arena, mut seats) = Arena::<Parcel>::new(alloc, 1, 2)?; // one slot, two seats
+//!     let zero = offer(rt, &arena, Back::Free(zero), 5)?; // nobody is there: 5 is posted
+//!     let one = offer(rt, &arena, Back::Free(one), 6)?; // 6 for 5
+//!     let zero = end(rt, &arena, zero)?; // 6 is collected
 
 pub use meet_exchange::{
     Arena, Back, CloseFault, Closed, Exchanged, Gathered, LeftIn, Offered, Part, Pending, Round,

@@ -1,5 +1,13 @@
 //! A linearizability checker for concurrent histories of any program's synchronous or transfer queue: it returns a
 //! legal history that explains the calls, or the reason why there is none.
+//!
+//! `judge` takes the calls. From `crates/meet_judge/src/judging.rt`:
+//!
+//!     let judged = match judge(alloc, calls.kind, calls.as_slice(), MOST_MOVES) {
+//!
+//! `judge_calls` reads their text, and writes the history as a trace or the reason. From `crates/meet/src/main.rt`:
+//!
+//!     Task::Judge => judge_calls(alloc, reader, writer),
 
 pub use meet_judge::{MOST_MOVES, judge_calls, push_calls, read_calls};
 pub use meet_overlap::{

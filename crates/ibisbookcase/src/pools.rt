@@ -1,4 +1,20 @@
 //! The pool of threads (`ThreadPoolExecutor`).
+//!
+//! A job is a closure without an argument, which is done once and returns a `u64`, in a `Box`. It is `Send`, so what it
+//! captures is moved to a worker. `Boxed` gives it a tag: a number by which records name it, and which it returns. It
+//! can be called at once, and ends: both are proved. From `crates/example_jobs/src/main.rt`:
+//!
+//!     let call: JobFn = Box::new(
+//!         alloc,
+//!         move || -> u64
+//!             ensures { result ≡ n }
+//!         { n },
+//!     )
+//!     .map_err(|_| Refusal::Memory)?;
+//!     jobs.push(Boxed::new(n, call)).map_err(|_| Refusal::Memory)?; // each is worth its tag
+//!
+//! A job that returns another number than its tag is a type with a `Call` of a `Work` of its own. `check_pool` and
+//! `PoolChecker` check the records of a pool.
 
 pub use meet_cells::{ParkGate, SpinGate};
 pub use meet_place::{Back, Blanks, Gate, Ledgers, Moment, Seat};

@@ -1,5 +1,13 @@
 //! The queues for threads, for a program that holds seats, gates (parkers) and ledgers (ghost counters) itself, and a
 //! pool of their seats.
+//!
+//! Each call takes a seat, and returns it. From `crates/example_parcels/src/passing.rt`:
+//!
+//!     match counter.transfer_for(rt, seat, parcel, plan.patience) {
+//!         Ok(ended) => {
+//!             hand = hand.with(parcel_of(ended.end)); // End::Gave(with), End::Done, End::TimedOut(Some(parcel)), ..
+//!
+//! `docs/USING.md` ("Between two threads") has the eight steps of such a program.
 
 pub use meet_cells::{ParkGate, SpinGate};
 pub use meet_chosen::{ChosenBook, ChosenQueue};

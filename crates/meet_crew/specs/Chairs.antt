@@ -1,38 +1,78 @@
--- What a call from a chair leaves in its seat's list, and how it ends: as a whole call of the seat (our choice).
-use Rattle.std.specs.Prelude.{◌≡◌, ◌⊎◌, ℕ, Option, IfSome, List}
+-- What a call from a chair leaves in its seat's list, and how it ends: as a whole call of the seat, before which the
+-- chair may compact the log (our choice).
+use Rattle.std.specs.Prelude.{◌≡◌, ◌<◌, ◌⊎◌, ℕ, Option, IfSome, List, Bool, true, false, not, ◌&&◌}
 use Rattle.meet_tickets.specs.declared.places.Kind.{Kind}
 use Rattle.meet_tickets.specs.declared.records.Deed.{Deed}
-use Rattle.meet_place.specs.Seats.{SeatView, SameSeat, Trims}
-use Rattle.meet_place.specs.Tending.{Tends}
+use Rattle.meet_place.specs.Seats.{SeatView, SameSeat, Checkpoints, Trims}
+use Rattle.meet_place.specs.Tending.{Tends, is_to_look}
+use Rattle.meet_sync.specs.Drained.{DrainedTo}
 use Rattle.meet_sync.specs.Ending.{EndsAs}
 use Rattle.meet_sync.specs.Stopping.{Interrupts, others}
 use Rattle.meet_sync.specs.declared.asked.End.{End}
 use Rattle.meet_sync.specs.declared.asked.Request.{Request}
 
--- a call that was refused leaves the chair's seat as it was, but for room
-abbrev pub Keeps : (old new : Option (SeatView Deed)) → Type 0
-Keeps old new = IfSome old (λ seat. IfSome new (λ after. SameSeat seat after × (after.list ≡ seat.list)))
+-- a chair: its seat, which is absent only during a call, and whether it keeps the log, so that no call compacts it
+pub record ChairView : Type 0 where
+  pub seat : Option (SeatView Deed)
+  pub keeps_log : Bool
+
+-- what a call does to its seat first: it compacts the log if it is time to
+abbrev pub Readies : (is_time : Bool) → (seat ready : SeatView Deed) → Type 0
+Readies true seat ready = Tends seat ready
+Readies false seat ready = ready ≡ seat
+
+-- it is time to exactly if the chair doesn't keep the log, and its seat is to look at it
+abbrev pub is_time : (cap seats : ℕ) → (keeps_log : Bool) → SeatView Deed → Bool
+is_time cap seats keeps_log seat = not keeps_log && is_to_look cap seats seat
+
+-- a chair's call readied the seat, and then did this with it
+abbrev pub Does : (cap seats : ℕ) → (old new : ChairView) → (SeatView Deed → SeatView Deed → Type 0) → Type 0
+Does cap seats old new Did = (new.keeps_log ≡ old.keeps_log) × IfSome old.seat (λ seat. IfSome new.seat (λ after.
+    (ready : SeatView Deed) × Readies (is_time cap seats old.keeps_log seat) seat ready × Did ready after))
+
+-- a call that was refused left the seat as it was then, but for room
+abbrev pub Keeps : (cap seats : ℕ) → (old new : ChairView) → Type 0
+Keeps cap seats old new = Does cap seats old new (λ ready after. SameSeat ready after × (after.list ≡ ready.list))
 
 -- the chair's seat interrupted these targets, one after another
-abbrev pub InterruptsAs : (old new : Option (SeatView Deed)) → (targets : List ℕ) → Type 0
-InterruptsAs old new targets = IfSome old (λ seat. IfSome new (λ after. Interrupts seat after targets))
+abbrev pub InterruptsAs : (cap seats : ℕ) → (old new : ChairView) → (targets : List ℕ) → Type 0
+InterruptsAs cap seats old new targets = Does cap seats old new (λ ready after. Interrupts ready after targets)
 
--- it interrupted the other seats below this number
-abbrev pub InterruptsOthers : (below : ℕ) → (old new : Option (SeatView Deed)) → Type 0
-InterruptsOthers below old new =
-    IfSome old (λ seat. IfSome new (λ after. Interrupts seat after (others seat.number below)))
+-- it interrupted all other seats
+abbrev pub InterruptsAll : (cap seats : ℕ) → (old new : ChairView) → Type 0
+InterruptsAll cap seats old new =
+    Does cap seats old new (λ ready after. Interrupts ready after (others ready.number seats))
+
+-- it interrupted the other seats below some number
+abbrev pub InterruptsSome : (cap seats : ℕ) → (old new : ChairView) → Type 0
+InterruptsSome cap seats old new = Does cap seats old new (λ ready after. (below : ℕ) × (below < seats)
+    × Interrupts ready after (others ready.number below))
+
+-- the chair's seat did this, and nothing before
+abbrev pub DoesAlone : (old new : ChairView) → (SeatView Deed → SeatView Deed → Type 0) → Type 0
+DoesAlone old new Did =
+    (new.keeps_log ≡ old.keeps_log) × IfSome old.seat (λ seat. IfSome new.seat (λ after. Did seat after))
 
 -- it tended the history, or had nothing to do
-abbrev pub TendsAs : (old new : Option (SeatView Deed)) → Type 0
-TendsAs old new = IfSome old (λ seat. IfSome new (λ after. (after ≡ seat) ⊎ Tends seat after))
+abbrev pub TendsAs : (old new : ChairView) → Type 0
+TendsAs old new = DoesAlone old new (λ seat after. (after ≡ seat) ⊎ Tends seat after)
 
 -- it let go of receipts for what was folded away
-abbrev pub TrimsAs : (old new : Option (SeatView Deed)) → Type 0
-TrimsAs old new = IfSome old (λ seat. IfSome new (λ after. (gone : ℕ) × Trims gone seat after))
+abbrev pub TrimsAs : (old new : ChairView) → Type 0
+TrimsAs old new = DoesAlone old new (λ seat after. (gone : ℕ) × Trims gone seat after)
+
+-- so many records were handed out, and count for it
+abbrev pub RotatesAs : (old new : ChairView) → (more : ℕ) → Type 0
+RotatesAs old new more = DoesAlone old new (Checkpoints more)
 
 module _ {T : Type 0} where
   -- a call of this request came to this end
-  abbrev pub CalledAs : Kind → (MayExpire : Type 0) → (T → ℕ) → (old new : Option (SeatView Deed)) → Request T → End T
-      → Type 0
-  CalledAs k MayExpire mark old new request end = IfSome old (λ seat. IfSome new (λ after.
-      SameSeat seat after × EndsAs k MayExpire mark seat after request end))
+  abbrev pub CalledAs : (cap seats : ℕ) → Kind → (MayExpire : Type 0) → (T → ℕ) → (old new : ChairView) → Request T
+      → End T → Type 0
+  CalledAs cap seats k MayExpire mark old new request end = Does cap seats old new (λ ready after.
+      SameSeat ready after × EndsAs k MayExpire mark ready after request end)
+
+  -- a drain took these items
+  abbrev pub DrainsAs : (cap seats : ℕ) → (T → ℕ) → (old new : ChairView) → List T → Type 0
+  DrainsAs cap seats mark old new items =
+      Does cap seats old new (λ ready after. SameSeat ready after × DrainedTo mark ready after items)

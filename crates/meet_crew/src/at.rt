@@ -1,20 +1,21 @@
 //! A chair at a queue of any kind.
 
-ghost use Rattle.std.specs.Prelude.{◌≡◌, ◌<◌, ◌≤◌, ℕ, Some, None, true, false, [], ◌∷◌, IsOk, IsSome, IsErrAnd, IfSome, IfOk, IfErr, length, max};
-ghost use Rattle.meet_tickets.specs.declared.refusals.Refusal.TheVariants.{NoSuchSeat};
-ghost use Rattle.meet_place.specs.Tending.{Tends, is_to_look, may_lie};
+ghost use Rattle.std.specs.Prelude.{◌≡◌, Some, false, IsSome, IfOk, IfErr};
 ghost use Rattle.meet_sync.specs.Asking.{item_of};
 ghost use Rattle.meet_sync.specs.Ending.{MayRunOut};
-ghost use Rattle.meet_sync.specs.Told.{IsRequestWhy, IsInterruptWhy, IsCutWhy};
-ghost use Rattle.meet_crew.specs.Chairs.{CalledAs, Keeps, InterruptsAs, InterruptsOthers, TendsAs, TrimsAs};
+ghost use Rattle.meet_sync.specs.Told.{IsRequestWhy};
+ghost use Rattle.meet_crew.specs.Chairs.{CalledAs, Keeps};
 
+use crate::calls::{ask, drain, interrupt, interrupt_all, ready, rotate, tend};
 use crate::chair::Chair;
-use crate::refused::{CallRefused, ended_apart, refused_apart};
-use meet_book::Bases;
+use crate::kinds::CrewQueue;
+use crate::probes::Probes;
+use crate::refused::CallRefused;
 use meet_cells::ParkGate;
 use meet_core::QueuePlace;
-use meet_sync::{End, Ledgers, Moment, Queue, Request, Seat};
-use meet_tickets::{Deed, Marked, Refusal, SeatNo};
+use meet_sync::{Chapter, End, Ledgers, Moment, Queue, Request, Seat};
+use meet_tickets::{Deed, Marked, Refusal};
+use std::alloc::Global;
 use std::sync::Wait;
 use std::time::Clock;
 
@@ -22,18 +23,30 @@ use std::time::Clock;
 #[derive(Drop)]
 pub(crate) struct At<'q, O: QueuePlace, N: Ledgers, R> {
     rt: &'q R,
+    alloc: Global,
     queue: &'q Queue<O, ParkGate, N>,
     seat: Option<Seat<Deed, N>>,
+    keeps_log: bool,
     ghost seated: { IsSome seat },
 }
 
 impl<'q, O: QueuePlace, N: Ledgers, R> At<'q, O, N, R> {
-    /// A chair with this seat at its queue.
-    pub(crate) fn new(rt: &'q R, queue: &'q Queue<O, ParkGate, N>, seat: Seat<Deed, N>) -> Self {
+    /// A chair with this seat at its queue. Its calls compact the log.
+    pub(crate) fn new(
+        rt: &'q R,
+        alloc: Global,
+        queue: &'q Queue<O, ParkGate, N>,
+        seat: Seat<Deed, N>,
+    ) -> Self
+        ensures seat { result.seat ≡ Some seat }
+        ensures compacts { result.keeps_log ≡ false }
+    {
         At {
             rt,
+            alloc,
             queue,
             seat: Some(seat),
+            keeps_log: false,
         }
     }
 
@@ -43,10 +56,35 @@ impl<'q, O: QueuePlace, N: Ledgers, R> At<'q, O, N, R> {
     }
 }
 
+impl<'q, O, N, R> Probes for At<'q, O, N, R>
+where
+    O: CrewQueue,
+    N: Ledgers,
+    R: Wait,
+{
+    ghost kind = { O.kind };
+
+    fn keeps_items(&self) -> bool {
+        O::keeps_items()
+    }
+
+    fn size(&self) -> u64 {
+        O::size(self.rt, self.queue)
+    }
+
+    fn peek_mark(&self) -> Option<u64> {
+        O::peek_mark(self.rt, self.queue)
+    }
+
+    fn waiting_consumers(&self) -> Option<u64> {
+        O::waiting_consumers(self.rt, self.queue)
+    }
+}
+
 impl<'q, T, O, N, R> Chair<T> for At<'q, O, N, R>
 where
     T: Marked,
-    O: QueuePlace<Item = T> + Bases,
+    O: CrewQueue<Item = T>,
     N: Ledgers,
     R: Wait + Clock,
 {
@@ -56,133 +94,96 @@ where
 
     ghost written_by = { λ moment. moment };
 
-    ghost kind = { O.kind };
-
     ghost count = { N.parts };
 
     ghost cap = { N.cap };
 
-    ghost seat_of = { λ at. at.seat };
+    ghost chair_of = { λ at. record { seat = at.seat; keeps_log = at.keeps_log } };
 
-    fn number(&self) -> u64
-        ensures { IfSome self.now.seat (λ seat. result ≡ seat.number) }
-    {
+    fn number(&self) -> u64 {
         match &self.seat {
             Some(seat) => seat.number().number(),
             None => unreachable!(), // a chair at work has its seat
         }
     }
 
-    fn seats(&self) -> u64
-        ensures { result ≡ N.parts }
-    {
+    fn seats(&self) -> u64 {
         self.queue.seats()
     }
 
-    fn moment(&self) -> Moment<N>
-        ensures { IfSome self.now.seat (λ seat. result ≡ seat.moment) }
-    {
+    fn moment(&self) -> Moment<N> {
         match &self.seat {
             Some(seat) => seat.moment(),
             None => unreachable!(), // a chair at work has its seat
         }
     }
 
-    fn learn(&mut self, moment: &Moment<N>)
-        ensures { IfSome self.old.seat (λ seat. self.new.seat
-            ≡ Some (record seat { moment = max seat.moment moment.now })) }
-    {
+    fn learn(&mut self, moment: &Moment<N>) {
         let mut seat = self.seat.take().unwrap();
         seat.learn(moment);
         self.seat = Some(seat);
     }
 
+    fn keep_log(&mut self) {
+        self.keeps_log = true;
+    }
+
     fn ask(&mut self, request: Request<T>, limit: Option<u64>) -> Result<End<T>, CallRefused<T>>
-        ensures ended { IfOk result (λ end. CalledAs O.kind (MayRunOut limit) T.mark_of self.old.seat self.new.seat
-            request end) }
-        ensures same { IfErr result (λ _. Keeps self.old.seat self.new.seat) }
+        ensures ended { IfOk result (λ end. CalledAs N.cap N.parts O.kind (MayRunOut limit) T.mark_of
+            (record { seat = self.old.seat; keeps_log = self.old.keeps_log })
+            (record { seat = self.new.seat; keeps_log = self.new.keeps_log }) request end) }
+        ensures same { IfErr result (λ _. Keeps N.cap N.parts
+            (record { seat = self.old.seat; keeps_log = self.old.keeps_log })
+            (record { seat = self.new.seat; keeps_log = self.new.keeps_log })) }
         ensures item { IfErr result (λ refused. refused.item ≡ item_of request) }
         ensures why { IfErr result (λ refused. IsRequestWhy refused.why) }
     {
         let seat = self.seat.take().unwrap();
-        let (seat, told) = ended_apart(self.queue.ask(self.rt, seat, request, limit));
+        let seat = ready(self.rt, self.queue, self.keeps_log, seat);
+        let (seat, told) = ask(self.rt, self.queue, seat, request, limit);
         self.seat = Some(seat);
         told
     }
 
-    fn interrupt(&mut self, target: u64) -> Result<(), CallRefused<T>>
-        ensures interrupted { IfOk result (λ _. InterruptsAs self.old.seat self.new.seat (target ∷ [])) }
-        ensures missing { N.parts ≤ target → IsErrAnd result (λ refused. refused.why ≡ NoSuchSeat) }
-        ensures there { IfOk result (λ _. target < N.parts) }
-        ensures same { IfErr result (λ _. Keeps self.old.seat self.new.seat) }
-        ensures item { IfErr result (λ refused. refused.item ≡ None) }
-        ensures why { IfErr result (λ refused. IsInterruptWhy N.parts target refused.why) }
-    {
-        if target >= self.queue.seats() {
-            return Err(CallRefused {
-                why: Refusal::NoSuchSeat,
-                item: None,
-            });
-        }
-        let number = SeatNo::new(target).unwrap();
+    fn interrupt(&mut self, target: u64) -> Result<(), CallRefused<T>> {
         let seat = self.seat.take().unwrap();
-        match self.queue.interrupt(self.rt, seat, number) {
-            Ok(interrupted) => {
-                self.seat = Some(interrupted.into_seat());
-                Ok(())
-            }
-            Err(refused) => {
-                let (seat, told) = refused_apart(refused);
-                self.seat = Some(seat);
-                Err(told)
-            }
-        }
+        let seat = ready(self.rt, self.queue, self.keeps_log, seat);
+        let (seat, told) = interrupt(self.rt, self.queue, seat, target);
+        self.seat = Some(seat);
+        told
     }
 
-    fn interrupt_all(&mut self) -> Result<(), CallRefused<T>>
-        ensures all { IfOk result (λ _. InterruptsOthers N.parts self.old.seat self.new.seat) }
-        ensures some { IfErr result (λ _. (below : ℕ) × (below < N.parts)
-            × InterruptsOthers below self.old.seat self.new.seat) }
-        ensures item { IfErr result (λ refused. refused.item ≡ None) }
-        ensures why { IfErr result (λ refused. IsCutWhy refused.why) }
-    {
+    fn interrupt_all(&mut self) -> Result<(), CallRefused<T>> {
         let seat = self.seat.take().unwrap();
-        match self.queue.interrupt_all(self.rt, seat) {
-            Ok(seat) => {
-                self.seat = Some(seat);
-                Ok(())
-            }
-            Err(refused) => {
-                let (seat, told) = refused_apart(refused);
-                self.seat = Some(seat);
-                Err(told)
-            }
-        }
+        let seat = ready(self.rt, self.queue, self.keeps_log, seat);
+        let (seat, told) = interrupt_all(self.rt, self.queue, seat);
+        self.seat = Some(seat);
+        told
     }
 
-    fn tend(&mut self) -> Result<(), CallRefused<T>>
-        ensures few { IfSome self.old.seat (λ seat. length seat.list ≤ may_lie N.cap N.parts
-            → IsOk result × (self.new.seat ≡ self.old.seat)) }
-        ensures idle { IfSome self.old.seat (λ seat. is_to_look N.cap N.parts seat ≡ false
-            → IsOk result × (self.new.seat ≡ self.old.seat)) }
-        ensures looked { IfSome self.old.seat (λ seat. is_to_look N.cap N.parts seat ≡ true
-            → IfOk result (λ _. IfSome self.new.seat (Tends seat))) }
-        ensures tended { IfOk result (λ _. TendsAs self.old.seat self.new.seat) }
-        ensures trimmed { IfErr result (λ _. TrimsAs self.old.seat self.new.seat) }
-        ensures item { IfErr result (λ refused. refused.item ≡ None) }
-        ensures why { IfErr result (λ refused. IsCutWhy refused.why) }
-    {
+    fn drain(&mut self, max: u64) -> Result<Vec<T>, CallRefused<T>> {
         let seat = self.seat.take().unwrap();
-        match self.queue.tend(self.rt, seat) {
-            Ok(seat) => {
-                self.seat = Some(seat);
-                Ok(())
-            }
-            Err(refused) => {
-                let (seat, told) = refused_apart(refused);
-                self.seat = Some(seat);
-                Err(told)
-            }
-        }
+        let seat = ready(self.rt, self.queue, self.keeps_log, seat);
+        let (seat, told) = drain(self.rt, self.alloc, self.queue, seat, max);
+        self.seat = Some(seat);
+        told
+    }
+
+    fn tend(&mut self) -> Result<(), CallRefused<T>> {
+        let seat = self.seat.take().unwrap();
+        let (seat, told) = tend(self.rt, self.queue, seat);
+        self.seat = Some(seat);
+        told
+    }
+
+    fn rotate(&mut self) -> Result<Chapter, CallRefused<T>> {
+        let seat = self.seat.take().unwrap();
+        let (seat, told) = rotate(self.rt, self.alloc, self.queue, seat);
+        self.seat = Some(seat);
+        told
+    }
+
+    fn history(&self) -> Result<Chapter, Refusal> {
+        self.queue.history(self.rt)
     }
 }

@@ -48,6 +48,25 @@ pub trait Crew<T: Marked> {
     fn work<C: Chair<T>>(&self, chair: &mut C) -> Self::Told;
 }
 
+/// A crew whose chairs keep the log (`Chair::keep_log`): every record stands in the log of the closed queue, or in a
+/// chapter that `rotate` returned.
+///
+/// # Example
+/// From `crates/soak_crews/src/main.rt`:
+///
+///     let done = at_transfer_queue(rt, alloc, 1, &KeepLog(Alone { items }))?;
+#[derive(Drop)]
+pub struct KeepLog<V>(pub V);
+
+impl<T: Marked, V: Crew<T>> Crew<T> for KeepLog<V> {
+    type Told = V::Told;
+
+    fn work<C: Chair<T>>(&self, chair: &mut C) -> V::Told {
+        chair.keep_log();
+        self.0.work(chair)
+    }
+}
+
 /// What a crew leaves: the results of its threads, and the final log of its queue.
 #[derive(Debug, Drop)]
 pub struct Done<T, A> {
@@ -158,7 +177,7 @@ where
         answers,
     } = room;
     let start = Start::new();
-    let Some(threads) = seated_fair(rt, &queue, crew, &start, seats, handles) else {
+    let Some(threads) = seated_fair(rt, alloc, &queue, crew, &start, seats, handles) else {
         return Err(Refusal::NoThread);
     };
     let Some((backs, told)) = joined(rt, threads, backs, answers) else {
@@ -199,7 +218,7 @@ where
         answers,
     } = room;
     let start = Start::new();
-    let Some(threads) = seated_unfair(rt, &queue, crew, &start, seats, handles) else {
+    let Some(threads) = seated_unfair(rt, alloc, &queue, crew, &start, seats, handles) else {
         return Err(Refusal::NoThread);
     };
     let Some((backs, told)) = joined(rt, threads, backs, answers) else {
@@ -240,7 +259,7 @@ where
         answers,
     } = room;
     let start = Start::new();
-    let Some(threads) = seated_transfer(rt, &queue, crew, &start, seats, handles) else {
+    let Some(threads) = seated_transfer(rt, alloc, &queue, crew, &start, seats, handles) else {
         return Err(Refusal::NoThread);
     };
     let Some((backs, told)) = joined(rt, threads, backs, answers) else {

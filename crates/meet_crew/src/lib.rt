@@ -6,13 +6,17 @@
 #![tactic(auto)]
 
 mod at;
+mod calls;
 mod chair;
 mod crews;
+mod kinds;
+mod probes;
 mod refused;
 mod seating;
 mod slots;
 mod start;
 
 pub use chair::Chair;
-pub use crews::{Crew, Done, at_fair_queue, at_transfer_queue, at_unfair_queue};
+pub use crews::{Crew, Done, KeepLog, at_fair_queue, at_transfer_queue, at_unfair_queue};
+pub use probes::Probes;
 pub use refused::CallRefused;

@@ -1,8 +1,8 @@
 //! Calls of a chair that returned an error.
 
-ghost use Rattle.std.specs.Prelude.{◌≡◌, Ok, IfOk, IfErr, IsErrAnd};
+ghost use Rattle.std.specs.Prelude.{◌≡◌};
 
-use meet_sync::{End, Ended, Ledgers, Seat, SeatRefused};
+use meet_sync::{Ledgers, Seat, SeatRefused};
 use meet_tickets::{Deed, Refusal};
 use std::fmt;
 use std::fmt::{Debug, Display, Formatter, Write};
@@ -56,24 +56,4 @@ pub(crate) fn refused_apart<T, N: Ledgers>(
 {
     let SeatRefused { why, seat, item } = refused;
     (seat, CallRefused { why, item })
-}
-
-/// Splits a whole call's result into its seat and what its caller gets.
-pub(crate) fn ended_apart<T, N: Ledgers>(
-    called: Result<Ended<T, N>, SeatRefused<T, N>>,
-) -> (Seat<Deed, N>, Result<End<T>, CallRefused<T>>)
-    ensures ended { IfOk called (λ ended. (result.0 ≡ ended.seat) × (result.1 ≡ Ok ended.end)) }
-    ensures refused { IfErr called (λ refused. (result.0 ≡ refused.seat)
-        × IsErrAnd result.1 (λ told. (told.why ≡ refused.why) × (told.item ≡ refused.item))) }
-{
-    match called {
-        Ok(ended) => {
-            let Ended { seat, end } = ended;
-            (seat, Ok(end))
-        }
-        Err(refused) => {
-            let (seat, told) = refused_apart(refused);
-            (seat, Err(told))
-        }
-    }
 }

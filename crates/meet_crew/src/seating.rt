@@ -6,13 +6,13 @@ ghost use Rattle.std.specs.Vec.{vec_capacity};
 
 use crate::at::At;
 use crate::crews::Crew;
+use crate::kinds::CrewQueue;
 use crate::slots::Sat;
 use crate::start::Start;
-use meet_book::Bases;
 use meet_cells::ParkGate;
-use meet_core::QueuePlace;
 use meet_sync::{FairLine, Ledgers, Queue, Seat, StackLine, SyncQueue, TransferQueue};
 use meet_tickets::{Deed, Marked};
+use std::alloc::Global;
 use std::sync::Wait;
 use std::thread;
 use std::thread::{JoinHandle, Threads};
@@ -21,6 +21,7 @@ use std::time::Clock;
 /// What one thread of a crew does with its seat, after all threads are there.
 fn sit<T, O, N, R, V>(
     rt: &R,
+    alloc: Global,
     queue: &Queue<O, ParkGate, N>,
     crew: &V,
     start: &Start,
@@ -28,7 +29,7 @@ fn sit<T, O, N, R, V>(
 ) -> Sat<N, V::Told>
 where
     T: Marked,
-    O: QueuePlace<Item = T> + Bases,
+    O: CrewQueue<Item = T>,
     N: Ledgers,
     R: Wait + Clock,
     V: Crew<T>,
@@ -36,7 +37,7 @@ where
     if !start.wait(rt) {
         return Sat { seat, told: None };
     }
-    let mut chair = At::new(rt, queue, seat);
+    let mut chair = At::new(rt, alloc, queue, seat);
     let told = crew.work(&mut chair);
     Sat {
         seat: chair.into_seat(),
@@ -48,6 +49,7 @@ where
 /// handles; None if one couldn't be started, and then no thread began to work. The empty list has room for them.
 pub(crate) fn seated_fair<T, N, R, V>(
     rt: &R,
+    alloc: Global,
     queue: &SyncQueue<T, FairLine<T>, ParkGate, N>,
     crew: &V,
     start: &Start,
@@ -74,7 +76,8 @@ where
         {
             let mut threads = empty;
             for seat in seats {
-                let Ok(thread) = scope.spawn(move || sit(rt, queue, crew, start, seat)) else {
+                let Ok(thread) = scope.spawn(move || sit(rt, alloc, queue, crew, start, seat))
+                else {
                     start.give(rt, false);
                     return None;
                 };
@@ -89,6 +92,7 @@ where
 /// The same at a synchronous queue in its default mode.
 pub(crate) fn seated_unfair<T, N, R, V>(
     rt: &R,
+    alloc: Global,
     queue: &SyncQueue<T, StackLine<T>, ParkGate, N>,
     crew: &V,
     start: &Start,
@@ -115,7 +119,8 @@ where
         {
             let mut threads = empty;
             for seat in seats {
-                let Ok(thread) = scope.spawn(move || sit(rt, queue, crew, start, seat)) else {
+                let Ok(thread) = scope.spawn(move || sit(rt, alloc, queue, crew, start, seat))
+                else {
                     start.give(rt, false);
                     return None;
                 };
@@ -130,6 +135,7 @@ where
 /// The same at a transfer queue.
 pub(crate) fn seated_transfer<T, N, R, V>(
     rt: &R,
+    alloc: Global,
     queue: &TransferQueue<T, ParkGate, N>,
     crew: &V,
     start: &Start,
@@ -156,7 +162,8 @@ where
         {
             let mut threads = empty;
             for seat in seats {
-                let Ok(thread) = scope.spawn(move || sit(rt, queue, crew, start, seat)) else {
+                let Ok(thread) = scope.spawn(move || sit(rt, alloc, queue, crew, start, seat))
+                else {
                     start.give(rt, false);
                     return None;
                 };

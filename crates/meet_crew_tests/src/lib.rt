@@ -4,6 +4,10 @@
 #[cfg(test)]
 mod calls;
 #[cfg(test)]
+mod chapters;
+#[cfg(test)]
+mod drains;
+#[cfg(test)]
 mod growth;
 #[cfg(test)]
 mod limits;
@@ -11,5 +15,9 @@ mod limits;
 mod moments;
 #[cfg(test)]
 mod numbers;
+#[cfg(test)]
+mod offers;
+#[cfg(test)]
+mod probes;
 #[cfg(test)]
 mod stops;
