@@ -118,7 +118,7 @@ impl<T: Marked> Exchanger<T> {
                 Attempt::Memory(seat, item) => return Exchanged::Memory(seat, item),
             }
         }
-        unreachable!()
+        unreachable!() // it loops for ever
     }
 
     /// Returns the slot that a seat tries first: where it met a partner last, or the slot 0 if it isn't to wait.
