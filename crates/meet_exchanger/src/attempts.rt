@@ -82,7 +82,7 @@ impl<T: Marked> Exchanger<T> {
                 Glance::TimeIsUp => return self.take_back(rt, pending, true),
             }
         }
-        unreachable!()
+        unreachable!() // it loops for ever
     }
 
     /// Takes an offer back. If another seat has taken the item, it waits for that seat's.
@@ -117,6 +117,6 @@ impl<T: Marked> Exchanger<T> {
             }
             self.park(rt, seat, slot, None);
         }
-        unreachable!()
+        unreachable!() // it loops for ever
     }
 }

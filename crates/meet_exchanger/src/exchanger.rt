@@ -23,7 +23,7 @@ use std::marker::Model;
 pub struct Exchanger<T: Marked> {
     pub(crate) arena: Arena<T>,
     pub(crate) waiters: Waiters,
-    /// How many slots the arena has.
+    /// How many slots the arena has; each eighth is used.
     pub(crate) slots: usize,
     /// How many seats it has.
     seats: u64,
@@ -41,14 +41,20 @@ impl<T: Marked> Model for Exchanger<T> {
         × (e.seats ≡ e.arena.seats) };
 }
 
-/// How many slots there are at most.
-const MOST_SLOTS: u64 = 8;
+/// How many slots are used at most.
+const MOST_USED: u64 = 8;
 
-/// Returns how many slots an exchanger with this number of seats has: one for each pair, and one at least.
+/// How far apart the slots are that are used. The words of eight fill a line of the processor's memory, so no two of
+/// those used share one.
+pub(crate) const APART: usize = 8;
+
+/// Returns how many slots the arena of an exchanger with this number of seats has. One for each pair is used, and one
+/// at least: the slot 0, and from there each eighth.
 fn slots_for(seats: u64) -> usize
     ensures { 0 < result }
 {
-    (seats / 2).clamp(1, MOST_SLOTS) as usize
+    let others = (seats / 2).clamp(1, MOST_USED) - 1;
+    others as usize * APART + 1
 }
 
 impl<T: Marked> Exchanger<T> {
@@ -99,8 +105,8 @@ impl<T: Marked> Exchanger<T> {
         self.seats
     }
 
-    /// Closes the exchanger with all its seats, in any order. It returns the rounds of each slot, what each seat did,
-    /// and the items that no seat has.
+    /// Closes the exchanger with all its seats, in any order. It returns the rounds of each slot, of which each eighth is
+    /// used, what each seat did, and the items that no seat has.
     ///
     /// # Errors
     /// The exchanger and the seats are returned, and `close` can be called again.

@@ -5,13 +5,17 @@ ghost use Rattle.meet_exchange.specs.Waits.{seat_after};
 ghost use Rattle.meet_exchanger.specs.Tries.{EndsAs, MayTimeOut};
 
 use crate::attempts::Attempt;
-use crate::exchanger::Exchanger;
+use crate::exchanger::{APART, Exchanger};
 use crate::watching::is_up;
 use meet_cells::Deadline;
 use meet_exchange::{Exchanged, Seat};
 use meet_tickets::{Marked, SeatNo};
 use std::sync::Wait;
+use std::thread;
 use std::time::Clock;
+
+/// After how many contended attempts of one exchange its thread goes on to another slot. One may be chance.
+const CONTENDED: u64 = 3;
 
 impl<T: Marked> Exchanger<T> {
     /// Exchanges an item for another seat's, and waits until one comes. A thread that waits for long parks. The
@@ -82,6 +86,7 @@ impl<T: Marked> Exchanger<T> {
         let deadline = Deadline::after(rt, limit);
         let number = seat.number();
         let mut slot = self.slot_to_begin(number, limit);
+        let mut contended = 0u64;
         let mut seat = seat;
         let mut item = item;
         for _ in rt.forever() {
@@ -98,7 +103,8 @@ impl<T: Marked> Exchanger<T> {
                     }
                     seat = again;
                     item = back;
-                    slot = self.slot_after(slot, up);
+                    contended = contended.saturating_add(1);
+                    slot = self.slot_after(slot, contended, up);
                 }
                 Attempt::TookBack(again, back, up) => {
                     if up && slot == 0 {
@@ -112,7 +118,7 @@ impl<T: Marked> Exchanger<T> {
                 Attempt::Memory(seat, item) => return Exchanged::Memory(seat, item),
             }
         }
-        unreachable!()
+        unreachable!() // it loops for ever
     }
 
     /// Returns the slot that a seat tries first: where it met a partner last, or the slot 0 if it isn't to wait.
@@ -126,35 +132,42 @@ impl<T: Marked> Exchanger<T> {
         slot
     }
 
-    /// Returns the slot that is tried after one where others were at work: the next of those in use, or the first after
-    /// the last, and then one more comes in use. It is the slot 0 if the time is up.
-    fn slot_after(&self, slot: usize, up: bool) -> usize
+    /// Returns the slot that is tried after an attempt where others were at work, the `contended`th of its exchange. It
+    /// is the same slot, but after each third the next of those in use, or the first after the last, and then one more
+    /// comes in use. Before that it lets another thread run: it may be the one that is to free the slot. It is the slot 0
+    /// if the time is up.
+    fn slot_after(&self, slot: usize, contended: u64, up: bool) -> usize
         requires { slot < self.now.slots }
         ensures { result < self.now.slots }
     {
-        let used = self.waiters.used();
         if up {
             return 0;
         }
-        if slot < self.slots - 1 && slot.saturating_add(1) < used {
-            return slot + 1;
+        if contended % CONTENDED != 0 {
+            return slot;
+        }
+        thread::yield_now();
+        let used = self.waiters.used();
+        let next = slot.saturating_add(APART);
+        if next < self.slots && next < used {
+            return next;
         }
         if used < self.slots {
-            self.waiters.use_slots(used + 1);
+            self.waiters.use_slots(used.saturating_add(APART));
         }
         0
     }
 
     /// Returns the slot that is tried after one where nobody came, and then one fewer is in use: that of half the
-    /// number, or the slot 0 if the time is up.
+    /// number, among those that are used, or the slot 0 if the time is up.
     fn slot_below(&self, slot: usize, up: bool) -> usize
         requires { slot < self.now.slots }
         ensures { result < self.now.slots }
     {
         let used = self.waiters.used();
-        if slot > 0 && used > 1 {
-            self.waiters.use_slots(used - 1);
+        if slot > 0 && used > APART {
+            self.waiters.use_slots(used - APART);
         }
-        if up { 0 } else { slot / 2 }
+        if up { 0 } else { slot / 2 / APART * APART }
     }
 }

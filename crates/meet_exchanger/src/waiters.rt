@@ -26,7 +26,7 @@ struct Waiter {
     first_slot: AtomicUsize,
 }
 
-/// Where the seats wait, by their numbers, and how many slots they use.
+/// Where the seats wait, by their numbers, and which slots they use.
 #[derive(Drop)]
 pub(crate) struct Waiters {
     waiters: Vec<CachePadded<Waiter>>,
@@ -80,12 +80,12 @@ impl Waiters {
         }
     }
 
-    /// Returns how many slots are in use: those from 0 up.
+    /// Returns the number below which the slots are that are in use.
     pub(crate) fn used(&self) -> usize {
         self.used.load(Ordering::SeqCst)
     }
 
-    /// Notes how many slots are in use.
+    /// Notes below which number the slots are that are in use.
     pub(crate) fn use_slots(&self, used: usize) {
         self.used.store(used, Ordering::SeqCst);
     }

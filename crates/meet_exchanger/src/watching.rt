@@ -1,5 +1,5 @@
-//! How a thread passes the time at a slot: it looks, then lets other threads run, and then parks. What it sees here is
-//! a hint, so no contract states anything of it.
+//! How a thread passes the time at a slot: it looks, and then parks. What it sees here is a hint, so no contract states
+//! anything of it.
 
 ghost use Rattle.std.specs.Prelude.{◌≡◌, ◌≢◌, ◌<◌, false, IfNone};
 ghost use Rattle.meet_exchanger.specs.declared.watching.Glance.TheVariants.{TimeIsUp};
@@ -8,9 +8,9 @@ use crate::exchanger::Exchanger;
 use meet_cells::{Deadline, Turn};
 use meet_exchange::{Part, Seat};
 use meet_tickets::{Marked, SeatNo};
+use std::hint;
 use std::sync::Wait;
 use std::time::Clock;
-use std::{hint, thread};
 
 /// What a thread is to do with its offer.
 #[derive(Clone, Copy, PartialEq, Eq, Debug)]
@@ -32,20 +32,21 @@ const POSTED: u64 = 2;
 /// That of a slot where the answer lies.
 const ANSWERED: u64 = 4;
 
-/// How many looks an offer stands in the slot 0 before its thread parks: some milliseconds of the processor at most.
-const LOOKS: u64 = 4_096;
+/// How many looks an offer stands in the slot 0 before the clock is read. A look takes some 7 nanoseconds.
+const GLANCES: u64 = 64;
+
+/// How many more looks it stands there before its thread parks. No look lets another thread run: if other programs use
+/// all processors, one that does takes milliseconds.
+const LOOKS: u64 = 1_024;
 
 /// How many looks an offer stands in another slot.
 const PATIENCE: u64 = 1_000;
 
 /// How many looks at most a thread waits until others in a slot are done.
-const BUSY: u64 = 128;
+const BUSY: u64 = 256;
 
 /// Polls of a freshly freed slot before claiming it, so that its last user can post first.
 const CALM: u64 = 8;
-
-/// After how many looks a thread lets another one run after each look, in place of a pause of the processor.
-const PAUSES: u64 = 64;
 
 /// The code in the word of a slot.
 fn code(word: u64) -> u64 {
@@ -60,15 +61,6 @@ fn poster(word: u64) -> u64 {
 /// The number of the round in the word of a slot.
 fn round(word: u64) -> u64 {
     word / 524_288
-}
-
-/// Passes the time after the look of this number.
-fn pass(look: u64) {
-    if look < PAUSES {
-        hint::spin_loop();
-    } else {
-        thread::yield_now();
-    }
 }
 
 /// Whether the time is up; never without a limit.
@@ -88,7 +80,7 @@ impl<T: Marked> Exchanger<T> {
     {
         let mut word = self.arena.word(slot);
         let mut calm = CALM;
-        for look in 0..BUSY {
+        for _ in 0..BUSY {
             if code(word) == POSTED || calm >= CALM && code(word) == FREE {
                 return word;
             }
@@ -97,7 +89,7 @@ impl<T: Marked> Exchanger<T> {
             } else {
                 0
             };
-            pass(look);
+            hint::spin_loop();
             word = self.arena.word(slot);
         }
         word
@@ -110,16 +102,15 @@ impl<T: Marked> Exchanger<T> {
         code(self.arena.word(slot)) == ANSWERED
     }
 
-    /// Looks for an answer, `looks` times at most: whether one is there. In a slot above 0 it lets another thread run
-    /// after each 65th look alone: if nobody comes, these looks are to be over soon.
+    /// Looks for an answer, `looks` times at most: whether one is there.
     fn look(&self, slot: usize, looks: u64) -> bool
         requires { slot < self.now.slots }
     {
-        for look in 0..looks {
+        for _ in 0..looks {
             if self.is_answered(slot) {
                 return true;
             }
-            pass(if slot == 0 { look } else { look % (PAUSES + 1) });
+            hint::spin_loop();
         }
         false
     }
@@ -142,6 +133,9 @@ impl<T: Marked> Exchanger<T> {
             } else {
                 Glance::IsToMove
             };
+        }
+        if self.look(slot, GLANCES) {
+            return Glance::IsToLook; // before the clock is read
         }
         let rest = match deadline {
             Some(deadline) => Some(deadline.remaining(rt)),

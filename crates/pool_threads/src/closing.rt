@@ -131,10 +131,7 @@ fn add_pair<C: Drop>(task: Option<Task<u64>>, job: Job<C>, left: &mut Vec<(Ticke
     ensures len { vec_len left.new ≡ vec_len left.old + 1 }
     ensures capacity { vec_capacity left.new ≡ vec_capacity left.old }
 {
-    match task {
-        Some(task) => left.push_reserved((task.ticket, job)),
-        None => unreachable!(),
-    }
+    left.push_reserved((task.unwrap().ticket, job));
 }
 
 /// The kept jobs with their tickets, in their order; the tasks begin with theirs. The empty list has room for them.
@@ -170,7 +167,7 @@ fn alone<T, R: Wait>(rt: &R, first: Arc<T, Global>) -> T
         }
         thread::yield_now();
     }
-    unreachable!()
+    unreachable!() // it loops for ever
 }
 
 /// Puts this where others can have it too, once there is memory for it.
@@ -183,7 +180,7 @@ fn shared_out<T, R: Wait>(rt: &R, alloc: Global, first: T) -> Arc<T, Global> {
         }
         thread::yield_now();
     }
-    unreachable!()
+    unreachable!() // it loops for ever
 }
 
 /// Why a pool isn't closed in which so many seats of workers lie, of so many seats that were made: SeatMissing where

@@ -225,7 +225,7 @@ impl<W: Work, C: Call<W> + Drop, G: Gate, N: PoolLedgers> Home<W, C, G, N> {
                 }
             }
         }
-        unreachable!()
+        unreachable!() // it loops for ever
     }
 
     /// Waits once at the worker's gate.

@@ -95,10 +95,7 @@ pub(crate) fn take_seat<S>(seats: &mut Vec<Option<S>>, at: usize) -> S
     ensures seat { slice_get seats.old.items at ≡ Some (Some result) }
     ensures seats { away seats.new.items ≡ slice_set (away seats.old.items) at true }
 {
-    match mem::replace(&mut seats[at], None) {
-        Some(seat) => seat,
-        None => unreachable!(),
-    }
+    mem::replace(&mut seats[at], None).unwrap()
 }
 
 /// Puts the seat of a worker that isn't there any more back.
@@ -149,10 +146,7 @@ pub(crate) fn take<C>(given: &mut Vec<Option<Job<C>>>, at: usize) -> Job<C>
     ensures job { slice_get (map given_tag given.old.items) at ≡ Some (Some result.tag) }
     ensures given { map given_tag given.new.items ≡ slice_set (map given_tag given.old.items) at None }
 {
-    match mem::replace(&mut given[at], None) {
-        Some(job) => job,
-        None => unreachable!(),
-    }
+    mem::replace(&mut given[at], None).unwrap()
 }
 
 /// Keeps a job.
@@ -171,8 +165,5 @@ pub(crate) fn take_first<C>(kept: &mut VecDeque<Job<C>>) -> Job<C>
     ensures kept { map tag_in kept.old.items ≡ result.tag ∷ map tag_in kept.new.items }
     ensures room { deque_len kept.new < deque_capacity kept.new }
 {
-    match kept.pop_front() {
-        Some(job) => job,
-        None => unreachable!(),
-    }
+    kept.pop_front().unwrap()
 }

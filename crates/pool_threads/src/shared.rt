@@ -116,7 +116,7 @@ impl<W: Work, C: Drop, N: PoolLedgers> PoolShared<W, C, N> {
         match shared.step(seat, PoolCall::Execute(job.tag())) {
             Ok(answer) => match answer {
                 PoolAnswer::Executed(_ticket, answer) => Ok(place(kept, given, seats, job, answer)),
-                _ => unreachable!(),
+                _ => unreachable!(), // the answer to another call
             },
             Err(refused) => Err(back_with(refused, job)),
         }
@@ -142,7 +142,7 @@ impl<W: Work, C: Drop, N: PoolLedgers> PoolShared<W, C, N> {
         match self.shared.step(seat, PoolCall::ShutDown) {
             Ok(answer) => match answer {
                 PoolAnswer::WasShut => Ok(()),
-                _ => unreachable!(),
+                _ => unreachable!(), // the answer to another call
             },
             Err(refused) => Err(refused.why),
         }
@@ -174,7 +174,7 @@ impl<W: Work, C: Drop, N: PoolLedgers> PoolShared<W, C, N> {
         match shared.step(seat, PoolCall::ShutDownNow) {
             Ok(answer) => match answer {
                 PoolAnswer::Returned(_tasks) => Ok(mem::replace(kept, VecDeque::new(alloc))),
-                _ => unreachable!(),
+                _ => unreachable!(), // the answer to another call
             },
             Err(refused) => Err(refused.why),
         }

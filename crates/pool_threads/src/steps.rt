@@ -86,7 +86,7 @@ impl<W: Work, C: Drop, N: PoolLedgers> PoolShared<W, C, N> {
                 PoolAnswer::BeReady(_ticket, answer) => after_ready(
                     kept, given, seats, w, seat, answer,
                 ),
-                _ => unreachable!(),
+                _ => unreachable!(), // the answer to another call
             },
         }
     }
@@ -111,7 +111,7 @@ impl<W: Work, C: Drop, N: PoolLedgers> PoolShared<W, C, N> {
                 PoolAnswer::Followed(_ticket, answer) => after_follow(
                     kept, given, seats, w, seat, answer,
                 ),
-                _ => unreachable!(),
+                _ => unreachable!(), // the answer to another call
             },
         }
     }
@@ -132,7 +132,7 @@ impl<W: Work, C: Drop, N: PoolLedgers> PoolShared<W, C, N> {
             Err(_) => Next::Refused(seat),
             Ok(answer) => match answer {
                 PoolAnswer::Finished(_ticket) => Next::Ended(seat),
-                _ => unreachable!(),
+                _ => unreachable!(), // the answer to another call
             },
         }
     }
@@ -149,7 +149,7 @@ impl<W: Work, C: Drop, N: PoolLedgers> PoolShared<W, C, N> {
             Err(_) => Next::Refused(seat),
             Ok(answer) => match answer {
                 PoolAnswer::Idled(_ticket, answer) => after_idle(seats, w, seat, answer),
-                _ => unreachable!(),
+                _ => unreachable!(), // the answer to another call
             },
         }
     }
@@ -169,7 +169,7 @@ impl<W: Work, C: Drop, N: PoolLedgers> PoolShared<W, C, N> {
                     put_back(seats, w, seat);
                     Next::Gone
                 }
-                _ => unreachable!(),
+                _ => unreachable!(), // the answer to another call
             },
         }
     }
@@ -193,7 +193,7 @@ impl<W: Work, C: Drop, N: PoolLedgers> PoolShared<W, C, N> {
                 PoolAnswer::NotStarted(_ticket, first) => after_failed(
                     given, seats, w, seat, first,
                 ),
-                _ => unreachable!(),
+                _ => unreachable!(), // the answer to another call
             },
         }
     }
