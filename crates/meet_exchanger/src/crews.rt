@@ -10,8 +10,8 @@ ghost use Rattle.meet_exchanger.specs.Chairs.{IsClosed, IsCrewWhy};
 use crate::at::{At, Placed, Site, give_back, place_all};
 use crate::chairs::ExchangeChair;
 use crate::exchanger::Exchanger;
-use crate::start::Start;
 use meet_exchange::{Back, Closed, Seat};
+use meet_threads::{Room, Sat, Start, joined};
 use meet_tickets::{Marked, Refusal};
 use std::alloc::Global;
 use std::marker::Brand;
@@ -47,44 +47,6 @@ pub struct ExchangesDone<T, A> {
     pub closed: Result<Closed<T>, Refusal>,
 }
 
-/// What a thread returns: its seat, and its result, or None if it left before it began to work.
-#[derive(Drop)]
-struct Sat<T, N: Site, A> {
-    placed: Placed<T, N>,
-    told: Option<A>,
-}
-
-/// Room for the seats of the threads, for the threads, and for what they return.
-#[derive(Drop)]
-struct Room<T, N: Site, A> {
-    seats: Vec<Placed<T, N>>,
-    threads: Vec<JoinHandle<Sat<T, N, A>>>,
-    ended: Vec<Placed<T, N>>,
-    told: Vec<A>,
-    backs: Vec<Back<T>>,
-    ghost idle: { (seats.items ≡ []) × (threads.items ≡ []) },
-    ghost empty: { (ended.items ≡ []) × (told.items ≡ []) × (backs.items ≡ []) },
-}
-
-impl<T: Drop, N: Site, A: Drop> Room<T, N, A> {
-    /// Makes room for `count` threads. None if an allocation fails.
-    fn new(alloc: Global, count: usize) -> Option<Self>
-        ensures seats { IfSome result (λ room. count ≤ vec_capacity room.seats) }
-        ensures threads { IfSome result (λ room. count ≤ vec_capacity room.threads) }
-        ensures ended { IfSome result (λ room. count ≤ vec_capacity room.ended) }
-        ensures told { IfSome result (λ room. count ≤ vec_capacity room.told) }
-        ensures backs { IfSome result (λ room. count ≤ vec_capacity room.backs) }
-    {
-        Some(Room {
-            seats: Vec::with_capacity(alloc, count).ok()?,
-            threads: Vec::with_capacity(alloc, count).ok()?,
-            ended: Vec::with_capacity(alloc, count).ok()?,
-            told: Vec::with_capacity(alloc, count).ok()?,
-            backs: Vec::with_capacity(alloc, count).ok()?,
-        })
-    }
-}
-
 /// What one thread does with its seat, after all threads are there.
 fn sit<T, N, R, V>(
     rt: &R,
@@ -92,7 +54,7 @@ fn sit<T, N, R, V>(
     crew: &V,
     start: &Start,
     placed: Placed<T, N>,
-) -> Sat<T, N, V::Told>
+) -> Sat<Placed<T, N>, V::Told>
 where
     T: Marked,
     N: Site,
@@ -101,12 +63,15 @@ where
     requires { exchanger.now ≡ N.site }
 {
     if !start.begins(rt) {
-        return Sat { placed, told: None };
+        return Sat {
+            seat: placed,
+            told: None,
+        };
     }
     let mut chair = At::new(rt, exchanger, placed);
     let told = crew.work(&mut chair);
     Sat {
-        placed: chair.into_placed(),
+        seat: chair.into_placed(),
         told: Some(told),
     }
 }
@@ -119,8 +84,8 @@ fn seated<T, N, R, V>(
     crew: &V,
     start: &Start,
     seats: Vec<Placed<T, N>>,
-    empty: Vec<JoinHandle<Sat<T, N, V::Told>>>,
-) -> Option<Vec<JoinHandle<Sat<T, N, V::Told>>>>
+    empty: Vec<JoinHandle<Sat<Placed<T, N>, V::Told>>>,
+) -> Option<Vec<JoinHandle<Sat<Placed<T, N>, V::Told>>>>
 where
     T: Marked + Drop + Send,
     N: Site + Send,
@@ -135,7 +100,7 @@ where
     thread::scope(
         thread::scope_env(),
         rt,
-        |scope| -> Option<Vec<JoinHandle<Sat<T, N, V::Told>>>>
+        |scope| -> Option<Vec<JoinHandle<Sat<Placed<T, N>, V::Told>>>>
             requires here { exchanger.now ≡ N.site }
             requires empty { empty.items ≡ [] }
             requires room { vec_len seats ≤ vec_capacity empty }
@@ -144,7 +109,7 @@ where
             let mut seats = seats;
             let mut threads = empty;
             while let Some(placed) = seats.pop() {
-                let job = move || -> Sat<T, N, V::Told>
+                let job = move || -> Sat<Placed<T, N>, V::Told>
                     requires { exchanger.now ≡ N.site }
                 { sit(rt, exchanger, crew, start, placed) };
                 let Ok(thread) = scope.spawn(job) else {
@@ -157,34 +122,6 @@ where
             Some(threads)
         },
     )
-}
-
-/// Joins these threads, and returns their seats and their results, in the order of the threads; None if one left before
-/// it began to work. The empty lists have room for them.
-fn joined<T: Drop, N: Site, A: Drop, R: Threads>(
-    rt: &R,
-    threads: Vec<JoinHandle<Sat<T, N, A>>>,
-    ended: Vec<Placed<T, N>>,
-    told: Vec<A>,
-) -> Option<(Vec<Placed<T, N>>, Vec<A>)>
-    requires no_seat { ended.items ≡ [] }
-    requires nothing_told { told.items ≡ [] }
-    requires ended { vec_len threads ≤ vec_capacity ended }
-    requires told { vec_len threads ≤ vec_capacity told }
-    ensures seats { IfSome result (λ ended. vec_len ended.0 ≡ vec_len threads) }
-    ensures told { IfSome result (λ ended. vec_len ended.1 ≡ vec_len threads) }
-{
-    let mut ended = ended;
-    let mut all_told = told;
-    for thread in threads {
-        let Sat { placed, told } = thread.join(rt);
-        let Some(told) = told else {
-            return None;
-        };
-        ended.push_reserved(placed);
-        all_told.push_reserved(told);
-    }
-    Some((ended, all_told))
 }
 
 /// Ends a crew's exchanger with all its seats.
@@ -228,22 +165,20 @@ where
         (λ why. why ≡ Memory)) }
     ensures why { IfErr result (IsCrewWhy N.site.seats) }
 {
-    let Some(room) = Room::<T, N, V::Told>::new(alloc, list.len()) else {
-        return Err(Refusal::Memory);
-    };
+    let count = list.len();
+    let seats: Vec<Placed<T, N>> = Vec::with_capacity(alloc, count).map_err(|_| Refusal::Memory)?;
+    let backs: Vec<Back<T>> = Vec::with_capacity(alloc, count).map_err(|_| Refusal::Memory)?;
     let Room {
-        seats,
-        threads,
-        ended,
+        handles,
+        seats: empty,
         told,
-        backs,
-    } = room;
+    } = Room::new(alloc, count)?;
     let start = Start::new();
     let seats = place_all(list, seats);
-    let Some(threads) = seated(rt, &exchanger, crew, &start, seats, threads) else {
+    let Some(threads) = seated(rt, &exchanger, crew, &start, seats, handles) else {
         return Err(Refusal::NoThread);
     };
-    let Some((ended, told)) = joined(rt, threads, ended, told) else {
+    let Some((ended, told)) = joined(rt, threads, empty, told) else {
         return Err(Refusal::NoThread);
     };
     Ok(ExchangesDone {

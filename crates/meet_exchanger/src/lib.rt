@@ -11,7 +11,6 @@ mod chairs;
 mod crews;
 mod exchanger;
 mod exchanging;
-mod start;
 mod waiters;
 mod watching;
 

@@ -27,7 +27,7 @@ pub enum Outcome<C> {
 
 /// How the start of a worker ended.
 #[derive(Drop)]
-pub(crate) enum Begun<C> {
+pub enum Begun<C> {
     /// The record of its start stands, and no more is known.
     Stands,
     /// There was no thread; the job that it was started with, if there was one.

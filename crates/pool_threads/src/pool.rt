@@ -45,8 +45,9 @@ fn wakes<C>(executed: &Executed<C>) -> Option<u64>
     }
 }
 
-/// The tag of the job that a worker was started with, which is this; none where it was started without one.
-fn first_of<C>(executed: &Executed<C>, tag: u64) -> Option<u64>
+/// Returns the tag of the job that a worker is to be started with, which is this one; None if it is to be started without
+/// one, or none is to be started.
+pub fn first_of<C>(executed: &Executed<C>, tag: u64) -> Option<u64>
     ensures started { (w : ℕ) → answer_told executed.now ≡ answer.Started w → result ≡ Some tag }
     ensures kept { (w : ℕ) → answer_told executed.now ≡ answer.KeptStart w → result ≡ None }
 {
@@ -72,8 +73,9 @@ fn back_of<C: Drop>(job: Option<Job<C>>, tag: u64) -> Begun<C>
     }
 }
 
-/// Maps the result of a hand-in to its outcome. A job that is the caller's to run is run here.
-fn outcome_of<W: Work, C: Call<W> + Drop>(executed: Executed<C>) -> Outcome<C>
+/// Returns the outcome of a job that was placed (`Pool::place`), once its worker was begun. A job that is the caller's to
+/// run is run here.
+pub fn outcome_of<W: Work, C: Call<W> + Drop>(executed: Executed<C>) -> Outcome<C>
     ensures told { (job : Job C) → IsItself job executed → answer_of job.tag result ≡ answer_told executed }
     ensures item { (job : Job C) → IsItself job executed → ItemFits (W.worth (C.tag_of job.call)) job result }
 {
@@ -117,6 +119,45 @@ impl<W: Work, C: Drop, G: Gate + Drop, S, N: PoolLedgers> Pool<W, C, G, S, N> {
         placed
     }
 
+    /// Hands a job in as `execute` does, but makes no thread: a worker that is to be started is returned. It is started by
+    /// `begin`. What happened to the job, and its outcome, are as of `execute` (`outcome_of`).
+    ///
+    /// # Errors
+    /// Nothing has changed, and seat and job are returned.
+    /// - Memory, NoSuchSeat, TicketsSpent or HistoryFull, as `execute`.
+    pub fn place<R: Wait>(
+        &self,
+        rt: &R,
+        mut seat: Seat<PoolDeed<u64>, N>,
+        job: Job<C>,
+    ) -> Result<(Seat<PoolDeed<u64>, N>, Placed<C, WorkerSeat<W, N>>), PoolRefused<C, N>>
+        ensures handed { IfOk result (λ done. Handed seat done.0 job.tag (answer_told done.1.executed)) }
+        ensures itself { IfOk result (λ done. IsItself job done.1.executed) }
+        ensures worker { IfOk result (λ done. IfSome done.1.worker (λ worker. (w : ℕ)
+            × Starts (answer_told done.1.executed) w × (4 ≤ worker.room))) }
+        ensures starts { IfOk result (λ done. StartsOne (answer_told done.1.executed) done.1.worker) }
+        ensures same { IfErr result (λ refused. SameSeat seat refused.seat × (refused.seat.list ≡ seat.list)) }
+        ensures back { IfErr result (λ refused. refused.job ≡ Some job) }
+        ensures unlike { IfErr result (λ refused. refused.why ≢ NoThread) }
+        ensures why { IfErr result (λ refused. IsExecuteWhy N.settings.sizes.callers seat.number refused.why) }
+    {
+        if seat.reserve(1).is_err() {
+            return Err(PoolRefused {
+                why: Refusal::Memory,
+                seat,
+                job: Some(job),
+            });
+        }
+        match self.hand(rt, &mut seat, job) {
+            Ok(placed) => Ok((seat, placed)),
+            Err(refused) => Err(PoolRefused {
+                why: refused.why,
+                seat,
+                job: Some(refused.back),
+            }),
+        }
+    }
+
     /// Wakes a worker, if one is given and is there.
     fn wake(&self, worker: Option<u64>) {
         if let Some(w) = worker {
@@ -145,8 +186,9 @@ impl<W: Work, C: Drop, G: Gate + Drop, S, N: PoolLedgers> Pool<W, C, G, S, N> {
 }
 
 impl<W: Work, C: Call<W> + Drop, G: Gate + Drop, S: Starter, N: PoolLedgers> Pool<W, C, G, S, N> {
-    /// Starts a worker, with a job of this tag, if one is given.
-    fn begin<R>(&self, rt: &R, seat: WorkerSeat<W, N>, first: Option<u64>) -> Begun<C>
+    /// Starts a worker that is to be started (`place`), with a job of this tag, if one is given (`first_of`). If its thread
+    /// can't be made, the worker's end is recorded, and its job is returned.
+    pub fn begin<R>(&self, rt: &R, seat: WorkerSeat<W, N>, first: Option<u64>) -> Begun<C>
     where
         R: Threads + Wait + Clock + Copy + Send + 'static,
         W: Send + Sync + 'static,
@@ -192,7 +234,7 @@ impl<W: Work, C: Call<W> + Drop, G: Gate + Drop, S: Starter, N: PoolLedgers> Poo
     pub fn execute<R>(
         &self,
         rt: &R,
-        mut seat: Seat<PoolDeed<u64>, N>,
+        seat: Seat<PoolDeed<u64>, N>,
         job: Job<C>,
     ) -> Result<(Seat<PoolDeed<u64>, N>, Outcome<C>), PoolRefused<C, N>>
     where
@@ -211,23 +253,11 @@ impl<W: Work, C: Call<W> + Drop, G: Gate + Drop, S: Starter, N: PoolLedgers> Poo
             → IsExecuteWhy N.settings.sizes.callers seat.number refused.why) }
     {
         let tag = job.tag();
-        if seat.reserve(1).is_err() {
-            return Err(PoolRefused {
-                why: Refusal::Memory,
-                seat,
-                job: Some(job),
-            });
-        }
-        let Placed { executed, worker } = match self.hand(rt, &mut seat, job) {
-            Ok(placed) => placed,
-            Err(refused) => {
-                return Err(PoolRefused {
-                    why: refused.why,
-                    seat,
-                    job: Some(refused.back),
-                });
-            }
+        let (seat, placed) = match self.place(rt, seat, job) {
+            Ok(done) => done,
+            Err(refused) => return Err(refused),
         };
+        let Placed { executed, worker } = placed;
         if let Some(worker) = worker {
             let first = first_of(&executed, tag);
             if let Begun::NoThread(job) = self.begin(rt, worker, first) {

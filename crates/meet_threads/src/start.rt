@@ -4,14 +4,14 @@ use std::sync::{Condvar, Mutex, Wait};
 
 /// Where the threads wait until it is known whether all of them could be started.
 #[derive(Drop)]
-pub(crate) struct Start {
+pub struct Start {
     all_there: Mutex<Option<bool>>,
     known: Condvar,
 }
 
 impl Start {
-    /// It isn't known yet.
-    pub(crate) fn new() -> Start {
+    /// Creates it: nothing is known yet.
+    pub fn new() -> Start {
         Start {
             all_there: Mutex::new(None),
             known: Condvar::new(),
@@ -19,13 +19,13 @@ impl Start {
     }
 
     /// Lets all threads begin, or all leave.
-    pub(crate) fn tell<R: Wait>(&self, rt: &R, all_there: bool) {
+    pub fn tell<R: Wait>(&self, rt: &R, all_there: bool) {
         *self.all_there.lock(rt) = Some(all_there);
         self.known.notify_all();
     }
 
-    /// Waits until it is known: whether to begin.
-    pub(crate) fn begins<R: Wait>(&self, rt: &R) -> bool {
+    /// Waits until it is known, and returns whether to begin.
+    pub fn begins<R: Wait>(&self, rt: &R) -> bool {
         let unknown = self.all_there.lock(rt);
         *self.known.wait_while(rt, unknown, |there| there.is_none()) == Some(true)
     }

@@ -1,15 +1,15 @@
--- What stays true from turn to turn of `joined`, src/crews.rt.
+-- What stays true from turn to turn of `joined`, src/joining.rt.
 use Rattle.std.proofs.Common.{◌≡◌, ◌+◌, ◌≤◌, vec_len}
 use Rattle.std.specs.Vec.{vec_capacity}
 use Rattle.std.specs.Vec.Iter.{into_iter_len}
-use Rattle.meet_exchanger.proofs.crews.joined.Given as goal
+use Rattle.meet_threads.proofs.joining.joined.Given as goal
 
 abbrev pub invariant-loop-thread : goal.invariant-loop-thread
 invariant-loop-thread g l = record {
   can : (goal.iterator-loop-thread g).can_next l.thread-iterator;
   finite : (goal.iterator-loop-thread g).is_finite l.thread-iterator;
-  seats : into_iter_len l.thread-iterator + vec_len l.ended ≡ vec_len l.fn.threads;
+  seats : into_iter_len l.thread-iterator + vec_len l.seats ≡ vec_len l.fn.threads;
   told : into_iter_len l.thread-iterator + vec_len l.all_told ≡ vec_len l.fn.threads;
-  room : vec_len l.fn.threads ≤ vec_capacity l.ended;
+  room : vec_len l.fn.threads ≤ vec_capacity l.seats;
   free : vec_len l.fn.threads ≤ vec_capacity l.all_told;
 }

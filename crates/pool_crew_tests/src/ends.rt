@@ -1,0 +1,210 @@
+//! What executors do at a pool that is shut down while a job runs.
+
+use meet_tickets::Refusal;
+use pool_crew::{Executor, PoolCrew, answers_of, at_fixed_pool};
+use pool_threads::{Call, ItsTag, Outcome};
+use std::alloc::Global;
+use std::process::Abort;
+use std::sync::Arc;
+use std::sync::atomic::{AtomicBool, Ordering};
+use std::test::*;
+use std::thread;
+use std::time::{Clock, Duration};
+
+/// What a job and the thread that handed it in tell one another.
+#[derive(Drop)]
+struct Flags {
+    runs: AtomicBool,
+    may_end: AtomicBool,
+}
+
+/// No flag is set.
+fn no_flag(rt: &impl Abort, alloc: Global) -> Arc<Flags> {
+    let flags = Flags {
+        runs: AtomicBool::new(false),
+        may_end: AtomicBool::new(false),
+    };
+    Arc::new(alloc, flags).expect(rt, "no memory")
+}
+
+/// Looks for a flag, at most 10,000 times, 1 ms apart.
+fn look<R: Clock>(rt: &R, flag: &AtomicBool) {
+    for _ in 0..10_000 {
+        if flag.load(Ordering::SeqCst) {
+            return;
+        }
+        thread::sleep(rt, Duration::from_millis(1));
+    }
+}
+
+/// A job of this tag. If it has flags, it runs until the second is set.
+#[derive(Drop)]
+struct Chore<R> {
+    tag: u64,
+    until: Option<(R, Arc<Flags>)>,
+}
+
+impl<R: Clock + Drop> Call<ItsTag> for Chore<R> {
+    ghost tag_of = { λ chore. chore.tag };
+
+    fn tag(&self) -> u64 {
+        self.tag
+    }
+
+    fn make(self) -> u64 {
+        let Chore { tag, until } = self;
+        if let Some((rt, flags)) = until {
+            flags.runs.store(true, Ordering::SeqCst);
+            look(&rt, &flags.may_end);
+        }
+        tag
+    }
+}
+
+/// How the pool is shut down.
+#[derive(Clone, Copy)]
+enum Shut {
+    Orderly,
+    Now,
+}
+
+/// A crew of one thread at a pool of one worker. It hands in a job that runs until the end, and two more, and shuts the
+/// pool down.
+#[derive(Drop)]
+struct Stopping<R> {
+    rt: R,
+    flags: Arc<Flags>,
+    shut: Shut,
+}
+
+/// What the thread saw.
+#[derive(Clone, Copy, PartialEq, Debug)]
+struct Saw {
+    /// How many jobs ran and were buffered before the shutdown.
+    running: u64,
+    kept: u64,
+    /// The tags of the jobs that came back, if there were two or none.
+    back: Option<(u64, u64)>,
+    /// The tag of the job that was rejected afterwards.
+    rejected: Option<u64>,
+}
+
+impl<R: Clock + Copy + Drop + Send + 'static> Stopping<R> {
+    /// Hands in a job that does nothing: its tag, if it is rejected.
+    fn hand<E: Executor<ItsTag, Chore<R>>>(
+        &self,
+        pool: &mut E,
+        tag: u64,
+    ) -> Result<Option<u64>, Refusal> {
+        match pool.execute(Chore { tag, until: None }) {
+            Ok(Outcome::Aborted(job)) => Ok(Some(job.tag())),
+            Ok(_) => Ok(None),
+            Err(refused) => Err(refused.into_why()),
+        }
+    }
+
+    /// Hands in the job that runs until the end.
+    fn hand_busy<E: Executor<ItsTag, Chore<R>>>(&self, pool: &mut E) -> Result<(), Refusal> {
+        let flags = Arc::try_clone(&self.flags).map_err(|_| Refusal::Memory)?;
+        let busy = Chore {
+            tag: 1,
+            until: Some((self.rt, flags)),
+        };
+        match pool.execute(busy) {
+            Ok(_) => Ok(()),
+            Err(refused) => Err(refused.into_why()),
+        }
+    }
+
+    /// Shuts the pool down: the tags of the jobs that come back.
+    fn end<E: Executor<ItsTag, Chore<R>>>(
+        &self,
+        pool: &mut E,
+    ) -> Result<Option<(u64, u64)>, Refusal> {
+        match self.shut {
+            Shut::Orderly => {
+                pool.shutdown()?;
+                Ok(None)
+            }
+            Shut::Now => {
+                let mut jobs = pool.shutdown_now()?;
+                match (jobs.pop_front(), jobs.pop_front()) {
+                    (Some(one), Some(two)) => Ok(Some((one.tag(), two.tag()))),
+                    _ => Ok(None),
+                }
+            }
+        }
+    }
+
+    /// All of it.
+    fn all<E: Executor<ItsTag, Chore<R>>>(&self, pool: &mut E) -> Result<Saw, Refusal> {
+        self.hand_busy(pool)?;
+        look(&self.rt, &self.flags.runs);
+        self.hand(pool, 2)?;
+        self.hand(pool, 3)?;
+        let counters = pool.counters();
+        let back = self.end(pool)?;
+        let rejected = self.hand(pool, 4)?;
+        Ok(Saw {
+            running: counters.running,
+            kept: counters.kept,
+            back,
+            rejected,
+        })
+    }
+}
+
+impl<R: Clock + Copy + Drop + Send + 'static> PoolCrew<ItsTag, Chore<R>> for Stopping<R> {
+    type Told = Result<Saw, Refusal>;
+
+    fn work<E: Executor<ItsTag, Chore<R>>>(&self, pool: &mut E) -> Result<Saw, Refusal> {
+        let saw = self.all(pool);
+        self.flags.may_end.store(true, Ordering::SeqCst);
+        saw
+    }
+}
+
+/// After `shutdown`, previously submitted tasks are executed, but no new tasks are accepted (`ExecutorService`).
+#[test]
+fn a_shutdown_lets_buffered_jobs_run(rt: HostRuntime) {
+    let alloc = rt.alloc();
+    let crew = Stopping {
+        rt,
+        flags: no_flag(&rt, alloc),
+        shut: Shut::Orderly,
+    };
+    let done = at_fixed_pool(&rt, alloc, 1, 1, &crew).expect(&rt, "a pool");
+    let saw = Saw {
+        running: 1,
+        kept: 2,
+        back: None,
+        rejected: Some(4),
+    };
+    assert_eq!(rt; done.told.as_slice(), [Ok(saw)].as_slice());
+    let chronicle = done.closed.expect(&rt, "its history");
+    let answers = answers_of(alloc, &chronicle).expect(&rt, "the answers");
+    assert_eq!(rt; answers.len(), 3);
+    assert_eq!(rt; chronicle.left.len(), 0);
+}
+
+/// `shutdownNow` halts the processing of waiting tasks, and returns a list of the tasks that were awaiting execution.
+#[test]
+fn a_shutdown_now_returns_buffered_jobs(rt: HostRuntime) {
+    let alloc = rt.alloc();
+    let crew = Stopping {
+        rt,
+        flags: no_flag(&rt, alloc),
+        shut: Shut::Now,
+    };
+    let done = at_fixed_pool(&rt, alloc, 1, 1, &crew).expect(&rt, "a pool");
+    let saw = Saw {
+        running: 1,
+        kept: 2,
+        back: Some((2, 3)),
+        rejected: Some(4),
+    };
+    assert_eq!(rt; done.told.as_slice(), [Ok(saw)].as_slice());
+    let chronicle = done.closed.expect(&rt, "its history");
+    let answers = answers_of(alloc, &chronicle).expect(&rt, "the answers");
+    assert_eq!(rt; answers.len(), 1);
+}

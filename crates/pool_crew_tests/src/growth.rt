@@ -1,0 +1,73 @@
+//! Crews at pools that bear a refused allocation and a refused start of a thread anywhere: with each they succeed, or no
+//! thread begins to work, or a job is refused. `dev/check/refuse` runs this test with each refused in turn.
+
+use meet_tickets::Refusal;
+use pool_crew::{Executor, PoolCrew, Task, TaskFn, at_fixed_pool};
+use pool_threads::ItsTag;
+use std::alloc::Global;
+use std::sync::atomic::{AtomicU64, Ordering};
+use std::test::*;
+
+/// A crew that counts how many of its threads begin to work, each of which hands two jobs in.
+#[derive(Drop)]
+struct Counted {
+    alloc: Global,
+    begun: AtomicU64,
+}
+
+impl Counted {
+    /// Hands in a job of this tag.
+    fn hand<E: Executor<ItsTag, Task>>(&self, pool: &mut E, tag: u64) -> Result<(), Refusal> {
+        let call: TaskFn = Box::new(self.alloc, move || {}).map_err(|_| Refusal::Memory)?;
+        match pool.execute(Task::new(tag, call)) {
+            Ok(_) => Ok(()),
+            Err(refused) => Err(refused.into_why()),
+        }
+    }
+}
+
+impl PoolCrew<ItsTag, Task> for Counted {
+    type Told = Option<Refusal>;
+
+    fn work<E: Executor<ItsTag, Task>>(&self, pool: &mut E) -> Option<Refusal> {
+        self.begun.fetch_add(1, Ordering::SeqCst);
+        for tag in 0..2u64 {
+            if let Err(why) = self.hand(pool, tag) {
+                return Some(why);
+            }
+        }
+        None
+    }
+}
+
+/// Whether this is what a refused allocation or start may lead to.
+fn may_be(why: Refusal) -> bool {
+    why == Refusal::Memory || why == Refusal::NoThread
+}
+
+#[test]
+fn all_begin_or_none(rt: HostRuntime) {
+    let alloc = rt.alloc();
+    let crew = Counted {
+        alloc,
+        begun: AtomicU64::new(0),
+    };
+    let done = at_fixed_pool(&rt, alloc, 2, 2, &crew);
+    let begun = crew.begun.into_inner();
+    match done {
+        Ok(done) => {
+            assert_eq!(rt; begun, 2);
+            for told in done.told {
+                assert!(rt; told.map_or(true, may_be));
+            }
+            match done.closed {
+                Ok(chronicle) => assert_eq!(rt; chronicle.lists.len(), 4),
+                Err(why) => assert_eq!(rt; why, Refusal::Memory),
+            }
+        }
+        Err(why) => {
+            assert!(rt; may_be(why));
+            assert_eq!(rt; begun, 0);
+        }
+    }
+}

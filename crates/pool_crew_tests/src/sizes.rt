@@ -1,0 +1,64 @@
+//! Of which sizes a crew's pool can be.
+
+use meet_tickets::{Order, Refusal};
+use pool_core::{Policy, PoolQueue, Settings, Sizes};
+use pool_crew::{
+    Executor, PoolCrew, PoolDone, Task, at_cached_pool, at_fixed_pool, at_pool, at_single_pool,
+};
+use pool_threads::ItsTag;
+use std::test::*;
+
+/// Its threads return their numbers.
+struct Numbered;
+
+impl PoolCrew<ItsTag, Task> for Numbered {
+    type Told = u64;
+
+    fn work<E: Executor<ItsTag, Task>>(&self, pool: &mut E) -> u64 {
+        pool.number()
+    }
+}
+
+/// Why there is no such crew, if there is none.
+fn why(done: Result<PoolDone<Task, u64>, Refusal>) -> Option<Refusal> {
+    done.err()
+}
+
+/// IllegalArgumentException, if the number of workers is 0 (`Executors.newFixedThreadPool`); callers and workers
+/// together are 1,024 at most.
+#[test]
+fn sizes_are_bounded(rt: HostRuntime) {
+    let alloc = rt.alloc();
+    let bad = Some(Refusal::BadSizes);
+    assert_eq!(rt; why(at_fixed_pool(&rt, alloc, 0, 2, &Numbered)), bad);
+    assert_eq!(rt; why(at_fixed_pool(&rt, alloc, 2, 0, &Numbered)), bad);
+    assert_eq!(rt; why(at_fixed_pool(&rt, alloc, 1, 1_024, &Numbered)), bad);
+    assert_eq!(rt; why(at_fixed_pool(&rt, alloc, 1, 1_023, &Numbered)), None);
+    assert_eq!(rt;
+        why(at_fixed_pool(&rt, alloc, u64::MAX, u64::MAX, &Numbered)),
+        bad
+    );
+    assert_eq!(rt; why(at_single_pool(&rt, alloc, 0, &Numbered)), bad);
+    assert_eq!(rt; why(at_single_pool(&rt, alloc, 1_024, &Numbered)), bad);
+    assert_eq!(rt; why(at_cached_pool(&rt, alloc, 0, &Numbered)), bad);
+    assert_eq!(rt; why(at_cached_pool(&rt, alloc, 1_024, &Numbered)), bad);
+}
+
+/// A policy that drops the oldest buffered job needs a queue that buffers jobs.
+#[test]
+fn a_policy_may_need_a_buffer(rt: HostRuntime) {
+    let settings = Settings {
+        sizes: Sizes::fixed(1, 1),
+        queue: PoolQueue::Hand(Order::Fair),
+        policy: Policy::DiscardOldest,
+    };
+    let done = at_pool::<ItsTag, Task, HostRuntime, Numbered>(&rt, rt.alloc(), settings, &Numbered);
+    assert_eq!(rt; why(done), Some(Refusal::PolicyNeedsBuffer));
+}
+
+/// Each thread has a seat of its own, and its result stands at the place of its number.
+#[test]
+fn results_stand_by_number(rt: HostRuntime) {
+    let done = at_fixed_pool(&rt, rt.alloc(), 4, 1, &Numbered).expect(&rt, "a pool");
+    assert_eq!(rt; done.told.as_slice(), [0, 1, 2, 3].as_slice());
+}

@@ -1,0 +1,72 @@
+//! Jobs whose answers are more than their tags.
+
+ghost use Rattle.std.specs.Prelude.{◌+◌};
+
+use meet_tickets::Refusal;
+use pool_crew::{Answer, Executor, PoolCrew, answers_of, at_single_pool};
+use pool_threads::{Call, Work};
+use std::test::*;
+
+/// What these jobs return: the number behind their tag.
+struct Next;
+
+impl Work for Next {
+    ghost worth = { λ tag. tag + 1 };
+}
+
+/// A job that returns the number behind its tag, a small one.
+#[derive(Drop)]
+struct Small {
+    tag: u64,
+    ghost small: { tag < 1000 },
+}
+
+impl Call<Next> for Small {
+    ghost tag_of = { λ job. job.tag };
+
+    fn tag(&self) -> u64 {
+        self.tag
+    }
+
+    fn make(self) -> u64 {
+        self.tag + 1
+    }
+}
+
+/// Hands in a job of each tag below 20.
+struct Twenty;
+
+impl PoolCrew<Next, Small> for Twenty {
+    type Told = Option<Refusal>;
+
+    fn work<E: Executor<Next, Small>>(&self, pool: &mut E) -> Option<Refusal> {
+        for tag in 0..20u64 {
+            if let Err(refused) = pool.execute(Small { tag }) {
+                return Some(refused.into_why());
+            }
+        }
+        None
+    }
+}
+
+/// One worker runs the jobs in order of arrival (`Executors.newSingleThreadExecutor`: tasks are guaranteed to execute
+/// sequentially), and each answer stands with its job.
+#[test]
+fn a_single_worker_keeps_order(rt: HostRuntime) {
+    let alloc = rt.alloc();
+    let done = at_single_pool(&rt, alloc, 1, &Twenty).expect(&rt, "a pool");
+    assert_eq!(rt; done.told.as_slice(), [None].as_slice());
+    let chronicle = done.closed.expect(&rt, "its history");
+    let answers = answers_of(alloc, &chronicle).expect(&rt, "the answers");
+    assert_eq!(rt; answers.len(), 20);
+    for (tag, answer) in (0..20u64).zip(answers) {
+        assert_eq!(rt;
+            answer,
+            Answer {
+                job: tag,
+                value: tag + 1
+            }
+        );
+    }
+    assert_eq!(rt; chronicle.left.len(), 0);
+}
