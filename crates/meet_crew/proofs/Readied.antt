@@ -12,7 +12,7 @@ does : (cap seats : ℕ) (old new : ChairView) (Did : SeatView Deed → SeatView
     → Readies (is_time cap seats old.keeps_log seat) seat ready → Did ready after → Does cap seats old new Did
 does cap seats old new Did seat ready after there left kept readies did =
     let InTurn = (λ (was is : Option (SeatView Deed)). IfSome was (λ seat. IfSome is (λ after. (ready : SeatView Deed)
-        × Readies (is_time cap seats old.keeps_log seat) seat ready × Did ready after))) in (
+    × Readies (is_time cap seats old.keeps_log seat) seat ready × Did ready after))) in (
       kept,
       subst (λ was. InTurn was new.seat) (sym there) (subst (λ is. InTurn (Some seat) is) (sym left) (ready, readies, did)),
     )

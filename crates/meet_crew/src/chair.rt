@@ -76,8 +76,12 @@ pub trait Chair<T: Marked>: Probes {
     /// it in the log.
     fn learn(&mut self, moment: &Self::Moment)
         ensures { IfSome (chair_of self.old).seat (λ seat. chair_of self.new
-            ≡ record (chair_of self.old) { seat = Some (record seat { moment = max seat.moment
-            (written_by moment.now) }) }) };
+            ≡ record (chair_of self.old) {
+              seat = Some (record seat {
+                moment = max seat.moment
+                    (written_by moment.now);
+              });
+            }) };
 
     /// Keeps the log: of the later calls of this chair only `tend` and `rotate` compact it. Then a call fails with
     /// HistoryFull after 1,048,576 records, unless `rotate` returned them before. The log is kept only if each chair of

@@ -1,0 +1,29 @@
+//! Two threads and a queue of `String`s, in twenty lines: one hands a text over, and the other takes it.
+#![tactic(auto)]
+
+use ibisbookcase::crews::{Chair, Crew, End, Labelled, Labels, Refusal, at_fair_queue};
+use std::alloc::Global;
+
+#[derive(Clone, Copy)]
+struct Greeting(Global);
+
+impl Crew<Labelled<String>> for Greeting {
+    type Told = Option<String>;
+
+    fn work<C: Chair<Labelled<String>>>(&self, chair: &mut C) -> Option<String> {
+        if chair.number() == 0 {
+            let text = format!(in self.0; "an ibis").ok()?;
+            chair.put(Labels::of_seat(0).label(text)).ok()?;
+            return None;
+        }
+        match chair.take() {
+            Ok(End::Got(_, item)) => Some(item.value),
+            _ => None,
+        }
+    }
+}
+
+fn main(rt: HostRuntime) -> Result<(), Refusal> {
+    let done = at_fair_queue(&rt, rt.alloc(), 2, &Greeting(rt.alloc()))?;
+    println!(rt; "{:?}", done.told).map_err(|_| Refusal::WriteFault)
+}
