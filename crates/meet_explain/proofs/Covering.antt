@@ -15,8 +15,8 @@ use Rattle.meet_tickets.specs.Bases.{Based, moment_of_base}
 use Rattle.meet_tickets.specs.BySeat.{Allows}
 use Rattle.meet_tickets.specs.Meeting.{Finds}
 use Rattle.meet_explain.specs.Answers.{Answers, AreAll, AreChosen}
-use Rattle.meet_explain.specs.declared.answers.attempts.Attempt.{Attempt}
-use Rattle.meet_explain.specs.declared.answers.attempts.Attempt.TheVariants.{Give, Take, End, Interrupt as ToInterrupt}
+use Rattle.meet_explain.specs.declared.coming.attempts.Attempt.{Attempt}
+use Rattle.meet_explain.specs.declared.coming.attempts.Attempt.TheVariants.{Give, Take, End, Interrupt as ToInterrupt}
 
 -- of all that may come those that do
 pub chosen_all : (P : Deed → Type 0) (attempt : Attempt) (deeds list : List Deed) → AllByRecursion (Answers attempt) deeds →

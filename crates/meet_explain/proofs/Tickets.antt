@@ -13,7 +13,7 @@ use Rattle.meet_tickets.specs.Bases.{Based, moment_of_base}
 use Rattle.meet_tickets.specs.BySeat.{Seats, Allows, cut_ticket, is_request, open_ticket}
 use Rattle.meet_tickets.specs.Limits.{last_ticket}
 use Rattle.meet_explain.specs.Answers.{Answers, MayCome, IsBest}
-use Rattle.meet_explain.specs.declared.answers.attempts.Attempt.TheVariants.{Give, Take, End, Interrupt as ToInterrupt}
+use Rattle.meet_explain.specs.declared.coming.attempts.Attempt.TheVariants.{Give, Take, End, Interrupt as ToInterrupt}
 
 -- a request is allowed with whatever ticket
 request_allowed : (k : Kind) (s : Seats ℕ) (i t u : ℕ) (deed : Deed) → is_request deed ≡ true → Allows k s i t deed → Allows k s i u deed

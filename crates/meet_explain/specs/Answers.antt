@@ -10,9 +10,9 @@ use Rattle.meet_tickets.specs.declared.records.Deed.TheVariants.{Withdrawn, Inte
 use Rattle.meet_tickets.specs.Bases.{Based, moment_of_base}
 use Rattle.meet_tickets.specs.BySeat.{is_open, is_request, Fits}
 use Rattle.meet_tickets.specs.Limits.{last_ticket}
-use Rattle.meet_explain.specs.declared.answers.replacing.Instead.{Instead}
-use Rattle.meet_explain.specs.declared.answers.attempts.Attempt.{Attempt}
-use Rattle.meet_explain.specs.declared.answers.attempts.Attempt.TheVariants.{Give, Take, End, Interrupt as ToInterrupt}
+use Rattle.meet_explain.specs.declared.coming.replacing.Instead.{Instead}
+use Rattle.meet_explain.specs.declared.coming.attempts.Attempt.{Attempt}
+use Rattle.meet_explain.specs.declared.coming.attempts.Attempt.TheVariants.{Give, Take, End, Interrupt as ToInterrupt}
 
 -- the deeds of requests to give an item with this mark; one that was interrupted at its entry tells no mark
 abbrev pub OfGiver : (mark : ℕ) → Deed → Type 0

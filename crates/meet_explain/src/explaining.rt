@@ -4,7 +4,7 @@ ghost use Rattle.std.specs.Prelude.{IfOk, IfSome};
 ghost use Rattle.meet_run.specs.Texts.Reading.{lines_of};
 ghost use Rattle.meet_explain.specs.Explained.{IsTold, ExplainEnds};
 
-use crate::answers::comes_instead;
+use crate::coming::comes_instead;
 use crate::faulty::push_faulty;
 use crate::lines::{before, count_lines, line_at};
 use crate::onward::read_on;

@@ -1,6 +1,6 @@
 //! The lines of an explanation.
 
-use crate::answers::Instead;
+use crate::coming::Instead;
 use meet_run::text::wording::{push_numbered, push_pair};
 use meet_run::trace::wording::push_record;
 use meet_tickets::{Base, Deed, Entry, OpenCut, OpenPair, Record, SeatNo, Side};

@@ -1,10 +1,10 @@
--- Proof of `cut_by`, src/answers/holding.rt. The ticket that an interrupt of this seat cuts behind a base; 0 where it doesn't
+-- Proof of `cut_by`, src/coming/holding.rt. The ticket that an interrupt of this seat cuts behind a base; 0 where it doesn't
 -- stand in the line, and is flagged.
 use Rattle.std.proofs.Common.{sym, ap, ◌∙◌}
 use Rattle.std.specs.Option.{option_map_or}
 use Rattle.meet_explain.specs.Holding.{waiting_of}
 use Rattle.meet_explain.proofs.Lookups.{cut_told}
-use Rattle.meet_explain.proofs.answers.holding.cut_by.Goals as goal
+use Rattle.meet_explain.proofs.coming.holding.cut_by.Goals as goal
 
 pub returns : goal.returns
 returns c =

@@ -6,11 +6,11 @@ ghost use Rattle.meet_tickets.specs.BySeat.{cut_ticket, is_open, is_request, ope
 ghost use Rattle.meet_tickets.specs.Limits.{last_ticket};
 ghost use Rattle.meet_tickets.specs.declared.places.Kind.{Kind};
 ghost use Rattle.meet_explain.specs.Answers.{Answers, IsBest, IsInstead, IsNew, NewFor, attempt_instead};
-ghost use Rattle.meet_explain.specs.declared.answers.attempts.Attempt.TheVariants.{End};
+ghost use Rattle.meet_explain.specs.declared.coming.attempts.Attempt.TheVariants.{End};
 
-use crate::answers::answering::answers;
-use crate::answers::attempts::Attempt;
-use crate::answers::holding::{cut_by, hold};
+use crate::coming::answering::answers;
+use crate::coming::attempts::Attempt;
+use crate::coming::holding::{cut_by, hold};
 use meet_tickets::{Base, Deed, Kind, Record, SeatNo, Ticket};
 use std::alloc::{AllocError, Global};
 

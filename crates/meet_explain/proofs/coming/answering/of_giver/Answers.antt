@@ -1,8 +1,8 @@
--- Proof of `of_giver`, src/answers/answering.rt. The answers of a giver.
+-- Proof of `of_giver`, src/coming/answering.rt. The answers of a giver.
 use Rattle.meet_explain.specs.Answers.{MayCome}
-use Rattle.meet_explain.specs.declared.answers.attempts.Attempt.TheVariants.{Give}
+use Rattle.meet_explain.specs.declared.coming.attempts.Attempt.TheVariants.{Give}
 use Rattle.meet_explain.proofs.Covering.{chosen_all, of_giver, giver_own, giver_all}
-use Rattle.meet_explain.proofs.answers.answering.of_giver.Goals as goal
+use Rattle.meet_explain.proofs.coming.answering.of_giver.Goals as goal
 
 pub returns : goal.returns
 returns c =

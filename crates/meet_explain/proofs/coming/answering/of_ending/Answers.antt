@@ -1,8 +1,8 @@
--- Proof of `of_ending`, src/answers/answering.rt. The endings of a seat's open ticket.
+-- Proof of `of_ending`, src/coming/answering.rt. The endings of a seat's open ticket.
 use Rattle.meet_explain.specs.Answers.{MayCome}
-use Rattle.meet_explain.specs.declared.answers.attempts.Attempt.TheVariants.{End}
+use Rattle.meet_explain.specs.declared.coming.attempts.Attempt.TheVariants.{End}
 use Rattle.meet_explain.proofs.Covering.{chosen_all, of_ending, ending_own, ending_all}
-use Rattle.meet_explain.proofs.answers.answering.of_ending.Goals as goal
+use Rattle.meet_explain.proofs.coming.answering.of_ending.Goals as goal
 
 pub returns : goal.returns
 returns c =

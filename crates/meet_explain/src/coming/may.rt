@@ -9,7 +9,7 @@ ghost use Rattle.meet_tickets.specs.declared.places.Side.TheVariants.{Giver};
 ghost use Rattle.meet_tickets.specs.declared.records.Deed.TheVariants.{Withdrawn};
 ghost use Rattle.meet_explain.specs.Answers.{MayCome};
 
-use crate::answers::holding::{cut_by, hold, is_flagged, whom};
+use crate::coming::holding::{cut_by, hold, is_flagged, whom};
 use meet_tickets::{Base, Cause, Deed, Hold, Kind, SeatNo, Side, Ticket};
 
 /// Whether a request of this side finds no counterpart.

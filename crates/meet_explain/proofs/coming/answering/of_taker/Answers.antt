@@ -1,8 +1,8 @@
--- Proof of `of_taker`, src/answers/answering.rt. The answers of a taker.
+-- Proof of `of_taker`, src/coming/answering.rt. The answers of a taker.
 use Rattle.meet_explain.specs.Answers.{MayCome}
-use Rattle.meet_explain.specs.declared.answers.attempts.Attempt.TheVariants.{Take}
+use Rattle.meet_explain.specs.declared.coming.attempts.Attempt.TheVariants.{Take}
 use Rattle.meet_explain.proofs.Covering.{chosen_all, of_taker, taker_own, taker_all}
-use Rattle.meet_explain.proofs.answers.answering.of_taker.Goals as goal
+use Rattle.meet_explain.proofs.coming.answering.of_taker.Goals as goal
 
 pub returns : goal.returns
 returns c =

@@ -1,8 +1,8 @@
--- Proof of `chosen`, src/answers/answering.rt. Those of these deeds that may come next.
+-- Proof of `chosen`, src/coming/answering.rt. Those of these deeds that may come next.
 use Rattle.std.proofs.Common.{sym, subst, ◌+◌, take}
 use Rattle.meet_explain.specs.Answers.{AreChosen, MayCome}
 use Rattle.meet_explain.proofs.Choosing.{chosen_next}
-use Rattle.meet_explain.proofs.answers.answering.chosen.Goals as goal
+use Rattle.meet_explain.proofs.coming.answering.chosen.Goals as goal
 
 pub loop-deed-preserved : goal.loop-deed-preserved
 loop-deed-preserved c =

@@ -5,11 +5,11 @@ ghost use Rattle.meet_tickets.specs.Bases.{moment_of_base};
 ghost use Rattle.meet_tickets.specs.Meeting.{Finds};
 ghost use Rattle.meet_tickets.specs.declared.lines.Hold.TheVariants.{Served};
 ghost use Rattle.meet_explain.specs.Answers.{AreAnswers, AreChosen, MayCome};
-ghost use Rattle.meet_explain.specs.declared.answers.attempts.Attempt.TheVariants.{Give, Take, End, Interrupt};
+ghost use Rattle.meet_explain.specs.declared.coming.attempts.Attempt.TheVariants.{Give, Take, End, Interrupt};
 
-use crate::answers::attempts::Attempt;
-use crate::answers::holding::{hold, whom};
-use crate::answers::may::may_come;
+use crate::coming::attempts::Attempt;
+use crate::coming::holding::{hold, whom};
+use crate::coming::may::may_come;
 use meet_tickets::{Base, Cause, Deed, Hold, Kind, SeatNo, Side, Ticket};
 use std::alloc::{AllocError, Global};
 
