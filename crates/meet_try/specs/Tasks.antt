@@ -7,8 +7,8 @@ use Rattle.meet_run.specs.Texts.Reading.{lines_of}
 use Rattle.meet_run.specs.Scripts.Running.{RunEnds}
 use Rattle.meet_run.specs.Scripts.Script.{fault_of, text_before, output_of}
 use Rattle.meet_run.specs.Tracing.Traces.{TracesAll, CheckEnds}
-use Rattle.meet_try.specs.declared.main.Task.{Task}
-use Rattle.meet_try.specs.declared.main.Task.TheVariants.{Run, Trace, Check, Erase, Chain}
+use Rattle.meet_try.specs.declared.tasks.Task.{Task}
+use Rattle.meet_try.specs.declared.tasks.Task.TheVariants.{Run, Trace, Check, Erase, Chain}
 
 -- what came of a task with this input: of a script its replies, or its trace; of a trace what is found of it, or what is
 -- left of it once erased; of a chain of traces what is found of it

@@ -8,6 +8,8 @@ ghost use Rattle.std.specs.Process.{exit_status};
 ghost use Rattle.meet_run.specs.Texts.Faults.{status_of};
 ghost use Rattle.meet_try.specs.Tasks.{Performs};
 
+mod tasks;
+
 use meet_run::{
     Blocks, RunFault, check_chain, check_trace, erase_trace, report_of, run_script, run_trace,
 };
@@ -16,41 +18,7 @@ use std::alloc::Global;
 use std::io::{Read, Write};
 use std::process::ExitCode;
 use std::{env, io};
-
-/// A task of `meet` that reads a queue's text.
-#[derive(Clone, Copy)]
-pub enum Task {
-    /// `meet run`.
-    Run,
-    /// `meet run --trace`.
-    Trace,
-    /// `meet check`.
-    Check,
-    /// `meet check --erase`.
-    Erase,
-    /// `meet chain`.
-    Chain,
-}
-
-/// The task of this name.
-fn task_of(name: &str) -> Option<Task> {
-    if name == "run" {
-        return Some(Task::Run);
-    }
-    if name == "trace" {
-        return Some(Task::Trace);
-    }
-    if name == "check" {
-        return Some(Task::Check);
-    }
-    if name == "erase" {
-        return Some(Task::Erase);
-    }
-    if name == "chain" {
-        return Some(Task::Chain);
-    }
-    None
-}
+use tasks::{Task, task_of};
 
 /// The words of the command line, the program's name first.
 fn words(rt: &HostRuntime) -> io::Result<Vec<String>> {
