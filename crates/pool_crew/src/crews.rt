@@ -34,7 +34,7 @@ use std::time::Clock;
 /// # Example
 /// From `crates/example_pool/src/main.rt`:
 ///
-///     impl PoolCrew<ItsTag, Task> for Ten {
+///     impl PoolCrew<ItsTag, Task<Greeting>> for Ten {
 pub trait PoolCrew<W: Work, C: Call<W>> {
     /// The result of each thread.
     type Told;
@@ -210,7 +210,7 @@ where
 /// # Example
 /// From `crates/example_pool/src/main.rt`:
 ///
-///     let done = at_fixed_pool(&rt, alloc, 1, 2, &Ten(alloc))?; // one thread, two workers
+///     let done = at_fixed_pool(&rt, alloc, 1, 2, &Ten)?; // one thread, two workers
 ///
 /// Java: `Executors.newFixedThreadPool(workers)`.
 pub fn at_fixed_pool<W, C, R, V>(

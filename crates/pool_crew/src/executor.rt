@@ -27,8 +27,7 @@ use std::time::Clock;
 /// # Example
 /// From `crates/example_pool/src/main.rt`:
 ///
-///     pool.execute(Task::new(n, call))
-///         .map_err(ExecuteRefused::into_why)?;
+///     let _ = pool.execute(Task::new(n, Greeting));
 pub trait Executor<W: Work, C: Call<W>> {
     /// The runtime handle for blocking and the clock.
     type Handle: Wait + Clock;
@@ -76,8 +75,7 @@ pub trait Executor<W: Work, C: Call<W>> {
     /// # Example
     /// From `crates/example_pool/src/main.rt`:
     ///
-    ///     pool.execute(Task::new(n, call))
-    ///         .map_err(ExecuteRefused::into_why)?;
+    ///     let _ = pool.execute(Task::new(n, Greeting));
     ///
     /// Java: `ThreadPoolExecutor.execute`.
     fn execute(&mut self, job: C) -> Result<Outcome<C>, ExecuteRefused<C>>

@@ -20,4 +20,4 @@ pub use crews::{PoolCrew, PoolDone, at_cached_pool, at_fixed_pool, at_pool, at_s
 pub use executor::Executor;
 pub use keeping::KeepLog;
 pub use refused::ExecuteRefused;
-pub use tasks::{Task, TaskFn};
+pub use tasks::{Run, Task};

@@ -1,38 +1,46 @@
-//! Boxed closures as jobs that answer their tags.
+//! Jobs that return their tags.
 
 ghost use Rattle.std.specs.Prelude.{◌≡◌};
 
 use pool_threads::{Call, ItsTag};
 
-/// A boxed closure, which returns nothing. What it computes it keeps where others can see it.
+/// States what is done once, by a job that returns its tag. What it computes it keeps where others can see it.
 ///
 /// Java: `Runnable`.
-pub type TaskFn = Box<dyn FnOnce() + Send>;
-
-/// A boxed closure as a job. The job runs it once, and returns its tag.
 ///
 /// # Example
 /// From `crates/example_pool/src/main.rt`:
 ///
-///     let call: TaskFn = Box::new(self.0, move || {}).map_err(|_| Refusal::Memory)?; // its work
-#[derive(Drop)]
-pub struct Task {
-    tag: u64,
-    call: TaskFn,
-    ghost ready: { TaskFn.pre call },
+///     impl Run for Greeting {
+///         fn run(self) {} // its work
+///     }
+pub trait Run {
+    /// Does it.
+    fn run(self);
 }
 
-impl Task {
-    /// Creates a job of this tag, which calls the closure once.
-    pub fn new(tag: u64, call: TaskFn) -> Self
-        requires ready { TaskFn.pre call }
+/// A job of a tag, which runs this once, and returns its tag.
+///
+/// # Example
+/// From `crates/example_pool/src/main.rt`:
+///
+///     let _ = pool.execute(Task::new(n, Greeting));
+#[derive(Drop)]
+pub struct Task<J> {
+    tag: u64,
+    job: J,
+}
+
+impl<J> Task<J> {
+    /// Creates the job of this tag.
+    pub fn new(tag: u64, job: J) -> Self
         ensures { result.tag ≡ tag }
     {
-        Task { tag, call }
+        Task { tag, job }
     }
 }
 
-impl Call<ItsTag> for Task {
+impl<J: Run> Call<ItsTag> for Task<J> {
     ghost tag_of = { λ task. task.tag };
 
     fn tag(&self) -> u64 {
@@ -40,8 +48,8 @@ impl Call<ItsTag> for Task {
     }
 
     fn make(self) -> u64 {
-        let Task { tag, call } = self;
-        call();
+        let Task { tag, job } = self;
+        job.run();
         tag
     }
 }

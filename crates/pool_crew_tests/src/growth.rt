@@ -2,34 +2,43 @@
 //! thread begins to work, or a job is refused. `dev/check/refuse` runs this test with each refused in turn.
 
 use meet_tickets::Refusal;
-use pool_crew::{Executor, PoolCrew, Task, TaskFn, at_fixed_pool};
+use pool_crew::{Executor, PoolCrew, Run, Task, at_fixed_pool};
 use pool_threads::ItsTag;
-use std::alloc::Global;
 use std::sync::atomic::{AtomicU64, Ordering};
 use std::test::*;
+
+/// What the jobs do.
+#[derive(Drop)]
+struct Nothing;
+
+impl Run for Nothing {
+    fn run(self) {}
+}
 
 /// A crew that counts how many of its threads begin to work, each of which hands two jobs in.
 #[derive(Drop)]
 struct Counted {
-    alloc: Global,
     begun: AtomicU64,
 }
 
 impl Counted {
     /// Hands in a job of this tag.
-    fn hand<E: Executor<ItsTag, Task>>(&self, pool: &mut E, tag: u64) -> Result<(), Refusal> {
-        let call: TaskFn = Box::new(self.alloc, move || {}).map_err(|_| Refusal::Memory)?;
-        match pool.execute(Task::new(tag, call)) {
+    fn hand<E: Executor<ItsTag, Task<Nothing>>>(
+        &self,
+        pool: &mut E,
+        tag: u64,
+    ) -> Result<(), Refusal> {
+        match pool.execute(Task::new(tag, Nothing)) {
             Ok(_) => Ok(()),
             Err(refused) => Err(refused.into_why()),
         }
     }
 }
 
-impl PoolCrew<ItsTag, Task> for Counted {
+impl PoolCrew<ItsTag, Task<Nothing>> for Counted {
     type Told = Option<Refusal>;
 
-    fn work<E: Executor<ItsTag, Task>>(&self, pool: &mut E) -> Option<Refusal> {
+    fn work<E: Executor<ItsTag, Task<Nothing>>>(&self, pool: &mut E) -> Option<Refusal> {
         self.begun.fetch_add(1, Ordering::SeqCst);
         for tag in 0..2u64 {
             if let Err(why) = self.hand(pool, tag) {
@@ -49,7 +58,6 @@ fn may_be(why: Refusal) -> bool {
 fn all_begin_or_none(rt: HostRuntime) {
     let alloc = rt.alloc();
     let crew = Counted {
-        alloc,
         begun: AtomicU64::new(0),
     };
     let done = at_fixed_pool(&rt, alloc, 2, 2, &crew);

@@ -1,34 +1,45 @@
-//! Crews of one thread and of several, whose jobs are closures.
+//! Crews of one thread and of several, whose jobs add to a sum.
 
 use meet_tickets::Refusal;
 use pool_core::PoolDeed;
-use pool_crew::{Executor, PoolCrew, Task, TaskFn, answers_of, at_cached_pool, at_fixed_pool};
+use pool_crew::{Executor, PoolCrew, Run, Task, answers_of, at_cached_pool, at_fixed_pool};
 use pool_threads::ItsTag;
-use std::alloc::Global;
 use std::sync::Arc;
 use std::sync::atomic::{AtomicU64, Ordering};
 use std::test::*;
 
+/// What a job does: it adds a number to a sum.
+#[derive(Drop)]
+struct Adds {
+    number: u64,
+    sum: Arc<AtomicU64>,
+}
+
+impl Run for Adds {
+    fn run(self) {
+        self.sum.fetch_add(self.number, Ordering::SeqCst);
+    }
+}
+
 /// Each thread hands ten jobs in, which add their tags to one sum, and returns its number.
 #[derive(Drop)]
 struct Adding {
-    alloc: Global,
     sum: Arc<AtomicU64>,
 }
 
 impl Adding {
     /// The job of this tag.
-    fn job(&self, tag: u64) -> Result<Task, Refusal> {
+    fn job(&self, tag: u64) -> Result<Task<Adds>, Refusal> {
         let sum = Arc::try_clone(&self.sum).map_err(|_| Refusal::Memory)?;
-        let call: TaskFn = Box::new(self.alloc, move || {
-            sum.fetch_add(tag, Ordering::SeqCst);
-        })
-        .map_err(|_| Refusal::Memory)?;
-        Ok(Task::new(tag, call))
+        Ok(Task::new(tag, Adds { number: tag, sum }))
     }
 
     /// Hands in ten jobs of the tags from this one.
-    fn hand<E: Executor<ItsTag, Task>>(&self, pool: &mut E, from: u64) -> Result<(), Refusal> {
+    fn hand<E: Executor<ItsTag, Task<Adds>>>(
+        &self,
+        pool: &mut E,
+        from: u64,
+    ) -> Result<(), Refusal> {
         for n in 0..10u64 {
             let job = self.job(from.saturating_add(n))?;
             if let Err(refused) = pool.execute(job) {
@@ -39,10 +50,10 @@ impl Adding {
     }
 }
 
-impl PoolCrew<ItsTag, Task> for Adding {
+impl PoolCrew<ItsTag, Task<Adds>> for Adding {
     type Told = (u64, Option<Refusal>);
 
-    fn work<E: Executor<ItsTag, Task>>(&self, pool: &mut E) -> (u64, Option<Refusal>) {
+    fn work<E: Executor<ItsTag, Task<Adds>>>(&self, pool: &mut E) -> (u64, Option<Refusal>) {
         let number = pool.number();
         (number, self.hand(pool, number.saturating_mul(10)).err())
     }
@@ -54,7 +65,7 @@ impl PoolCrew<ItsTag, Task> for Adding {
 fn each_job_is_done_once(rt: HostRuntime) {
     let alloc = rt.alloc();
     let sum = Arc::new(alloc, AtomicU64::new(0)).expect(&rt, "no memory");
-    let crew = Adding { alloc, sum };
+    let crew = Adding { sum };
     let done = at_fixed_pool(&rt, alloc, 3, 2, &crew).expect(&rt, "a pool");
     assert_eq!(rt;
         done.told.as_slice(),
@@ -81,7 +92,7 @@ fn each_job_is_done_once(rt: HostRuntime) {
 fn a_cached_pool_buffers_none(rt: HostRuntime) {
     let alloc = rt.alloc();
     let sum = Arc::new(alloc, AtomicU64::new(0)).expect(&rt, "no memory");
-    let crew = Adding { alloc, sum };
+    let crew = Adding { sum };
     let done = at_cached_pool(&rt, alloc, 1, &crew).expect(&rt, "a pool");
     assert_eq!(rt; done.told.as_slice(), [(0, None)].as_slice());
     let chronicle = done.closed.expect(&rt, "its history");

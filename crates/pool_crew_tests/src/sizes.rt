@@ -3,24 +3,32 @@
 use meet_tickets::{Order, Refusal};
 use pool_core::{Policy, PoolQueue, Settings, Sizes};
 use pool_crew::{
-    Executor, PoolCrew, PoolDone, Task, at_cached_pool, at_fixed_pool, at_pool, at_single_pool,
+    Executor, PoolCrew, PoolDone, Run, Task, at_cached_pool, at_fixed_pool, at_pool, at_single_pool,
 };
 use pool_threads::ItsTag;
 use std::test::*;
 
+/// What no job of these crews does.
+#[derive(Drop)]
+struct Nothing;
+
+impl Run for Nothing {
+    fn run(self) {}
+}
+
 /// Its threads return their numbers.
 struct Numbered;
 
-impl PoolCrew<ItsTag, Task> for Numbered {
+impl PoolCrew<ItsTag, Task<Nothing>> for Numbered {
     type Told = u64;
 
-    fn work<E: Executor<ItsTag, Task>>(&self, pool: &mut E) -> u64 {
+    fn work<E: Executor<ItsTag, Task<Nothing>>>(&self, pool: &mut E) -> u64 {
         pool.number()
     }
 }
 
 /// Why there is no such crew, if there is none.
-fn why(done: Result<PoolDone<Task, u64>, Refusal>) -> Option<Refusal> {
+fn why(done: Result<PoolDone<Task<Nothing>, u64>, Refusal>) -> Option<Refusal> {
     done.err()
 }
 
@@ -52,7 +60,12 @@ fn a_policy_may_need_a_buffer(rt: HostRuntime) {
         queue: PoolQueue::Hand(Order::Fair),
         policy: Policy::DiscardOldest,
     };
-    let done = at_pool::<ItsTag, Task, HostRuntime, Numbered>(&rt, rt.alloc(), settings, &Numbered);
+    let done = at_pool::<ItsTag, Task<Nothing>, HostRuntime, Numbered>(
+        &rt,
+        rt.alloc(),
+        settings,
+        &Numbered,
+    );
     assert_eq!(rt; why(done), Some(Refusal::PolicyNeedsBuffer));
 }
 
