@@ -9,7 +9,6 @@ use std::sync::Arc;
 use std::sync::atomic::{AtomicBool, Ordering};
 use std::test::*;
 use std::thread;
-use std::time::{Clock, Duration};
 
 /// What a job and the thread that handed it in tell one another.
 #[derive(Drop)]
@@ -27,24 +26,24 @@ fn no_flag(rt: &impl Abort, alloc: Global) -> Arc<Flags> {
     Arc::new(alloc, flags).expect(rt, "no memory")
 }
 
-/// Looks for a flag, at most 10,000 times, 1 ms apart.
-fn look<R: Clock>(rt: &R, flag: &AtomicBool) {
-    for _ in 0..10_000 {
+/// Looks for a flag, a hundred million times at most, and lets other threads run in between.
+fn look(flag: &AtomicBool) {
+    for _ in 0..100_000_000u64 {
         if flag.load(Ordering::SeqCst) {
             return;
         }
-        thread::sleep(rt, Duration::from_millis(1));
+        thread::yield_now();
     }
 }
 
 /// A job of this tag. If it has flags, it runs until the second is set.
 #[derive(Drop)]
-struct Chore<R> {
+struct Chore {
     tag: u64,
-    until: Option<(R, Arc<Flags>)>,
+    until: Option<Arc<Flags>>,
 }
 
-impl<R: Clock + Drop> Call<ItsTag> for Chore<R> {
+impl Call<ItsTag> for Chore {
     ghost tag_of = { λ chore. chore.tag };
 
     fn tag(&self) -> u64 {
@@ -53,9 +52,9 @@ impl<R: Clock + Drop> Call<ItsTag> for Chore<R> {
 
     fn make(self) -> u64 {
         let Chore { tag, until } = self;
-        if let Some((rt, flags)) = until {
+        if let Some(flags) = until {
             flags.runs.store(true, Ordering::SeqCst);
-            look(&rt, &flags.may_end);
+            look(&flags.may_end);
         }
         tag
     }
@@ -71,8 +70,7 @@ enum Shut {
 /// A crew of one thread at a pool of one worker. It hands in a job that runs until the end, and two more, and shuts the
 /// pool down.
 #[derive(Drop)]
-struct Stopping<R> {
-    rt: R,
+struct Stopping {
     flags: Arc<Flags>,
     shut: Shut,
 }
@@ -89,9 +87,9 @@ struct Saw {
     rejected: Option<u64>,
 }
 
-impl<R: Clock + Copy + Drop + Send + 'static> Stopping<R> {
+impl Stopping {
     /// Hands in a job that does nothing: its tag, if it is rejected.
-    fn hand<E: Executor<ItsTag, Chore<R>>>(
+    fn hand<E: Executor<ItsTag, Chore>>(
         &self,
         pool: &mut E,
         tag: u64,
@@ -104,11 +102,11 @@ impl<R: Clock + Copy + Drop + Send + 'static> Stopping<R> {
     }
 
     /// Hands in the job that runs until the end.
-    fn hand_busy<E: Executor<ItsTag, Chore<R>>>(&self, pool: &mut E) -> Result<(), Refusal> {
+    fn hand_busy<E: Executor<ItsTag, Chore>>(&self, pool: &mut E) -> Result<(), Refusal> {
         let flags = Arc::try_clone(&self.flags).map_err(|_| Refusal::Memory)?;
         let busy = Chore {
             tag: 1,
-            until: Some((self.rt, flags)),
+            until: Some(flags),
         };
         match pool.execute(busy) {
             Ok(_) => Ok(()),
@@ -117,10 +115,7 @@ impl<R: Clock + Copy + Drop + Send + 'static> Stopping<R> {
     }
 
     /// Shuts the pool down: the tags of the jobs that come back.
-    fn end<E: Executor<ItsTag, Chore<R>>>(
-        &self,
-        pool: &mut E,
-    ) -> Result<Option<(u64, u64)>, Refusal> {
+    fn end<E: Executor<ItsTag, Chore>>(&self, pool: &mut E) -> Result<Option<(u64, u64)>, Refusal> {
         match self.shut {
             Shut::Orderly => {
                 pool.shutdown()?;
@@ -137,9 +132,9 @@ impl<R: Clock + Copy + Drop + Send + 'static> Stopping<R> {
     }
 
     /// All of it.
-    fn all<E: Executor<ItsTag, Chore<R>>>(&self, pool: &mut E) -> Result<Saw, Refusal> {
+    fn all<E: Executor<ItsTag, Chore>>(&self, pool: &mut E) -> Result<Saw, Refusal> {
         self.hand_busy(pool)?;
-        look(&self.rt, &self.flags.runs);
+        look(&self.flags.runs);
         self.hand(pool, 2)?;
         self.hand(pool, 3)?;
         let counters = pool.counters();
@@ -154,10 +149,10 @@ impl<R: Clock + Copy + Drop + Send + 'static> Stopping<R> {
     }
 }
 
-impl<R: Clock + Copy + Drop + Send + 'static> PoolCrew<ItsTag, Chore<R>> for Stopping<R> {
+impl PoolCrew<ItsTag, Chore> for Stopping {
     type Told = Result<Saw, Refusal>;
 
-    fn work<E: Executor<ItsTag, Chore<R>>>(&self, pool: &mut E) -> Result<Saw, Refusal> {
+    fn work<E: Executor<ItsTag, Chore>>(&self, pool: &mut E) -> Result<Saw, Refusal> {
         let saw = self.all(pool);
         self.flags.may_end.store(true, Ordering::SeqCst);
         saw
@@ -169,7 +164,6 @@ impl<R: Clock + Copy + Drop + Send + 'static> PoolCrew<ItsTag, Chore<R>> for Sto
 fn a_shutdown_lets_buffered_jobs_run(rt: HostRuntime) {
     let alloc = rt.alloc();
     let crew = Stopping {
-        rt,
         flags: no_flag(&rt, alloc),
         shut: Shut::Orderly,
     };
@@ -192,7 +186,6 @@ fn a_shutdown_lets_buffered_jobs_run(rt: HostRuntime) {
 fn a_shutdown_now_returns_buffered_jobs(rt: HostRuntime) {
     let alloc = rt.alloc();
     let crew = Stopping {
-        rt,
         flags: no_flag(&rt, alloc),
         shut: Shut::Now,
     };

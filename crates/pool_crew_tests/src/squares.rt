@@ -1,6 +1,6 @@
 //! Jobs whose answers are more than their tags.
 
-ghost use Rattle.std.specs.Prelude.{◌+◌};
+ghost use Rattle.std.specs.Prelude.{◌+◌, ◌<◌};
 
 use meet_tickets::Refusal;
 use pool_crew::{Answer, Executor, PoolCrew, answers_of, at_single_pool};
