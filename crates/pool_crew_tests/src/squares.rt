@@ -64,7 +64,7 @@ fn a_single_worker_keeps_order(rt: HostRuntime) {
             answer,
             Answer {
                 job: tag,
-                value: tag + 1
+                value: tag.saturating_add(1)
             }
         );
     }
