@@ -29,7 +29,7 @@ fn running_after(deed: PoolDeed<u64>) -> Option<u64>
     }
 }
 
-/// The answer that this deed tells of the job that its worker ran, if it does.
+/// The answer that this deed states of the job that its worker ran, if it states one.
 fn answer_told(running: Option<u64>, deed: PoolDeed<u64>) -> Option<Answer>
     ensures { result ≡ told_by running deed }
 {

@@ -59,7 +59,7 @@ fn fitting<C: Drop>(told: Option<Begun<C>>, first: Option<u64>) -> Begun<C>
 }
 
 impl<W: Work, C: Drop, N: PoolLedgers> Starting<W, C, N> {
-    /// Creates it, for a crew of so many threads.
+    /// Creates it, for a crew of `present` threads.
     pub(crate) fn new(present: u64) -> Self {
         let slot = Slot {
             used: false,

@@ -23,7 +23,7 @@ struct Told {
     why: Option<Refusal>,
 }
 
-/// A crew of two: the first thread hands so many items over, and the second takes them.
+/// A crew of two: the first thread hands `items` items over, and the second takes them.
 #[derive(Drop)]
 struct Handing {
     items: u64,
@@ -73,7 +73,7 @@ fn went_over(end: End<u64>, item: u64) -> bool {
     }
 }
 
-/// A crew of one thread, which puts so many items, and polls each.
+/// A crew of one thread, which puts `items` items, and polls each.
 #[derive(Drop)]
 struct Alone {
     items: u64,
@@ -119,7 +119,7 @@ fn last_of(told: &[Told]) -> Told {
     }
 }
 
-/// Hands so many items from thread to thread.
+/// Hands this number of items from thread to thread.
 fn hand_over<R>(rt: &R, alloc: Global, items: u64) -> Result<Told, Refusal>
 where
     R: Threads + Wait + Clock + Sync,
@@ -129,7 +129,7 @@ where
     Ok(last_of(done.told.as_slice()))
 }
 
-/// Puts and polls so many items.
+/// Puts and polls this number of items.
 fn pass_alone<R>(rt: &R, alloc: Global, items: u64) -> Result<Told, Refusal>
 where
     R: Threads + Wait + Clock + Sync,
