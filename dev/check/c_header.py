@@ -64,13 +64,15 @@ def upper(word):
 def constants(code):
     """The numbers that the sources give: refusals, statuses, orders, verbs, outcomes, deeds, sides, causes and reasons."""
     found = {}
+    for word, number in re.findall(r"Why::(\w+) => (\d+)", read("crates/meet_history/src/checker.rt")):
+        found[f"WHY_{upper(word)}"] = int(number)
     for word, number in re.findall(r"Refusal::(\w+) => (\d+)", read("crates/meet_tickets/src/refusals.rt")):
         found[upper(word)] = int(number)
     for number, word in re.findall(r"(?:order|verb) == (\d+) \{\s*(?:let \w+ = \w+\(value\)\?;\s*)?Some\((?:Kind \{\s*order: Order|QueueCall)::(\w+)", code):
         found[upper(word)] = int(number)
     for word, number in re.findall(r"\w+::(\w+)(?:\([^=]*\))? => \{?\s*(?:with_item\()?done\((\d+),", code):
         found[upper(word)] = int(number)
-    for kind in ("Deed", "Side", "Cause", "Why"):
+    for kind in ("Deed", "Side", "Cause"):
         for word, number in re.findall(rf"\b{kind}::(\w+)(?:\([^=)]*\))? => (\d+),", code):
             if int(number) > 0 or kind != "Deed":
                 found[f"{kind.upper()}_{upper(word)}"] = int(number)
