@@ -7,12 +7,15 @@ pub mod Occurs
 pub mod Places
 pub mod Rechained
 pub mod Relinked
+pub mod Relinks
 pub mod Removals
 pub mod Removed
 pub mod Rolls
 pub mod Runs
+pub mod Sitting
 pub mod Sound
 pub mod Standing
 pub mod Stored
 pub mod Taken
 pub mod Unlinking
+pub mod Walking

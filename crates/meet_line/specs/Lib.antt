@@ -3,6 +3,7 @@ pub mod Links
 pub mod Nodes
 pub mod Rolled
 pub mod Runs
+pub mod Seated
 pub mod Seen
 pub mod Sound
 pub mod Stored

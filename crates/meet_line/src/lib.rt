@@ -18,11 +18,15 @@ mod met_at;
 mod nodes;
 mod ring_line;
 mod roll;
+mod seat_line;
+mod seated;
+mod spots;
 
 pub use end_line::{EndLine, FairLine, StackLine};
 pub use itemless::let_go_none;
-pub use line::Line;
+pub use line::{BufferLine, Line};
 pub use marked::{mark_of, marked_line};
 pub use meeting::{is_alone, meet};
 pub use met_at::{First, Last, MetAt};
 pub use ring_line::{FairRing, RingLine, StackRing};
+pub use seat_line::{FairSeats, SeatLine, StackSeats};

@@ -1,7 +1,7 @@
 //! What is left in a queue, of items that can't be let go: each comes out once, with its giver's ticket.
 
 use meet_core::{Followed, Gave, Left, LeftStanding, Meetings, Put, Took};
-use meet_line::{FairLine, Line, StackLine};
+use meet_line::{BufferLine, FairLine, StackLine};
 use meet_tickets::{Marked, Refused, SeatNo, Ticket};
 use std::alloc::Global;
 use std::process::Abort;
@@ -75,7 +75,7 @@ fn followed(followed: Followed<Seal>) -> Option<u64> {
 }
 
 /// A seat asks; the serial number of the item that comes out by it.
-fn asks<L: Line<Seal>>(
+fn asks<L: BufferLine<Seal>>(
     rt: &impl Abort,
     queue: &mut Meetings<Seal, L>,
     at: SeatNo,
@@ -121,7 +121,7 @@ fn has(rt: &impl Abort, list: Vec<Left<Seal>>, wanted: &[Found]) {
 }
 
 /// Seats ask, one after another, and then these items are left.
-fn leaves<L: Line<Seal>>(rt: &impl Abort, alloc: Global, rows: &[Row], wanted: &[Found]) {
+fn leaves<L: BufferLine<Seal>>(rt: &impl Abort, alloc: Global, rows: &[Row], wanted: &[Found]) {
     let mut queue: Meetings<Seal, L> = Meetings::new(alloc, 8, 1).expect(rt, "memory");
     for (number, ask, out) in rows {
         let at = SeatNo::new(*number).expect(rt, "no such seat number");
@@ -189,7 +189,7 @@ fn takers_leave_nothing(rt: HostRuntime) {
 }
 
 /// A queue in which nobody is there is dropped.
-fn goes_empty<L: Line<Seal>>(rt: &impl Abort, alloc: Global) {
+fn goes_empty<L: BufferLine<Seal>>(rt: &impl Abort, alloc: Global) {
     let mut queue: Meetings<Seal, L> = Meetings::new(alloc, 8, 1).expect(rt, "memory");
     queue.reserve(8).expect(rt, "memory");
     queue.destroy_empty();

@@ -15,4 +15,6 @@ mod parcels;
 #[cfg(test)]
 mod sealed;
 #[cfg(test)]
+mod seats;
+#[cfg(test)]
 mod tables;

@@ -1,6 +1,6 @@
 -- Proof of `Meetings::new`, src/meetings.rt. A queue with no room yet, with this many seats, at most 65,536, and this
 -- first ticket, 1 to 2^63 - 1.
-use Rattle.std.proofs.Common.{ap, sym}
+use Rattle.std.proofs.Common.{ap, sym, arith}
 use Rattle.meet_tickets.specs.declared.places.Side.TheVariants.{Giver}
 use Rattle.meet_tickets.specs.Meeting.{kept_count, count_on}
 use Rattle.meet_line.proofs.Sound.{IsSound-new}
@@ -12,4 +12,5 @@ invariant_of-result g c = (
   sym (ap kept_count c.empty.ensures.entries),
   c.requires.first_from,
   sym (ap (count_on Giver) c.empty.ensures.entries),
+  omega arith,
 )
