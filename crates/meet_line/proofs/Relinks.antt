@@ -1,11 +1,10 @@
 -- What the links between places are once one of them is changed, and what becomes of their ring where a node leaves or
 -- comes.
-use Rattle.std.proofs.Common.{◌≡◌, ℕ, zero, suc, ◌+◌, ◌<◌, ◌≤◌, true, false, cond, Option, Some, None, List, [], ◌∷◌, ◌++◌, length, map, replicate, refl, sym, ap, ◌∙◌, inl, inr, subst, get_or, set, arith}
+use Rattle.std.proofs.Common.{◌≡◌, ℕ, zero, suc, ◌+◌, ◌<◌, ◌≤◌, false, cond, Option, Some, None, List, [], ◌∷◌, ◌++◌, length, map, replicate, refl, sym, ap, ◌∙◌, inl, inr, subst, get_or, set, arith}
 use Rattle.std.specs.Prelude.{Result, Ok, Err, is_err, OnOk}
 use Rattle.std.proofs.lemmas.List.{get_or-set_same, get_or-set_other, length-set, get_or-replicate, get_or_past, length-replicate, get_or-map, map-append, append_assoc, append-nil, replicate-append-replicate}
 use Rattle.std.proofs.lemmas.Bool.{cases_lt}
 use Rattle.std.proofs.lemmas.Bool.Decides.{eqb_tells}
-use Rattle.meet_tickets.specs.declared.lines.Entry.{Entry}
 use Rattle.meet_line.specs.declared.spots.Spot.{Spot}
 use Rattle.meet_line.specs.Runs.{put_link, occurs, IsRing, IsAbsent, IsDistinct}
 use Rattle.meet_line.specs.Nodes.{put_end}

@@ -1,24 +1,23 @@
 -- Entries that stand at their seats' places, linked in order of arrival.
-use Rattle.std.proofs.Common.{◌≡◌, ◌≢◌, ◌⊎◌, ℕ, suc, ◌+◌, ◌-◌, ◌<◌, ◌≤◌, ◌==◌, Bool, true, false, cond, Option, Some, None, List, [], ◌∷◌, ◌++◌, length, map, replicate, find, option_map, refl, sym, ap, ◌∙◌, inl, inr, subst, arith, get_or, set}
+use Rattle.std.proofs.Common.{◌≡◌, ◌≢◌, ◌⊎◌, ℕ, ◌+◌, ◌-◌, ◌<◌, ◌≤◌, ◌==◌, true, Option, Some, None, List, [], ◌∷◌, ◌++◌, length, map, replicate, find, option_map, refl, sym, ap, ◌∙◌, inl, inr, subst, arith, set}
 use Rattle.std.specs.Prelude.{All, AllPairs}
 use Rattle.std.specs.List.{cons_option}
 use Rattle.std.specs.Option.{option_map_or}
-use Rattle.std.proofs.lemmas.List.{map-append, length-map, length-append, length-set, get_or_at, get_or_past, get_or-set_same, get_or-set_other, get_or_append_left, length-replicate, nil_from_length, append-nil, append_assoc}
+use Rattle.std.proofs.lemmas.List.{map-append, length-map, length-append, length-set, get_or_at, get_or-set_same, get_or-set_other, length-replicate}
 use Rattle.std.proofs.lemmas.List.Elements.{All-nil, All-cons}
 use Rattle.std.proofs.lemmas.Bool.{cases_eq, cases_lt}
 use Rattle.meet_tickets.specs.declared.lines.Entry.{Entry}
-use Rattle.meet_tickets.specs.BySeat.{without_first}
 use Rattle.meet_line.specs.declared.spots.Spot.{Spot}
 use Rattle.meet_line.specs.Runs.{occurs, first_or, IsRing, IsAbsent, IsDistinct}
-use Rattle.meet_line.specs.Rolled.{Placed, StandsAt}
+use Rattle.meet_line.specs.Rolled.{StandsAt}
 use Rattle.meet_line.specs.Stored.{slot_at, entries_of, keys_in, AreHeld, IsStored}
-use Rattle.meet_line.specs.Seated.{slots_of, afters_of, befores_of, after_at, before_at, linked, seats_of, placed, seat_roll, line_of, IsSeated, IsBelow, IsUnlinked, IsLinked, IsPadded, first_seat, seat_found, Sits, IsRisen, IsLastSeat, Fits}
-use Rattle.meet_line.proofs.Occurs.{occurs-append, occurs-same, absent-head, absent-tail, distinct-middle}
+use Rattle.meet_line.specs.Seated.{slots_of, afters_of, befores_of, after_at, before_at, linked, seats_of, placed, seat_roll, line_of, IsSeated, IsBelow, IsUnlinked, IsLinked, IsPadded, first_seat, seat_found, Sits, IsLastSeat, Fits}
+use Rattle.meet_line.proofs.Occurs.{absent-head, absent-tail, distinct-middle}
 use Rattle.meet_line.proofs.Runs.{last_or, followed-run, ring-first, ring-last, ring-after}
 use Rattle.meet_line.proofs.Places.{stands-from_occurs}
 use Rattle.meet_line.proofs.Standing.{last_split}
 use Rattle.meet_line.proofs.Relinks.{before-below, after-below, last-below, ring_rise, ring_sit, ring-padded, ring-same, padded}
-use Rattle.meet_line.proofs.Stored.{held-front, length-entries, found-middle, taken-out, put-in, within-slots, widened, TakenOut}
+use Rattle.meet_line.proofs.Stored.{held-front, length-entries, found-middle, taken-out, put-in, within-slots, widened}
 
 module _ {T : Type 0} (slots : List (Option (Entry T))) where
   pub keys-placed : (seats : List ℕ) → keys_in (map (placed slots) seats) ≡ seats

@@ -84,7 +84,7 @@ impl<T, A: MetAt> Line<T> for EndLine<T, A> {
     }
 
     fn widen(&mut self, seats: u64) -> Result<(), Refusal> {
-        let _ = (&self, seats);
+        let _ = seats;
         Ok(())
     }
 

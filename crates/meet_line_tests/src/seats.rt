@@ -1,9 +1,6 @@
 //! Lines with a place for each seat, and what all lines do of that: who leaves by a seat, by a ticket alone, and by a
 //! seat that holds another ticket; and the places that come.
 
-ghost use Rattle.std.specs.Prelude.{◌≡◌, ◌≤◌};
-ghost use Rattle.meet_tickets.specs.Limits.{most_seats};
-
 use crate::parcels::{Parcel, join, meets_in_order, seat, serial, ticket};
 use meet_line::{FairLine, FairRing, FairSeats, Line, StackLine, StackRing, StackSeats};
 use std::alloc::Global;
@@ -40,6 +37,9 @@ const LEAVINGS: [Leaving; 8] = [
     (5, Some(65_535), Some(50)),
 ];
 
+/// The first of these alone.
+const FEW: [Leaving; 2] = [(3, Some(3), Some(30)), (2, None, Some(20))];
+
 /// Each leaves as it should, and gives its room back.
 fn leave<L: Line<Parcel>>(rt: &impl Abort, line: &mut L, leavings: &[Leaving]) {
     for (number, at, wanted) in leavings {
@@ -59,7 +59,7 @@ fn leaves<L: Line<Parcel> + Drop>(rt: &impl Abort, alloc: Global, rest: &[u64]) 
     leave(rt, &mut line, &LEAVINGS);
     meets_in_order(rt, &mut line, &[]);
     let mut line: L = line_of_five(rt, alloc);
-    leave(rt, &mut line, LEAVINGS.split_at(3).0);
+    leave(rt, &mut line, &FEW);
     meets_in_order(rt, &mut line, rest);
 }
 
