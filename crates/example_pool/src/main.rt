@@ -1,4 +1,4 @@
-//! A pool of two workers, and one thread that hands ten jobs in.
+//! A pool of two workers, and one thread (a caller) that hands ten jobs in.
 #![tactic(auto)]
 
 use ibisbookcase::pools::{
@@ -26,7 +26,7 @@ impl PoolCrew<ItsTag, Task<Greeting>> for Ten {
 
 fn main(rt: HostRuntime) -> Result<(), Refusal> {
     let alloc = rt.alloc();
-    let done = at_fixed_pool(&rt, alloc, 1, 2, &Ten)?; // one thread, two workers
+    let done = at_fixed_pool(&rt, alloc, 1, 2, &Ten)?; // one caller, two workers
     let answers = answers_of(alloc, &done.closed?)?;
     println!(rt; "{} jobs were done", answers.len()).map_err(|_| Refusal::WriteFault)
 }

@@ -16,7 +16,7 @@ impl Crew<Labelled<String>> for Greeting {
             chair.put(Labels::of_seat(0).label(text)).ok()?;
             return None;
         }
-        match chair.take() {
+        match chair.poll_for(60_000) {
             Ok(End::Got(_, item)) => Some(item.value),
             _ => None,
         }

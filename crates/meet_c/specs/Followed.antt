@@ -7,8 +7,7 @@ use Rattle.meet_tickets.specs.declared.records.Deed.{Deed}
 use Rattle.meet_tickets.specs.Bases.{Based}
 use Rattle.meet_history.specs.declared.checker.CheckFault.{CheckFault}
 use Rattle.meet_history.specs.declared.checker.CheckFault.TheVariants.{Illegal, Memory}
-use Rattle.meet_history.specs.declared.checker.Why.{Why}
-use Rattle.meet_history.specs.declared.checker.Why.TheVariants.{SeatOpen, TicketOrder, NotOpen, WrongReply}
+use Rattle.meet_history.specs.Checking.{number_of_why}
 use Rattle.meet_history.specs.declared.checker.Standing.{Standing}
 use Rattle.meet_history.specs.Pushing.{Progress, HasSeen, TakesIn, IsUnchanged, IsStandingOf, HasRoomFor}
 use Rattle.meet_c.specs.declared.entries.PlainRecord.{PlainRecord}
@@ -21,12 +20,6 @@ use Rattle.meet_c.specs.Stepped.{QueueBook, HasCut, WasNotCut}
 abbrev pub status_with : (status records : ℕ) → Found
 status_with status records =
     record { status = status; records = records; place = 0; why = 0; waiting = 0; uncollected = 0; kept = 0 }
-
-abbrev pub number_of_why : Why → ℕ
-number_of_why SeatOpen = 1
-number_of_why TicketOrder = 2
-number_of_why NotOpen = 3
-number_of_why WrongReply = 4
 
 -- a fault, after so many records
 abbrev pub fault_with : CheckFault → (records : ℕ) → Found

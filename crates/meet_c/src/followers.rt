@@ -4,14 +4,14 @@ ghost use Rattle.std.specs.Prelude.{◌≡◌, ◌≢◌, ◌<◌, ◌+◌, ◌^
 ghost use Rattle.meet_tickets.specs.Bases.{no_base};
 ghost use Rattle.meet_history.specs.Pushing.{HasSeen};
 ghost use Rattle.meet_c.specs.Entries.{record_of};
-ghost use Rattle.meet_c.specs.Followed.{status_with, fault_with, found_with, number_of_why, TakesNext, TakesRead};
+ghost use Rattle.meet_c.specs.Followed.{status_with, fault_with, found_with, TakesNext, TakesRead};
 ghost use Rattle.meet_c.specs.Followed.{TakesMany};
 ghost use Rattle.meet_c.specs.Followed.{StandsAs, Follows, ChecksNew};
 
 use crate::entries::{PlainRecord, read_record};
 use crate::queues::cut;
 use meet_book::Book;
-use meet_history::{CheckFault, Checker, Standing, Why};
+use meet_history::{CheckFault, Checker, Standing};
 use meet_queues::AnyQueue;
 use meet_tickets::{Base, Deed, Kind, Record};
 use std::alloc::Global;
@@ -60,18 +60,6 @@ pub(crate) fn status_with(status: u64, records: u64) -> Found
     }
 }
 
-/// Returns the number of a reason.
-fn number_of_why(why: Why) -> u64
-    ensures { result ≡ number_of_why why }
-{
-    match why {
-        Why::SeatOpen => 1,
-        Why::TicketOrder => 2,
-        Why::NotOpen => 3,
-        Why::WrongReply => 4,
-    }
-}
-
 /// Returns the finding of a fault, after this many records.
 fn fault_with(fault: CheckFault, records: u64) -> Found
     ensures { result ≡ fault_with fault records }
@@ -80,7 +68,7 @@ fn fault_with(fault: CheckFault, records: u64) -> Found
         CheckFault::Memory => status_with(1, records),
         CheckFault::Illegal { place, why } => Found {
             place,
-            why: number_of_why(why),
+            why: why.number(),
             ..status_with(31, records)
         },
     }

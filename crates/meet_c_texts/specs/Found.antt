@@ -6,9 +6,8 @@ use Rattle.meet_tickets.specs.declared.records.Deed.{Deed}
 use Rattle.meet_tickets.specs.Bases.{Based, IsLegalOn}
 use Rattle.meet_history.specs.declared.checker.CheckFault.TheVariants.{Illegal}
 use Rattle.meet_history.specs.declared.checker.Why.{Why}
-use Rattle.meet_history.specs.declared.checker.Why.TheVariants.{SeatOpen, TicketOrder, NotOpen, WrongReply}
 use Rattle.meet_history.specs.declared.checker.Standing.{Standing}
-use Rattle.meet_history.specs.Checking.{IsIllegalAt}
+use Rattle.meet_history.specs.Checking.{IsIllegalAt, number_of_why}
 use Rattle.meet_history.specs.Pushing.{IsStandingOf}
 use Rattle.meet_history.specs.Standings.{standing_on}
 use Rattle.meet_run.specs.declared.trace.check.ReadTrace.{ReadTrace}
@@ -28,12 +27,6 @@ status_at status line = record {
   uncollected = 0;
   kept = 0;
 }
-
-abbrev pub number_of_why : Why → ℕ
-number_of_why SeatOpen = 1
-number_of_why TicketOrder = 2
-number_of_why NotOpen = 3
-number_of_why WrongReply = 4
 
 -- the standing that is told
 abbrev pub told_standing : Verdict → Standing

@@ -1,12 +1,8 @@
 -- What a caller in C is told of a text that was written.
-use Rattle.std.specs.Prelude.{◌≡◌, ℕ, ◌<◌, ◌≤◌, min, Bool, true, false, Some, List, [], length, slice_get, Result, Ok, Err}
+use Rattle.std.specs.Prelude.{◌≡◌, ℕ, ◌<◌, ◌≤◌, min, Bool, true, false, List, length, slice_get, Result, Ok, Err}
 use Rattle.std.specs.Option.{unwrap_or}
 use Rattle.meet_tickets.specs.Refusals.{number_of}
 use Rattle.meet_run.specs.declared.text.faults.RunFault.{RunFault}
-use Rattle.meet_run.specs.Texts.Reading.{lines_of}
-use Rattle.meet_judge.specs.Judging.{JudgeEnds}
-use Rattle.meet_explain.specs.Explained.{ExplainEnds}
-use Rattle.pool_run.specs.Checks.{PoolCheckEnds}
 use Rattle.meet_c_texts.specs.declared.judges.Written.{Written}
 
 -- the first bytes are those of the text, as many as have room; the others are what they were
@@ -20,26 +16,11 @@ told_as (Ok true) n = record { status = 0; line = 0; length = n }
 told_as (Ok false) n = record { status = 31; line = 0; length = n }
 told_as (Err f) n = record { status = number_of f.why; line = unwrap_or f.line 0; length = n }
 
--- the calls of the text were judged, and the first bytes of what is written stand there
-pub record JudgedInto (text old : List ℕ) (told : Written) (new : List ℕ) : Type 0 where
+-- what was asked for ended so and wrote a text, and the first bytes of that stand there
+pub record IsWrittenBy (Ends : Result Bool RunFault → (written : List ℕ) → Type 0) (old : List ℕ) (told : Written)
+    (new : List ℕ) : Type 0 where
   pub ended : Result Bool RunFault
   pub written : List ℕ
-  pub judged : JudgeEnds text ended (Some []) (Some written)
-  pub is_told : told ≡ told_as ended (length written)
-  pub first : AreFirst written old new
-
--- the trace of the text was explained, and the first bytes of what is written stand there
-pub record ExplainedInto (text old : List ℕ) (told : Written) (new : List ℕ) : Type 0 where
-  pub ended : Result Bool RunFault
-  pub written : List ℕ
-  pub explained : ExplainEnds (lines_of text) ended (Some []) (Some written)
-  pub is_told : told ≡ told_as ended (length written)
-  pub first : AreFirst written old new
-
--- the pool's trace of the text was checked, and the first bytes of what is written stand there
-pub record PoolCheckedInto (text old : List ℕ) (told : Written) (new : List ℕ) : Type 0 where
-  pub ended : Result Bool RunFault
-  pub written : List ℕ
-  pub checked : PoolCheckEnds (lines_of text) ended (Some []) (Some written)
+  pub ends : Ends ended written
   pub is_told : told ≡ told_as ended (length written)
   pub first : AreFirst written old new

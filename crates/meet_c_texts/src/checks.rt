@@ -1,9 +1,9 @@
 //! The check of a trace in memory.
 
 ghost use Rattle.std.specs.Prelude.{◌≡◌};
-ghost use Rattle.meet_c_texts.specs.Found.{FoundIn, VerdictOf, number_of_why, status_at};
+ghost use Rattle.meet_c_texts.specs.Found.{FoundIn, VerdictOf, status_at};
 
-use meet_history::{CheckFault, Standing, Why};
+use meet_history::{CheckFault, Standing};
 use meet_run::trace::check::{ReadTrace, read_trace};
 use meet_run::{MOST_READS, RunFault};
 use std::alloc::Global;
@@ -46,18 +46,6 @@ fn status_at(status: u64, line: u64) -> Verdict
     }
 }
 
-/// Returns the number of a reason.
-fn number_of_why(why: Why) -> u64
-    ensures { result ≡ number_of_why why }
-{
-    match why {
-        Why::SeatOpen => 1,
-        Why::TicketOrder => 2,
-        Why::NotOpen => 3,
-        Why::WrongReply => 4,
-    }
-}
-
 /// Returns the verdict on a trace that was read.
 fn found_of(trace: &ReadTrace) -> Verdict
     ensures { VerdictOf trace.now result }
@@ -79,7 +67,7 @@ fn found_of(trace: &ReadTrace) -> Verdict
         }
         Err(CheckFault::Illegal { place, why }) => Verdict {
             place,
-            why: number_of_why(why),
+            why: why.number(),
             ..status_at(31, 0)
         },
         Err(CheckFault::Memory) => status_at(1, 0),

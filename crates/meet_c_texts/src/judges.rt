@@ -1,7 +1,10 @@
 //! Concurrent histories, judged, and traces, explained, as text.
 
-ghost use Rattle.std.specs.Prelude.{◌≡◌};
-ghost use Rattle.meet_c_texts.specs.Written.{AreFirst, JudgedInto, ExplainedInto, told_as};
+ghost use Rattle.std.specs.Prelude.{◌≡◌, length, [], Some};
+ghost use Rattle.meet_run.specs.Texts.Reading.{lines_of};
+ghost use Rattle.meet_judge.specs.Judging.{JudgeEnds};
+ghost use Rattle.meet_explain.specs.Explained.{ExplainEnds};
+ghost use Rattle.meet_c_texts.specs.Written.{AreFirst, IsWrittenBy, told_as};
 
 use meet_explain::explain_trace;
 use meet_judge::judge_calls;
@@ -21,7 +24,7 @@ pub struct Written {
 }
 
 /// Copies the first bytes of a text, as many as have room.
-pub(crate) fn copy_first(text: &[u8], out: &mut [u8])
+fn copy_first(text: &[u8], out: &mut [u8])
     ensures { AreFirst text.now out.old out.new }
 {
     let mut at = 0;
@@ -32,7 +35,7 @@ pub(crate) fn copy_first(text: &[u8], out: &mut [u8])
 }
 
 /// Returns the result of a text, of which there are this many bytes to write.
-pub(crate) fn tell(ended: Result<bool, RunFault>, length: u64) -> Written
+fn tell(ended: Result<bool, RunFault>, length: u64) -> Written
     ensures { result ≡ told_as ended length }
 {
     match ended {
@@ -54,6 +57,22 @@ pub(crate) fn tell(ended: Result<bool, RunFault>, length: u64) -> Written
     }
 }
 
+/// Writes a text as far as there is room, and the result of what wrote it. Returns the result's status.
+pub(crate) fn write_out(
+    ended: Result<bool, RunFault>,
+    text: &[u8],
+    out: &mut [u8],
+    written: &mut Written,
+) -> u64
+    ensures told { written.new ≡ told_as ended (length text.now) }
+    ensures first { AreFirst text.now out.old out.new }
+    ensures status { result ≡ written.new.status }
+{
+    copy_first(text, out);
+    *written = tell(ended, text.len() as u64);
+    written.status
+}
+
 /// Judges the text of a concurrent history. Writes the trace of a history that explains its calls, or a line with the
 /// reason why none does. Returns the status: 0 if a history explains them, 31 if none does.
 ///
@@ -70,16 +89,13 @@ pub extern "C" fn ibis_judge(
     out: &mut [u8],
     written: &mut Written,
 ) -> u64
-    ensures judged { JudgedInto text.now out.old written.new out.new }
+    ensures judged { IsWrittenBy (λ ended all. JudgeEnds text.now ended (Some []) (Some all)) out.old written.new out.new }
     ensures status { result ≡ written.new.status }
 {
     let mut reader = text;
     let mut all = Vec::new(alloc);
     let ended = judge_calls(alloc, &mut reader, &mut all);
-    copy_first(all.as_slice(), out);
-    let told = tell(ended, all.len() as u64);
-    *written = told;
-    told.status
+    write_out(ended, all.as_slice(), out, written)
 }
 
 /// Checks the text of a trace, and writes the line that `meet check` prints; if a record can't stand also its
@@ -97,14 +113,12 @@ pub extern "C" fn ibis_explain(
     out: &mut [u8],
     written: &mut Written,
 ) -> u64
-    ensures explained { ExplainedInto text.now out.old written.new out.new }
+    ensures explained { IsWrittenBy (λ ended all. ExplainEnds (lines_of text.now) ended (Some []) (Some all))
+        out.old written.new out.new }
     ensures status { result ≡ written.new.status }
 {
     let mut reader = text;
     let mut all = Vec::new(alloc);
     let ended = explain_trace(alloc, &mut reader, &mut all);
-    copy_first(all.as_slice(), out);
-    let told = tell(ended, all.len() as u64);
-    *written = told;
-    told.status
+    write_out(ended, all.as_slice(), out, written)
 }

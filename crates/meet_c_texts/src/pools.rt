@@ -1,9 +1,11 @@
 //! Traces of pools, checked, as text.
 
-ghost use Rattle.std.specs.Prelude.{◌≡◌};
-ghost use Rattle.meet_c_texts.specs.Written.{PoolCheckedInto};
+ghost use Rattle.std.specs.Prelude.{◌≡◌, [], Some};
+ghost use Rattle.meet_run.specs.Texts.Reading.{lines_of};
+ghost use Rattle.pool_run.specs.Checks.{PoolCheckEnds};
+ghost use Rattle.meet_c_texts.specs.Written.{IsWrittenBy};
 
-use crate::judges::{Written, copy_first, tell};
+use crate::judges::{Written, write_out};
 use pool_run::check_pool_trace;
 use std::alloc::Global;
 
@@ -21,14 +23,12 @@ pub extern "C" fn ibis_pool_check(
     out: &mut [u8],
     written: &mut Written,
 ) -> u64
-    ensures checked { PoolCheckedInto text.now out.old written.new out.new }
+    ensures checked { IsWrittenBy (λ ended all. PoolCheckEnds (lines_of text.now) ended (Some []) (Some all))
+        out.old written.new out.new }
     ensures status { result ≡ written.new.status }
 {
     let mut reader = text;
     let mut all = Vec::new(alloc);
     let ended = check_pool_trace(alloc, &mut reader, &mut all);
-    copy_first(all.as_slice(), out);
-    let told = tell(ended, all.len() as u64);
-    *written = told;
-    told.status
+    write_out(ended, all.as_slice(), out, written)
 }

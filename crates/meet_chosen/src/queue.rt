@@ -176,6 +176,40 @@ impl<T: Marked, G: Gate, N: Ledgers> ChosenQueue<T, G, N> {
     }
 }
 
+/// The same fault, of the queue or the book of this order.
+macro_rules! as_chosen {
+    ($fault:expr, $order:ident) => {
+        match $fault {
+            QueueFault::SeatMissing {
+                have,
+                made,
+                queue,
+                seats,
+            } => QueueFault::SeatMissing {
+                have,
+                made,
+                queue: ChosenQueue::$order(queue),
+                seats,
+            },
+            QueueFault::Memory { queue, seats } => QueueFault::Memory {
+                queue: ChosenQueue::$order(queue),
+                seats,
+            },
+            QueueFault::Differs {
+                seat,
+                index,
+                book,
+                seats,
+            } => QueueFault::Differs {
+                seat,
+                index,
+                book: ChosenBook::$order(book),
+                seats,
+            },
+        }
+    };
+}
+
 /// Why a queue in fair mode was not closed, as one of the order that was chosen.
 fn fair_fault<T: Marked, G, N: Ledgers>(
     fault: QueueFault<SyncQueue<T, FairLine<T>, G, N>, Book<Dual<T, FairLine<T>>>, N>,
@@ -183,34 +217,7 @@ fn fair_fault<T: Marked, G, N: Ledgers>(
     ensures { (count : ℕ) (seats : List (Back Deed N)) → QueueFaultFits count seats fault
         → ChosenFaultFits (FairOne count) seats result }
 {
-    match fault {
-        QueueFault::SeatMissing {
-            have,
-            made,
-            queue,
-            seats,
-        } => QueueFault::SeatMissing {
-            have,
-            made,
-            queue: ChosenQueue::Fair(queue),
-            seats,
-        },
-        QueueFault::Memory { queue, seats } => QueueFault::Memory {
-            queue: ChosenQueue::Fair(queue),
-            seats,
-        },
-        QueueFault::Differs {
-            seat,
-            index,
-            book,
-            seats,
-        } => QueueFault::Differs {
-            seat,
-            index,
-            book: ChosenBook::Fair(book),
-            seats,
-        },
-    }
+    as_chosen!(fault, Fair)
 }
 
 /// Why a queue in the default mode was not closed, as one of the order that was chosen.
@@ -220,34 +227,7 @@ fn unfair_fault<T: Marked, G, N: Ledgers>(
     ensures { (count : ℕ) (seats : List (Back Deed N)) → QueueFaultFits count seats fault
         → ChosenFaultFits (UnfairOne count) seats result }
 {
-    match fault {
-        QueueFault::SeatMissing {
-            have,
-            made,
-            queue,
-            seats,
-        } => QueueFault::SeatMissing {
-            have,
-            made,
-            queue: ChosenQueue::Unfair(queue),
-            seats,
-        },
-        QueueFault::Memory { queue, seats } => QueueFault::Memory {
-            queue: ChosenQueue::Unfair(queue),
-            seats,
-        },
-        QueueFault::Differs {
-            seat,
-            index,
-            book,
-            seats,
-        } => QueueFault::Differs {
-            seat,
-            index,
-            book: ChosenBook::Unfair(book),
-            seats,
-        },
-    }
+    as_chosen!(fault, Unfair)
 }
 
 /// Why a queue that keeps its items was not closed, as one of the order that was chosen.
@@ -257,34 +237,7 @@ fn transfer_fault<T: Marked, G, N: Ledgers>(
     ensures { (count : ℕ) (seats : List (Back Deed N)) → QueueFaultFits count seats fault
         → ChosenFaultFits (TransferOne count) seats result }
 {
-    match fault {
-        QueueFault::SeatMissing {
-            have,
-            made,
-            queue,
-            seats,
-        } => QueueFault::SeatMissing {
-            have,
-            made,
-            queue: ChosenQueue::Transfer(queue),
-            seats,
-        },
-        QueueFault::Memory { queue, seats } => QueueFault::Memory {
-            queue: ChosenQueue::Transfer(queue),
-            seats,
-        },
-        QueueFault::Differs {
-            seat,
-            index,
-            book,
-            seats,
-        } => QueueFault::Differs {
-            seat,
-            index,
-            book: ChosenBook::Transfer(book),
-            seats,
-        },
-    }
+    as_chosen!(fault, Transfer)
 }
 
 impl<T: Marked, G: Drop, N: Ledgers> ChosenQueue<T, G, N> {

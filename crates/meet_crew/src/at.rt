@@ -101,10 +101,7 @@ where
     ghost chair_of = { λ at. record { seat = at.seat; keeps_log = at.keeps_log } };
 
     fn number(&self) -> u64 {
-        match &self.seat {
-            Some(seat) => seat.number().number(),
-            None => unreachable!(), // a chair at work has its seat
-        }
+        self.seat.as_ref().unwrap().number().number()
     }
 
     fn seats(&self) -> u64 {
@@ -112,10 +109,7 @@ where
     }
 
     fn moment(&self) -> Moment<N> {
-        match &self.seat {
-            Some(seat) => seat.moment(),
-            None => unreachable!(), // a chair at work has its seat
-        }
+        self.seat.as_ref().unwrap().moment()
     }
 
     fn learn(&mut self, moment: &Moment<N>) {

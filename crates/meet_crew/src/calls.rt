@@ -17,6 +17,7 @@ use crate::refused::{CallRefused, refused_apart};
 use meet_book::Bases;
 use meet_cells::ParkGate;
 use meet_core::{QueueDrains, QueuePlace};
+use meet_line::let_go_none;
 use meet_sync::{Chapter, DrainedItems, End, Ended, Ledgers, Queue, Request, Seat};
 use meet_tickets::{Deed, Refusal, SeatNo};
 use std::alloc::Global;
@@ -31,10 +32,7 @@ fn drop_itemless<T>(told: Result<(), CallRefused<T>>)
         Ok(()) => {}
         Err(refused) => {
             let CallRefused { why: _, item } = refused;
-            match item {
-                None => {}
-                Some(_) => unreachable!(),
-            }
+            let_go_none(item);
         }
     }
 }

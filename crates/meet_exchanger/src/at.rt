@@ -123,10 +123,7 @@ where
     fn number(&self) -> u64
         ensures { IfSome self.now.seat (λ seat. result ≡ seat.number) }
     {
-        match &self.seat {
-            Some(seat) => seat.number().number(),
-            None => unreachable!(), // a chair at work has its seat
-        }
+        self.seat.as_ref().unwrap().number().number()
     }
 
     fn seats(&self) -> u64

@@ -20,6 +20,13 @@ is_ending (Got mark u) = true
 is_ending (Withdrawn cause) = true
 is_ending deed = false
 
+-- the number of a reason, for those who can't name it (our choice)
+abbrev pub number_of_why : Why → ℕ
+number_of_why SeatOpen = 1
+number_of_why TicketOrder = 2
+number_of_why NotOpen = 3
+number_of_why WrongReply = 4
+
 -- a request is of a free seat and has a new ticket; an ending is of the seat's open ticket
 pub record IsTimely (m : Moment) (r : Record Deed) : Type 0 where
   pub free : is_request r.deed ≡ true → IsFree m.seats r.seat

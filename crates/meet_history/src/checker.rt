@@ -3,7 +3,7 @@
 ghost use Rattle.std.specs.Prelude.{◌≡◌, ◌≢◌, [], Some, None, Err, IfSome, IfOk, IfErr, OnOk};
 ghost use Rattle.meet_tickets.specs.Bases.{IsWellFormed, IsLegalOn};
 ghost use Rattle.meet_history.specs.declared.checker.CheckFault.TheVariants.{Memory};
-ghost use Rattle.meet_history.specs.Checking.{IsCheckFault};
+ghost use Rattle.meet_history.specs.Checking.{IsCheckFault, number_of_why};
 ghost use Rattle.meet_history.specs.Pushing.{HasSeen, HasRoomFor, IsUnchanged, TakesIn, IsStandingOf};
 ghost use Rattle.meet_history.specs.Standings.{standing_on};
 
@@ -27,6 +27,20 @@ pub enum Why {
     NotOpen,
     /// The specification requires another deed, partner or mark.
     WrongReply,
+}
+
+impl Why {
+    /// Returns the reason's number, 1 to 4, in the order of the reasons.
+    pub fn number(self) -> u64
+        ensures { result ≡ number_of_why self }
+    {
+        match self {
+            Why::SeatOpen => 1,
+            Why::TicketOrder => 2,
+            Why::NotOpen => 3,
+            Why::WrongReply => 4,
+        }
+    }
 }
 
 /// The error of a checker.

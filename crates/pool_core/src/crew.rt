@@ -10,6 +10,7 @@ ghost use Rattle.pool_core.specs.declared.stages.Stage.TheVariants.{Absent};
 
 use crate::numbers::Numbers;
 use crate::stages::Stage;
+use meet_line::let_go_none;
 use std::alloc::{AllocError, Global};
 use std::marker::Model;
 use std::mem;
@@ -175,11 +176,8 @@ pub fn set_stage<J>(workers: &mut Crew<J>, worker: u64, stage: Stage<J>)
 {
     match workers.put(worker, stage) {
         Stage::Absent | Stage::Waiting(_) | Stage::Cut(_) | Stage::Running(_) => {}
-        Stage::Starting(first) => match first {
-            None => {}
-            Some(_) => unreachable!(),
-        },
-        Stage::HandedOver(_, _) => unreachable!(),
+        Stage::Starting(first) => let_go_none(first),
+        Stage::HandedOver(_, _) => unreachable!(), // it leaves no job
     }
 }
 

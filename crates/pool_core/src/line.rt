@@ -14,7 +14,7 @@ ghost use Rattle.pool_core.specs.Pools.{kept_tasks};
 ghost use Rattle.pool_core.specs.Lines.{line_end, entries_of, room_of, kept_one};
 
 use crate::stages::Task;
-use meet_line::{FairRing, Line, StackLine, marked_line};
+use meet_line::{FairRing, Line, StackLine, let_go_none, marked_line};
 use meet_tickets::{End, Entry, Marked, Refusal, Side, Ticket};
 use std::alloc::Global;
 use std::marker::Model;
@@ -164,10 +164,7 @@ impl<J> JobLine<J> {
             item,
             waits: _,
         } = taker;
-        match item {
-            None => {}
-            Some(_) => unreachable!(),
-        }
+        let_go_none(item);
     }
 
     /// Removes the takes; the buffered jobs stay.
@@ -184,10 +181,7 @@ impl<J> JobLine<J> {
                 item,
                 waits: _,
             } = taker;
-            match item {
-                None => {}
-                Some(_) => unreachable!(),
-            }
+            let_go_none(item);
         }
     }
 

@@ -237,10 +237,7 @@ where
     ghost executor_of = { λ at. record { seat = at.seat; keeps_log = at.keeps_log } };
 
     fn number(&self) -> u64 {
-        match &self.seat {
-            Some(seat) => seat.number().number(),
-            None => unreachable!(), // an executor at work has its seat
-        }
+        self.seat.as_ref().unwrap().number().number()
     }
 
     fn keep_log(&mut self) {

@@ -210,7 +210,7 @@ where
 /// # Example
 /// From `crates/example_pool/src/main.rt`:
 ///
-///     let done = at_fixed_pool(&rt, alloc, 1, 2, &Ten)?; // one thread, two workers
+///     let done = at_fixed_pool(&rt, alloc, 1, 2, &Ten)?; // one caller, two workers
 ///
 /// Java: `Executors.newFixedThreadPool(workers)`.
 pub fn at_fixed_pool<W, C, R, V>(

@@ -1,27 +1,27 @@
 //! Jobs whose answers are more than their tags.
 
-ghost use Rattle.std.specs.Prelude.{◌+◌, ◌<◌};
+ghost use Rattle.std.specs.Prelude.{◌*◌, ◌<◌};
 
 use meet_tickets::Refusal;
 use pool_crew::{Answer, Executor, PoolCrew, answers_of, at_single_pool};
 use pool_threads::{Call, Work};
 use std::test::*;
 
-/// What these jobs return: the number behind their tag.
-struct Next;
+/// What these jobs return: the square of their tag.
+struct Squares;
 
-impl Work for Next {
-    ghost worth = { λ tag. tag + 1 };
+impl Work for Squares {
+    ghost worth = { λ tag. tag * tag };
 }
 
-/// A job that returns the number behind its tag, a small one.
+/// A job that returns the square of its tag, a small one.
 #[derive(Drop)]
-struct Small {
+struct Square {
     tag: u64,
     ghost small: { tag < 1000 },
 }
 
-impl Call<Next> for Small {
+impl Call<Squares> for Square {
     ghost tag_of = { λ job. job.tag };
 
     fn tag(&self) -> u64 {
@@ -29,19 +29,19 @@ impl Call<Next> for Small {
     }
 
     fn make(self) -> u64 {
-        self.tag + 1
+        self.tag * self.tag
     }
 }
 
 /// Hands in a job of each tag below 20.
 struct Twenty;
 
-impl PoolCrew<Next, Small> for Twenty {
+impl PoolCrew<Squares, Square> for Twenty {
     type Told = Option<Refusal>;
 
-    fn work<E: Executor<Next, Small>>(&self, pool: &mut E) -> Option<Refusal> {
+    fn work<E: Executor<Squares, Square>>(&self, pool: &mut E) -> Option<Refusal> {
         for tag in 0..20u64 {
-            if let Err(refused) = pool.execute(Small { tag }) {
+            if let Err(refused) = pool.execute(Square { tag }) {
                 return Some(refused.into_why());
             }
         }
@@ -64,7 +64,7 @@ fn a_single_worker_keeps_order(rt: HostRuntime) {
             answer,
             Answer {
                 job: tag,
-                value: tag.saturating_add(1)
+                value: tag.saturating_mul(tag)
             }
         );
     }

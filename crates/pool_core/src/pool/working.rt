@@ -10,6 +10,7 @@ use crate::answers::{Followed, IdleEnd, Ready};
 use crate::crew::{Crew, set_stage, take_stage};
 use crate::pool::PoolCore;
 use crate::stages::{Stage, Task};
+use crate::tickets::ticket_of;
 use meet_tickets::{Entry, Refusal, SeatNo, Side, Ticket};
 
 impl<J> PoolCore<J> {
@@ -154,7 +155,7 @@ impl<J> PoolCore<J> {
             return Err(Refusal::NotOpen);
         }
         set_stage(&mut self.workers, worker, Stage::Absent);
-        Ok(no_ticket())
+        Ok(ticket_of(0))
     }
 
     /// Ends a worker that couldn't be started, and returns its first job.
@@ -174,7 +175,7 @@ impl<J> PoolCore<J> {
         }
         if self.workers.at(worker).is_jobless() {
             set_stage(&mut self.workers, worker, Stage::Absent);
-            return Ok((no_ticket(), None));
+            return Ok((ticket_of(0), None));
         }
         let Task { ticket, job } = take_first(&mut self.workers, worker);
         self.back += 1;
@@ -277,9 +278,7 @@ impl<J> PoolCore<J> {
         ensures step { Step self.old seat result.0 (ready_deed result.1) self.new }
         ensures room { self.old.room ≤ self.new.room }
     {
-        let Some(take) = Ticket::new(self.next) else {
-            unreachable!()
-        };
+        let take = ticket_of(self.next);
         let Task { ticket, job } = take_first(&mut self.workers, worker);
         set_stage(&mut self.workers, worker, Stage::Running(ticket));
         self.next += 1;
@@ -296,11 +295,9 @@ impl<J> PoolCore<J> {
         ensures step { Step self.old seat result.0 (ready_deed result.1) self.new }
         ensures room { self.old.room ≤ self.new.room }
     {
-        let Some(take) = Ticket::new(self.next) else {
-            unreachable!()
-        };
+        let take = ticket_of(self.next);
         let Some(oldest) = self.line.partner(Side::Taker) else {
-            unreachable!()
+            unreachable!() // it was placed so
         };
         let Entry {
             ticket,
@@ -324,9 +321,7 @@ impl<J> PoolCore<J> {
         ensures step { Step self.old seat result.0 (ready_deed result.1) self.new }
         ensures room { self.old.room ≤ self.new.room }
     {
-        let Some(take) = Ticket::new(self.next) else {
-            unreachable!()
-        };
+        let take = ticket_of(self.next);
         self.next += 1;
         if self.shut {
             set_stage(&mut self.workers, worker, Stage::Absent);
@@ -343,13 +338,6 @@ impl<J> PoolCore<J> {
     }
 }
 
-/// The ticket of a record that has none.
-fn no_ticket() -> Ticket
-    ensures { result ≡ 0 }
-{
-    Ticket::new(0).unwrap()
-}
-
 /// Takes the job that a worker starts with out of its hands.
 fn take_first<J>(workers: &mut Crew<J>, worker: u64) -> Task<J>
     requires there { worker < length workers.old }
@@ -360,8 +348,7 @@ fn take_first<J>(workers: &mut Crew<J>, worker: u64) -> Task<J>
 {
     match take_stage(workers, worker) {
         Stage::Starting(first) => first.unwrap(),
-        Stage::Absent | Stage::Waiting(_) | Stage::Cut(_) | Stage::Running(_) => unreachable!(),
-        Stage::HandedOver(_, _) => unreachable!(),
+        _ => unreachable!(), // it starts
     }
 }
 
@@ -374,7 +361,6 @@ fn take_handed<J>(workers: &mut Crew<J>, worker: u64) -> Task<J>
 {
     match take_stage(workers, worker) {
         Stage::HandedOver(_, task) => task,
-        Stage::Starting(_) => unreachable!(),
-        Stage::Absent | Stage::Waiting(_) | Stage::Cut(_) | Stage::Running(_) => unreachable!(),
+        _ => unreachable!(), // it was handed one
     }
 }

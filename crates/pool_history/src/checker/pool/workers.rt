@@ -29,7 +29,7 @@ fn comes_from(stage: &Stage<u64>, deed: &PoolDeed<u64>) -> bool
         PoolDeed::IdleExit => stage.is_at_queue(),
         PoolDeed::Leaves => stage.is_jobless(),
         PoolDeed::StartFailed => stage.is_starting(),
-        _ => unreachable!(), // a caller's deed
+        _ => false, // a caller's deed
     }
 }
 
@@ -60,7 +60,7 @@ fn draws(stage: &Stage<u64>, deed: &PoolDeed<u64>) -> bool
         PoolDeed::IdleExit => false,
         PoolDeed::Leaves => false,
         PoolDeed::StartFailed => false,
-        _ => unreachable!(), // a caller's deed
+        _ => false, // a caller's deed
     }
 }
 
@@ -113,7 +113,7 @@ impl CheckedPool {
             PoolDeed::IdleExit => self.expires(seat, ticket, worker),
             PoolDeed::Leaves => self.leaves(seat, ticket, worker),
             PoolDeed::StartFailed => self.fails(seat, ticket, worker),
-            _ => unreachable!(), // a caller's deed
+            _ => false, // a caller's deed
         }
     }
 
@@ -348,7 +348,7 @@ fn jobs_at(stage: &Stage<u64>) -> u64
 {
     match stage {
         Stage::Starting(first) => u64::from(first.is_some()),
-        _ => unreachable!(), // it starts
+        _ => 0,
     }
 }
 
