@@ -17,7 +17,7 @@ use crate::slots::{Room, joined};
 use crate::start::Start;
 use meet_cells::ParkGate;
 use meet_core::{Dual, QueueLeaves};
-use meet_sync::{Back, Chronicle, FairLine, Ledgers, NewQueue, Queue, QueueFault, Seat, StackLine};
+use meet_sync::{Back, Chronicle, FairSeats, Ledgers, NewQueue, Queue, QueueFault, Seat, StackSeats};
 use meet_tickets::{Deed, MOST_SEATS, Marked, Refusal};
 use meet_transfer::Unbounded;
 use std::alloc::Global;
@@ -170,7 +170,7 @@ where
         IsUnclosed) }
     ensures why { IfErr result (IsCrewWhy N.parts) }
 {
-    let Hall { queue, seats, room } = Hall::<Dual<T, FairLine<T>>, N, V::Told>::new(alloc, parts)?;
+    let Hall { queue, seats, room } = Hall::<Dual<T, FairSeats<T>>, N, V::Told>::new(alloc, parts)?;
     let Room {
         handles,
         backs,
@@ -211,7 +211,7 @@ where
         IsUnclosed) }
     ensures why { IfErr result (IsCrewWhy N.parts) }
 {
-    let Hall { queue, seats, room } = Hall::<Dual<T, StackLine<T>>, N, V::Told>::new(alloc, parts)?;
+    let Hall { queue, seats, room } = Hall::<Dual<T, StackSeats<T>>, N, V::Told>::new(alloc, parts)?;
     let Room {
         handles,
         backs,

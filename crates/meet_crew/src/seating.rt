@@ -10,7 +10,7 @@ use crate::kinds::CrewQueue;
 use crate::slots::Sat;
 use crate::start::Start;
 use meet_cells::ParkGate;
-use meet_sync::{FairLine, Ledgers, Queue, Seat, StackLine, SyncQueue, TransferQueue};
+use meet_sync::{FairSeats, Ledgers, Queue, Seat, StackSeats, SyncQueue, TransferQueue};
 use meet_tickets::{Deed, Marked};
 use std::alloc::Global;
 use std::sync::Wait;
@@ -50,7 +50,7 @@ where
 pub(crate) fn seated_fair<T, N, R, V>(
     rt: &R,
     alloc: Global,
-    queue: &SyncQueue<T, FairLine<T>, ParkGate, N>,
+    queue: &SyncQueue<T, FairSeats<T>, ParkGate, N>,
     crew: &V,
     start: &Start,
     seats: Vec<Seat<Deed, N>>,
@@ -93,7 +93,7 @@ where
 pub(crate) fn seated_unfair<T, N, R, V>(
     rt: &R,
     alloc: Global,
-    queue: &SyncQueue<T, StackLine<T>, ParkGate, N>,
+    queue: &SyncQueue<T, StackSeats<T>, ParkGate, N>,
     crew: &V,
     start: &Start,
     seats: Vec<Seat<Deed, N>>,
