@@ -32,10 +32,6 @@ pub trait Line<T> {
     /// A node may come to a wait queue of this width with these nodes.
     ghost fits: { (width : ℕ) → List (Entry T) → Entry T → Type 0 };
 
-    /// A node that waits may come, if its seat is below the width and no node that waits is of its seat.
-    ghost seated: { (width : ℕ) (line : List (Entry T)) (entry : Entry T) → entry.waits ≡ true → entry.seat < width
-        → All (λ e. e.waits ≡ true → e.seat ≢ entry.seat) line → fits width line entry };
-
     /// Returns an empty wait queue, without room.
     fn empty(alloc: Global) -> Self
         ensures entries { entries result ≡ [] }
@@ -50,8 +46,8 @@ pub trait Line<T> {
         ensures entries { entries self.new ≡ entries self.old }
         ensures wide { OnOk result (seats ≤ width self.new) }
         ensures width { width self.old ≤ width self.new }
-        ensures room { spare self.old ≤ spare self.new }
-        ensures unchanged { OnErr result ((width self.new ≡ width self.old) × (spare self.new ≡ spare self.old)) }
+        ensures room { spare self.new ≡ spare self.old }
+        ensures unchanged { OnErr result (width self.new ≡ width self.old) }
         ensures memory { IfErr result (λ why. why ≡ Memory) };
 
     /// Makes room for this many more nodes.
@@ -126,6 +122,10 @@ pub trait Line<T> {
     /// Drops an empty wait queue, even if its items can't be dropped.
     fn destroy_empty(self)
         requires { entries self ≡ [] };
+
+    /// A node that waits may come, if its seat is below the width and no node that waits is of its seat.
+    ghost seated: { (width : ℕ) (line : List (Entry T)) (entry : Entry T) → entry.waits ≡ true → entry.seat < width
+        → All (λ e. e.waits ≡ true → e.seat ≢ entry.seat) line → fits width line entry };
 }
 
 /// A wait queue that buffers: any node may come, also many of one seat, since a buffered item's producer goes on.
