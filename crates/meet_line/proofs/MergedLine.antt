@@ -1,5 +1,7 @@
 -- What stays true of nodes that wait and buffered items that are merged, whoever comes and goes.
-use Rattle.std.proofs.Common.{◌≡◌, ◌≢◌, ℕ, ◌+◌, ◌-◌, ◌<◌, ◌≤◌, ◌==◌, true, false, Option, Some, None, List, [], ◌∷◌, ◌++◌, length, find, sym, ap, ◌∙◌, subst, arith, All, AllPairs, option_to_list}
+use Rattle.std.proofs.Common.{◌≡◌, ◌≢◌, ℕ, ◌+◌, ◌-◌, ◌<◌, ◌≤◌, ◌==◌, true, false, Option, Some, None, List, [], ◌∷◌, ◌++◌, length, find, sym, ap, ◌∙◌, subst, arith, All, AllPairs, Bor, option_map, option_to_list}
+use Rattle.std.specs.Slice.{IsItemAt}
+use Rattle.std.proofs.lemmas.Bool.{lt-ltb}
 use Rattle.std.proofs.lemmas.List.{length-append, nil_from_length}
 use Rattle.meet_tickets.specs.declared.lines.Entry.{Entry}
 use Rattle.meet_tickets.specs.declared.places.End.TheVariants.{Front}
@@ -7,10 +9,31 @@ use Rattle.meet_tickets.specs.Meeting.{met}
 use Rattle.meet_tickets.specs.BySeat.{unmet, without_first}
 use Rattle.meet_tickets.proofs.Line.Sides.{AllPairs-unmet, AllPairs-without_first}
 use Rattle.meet_line.specs.Seated.{Fits}
-use Rattle.meet_line.specs.Merged.{merged, is_buffered_next, IsMerged, Comes}
+use Rattle.meet_line.specs.Merged.{merged, Rises, is_buffered_next, IsMerged, Comes}
 use Rattle.meet_line.proofs.Removed.{without_first-none}
 use Rattle.meet_line.proofs.Merging.{Below, all-from_merged, merged-push_waiting, merged-push_buffered, merged-length, rises-push}
-use Rattle.meet_line.proofs.MergedOut.{found-waiting, found-buffered, met-waiting, met-buffered}
+use Rattle.meet_line.proofs.MergedOut.{found-waiting, found-buffered, met-waiting, met-buffered, next-waiting, next-buffered}
+use Rattle.meet_line.proofs.Walking.{item-first}
+
+-- the first of both, borrowed
+module _ {T : Type 0} where
+  item-shown : (e : Entry T) (line : List (Entry T)) (o : Option (Bor (Entry T))) → IsItemAt (e ∷ line) 0 o → option_map (λ b. b.now) o ≡ Some e
+  item-shown e line None is =
+      let clash : false ≡ true = is.0 ∙ lt-ltb 0 (length (e ∷ line)) (omega arith) in
+      absurd (cc)
+  item-shown e line (Some b) is = ap (λ f. Some f) is.1
+
+  waiting-item : (xs ys : List (Entry T)) (o : Option (Bor (Entry T))) → Rises xs → Rises (merged xs ys) → is_buffered_next xs ys ≡ false → IsItemAt xs 0 o → IsItemAt (merged xs ys) 0 o
+  waiting-item [] [] o seats rises next is = is
+  waiting-item [] (y ∷ ys) o seats rises next is = absurd (cc)
+  waiting-item (x ∷ xs) ys o seats rises next is =
+      item-first (merged (x ∷ xs) ys) o x (merged xs ys) (next-waiting x xs ys seats rises next) (item-shown x xs o is)
+
+  buffered-item : (xs ys : List (Entry T)) (o : Option (Bor (Entry T))) → Rises xs → is_buffered_next xs ys ≡ true → IsItemAt ys 0 o → IsItemAt (merged xs ys) 0 o
+  buffered-item [] [] o seats next is = absurd (cc)
+  buffered-item (x ∷ xs) [] o seats next is = absurd (cc)
+  buffered-item xs (y ∷ ys) o seats next is =
+      item-first (merged xs (y ∷ ys)) o y (merged xs ys) (next-buffered xs y ys seats next) (item-shown y ys o is)
 
 module _ {T : Type 0} (xs ys : List (Entry T)) (room : ℕ) where
   -- an entry has come
@@ -132,3 +155,34 @@ module _ {T : Type 0} (xs ys : List (Entry T)) (room : ℕ) (m : IsMerged xs ys 
       let all = ap length none in
       let many = merged-length xs ys in
       (nil_from_length xs (omega (arith, all, many)), nil_from_length ys (omega (arith, all, many)))
+
+  -- more room
+  pub roomier : (xs' ys' : List (Entry T)) (room' : ℕ) → xs' ≡ xs → ys' ≡ ys → room ≤ room' → IsMerged xs' ys' room'
+  roomier xs' ys' room' same_xs same_ys more =
+      let line : merged xs' ys' ≡ merged xs ys = ap (λ es. merged es ys') same_xs ∙ ap (merged xs) same_ys in
+      record {
+        seats = subst (AllPairs Below) (sym same_xs) m.seats;
+        rises = subst (AllPairs Below) (sym line) m.rises;
+        within = omega (arith, ap length same_xs, more, m.within);
+      }
+
+  -- no two are of one ticket
+  pub merged-distinct : AllPairs (λ e f. e.ticket ≢ f.ticket) (merged xs ys)
+  merged-distinct i j d before within same = omega (arith, m.rises i j d before within, same)
+
+  -- the first, borrowed
+  pub item-waiting : (o : Option (Bor (Entry T))) → is_buffered_next xs ys ≡ false → IsItemAt xs 0 o → IsItemAt (merged xs ys) 0 o
+  item-waiting o next is = waiting-item xs ys o m.seats m.rises next is
+
+  pub item-buffered : (o : Option (Bor (Entry T))) → is_buffered_next xs ys ≡ true → IsItemAt ys 0 o → IsItemAt (merged xs ys) 0 o
+  item-buffered o next is = buffered-item xs ys o m.seats next is
+
+-- nobody is there
+pub merged-empty : {T : Type 0} (xs ys : List (Entry T)) (room : ℕ) → xs ≡ [] → ys ≡ [] → IsMerged xs ys room
+merged-empty xs ys room no_xs no_ys =
+    let none : merged xs ys ≡ [] = ap (λ es. merged es ys) no_xs ∙ no_ys in
+    record {
+      seats = subst (AllPairs Below) (sym no_xs) (λ i j d before within. absurd (omega (arith, within)));
+      rises = subst (AllPairs Below) (sym none) (λ i j d before within. absurd (omega (arith, within)));
+      within = omega (arith, ap length no_xs);
+    }

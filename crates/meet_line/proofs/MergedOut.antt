@@ -114,22 +114,22 @@ module _ {T : Type 0} (t : ℕ) where
             (other.0 ∙ rest.0, other.1 ∙ ap (with_placed x) rest.1)
       ]
 
+-- of two firsts one is next
+less-from_test : (a b : ℕ) → nat_lt a b ≡ true → a < b
+less-from_test a b is =
+    elim (cases_lt a b) [
+      | inl less ↦ less
+      | inr more ↦ let clash : true ≡ false = sym is ∙ le-ltb a b more in absurd (cc)
+    ]
+
+least-from_test : (a b : ℕ) → nat_lt a b ≡ false → b ≤ a
+least-from_test a b is =
+    elim (cases_lt a b) [
+      | inl less ↦ let clash : true ≡ false = sym (lt-ltb a b less) ∙ is in absurd (cc)
+      | inr more ↦ more
+    ]
+
 module _ {T : Type 0} where
-  -- of two firsts one is next
-  less-from_test : (a b : ℕ) → nat_lt a b ≡ true → a < b
-  less-from_test a b is =
-      elim (cases_lt a b) [
-        | inl less ↦ less
-        | inr more ↦ let clash : true ≡ false = sym is ∙ le-ltb a b more in absurd (cc)
-      ]
-
-  least-from_test : (a b : ℕ) → nat_lt a b ≡ false → b ≤ a
-  least-from_test a b is =
-      elim (cases_lt a b) [
-        | inl less ↦ let clash : true ≡ false = sym (lt-ltb a b less) ∙ is in absurd (cc)
-        | inr more ↦ more
-      ]
-
   -- a list whose first is below another is above it
   all-above : (a : ℕ) (x : Entry T) (xs : List (Entry T)) → Rises (x ∷ xs) → a < x.ticket → All (λ f. a < f.ticket) (x ∷ xs)
   all-above a x xs rises below =

@@ -24,8 +24,12 @@ module _ {T : Type 0} where
       absurd (cc)
   first-some (e ∷ line) b is = (line, ap (λ f. f ∷ line) (sym is.1))
 
+  next-nothing : (xs : List (Entry T)) → is_buffered_next xs [] ≡ false
+  next-nothing [] = refl
+  next-nothing (x ∷ xs) = refl
+
   pub next-none : (xs ys : List (Entry T)) → IsItemAt ys 0 None → false ≡ is_buffered_next xs ys
-  next-none xs ys is = ap (is_buffered_next xs) (sym (first-none ys is))
+  next-none xs ys is = sym (ap (is_buffered_next xs) (first-none ys is) ∙ next-nothing xs)
 
   pub next-alone : (xs ys : List (Entry T)) (b : Bor (Entry T)) → IsItemAt xs 0 None → IsItemAt ys 0 (Some b) → true ≡ is_buffered_next xs ys
   next-alone xs ys b none is =
@@ -36,6 +40,10 @@ module _ {T : Type 0} where
       let x = first-some xs a first in
       let y = first-some ys b is in
       ap (is_buffered_next (a.now ∷ x.0)) (sym y.1) ∙ ap (λ es. is_buffered_next es ys) (sym x.1)
+
+  next-some : (ys : List (Entry T)) → 0 < length ys → is_buffered_next [] ys ≡ true
+  next-some [] some = absurd (omega (arith, some))
+  next-some (y ∷ ys) some = refl
 
   next-from_nil : (ys : List (Entry T)) → is_buffered_next [] ys ≡ false → ys ≡ []
   next-from_nil [] next = refl
@@ -58,11 +66,12 @@ module _ {T : Type 0} (ws bs : List (Bor (Entry T))) where
   B = map (λ b. b.now) bs
 
   pub next-at_none : (at from : ℕ) → length bs ≤ from → false ≡ is_buffered_next (drop at W) (drop from B)
-  next-at_none at from past = ap (is_buffered_next (drop at W)) (sym (shown-none bs from past))
+  next-at_none at from past = sym (ap (is_buffered_next (drop at W)) (shown-none bs from past) ∙ next-nothing (drop at W))
 
-  pub next-at_alone : (at from : ℕ) (d : Bor (Entry T)) → length ws ≤ at → from < length bs → true ≡ is_buffered_next (drop at W) (drop from B)
-  next-at_alone at from d past within =
-      ap (is_buffered_next []) (sym (shown-more bs from d within)) ∙ ap (λ es. is_buffered_next es (drop from B)) (sym (shown-none ws at past))
+  pub next-at_alone : (at from : ℕ) → length ws ≤ at → from < length bs → true ≡ is_buffered_next (drop at W) (drop from B)
+  next-at_alone at from past within =
+      let some = next-some (drop from B) (omega (arith, within, length-drop from B, length-map bs (λ b. b.now))) in
+      sym (ap (λ es. is_buffered_next es (drop from B)) (shown-none ws at past) ∙ some)
 
   pub next-at_both : (at from : ℕ) (d e : Bor (Entry T)) → at < length ws → from < length bs → nat_lt (get_or bs from d).now.ticket (get_or ws at e).now.ticket ≡ is_buffered_next (drop at W) (drop from B)
   next-at_both at from d e within within' =

@@ -99,6 +99,7 @@ differs_from_absent k (j ∷ keys) absent =
     (here, differs_from_absent k keys (absent-tail (Some k) j keys absent))
 
 distinct-std : (keys : List ℕ) → IsDistinct keys → StdDistinct eqb keys
+unfolding StdDistinct
 distinct-std [] distinct = tt
 distinct-std (k ∷ keys) distinct =
     (differs_from_absent k keys (distinct-head k keys distinct), distinct-std keys (distinct-tail k keys distinct))

@@ -12,7 +12,7 @@ use std::alloc::Global;
 /// Whether the first of both is a buffered item, by the first node of each.
 #[inline(always)]
 pub(crate) fn is_next<T>(waiting: Option<&Entry<T>>, buffered: Option<&Entry<T>>) -> bool
-    ensures { (xs ys : List (Entry T)) → IsItemAt xs 0 waiting → IsItemAt ys 0 buffered
+    ensures { (xs ys : List (Entry T)) → IsItemAt xs 0 waiting.entry → IsItemAt ys 0 buffered.entry
         → result ≡ is_buffered_next xs ys }
 {
     let Some(buffered) = buffered else {
