@@ -1,5 +1,5 @@
 -- Proof of `merge`, src/merged.rt. The nodes of both lists in order of arrival.
-use Rattle.std.proofs.Common.{◌≡◌, ◌+◌, ◌<◌, ◌∙◌, ◌∷◌, [], false, length, map, vec_len, sym, ap, arith, rules}
+use Rattle.std.proofs.Common.{◌≡◌, ◌+◌, ◌<◌, ◌∙◌, ◌∷◌, ◌++◌, [], false, length, map, vec_len, sym, ap, arith, rules}
 use Rattle.std.specs.Vec.{vec_capacity}
 use Rattle.std.proofs.lemmas.List.{map-append}
 use Rattle.meet_line.proofs.MergedWalk.{waiting-there, waiting-more, buffered-there, buffered-more}
@@ -26,7 +26,7 @@ loop-step-preserved g c =
           let next = sym c.is_next_at.ensures ∙ w.if-is_next_at.true in
           let within = buffered-there ws bs at from step done inv.0 next in
           let on = buffered-more ws bs at from step done w.index-buffered-from.result inv.0 next within in
-          let items = ap (λ v. map (λ e. e.now) v.items) w.list-is ∙ ap (map (λ e. e.now)) w.push_reserved.ensures.items ∙ map-append (λ e. e.now) c.loop-step.list.items (_ ∷ []) in (
+          let items = ap (λ v. map (λ e. e.now) v.items) w.list-is ∙ ap (map (λ e. e.now)) w.push_reserved.ensures.items ∙ map-append (λ e. e.now) c.loop-step.list.items (_ ∷ []) ∙ ap (λ b. done ++ b.now ∷ []) w.index-buffered-from.is in (
             rw (w.at-is, w.from-is, items) on,
             omega (arith, inv.1, w.push_reserved.ensures.len, ap vec_len w.list-is),
             omega (arith, inv.2, w.push_reserved.ensures.capacity, ap vec_capacity w.list-is),
@@ -35,7 +35,7 @@ loop-step-preserved g c =
           let next = sym c.is_next_at.ensures ∙ w.if-is_next_at.false in
           let within = waiting-there ws bs at from step done inv.0 more next in
           let on = waiting-more ws bs at from step done w.index-waiting-at.result inv.0 next within in
-          let items = ap (λ v. map (λ e. e.now) v.items) w.list-is ∙ ap (map (λ e. e.now)) w.push_reserved-else-is_next_at.ensures.items ∙ map-append (λ e. e.now) c.loop-step.list.items (_ ∷ []) in (
+          let items = ap (λ v. map (λ e. e.now) v.items) w.list-is ∙ ap (map (λ e. e.now)) w.push_reserved-else-is_next_at.ensures.items ∙ map-append (λ e. e.now) c.loop-step.list.items (_ ∷ []) ∙ ap (λ b. done ++ b.now ∷ []) w.index-waiting-at.is in (
             rw (w.at-is, w.from-is, items) on,
             omega (arith, inv.1, w.push_reserved-else-is_next_at.ensures.len, ap vec_len w.list-is),
             omega (arith, inv.2, w.push_reserved-else-is_next_at.ensures.capacity, ap vec_capacity w.list-is),
