@@ -1,11 +1,11 @@
 -- The walk that merges two lists of borrowed entries, and whose first is next.
-use Rattle.std.proofs.Common.{◌≡◌, ◌≢◌, ℕ, ◌+◌, ◌-◌, ◌<◌, ◌≤◌, true, false, Option, Some, None, List, [], ◌∷◌, ◌++◌, length, map, drop, get_or, refl, sym, ap, ◌∙◌, inl, inr, subst, arith, AllPairs, Bor}
+use Rattle.std.proofs.Common.{◌≡◌, ℕ, ◌+◌, ◌<◌, ◌≤◌, true, false, Some, None, List, [], ◌∷◌, ◌++◌, length, map, drop, get_or, refl, sym, ap, ◌∙◌, inl, inr, subst, arith, AllPairs, Bor}
 use Rattle.std.specs.Prelude.{nat_lt}
 use Rattle.std.specs.Slice.{IsItemAt}
 use Rattle.std.proofs.lemmas.Bool.{cases_lt, lt-ltb, le-ltb}
 use Rattle.std.proofs.lemmas.List.{append_assoc, append-nil, drop_more, drop_all, drop-map, length-map, length-drop}
 use Rattle.meet_tickets.specs.declared.lines.Entry.{Entry}
-use Rattle.meet_tickets.proofs.Line.Sides.{AllPairs-head, AllPairs-tail}
+use Rattle.meet_tickets.proofs.Line.Sides.{AllPairs-tail}
 use Rattle.meet_line.specs.Merged.{merged, Rises, is_buffered_next}
 use Rattle.meet_line.proofs.Merging.{Below}
 use Rattle.meet_line.proofs.MergedOut.{next-waiting, next-buffered}

@@ -1,18 +1,12 @@
 -- Two lists of entries, merged by their tickets.
-use Rattle.std.proofs.Common.{◌≡◌, ◌≢◌, ℕ, ◌+◌, ◌<◌, ◌≤◌, ◌==◌, Bool, true, false, cond, Option, Some, None, List, [], ◌∷◌, ◌++◌, length, find, refl, sym, ap, ◌∙◌, inl, inr, subst, arith, All, AllPairs}
-use Rattle.std.specs.Prelude.{nat_lt}
-use Rattle.std.proofs.lemmas.Bool.{cases_lt, lt-ltb, le-ltb, ltb-true, cond_both}
-use Rattle.std.proofs.lemmas.Bool.Decides.{eqb_tells}
-use Rattle.std.proofs.lemmas.List.{length-append}
+use Rattle.std.proofs.Common.{◌≡◌, ◌≢◌, ◌+◌, ◌<◌, ◌≤◌, cond, List, [], ◌∷◌, ◌++◌, length, refl, sym, ap, ◌∙◌, inl, inr, subst, arith, All}
+use Rattle.std.proofs.lemmas.Bool.{cases_lt, lt-ltb, le-ltb}
 use Rattle.std.proofs.lemmas.List.Elements.{All-nil, All-cons, All-head, All-tail, All-weaker}
 use Rattle.std.proofs.lemmas.List.Kept.{AllPairs-cons}
 use Rattle.std.proofs.lemmas.List.Quantifiers.{all_pairs_push}
 use Rattle.meet_tickets.specs.declared.lines.Entry.{Entry}
-use Rattle.meet_tickets.specs.declared.places.End.TheVariants.{Front}
-use Rattle.meet_tickets.specs.Meeting.{met}
-use Rattle.meet_tickets.specs.BySeat.{unmet, without_first}
 use Rattle.meet_tickets.proofs.Line.Sides.{AllPairs-head, AllPairs-tail}
-use Rattle.meet_line.specs.Merged.{with_placed, merged, Rises, is_buffered_next}
+use Rattle.meet_line.specs.Merged.{with_placed, merged, Rises}
 
 module _ {T : Type 0} where
   abbrev pub Below : Entry T → Entry T → Type 0

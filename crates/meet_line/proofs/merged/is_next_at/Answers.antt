@@ -1,5 +1,5 @@
 -- Proof of `is_next_at`, src/merged.rt. Whether the first of both is a buffered item, from these indices on.
-use Rattle.std.proofs.Common.{◌≡◌, ◌<◌, ◌≤◌, ◌∙◌, nat_lt, length, rules}
+use Rattle.std.proofs.Common.{◌<◌, ◌≤◌, ◌∙◌, nat_lt, length, rules}
 use Rattle.std.proofs.Math.Path.{ap₂}
 use Rattle.meet_line.proofs.MergedWalk.{next-at_alone, next-at_both}
 use Rattle.meet_line.proofs.merged.is_next_at.Goals as goal

@@ -1,5 +1,5 @@
 -- Proof of `merge`, src/merged.rt. The nodes of both lists in order of arrival.
-use Rattle.std.proofs.Common.{◌≡◌, ◌+◌, ◌<◌, ◌∙◌, ◌∷◌, ◌++◌, [], false, length, map, vec_len, sym, ap, arith, rules}
+use Rattle.std.proofs.Common.{◌+◌, ◌<◌, ◌∙◌, ◌∷◌, ◌++◌, [], length, map, vec_len, sym, ap, arith, rules}
 use Rattle.std.specs.Vec.{vec_capacity}
 use Rattle.std.proofs.lemmas.List.{map-append}
 use Rattle.meet_line.proofs.MergedWalk.{waiting-there, waiting-more, buffered-there, buffered-more}

@@ -1,5 +1,5 @@
 -- Proof of `Seated::push_back`, src/seated.rt. A node comes to the end.
-use Rattle.std.proofs.Common.{◌≡◌, ◌≢◌, ◌+◌, ◌-◌, ◌<◌, ◌∙◌, ◌++◌, ◌∷◌, [], ap, sym, subst, All, arith}
+use Rattle.std.proofs.Common.{◌≡◌, ◌≢◌, ◌+◌, ◌∙◌, ◌++◌, ◌∷◌, [], ap, sym, subst, All, arith}
 use Rattle.meet_line.specs.Stored.{slot_at}
 use Rattle.meet_line.specs.Seated.{Fits, IsLinked, IsSeated, slots_of, seats_of, line_of}
 use Rattle.meet_line.proofs.Sitting.{sat, free-slot, free-place, last-within, seats-are, seated-closed}
