@@ -2,6 +2,10 @@ pub mod Buckets
 pub mod Chaining
 pub mod Looking
 pub mod Marks
+pub mod MergedLine
+pub mod MergedOut
+pub mod MergedWalk
+pub mod Merging
 pub mod Moved
 pub mod Occurs
 pub mod Places

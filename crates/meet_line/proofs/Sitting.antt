@@ -12,7 +12,7 @@ use Rattle.meet_line.specs.Runs.{occurs, first_or, IsRing, IsAbsent, IsDistinct}
 use Rattle.meet_line.specs.Rolled.{StandsAt}
 use Rattle.meet_line.specs.Stored.{slot_at, entries_of, keys_in, AreHeld, IsStored}
 use Rattle.meet_line.specs.Seated.{slots_of, afters_of, befores_of, after_at, before_at, linked, seats_of, placed, seat_roll, line_of, IsSeated, IsBelow, IsUnlinked, IsLinked, IsPadded, first_seat, seat_found, Sits, IsLastSeat, Fits}
-use Rattle.meet_line.proofs.Occurs.{absent-head, absent-tail, distinct-middle}
+use Rattle.meet_line.proofs.Occurs.{absent-head, absent-tail, distinct-middle, distinct-push, length-below, occurs-append, occurs-other}
 use Rattle.meet_line.proofs.Runs.{last_or, followed-run, ring-first, ring-last, ring-after}
 use Rattle.meet_line.proofs.Places.{stands-from_occurs}
 use Rattle.meet_line.proofs.Standing.{last_split}
@@ -93,23 +93,19 @@ module _ {T : Type 0} (slots : List (Option (Entry T))) where
   first_seat-is (k ∷ seats) held own =
       ap first_seat (line-cons k seats held.0.0 held.0.1) ∙ ap (λ i. Some i) (own k held.0.0 held.0.1)
 
-module _ {T : Type 0} (spots : List (Spot T)) (first last : Option ℕ) (len limit : ℕ) (seats : List ℕ) (s : IsSeated spots first last len limit seats) where
+module _ {T : Type 0} (spots : List (Spot T)) (first last : Option ℕ) (len : ℕ) (seats : List ℕ) (s : IsSeated spots first last len seats) where
   -- the seats that links lead to are these
   pub seats-are : seats_of spots first len ≡ seats
   seats-are = followed-run len (linked (afters_of spots) first) None seats (omega (arith, s.counted)) s.ring.onward
 
-  pub seated-closed : IsSeated spots first last len limit (seats_of spots first len)
-  seated-closed = subst (IsSeated spots first last len limit) (sym seats-are) s
+  pub seated-closed : IsSeated spots first last len (seats_of spots first len)
+  seated-closed = subst (IsSeated spots first last len) (sym seats-are) s
 
   pub distinct-seats : IsDistinct seats
   distinct-seats = subst IsDistinct (keys-placed (slots_of spots) seats) s.stored.holds.distinct
 
   pub length-line : length (line_of (slots_of spots) seats) ≡ len
   length-line = length-entries (slots_of spots) (map (placed (slots_of spots)) seats) s.stored.holds.held ∙ length-map seats (placed (slots_of spots)) ∙ sym s.counted
-
-  -- no more entries may come than there are places
-  pub limit-within : limit ≤ length spots
-  limit-within = omega (arith, s.stored.keys, s.counted, s.within, length-map seats (placed (slots_of spots)), length-map spots (λ p. p.entry))
 
   stands : (xs : List ℕ) (k : ℕ) (ys : List ℕ) → seats ≡ xs ++ k ∷ ys → StandsAt (map (placed (slots_of spots)) seats) k
   stands xs k ys same =
@@ -118,12 +114,22 @@ module _ {T : Type 0} (spots : List (Spot T)) (first last : Option ℕ) (len lim
 
   seat-within : (xs : List ℕ) (k : ℕ) (ys : List ℕ) → seats ≡ xs ++ k ∷ ys → k < length spots
   seat-within xs k ys same =
-      omega (arith, within-slots (seat_roll (slots_of spots) seats) (slots_of spots) (limit - len) s.stored k (stands xs k ys same), length-map spots (λ p. p.entry))
+      omega (arith, within-slots (seat_roll (slots_of spots) seats) (slots_of spots) (length spots - len) s.stored k (stands xs k ys same), length-map spots (λ p. p.entry))
 
   among-within : (j : ℕ) → 1 ≤ occurs j seats → j < length spots
   among-within j there =
       let at = stands-from_occurs j seats there in
       seat-within at.0 j at.1 at.2
+
+  -- there is a place more than nodes, where one is free
+  vacant : (key : ℕ) → key < length spots → IsAbsent (Some key) seats → len < length spots
+  vacant key within absent =
+      let below : (j : ℕ) → 1 ≤ occurs j (seats ++ key ∷ []) → j < length spots = λ j there.
+      elim (cases_eq key j) [
+        | inl same ↦ omega (arith, same, within)
+        | inr other ↦ among-within j (omega (arith, there, occurs-append j seats (key ∷ []), occurs-other j key other))
+      ] in
+      omega (arith, s.counted, length-append seats (key ∷ []), length-below (seats ++ key ∷ []) (length spots) (distinct-push seats key distinct-seats absent) below)
 
   -- where an entry of a seat is
   pub seat_split : (front : List (Entry T)) (e : Entry T) (rest : List (Entry T)) (key : ℕ) → line_of (slots_of spots) seats ≡ front ++ e ∷ rest → e.seat ≡ key → (xs : List ℕ) × (ys : List ℕ) × (seats ≡ xs ++ key ∷ ys) × (slot_at (slots_of spots) key ≡ Some e) × (line_of (slots_of spots) xs ≡ front) × (line_of (slots_of spots) ys ≡ rest)
@@ -168,7 +174,7 @@ module _ {T : Type 0} (spots : List (Spot T)) (first last : Option ℕ) (len lim
       ]
 
   -- the node of a seat leaves
-  pub risen : (xs : List ℕ) (key : ℕ) (ys : List ℕ) (spots' : List (Spot T)) (first' last' : Option ℕ) → seats ≡ xs ++ key ∷ ys → IsUnlinked spots spots' first first' last last' key → IsSeated spots' first' last' (len - 1) limit (xs ++ ys) × (line_of (slots_of spots') (xs ++ ys) ≡ line_of (slots_of spots) xs ++ line_of (slots_of spots) ys) × (length spots' ≡ length spots) × (1 ≤ len)
+  pub risen : (xs : List ℕ) (key : ℕ) (ys : List ℕ) (spots' : List (Spot T)) (first' last' : Option ℕ) → seats ≡ xs ++ key ∷ ys → IsUnlinked spots spots' first first' last last' key → IsSeated spots' first' last' (len - 1) (xs ++ ys) × (line_of (slots_of spots') (xs ++ ys) ≡ line_of (slots_of spots) xs ++ line_of (slots_of spots) ys) × (length spots' ≡ length spots) × (1 ≤ len)
   unfolding stands
   risen xs key ys spots' first' last' same gone =
       let slots = slots_of spots in
@@ -192,14 +198,14 @@ module _ {T : Type 0} (spots : List (Spot T)) (first last : Option ℕ) (len lim
       let left = ring_rise A B first last xs key ys before after distinct ring in
       let alike : (k : ℕ) → k ≢ key → slot_at slots' k ≡ slot_at slots k = λ k other. ap (λ xs. slot_at xs k) gone.slots ∙ get_or-set_other slots key k None None other in
       let places : map (placed slots') (xs ++ ys) ≡ at.front ++ at.rest = placed-alike slots slots' key (xs ++ ys) alike (distinct-middle xs key ys distinct) ∙ map-append (placed slots) xs ys in
-      let out = taken-out (seat_roll slots seats) slots (limit - len) s.stored (seat_roll slots' (xs ++ ys)) slots' key (slot_at slots key) at places wide' wide' gone.slots refl in
+      let out = taken-out (seat_roll slots seats) slots (length spots - len) s.stored (seat_roll slots' (xs ++ ys)) slots' key (slot_at slots key) at places wide' wide' gone.slots refl in
       let fewer : len ≡ length (xs ++ ys) + 1 = omega (arith, s.counted, ap length same, length-append xs (key ∷ ys), length-append xs ys) in
-      let room : (limit - len) + 1 ≡ limit - (len - 1) = omega (arith, fewer, s.within) in (
+      let room : (length spots - len) + 1 ≡ length spots' - (len - 1) = omega (arith, fewer, s.within, size) in (
         record {
           ring = ring-same _ _ _ _ _ _ _ _ (xs ++ ys) gone.afters gone.befores gone.first_is gone.last_is left;
           stored = subst (IsStored (seat_roll slots' (xs ++ ys)) slots') room out.stored;
           counted = omega (arith, fewer);
-          within = omega (arith, s.within);
+          within = omega (arith, s.within, size);
           own = λ k e here. s.own k e (kept-slot spots' key k e within gone.slots here);
           waits = λ k e here. s.waits k e (kept-slot spots' key k e within gone.slots here);
         },
@@ -228,6 +234,9 @@ module _ {T : Type 0} (spots : List (Spot T)) (first last : Option ℕ) (len lim
             absurd (differ (s.waits entry.seat e here) (s.own entry.seat e here))
         | inr none ↦ omega (arith, none)
       ]
+
+  pub free-place : (entry : Entry T) → Fits (length spots) (line_of (slots_of spots) seats) entry → len < length spots
+  free-place entry fits = vacant entry.seat fits.within (free-seat entry fits)
 
   pub free-slot : (entry : Entry T) → Fits (length spots) (line_of (slots_of spots) seats) entry → slot_at (slots_of spots) entry.seat ≡ None
   free-slot entry fits =
@@ -271,8 +280,8 @@ module _ {T : Type 0} (spots : List (Spot T)) (first last : Option ℕ) (len lim
       ap (option_map (λ a. a.seat)) found ∙ ap (λ i. Some i) at.own
 
   -- a node comes
-  pub sat : (entry : Entry T) (spots' : List (Spot T)) (first' last' : Option ℕ) → Fits (length spots) (line_of (slots_of spots) seats) entry → All (λ e. e.ticket ≢ entry.ticket) (line_of (slots_of spots) seats) → 0 < limit - len → IsLinked spots spots' first first' last last' entry.seat entry → IsSeated spots' first' last' (len + 1) limit (seats ++ entry.seat ∷ []) × (line_of (slots_of spots') (seats ++ entry.seat ∷ []) ≡ line_of (slots_of spots) seats ++ entry ∷ []) × (length spots' ≡ length spots)
-  sat entry spots' first' last' fits fresh some came =
+  pub sat : (entry : Entry T) (spots' : List (Spot T)) (first' last' : Option ℕ) → Fits (length spots) (line_of (slots_of spots) seats) entry → All (λ e. e.ticket ≢ entry.ticket) (line_of (slots_of spots) seats) → IsLinked spots spots' first first' last last' entry.seat entry → IsSeated spots' first' last' (len + 1) (seats ++ entry.seat ∷ []) × (line_of (slots_of spots') (seats ++ entry.seat ∷ []) ≡ line_of (slots_of spots) seats ++ entry ∷ []) × (length spots' ≡ length spots)
+  sat entry spots' first' last' fits fresh came =
       let slots = slots_of spots in
       let slots' = slots_of spots' in
       let A = afters_of spots in
@@ -284,6 +293,7 @@ module _ {T : Type 0} (spots : List (Spot T)) (first last : Option ℕ) (len lim
       let wide' : length slots' ≡ length slots = ap length came.slots ∙ length-set slots key (Some entry) in
       let size : length spots' ≡ length spots = sym (length-map spots' (λ p. p.entry)) ∙ wide' ∙ all in
       let absent = free-seat entry fits in
+      let some : 0 < length spots - len = omega (arith, vacant key fits.within absent) in
       let there : key < length A = omega (arith, all_after, fits.within) in
       let there' : key < length B = omega (arith, all_before, fits.within) in
       let there'' : key < length slots = omega (arith, all, fits.within) in
@@ -292,8 +302,8 @@ module _ {T : Type 0} (spots : List (Spot T)) (first last : Option ℕ) (len lim
       let here : slot_at slots' key ≡ Some entry = ap (λ xs. slot_at xs key) came.slots ∙ get_or-set_same slots key (Some entry) None there'' in
       let own_place : placed slots' key ≡ record { key = key; ticket = entry.ticket } = ap (λ o. record { key = key; ticket = option_map_or (λ (e : Entry T). e.ticket) o 0 }) here in
       let places : map (placed slots') (seats ++ key ∷ []) ≡ map (placed slots) seats ++ record { key = key; ticket = entry.ticket } ∷ [] = map-append (placed slots') seats (key ∷ []) ∙ ap (λ ps. ps ++ placed slots' key ∷ []) (placed-alike slots slots' key seats alike absent) ∙ ap (λ p. map (placed slots) seats ++ p ∷ []) own_place in
-      let put = put-in (seat_roll slots seats) slots (limit - len) s.stored (seat_roll slots' (seats ++ key ∷ [])) key entry places wide' wide' (placed-fresh slots key seats absent) there'' some fresh in
-      let room : (limit - len) - 1 ≡ limit - (len + 1) = omega arith in
+      let put = put-in (seat_roll slots seats) slots (length spots - len) s.stored (seat_roll slots' (seats ++ key ∷ [])) key entry places wide' wide' (placed-fresh slots key seats absent) there'' some fresh in
+      let room : (length spots - len) - 1 ≡ length spots' - (len + 1) = omega (arith, size) in
       let held : (k : ℕ) (e : Entry T) → slot_at slots' k ≡ Some e → ((k ≡ key) × (e ≡ entry)) ⊎ (slot_at slots k ≡ Some e) = λ k e is.
       elim (cases_eq k key) [
         | inl same ↦ let both : Some e ≡ Some entry = sym is ∙ ap (slot_at slots') same ∙ here in let one : e ≡ entry = cc in inl (same, one)
@@ -301,9 +311,9 @@ module _ {T : Type 0} (spots : List (Spot T)) (first last : Option ℕ) (len lim
       ] in (
         record {
           ring = ring-same _ _ _ _ _ _ _ _ (seats ++ key ∷ []) came.afters came.befores came.first_is came.last_is left;
-          stored = subst (IsStored (seat_roll slots' (seats ++ key ∷ [])) slots') room (subst (λ xs. IsStored (seat_roll slots' (seats ++ key ∷ [])) xs ((limit - len) - 1)) (sym came.slots) put.0);
+          stored = subst (IsStored (seat_roll slots' (seats ++ key ∷ [])) slots') room (subst (λ xs. IsStored (seat_roll slots' (seats ++ key ∷ [])) xs ((length spots - len) - 1)) (sym came.slots) put.0);
           counted = omega (arith, s.counted, length-append seats (key ∷ []));
-          within = omega (arith, some);
+          within = omega (arith, some, size);
           own = λ k e is. elim (held k e is) [ inl new ↦ ap (λ a. a.seat) new.1 ∙ sym new.0 | inr old ↦ s.own k e old ];
           waits = λ k e is. elim (held k e is) [ inl new ↦ ap (λ a. a.waits) new.1 ∙ fits.waits | inr old ↦ s.waits k e old ];
         },
@@ -312,7 +322,7 @@ module _ {T : Type 0} (spots : List (Spot T)) (first last : Option ℕ) (len lim
       )
 
   -- more places
-  pub more : (spots' : List (Spot T)) (count : ℕ) → IsPadded spots spots' count → IsSeated spots' first last len limit seats × (line_of (slots_of spots') seats ≡ line_of (slots_of spots) seats) × (length spots' ≡ length spots + count)
+  pub more : (spots' : List (Spot T)) (count : ℕ) → IsPadded spots spots' count → IsSeated spots' first last len seats × (line_of (slots_of spots') seats ≡ line_of (slots_of spots) seats) × (length spots' ≡ length spots + count)
   more spots' count came =
       let slots = slots_of spots in
       let slots' = slots_of spots' in
@@ -321,34 +331,19 @@ module _ {T : Type 0} (spots : List (Spot T)) (first last : Option ℕ) (len lim
       let size : length spots' ≡ length spots + count = omega (arith, sym (length-map spots' (λ p. p.entry)), size', length-map spots (λ p. p.entry)) in
       let alike : (k : ℕ) → slot_at slots' k ≡ slot_at slots k = λ k. ap (λ xs. slot_at xs k) came.slots ∙ padded slots count k in
       let places : map (placed slots') seats ≡ map (placed slots) seats = placed-same slots slots' seats alike in
-      let keys : length (map (placed slots) seats) + (limit - len) ≤ length slots' = omega (arith, s.stored.keys, size') in
-      let wide = widened (seat_roll slots seats) (seat_roll slots' seats) slots slots' (limit - len) (limit - len) places (omega arith) keys keys alike s.stored in (
+      let keys : length (map (placed slots) seats) + (length spots' - len) ≤ length slots' = omega (arith, s.counted, s.within, length-map seats (placed slots), length-map spots' (λ p. p.entry), size) in
+      let wide = widened (seat_roll slots seats) (seat_roll slots' seats) slots slots' (length spots - len) (length spots' - len) places (omega arith) keys keys alike s.stored in (
         record {
           ring = ring-same _ _ _ _ _ _ _ _ seats came.afters came.befores refl refl (ring-padded (afters_of spots) (befores_of spots) first last seats count s.ring);
           stored = wide.0;
           counted = s.counted;
-          within = s.within;
+          within = omega (arith, s.within, size);
           own = λ k e is. s.own k e (sym (alike k) ∙ is);
           waits = λ k e is. s.waits k e (sym (alike k) ∙ is);
         },
         wide.1,
         size,
       )
-
-  -- more entries may come, where there are places for them
-  pub raised : (limit' : ℕ) → len ≤ limit' → limit' ≤ length spots → IsSeated spots first last len limit' seats
-  raised limit' enough most =
-      let slots = slots_of spots in
-      let at = placed slots in
-      let keys : length (map at seats) + (limit' - len) ≤ length slots = omega (arith, enough, most, s.counted, length-map seats at, length-map spots (λ p. p.entry)) in
-      record {
-        ring = s.ring;
-        stored = record { holds = s.stored.holds; wide = s.stored.wide; keys = keys; table = keys; tickets = s.stored.tickets };
-        counted = s.counted;
-        within = enough;
-        own = s.own;
-        waits = s.waits;
-      }
 
   -- the ends
   pub first-is : first ≡ first_seat (line_of (slots_of spots) seats)

@@ -1,5 +1,6 @@
 pub mod Lined
 pub mod Links
+pub mod Merged
 pub mod Nodes
 pub mod Rolled
 pub mod Runs

@@ -9,8 +9,13 @@ use Rattle.meet_line.specs.Nodes.{put_end}
 use Rattle.meet_line.specs.Rolled.{Placed, Rolled}
 use Rattle.meet_line.specs.Stored.{slot_at, entries_of, IsStored}
 
--- what a line with a place for each seat shows of itself
+-- what places of seats show of themselves
 pub record Seated (T : Type 0) : Type 0 where
+  pub entries : List (Entry T)  -- in order of arrival
+  pub width : ℕ  -- how many seats have a place
+
+-- what a line with a place for each seat shows of itself
+pub record Roomy (T : Type 0) : Type 0 where
   pub entries : List (Entry T)  -- in order of arrival
   pub room : ℕ  -- how many more may come without growth
   pub width : ℕ  -- how many seats have a place
@@ -85,19 +90,18 @@ abbrev pub line_of : {T : Type 0} → List (Option (Entry T)) → List ℕ → L
 line_of slots seats = entries_of slots (map (placed slots) seats)
 
 -- what these fields show
-abbrev pub seated : {T : Type 0} → List (Spot T) → (first : Option ℕ) → (len limit : ℕ) → Seated T
-seated spots first len limit = record {
+abbrev pub seated : {T : Type 0} → List (Spot T) → (first : Option ℕ) → (len : ℕ) → Seated T
+seated spots first len = record {
   entries = line_of (slots_of spots) (seats_of spots first len);
-  room = limit - len;
   width = length spots;
 }
 
 -- these fields keep a line of these seats
-pub record IsSeated {T : Type 0} (spots : List (Spot T)) (first last : Option ℕ) (len limit : ℕ) (seats : List ℕ) : Type 0 where
+pub record IsSeated {T : Type 0} (spots : List (Spot T)) (first last : Option ℕ) (len : ℕ) (seats : List ℕ) : Type 0 where
   pub ring : IsRing (linked (afters_of spots) first) (linked (befores_of spots) last) seats
-  pub stored : IsStored (seat_roll (slots_of spots) seats) (slots_of spots) (limit - len)
+  pub stored : IsStored (seat_roll (slots_of spots) seats) (slots_of spots) (length spots - len)
   pub counted : len ≡ length seats
-  pub within : len ≤ limit
+  pub within : len ≤ length spots
   pub own : (k : ℕ) (e : Entry T) → slot_at (slots_of spots) k ≡ Some e → e.seat ≡ k
   pub waits : (k : ℕ) (e : Entry T) → slot_at (slots_of spots) k ≡ Some e → e.waits ≡ true
 

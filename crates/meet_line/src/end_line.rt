@@ -69,7 +69,7 @@ impl<T, A: MetAt> Line<T> for EndLine<T, A> {
 
     ghost fits = { λ width line entry. ⊤ };
 
-    ghost seated = { λ width line entry waits within free. tt };
+    ghost seated = { λ width line entry waits within free above. tt };
 
     fn empty(alloc: Global) -> Self
         ensures entries { result.entries ≡ [] }
@@ -174,5 +174,5 @@ impl<T, A: MetAt> Line<T> for EndLine<T, A> {
 }
 
 impl<T, A: MetAt> BufferLine<T> for EndLine<T, A> {
-    ghost any = { λ width line entry. tt };
+    ghost any = { λ width line entry waits above. tt };
 }

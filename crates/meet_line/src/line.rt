@@ -2,7 +2,7 @@
 
 ghost use Rattle.std.specs.Prelude.{◌≡◌, ◌≢◌, ℕ, ◌+◌, ◌<◌, ◌≤◌, ◌==◌, List, [], ◌∷◌, ◌++◌, length, map, find, All};
 ghost use Rattle.std.specs.Prelude.{AllPairs, IsOk, IfOk, IfErr, OnOk, OnErr, option_map, option_to_list};
-ghost use Rattle.std.specs.Prelude.{true};
+ghost use Rattle.std.specs.Prelude.{true, false};
 ghost use Rattle.std.specs.Slice.{IsItemAt};
 ghost use Rattle.meet_tickets.specs.Limits.{most_seats};
 ghost use Rattle.meet_tickets.specs.Meeting.{met};
@@ -123,13 +123,17 @@ pub trait Line<T> {
     fn destroy_empty(self)
         requires { entries self ≡ [] };
 
-    /// A node that waits may come, if its seat is below the width and no node that waits is of its seat.
+    /// A node that waits may come, if its seat is below the width, no node that waits is of its seat, and its ticket is
+    /// above all others.
     ghost seated: { (width : ℕ) (line : List (Entry T)) (entry : Entry T) → entry.waits ≡ true → entry.seat < width
-        → All (λ e. e.waits ≡ true → e.seat ≢ entry.seat) line → fits width line entry };
+        → All (λ e. e.waits ≡ true → e.seat ≢ entry.seat) line → All (λ e. e.ticket < entry.ticket) line
+        → fits width line entry };
 }
 
-/// A wait queue that buffers: any node may come, also many of one seat, since a buffered item's producer goes on.
+/// A wait queue that buffers: a node that doesn't wait may come, also many of one seat, since a buffered item's producer
+/// goes on.
 pub trait BufferLine<T>: Line<T> {
-    /// Any node fits.
-    ghost any: { (width : ℕ) (line : List (Entry T)) (entry : Entry T) → Self.fits width line entry };
+    /// A node that doesn't wait may come, if its ticket is above all others.
+    ghost any: { (width : ℕ) (line : List (Entry T)) (entry : Entry T) → entry.waits ≡ false
+        → All (λ e. e.ticket < entry.ticket) line → Self.fits width line entry };
 }

@@ -2,7 +2,7 @@
 //! a pool do, it writes less than a wait queue of linked nodes: a node is written once, and nothing else. A node that
 //! leaves from elsewhere is looked for from the first one on, and those on one side of it move.
 
-ghost use Rattle.std.specs.Prelude.{◌≡◌, ◌≢◌, ◌+◌, ◌<◌, ⊤, [], ◌∷◌, ◌++◌, All};
+ghost use Rattle.std.specs.Prelude.{◌≡◌, ◌≢◌, ◌+◌, ◌^◌, ◌<◌, ⊤, [], ◌∷◌, ◌++◌, All, AllPairs, length};
 ghost use Rattle.meet_tickets.specs.Limits.{most_seats};
 
 use crate::line::{BufferLine, Line};
@@ -50,7 +50,7 @@ impl<T, A: MetAt> Line<T> for RingLine<T, A> {
 
     ghost fits = { λ width line entry. ⊤ };
 
-    ghost seated = { λ width line entry waits within free. tt };
+    ghost seated = { λ width line entry waits within free above. tt };
 
     fn empty(alloc: Global) -> Self {
         RingLine {
@@ -129,7 +129,11 @@ impl<T, A: MetAt> Line<T> for RingLine<T, A> {
         }
     }
 
-    fn len(&self) -> u64 {
+    fn len(&self) -> u64
+        ensures count { result ≡ length self.now.entries }
+        ensures distinct { AllPairs (λ e f. e.ticket ≢ f.ticket) self.now.entries }
+        ensures few { length self.now.entries + self.now.room < 2 ^ 64 }
+    {
         self.entries.len() as u64
     }
 
@@ -148,5 +152,5 @@ impl<T, A: MetAt> Line<T> for RingLine<T, A> {
 }
 
 impl<T, A: MetAt> BufferLine<T> for RingLine<T, A> {
-    ghost any = { λ width line entry. tt };
+    ghost any = { λ width line entry waits above. tt };
 }

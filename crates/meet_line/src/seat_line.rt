@@ -17,6 +17,8 @@ use std::marker::{Model, PhantomData};
 #[derive(Drop)]
 pub struct SeatLine<T, A: MetAt> {
     line: Seated<T>,
+    /// How many nodes there may be without growth.
+    limit: usize,
     at: PhantomData<A>,
 }
 
@@ -27,11 +29,18 @@ pub type FairSeats<T> = SeatLine<T, First>;
 pub type StackSeats<T> = SeatLine<T, Last>;
 
 impl<T, A: MetAt> Model for SeatLine<T, A> {
-    ghost use Rattle.meet_line.specs.Seated.{Seated as Shown};
+    ghost use Rattle.std.specs.Prelude.{◌-◌, ◌≤◌, length};
+    ghost use Rattle.meet_line.specs.Seated.{Roomy};
 
-    ghost Value = { Shown T };
+    ghost Value = { Roomy T };
 
-    ghost view = { λ line. line.line };
+    ghost view = { λ line. record {
+      entries = line.line.entries;
+      room = line.limit - length line.line.entries;
+      width = line.line.width;
+    } };
+
+    ghost invariant = { λ line. length line.line.entries ≤ line.limit };
 }
 
 impl<T, A: MetAt> Line<T> for SeatLine<T, A> {
@@ -45,11 +54,13 @@ impl<T, A: MetAt> Line<T> for SeatLine<T, A> {
 
     ghost fits = { λ width line entry. Fits width line entry };
 
-    ghost seated = { λ width line entry waits within free. record { waits = waits; within = within; free = free } };
+    ghost seated = { λ width line entry waits within free above.
+        record { waits = waits; within = within; free = free } };
 
     fn empty(alloc: Global) -> Self {
         SeatLine {
             line: Seated::empty(alloc),
+            limit: 0,
             at: PhantomData,
         }
     }
@@ -60,7 +71,13 @@ impl<T, A: MetAt> Line<T> for SeatLine<T, A> {
 
     #[inline(always)]
     fn reserve(&mut self, count: u64) -> Result<(), Refusal> {
-        self.line.reserve(count as usize)
+        let Some(limit) = self.line.len().checked_add(count as usize) else {
+            return Err(Refusal::Memory);
+        };
+        if limit > self.limit {
+            self.limit = limit;
+        }
+        Ok(())
     }
 
     #[inline(always)]
@@ -108,11 +125,15 @@ impl<T, A: MetAt> Line<T> for SeatLine<T, A> {
     }
 
     fn room(&self) -> u64 {
-        self.line.room() as u64
+        (self.limit - self.line.len()) as u64
     }
 
     fn destroy_empty(self) {
-        let SeatLine { line, at: _ } = self;
+        let SeatLine {
+            line,
+            limit: _,
+            at: _,
+        } = self;
         line.destroy_empty();
     }
 }

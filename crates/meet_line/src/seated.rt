@@ -19,14 +19,12 @@ use meet_tickets::{Entry, Refusal, SeatNo, Ticket};
 use std::alloc::Global;
 use std::marker::Model;
 
-/// Nodes in order of arrival, each at its seat's place. Only `reserve`, `widen` and `list` allocate.
+/// Nodes in order of arrival, each at its seat's place. Only `widen` and `list` allocate.
 #[derive(Drop)]
 pub(crate) struct Seated<T> {
     first: Link,
     last: Link,
     len: usize,
-    /// How many nodes there may be without growth.
-    limit: usize,
     spots: Vec<Spot<T>>,
 }
 
@@ -35,24 +33,22 @@ impl<T> Model for Seated<T> {
 
     ghost Value = { Seated T };
 
-    ghost view = { λ s. seated s.spots.items s.first s.len s.limit };
+    ghost view = { λ s. seated s.spots.items s.first s.len };
 
     ghost invariant = { λ s.
-        IsSeated s.spots.items s.first s.last s.len s.limit (seats_of s.spots.items s.first s.len) };
+        IsSeated s.spots.items s.first s.last s.len (seats_of s.spots.items s.first s.len) };
 }
 
 impl<T> Seated<T> {
     /// A line with nobody in it, and no place.
     pub(crate) fn empty(alloc: Global) -> Self
         ensures entries { result.entries ≡ [] }
-        ensures room { result.room ≡ 0 }
         ensures width { result.width ≡ 0 }
     {
         Seated {
             first: Link::none(),
             last: Link::none(),
             len: 0,
-            limit: 0,
             spots: Vec::new(alloc),
         }
     }
@@ -66,18 +62,9 @@ impl<T> Seated<T> {
         self.len
     }
 
-    /// How many more nodes may come without growth.
-    #[inline(always)]
-    pub(crate) fn room(&self) -> usize
-        ensures { result ≡ self.now.room }
-    {
-        self.limit - self.len
-    }
-
     /// Makes a place for each of this many seats.
     pub(crate) fn widen(&mut self, seats: usize) -> Result<(), Refusal>
         ensures entries { self.new.entries ≡ self.old.entries }
-        ensures room { self.new.room ≡ self.old.room }
         ensures wide { OnOk result (seats ≤ self.new.width) }
         ensures width { self.old.width ≤ self.new.width }
         ensures unchanged { OnErr result (self.new ≡ self.old) }
@@ -89,51 +76,12 @@ impl<T> Seated<T> {
         Ok(())
     }
 
-    /// Makes room for this many nodes more.
-    #[inline(always)]
-    pub(crate) fn reserve(&mut self, count: usize) -> Result<(), Refusal>
-        ensures entries { self.new.entries ≡ self.old.entries }
-        ensures room { OnOk result (count ≤ self.new.room) }
-        ensures more { self.old.room ≤ self.new.room }
-        ensures width { self.old.width ≤ self.new.width }
-        ensures unchanged { OnErr result (self.new ≡ self.old) }
-        ensures memory { IfErr result (λ why. why ≡ Memory) }
-        ensures enough { count ≤ self.old.room → IsOk result }
-    {
-        if count <= self.room() {
-            return Ok(());
-        }
-        self.grow(count)
-    }
-
-    /// The same, where there isn't enough room yet.
-    #[inline(never)]
-    fn grow(&mut self, count: usize) -> Result<(), Refusal>
-        requires { self.old.room < count }
-        ensures entries { self.new.entries ≡ self.old.entries }
-        ensures room { OnOk result (self.new.room ≡ count) }
-        ensures width { self.old.width ≤ self.new.width }
-        ensures unchanged { OnErr result (self.new ≡ self.old) }
-        ensures memory { IfErr result (λ why. why ≡ Memory) }
-    {
-        let Some(limit) = self.len.checked_add(count) else {
-            return Err(Refusal::Memory);
-        };
-        if widen_spots(&mut self.spots, limit).is_err() {
-            return Err(Refusal::Memory);
-        }
-        self.limit = limit;
-        Ok(())
-    }
-
     /// A node comes to the end.
     #[inline(always)]
     pub(crate) fn push_back(&mut self, entry: Entry<T>)
-        requires room { 0 < self.old.room }
         requires fresh { All (λ e. e.ticket ≢ entry.ticket) self.old.entries }
         requires fits { Fits self.old.width self.old.entries entry }
         ensures entries { self.new.entries ≡ self.old.entries ++ entry ∷ [] }
-        ensures room { self.new.room + 1 ≡ self.old.room }
         ensures width { self.new.width ≡ self.old.width }
     {
         let key = entry.seat.number() as usize;
@@ -146,7 +94,7 @@ impl<T> Seated<T> {
     fn take_out(&mut self, key: usize) -> Option<Entry<T>>
         requires { Sits self.old.entries key }
         ensures entries { IsRisen self.old.entries self.new.entries key result }
-        ensures room { self.new.room ≡ self.old.room + 1 }
+        ensures count { length self.new.entries + 1 ≡ length self.old.entries }
         ensures width { self.new.width ≡ self.old.width }
     {
         let taken = unlink(&mut self.spots, &mut self.first, &mut self.last, key);
@@ -226,7 +174,7 @@ impl<T> Seated<T> {
     pub(crate) fn meet_first(&mut self) -> Option<Entry<T>>
         ensures entry { result ≡ met Front self.old.entries }
         ensures entries { self.new.entries ≡ unmet Front self.old.entries }
-        ensures room { self.new.room ≡ self.old.room + length (option_to_list result) }
+        ensures count { length self.new.entries + length (option_to_list result) ≡ length self.old.entries }
         ensures width { self.new.width ≡ self.old.width }
     {
         let key = self.first_seat()?;
@@ -238,7 +186,7 @@ impl<T> Seated<T> {
     pub(crate) fn meet_last(&mut self) -> Option<Entry<T>>
         ensures entry { result ≡ met Back self.old.entries }
         ensures entries { self.new.entries ≡ unmet Back self.old.entries }
-        ensures room { self.new.room ≡ self.old.room + length (option_to_list result) }
+        ensures count { length self.new.entries + length (option_to_list result) ≡ length self.old.entries }
         ensures width { self.new.width ≡ self.old.width }
     {
         let key = self.last_seat()?;
@@ -249,7 +197,7 @@ impl<T> Seated<T> {
     pub(crate) fn remove(&mut self, ticket: Ticket) -> Option<Entry<T>>
         ensures entry { result ≡ find (λ e. e.ticket == ticket) self.old.entries }
         ensures entries { self.new.entries ≡ without_first (λ e. e.ticket == ticket) self.old.entries }
-        ensures room { self.new.room ≡ self.old.room + length (option_to_list result) }
+        ensures count { length self.new.entries + length (option_to_list result) ≡ length self.old.entries }
         ensures width { self.new.width ≡ self.old.width }
     {
         let key = self.find(ticket)?;
@@ -260,7 +208,7 @@ impl<T> Seated<T> {
     pub(crate) fn remove_at(&mut self, seat: SeatNo, ticket: Ticket) -> Option<Entry<T>>
         ensures entry { result ≡ find (λ e. e.ticket == ticket) self.old.entries }
         ensures entries { self.new.entries ≡ without_first (λ e. e.ticket == ticket) self.old.entries }
-        ensures room { self.new.room ≡ self.old.room + length (option_to_list result) }
+        ensures count { length self.new.entries + length (option_to_list result) ≡ length self.old.entries }
         ensures width { self.new.width ≡ self.old.width }
     {
         let key = seat.number() as usize;
@@ -315,7 +263,6 @@ impl<T> Seated<T> {
             first: _,
             last: _,
             len: _,
-            limit: _,
             mut spots,
         } = self;
         while let Some(spot) = spots.pop() {

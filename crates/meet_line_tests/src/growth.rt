@@ -48,7 +48,7 @@ fn has_three<L: Line<Parcel>>(rt: &impl Abort, line: &L) {
 }
 
 /// A line that grows three times, each time while others stand in it but the first, and meets in this order.
-fn grows<L: Line<Parcel> + Drop>(rt: &impl Abort, alloc: Global, serials: &[u64]) {
+pub fn grows<L: Line<Parcel> + Drop>(rt: &impl Abort, alloc: Global, serials: &[u64]) {
     let mut line = L::empty(alloc);
     widens(rt, &mut line, 4);
     reserves(rt, &mut line, 1);

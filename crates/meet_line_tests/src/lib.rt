@@ -18,3 +18,5 @@ mod sealed;
 mod seats;
 #[cfg(test)]
 mod tables;
+#[cfg(test)]
+mod transfers;

@@ -29,7 +29,7 @@ fn removes<L: Line<Parcel>>(rt: &impl Abort, line: &mut L) {
 }
 
 /// A line meets three entries in the order `all`, and without the middle one in the order `rest`.
-fn serves<L: Line<Parcel> + Drop>(rt: &impl Abort, alloc: Global, all: &[u64], rest: &[u64]) {
+pub fn serves<L: Line<Parcel> + Drop>(rt: &impl Abort, alloc: Global, all: &[u64], rest: &[u64]) {
     let mut line: L = line_of_three(rt, alloc);
     assert_eq!(rt; line.len(), 3);
     assert_eq!(rt; first_serial(&line), Some(10));

@@ -3,7 +3,9 @@
 ghost use Rattle.std.specs.Prelude.{◌<◌, ◌^◌};
 
 use crate::parcels::{Parcel, join, join_seat_0, meets_in_order, serial, ticket};
-use meet_line::{BufferLine, FairLine, FairRing, FairSeats, Line, StackLine, StackRing, StackSeats, marked_line};
+use meet_line::{
+    BufferLine, FairLine, FairRing, FairSeats, Line, StackLine, StackRing, StackSeats, marked_line,
+};
 use std::alloc::Global;
 use std::process::Abort;
 
@@ -41,7 +43,7 @@ fn a_stack_looks_at_one(rt: HostRuntime) {
 const MANY: u64 = 66_000;
 
 /// A large line lists all who are there, in the order in which they came, and so do the marks of their items.
-fn lists_many<L: BufferLine<Parcel> + Drop>(rt: &impl Abort, alloc: Global) {
+pub fn lists_many<L: BufferLine<Parcel> + Drop>(rt: &impl Abort, alloc: Global) {
     let line: L = crowd(rt, alloc, MANY);
     let list = line.list(alloc).expect(rt, "memory");
     assert_eq!(rt; list.len() as u64, MANY);
@@ -64,10 +66,10 @@ fn a_large_line_is_listed(rt: HostRuntime) {
 }
 
 /// Which ticket leaves, none for a meeting, and the serial of the item that it has.
-type Step = (Option<u64>, Option<u64>);
+pub type Step = (Option<u64>, Option<u64>);
 
 /// These steps of a line of five tickets, of which three share a bucket, and five more in their places.
-fn plays<L: Line<Parcel> + Drop>(rt: &impl Abort, alloc: Global, steps: &[Step], rest: &[u64]) {
+pub fn plays<L: Line<Parcel> + Drop>(rt: &impl Abort, alloc: Global, steps: &[Step], rest: &[u64]) {
     let mut line = L::empty(alloc);
     line.widen(40).expect(rt, "memory");
     line.reserve(5).expect(rt, "memory");
@@ -97,7 +99,7 @@ fn takes<L: Line<Parcel>>(rt: &impl Abort, line: &mut L, steps: &[Step]) {
 }
 
 /// What leaves a line whose first is met.
-const FIRST: [Step; 8] = [
+pub const FIRST: [Step; 8] = [
     (Some(9), Some(90)),
     (Some(25), None),
     (None, Some(10)),

@@ -1,6 +1,6 @@
 //! Items that a test knows again, and lines of them.
 
-ghost use Rattle.std.specs.Prelude.{◌≡◌, ◌+◌, ◌<◌, true, All};
+ghost use Rattle.std.specs.Prelude.{◌≡◌, ◌+◌, ◌<◌, true, false, All};
 
 use meet_line::{BufferLine, Line};
 use meet_tickets::{Entry, Marked, SeatNo, Ticket};
@@ -58,6 +58,20 @@ pub fn entry_of(ticket: Ticket, seat: SeatNo, serial: u64) -> Entry<Parcel>
     }
 }
 
+/// An entry that doesn't wait, a buffered item, of this ticket and this seat.
+pub fn buffered_of(ticket: Ticket, seat: SeatNo, serial: u64) -> Entry<Parcel>
+    ensures ticket { result.ticket ≡ ticket }
+    ensures seat { result.seat ≡ seat }
+    ensures waits { result.waits ≡ false }
+{
+    Entry {
+        ticket,
+        seat,
+        item: Some(Parcel { serial }),
+        waits: false,
+    }
+}
+
 /// An entry whose ticket is the newest comes to the line; its seat has the number of its ticket.
 pub fn join<L: Line<Parcel>>(rt: &impl Abort, line: &mut L, number: u64, serial: u64)
     requires room { 0 < L.spare line.old }
@@ -72,14 +86,15 @@ pub fn join<L: Line<Parcel>>(rt: &impl Abort, line: &mut L, number: u64, serial:
     line.push_back(entry_of(ticket(rt, number), seat(rt, number), serial));
 }
 
-/// An entry whose ticket is the newest comes to a line that buffers; its seat is 0, as that of all others.
+/// An entry whose ticket is the newest comes to a line that buffers, and doesn't wait; its seat is 0, as that of all
+/// others.
 pub fn join_seat_0<L: BufferLine<Parcel>>(rt: &impl Abort, line: &mut L, number: u64, serial: u64)
     requires room { 0 < L.spare line.old }
     requires newest { All (λ e. e.ticket < number) (L.entries line.old) }
     ensures room { L.spare line.new + 1 ≡ L.spare line.old }
     ensures newest { All (λ e. e.ticket < number + 1) (L.entries line.new) }
 {
-    line.push_back(entry_of(ticket(rt, number), seat(rt, 0), serial));
+    line.push_back(buffered_of(ticket(rt, number), seat(rt, 0), serial));
 }
 
 /// The entries are met in this order, each gives its room back, and then nobody is there.

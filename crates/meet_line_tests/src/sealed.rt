@@ -9,7 +9,7 @@ use std::alloc::Global;
 use std::process::Abort;
 
 /// An item that has to be opened.
-struct Sealed {
+pub struct Sealed {
     serial: u64,
 }
 
@@ -39,7 +39,7 @@ fn opened(entry: Option<Entry<Sealed>>) -> Option<u64> {
 }
 
 /// The serial number of the one item of a line, which is met; then the line is dropped empty.
-fn goes_through<L: Line<Sealed>>(rt: &impl Abort, alloc: Global) -> Option<u64> {
+pub fn goes_through<L: Line<Sealed>>(rt: &impl Abort, alloc: Global) -> Option<u64> {
     let (ticket, seat) = (ticket(rt, 7), seat(rt, 0));
     let mut line = L::empty(alloc);
     line.widen(1).expect(rt, "memory");

@@ -22,7 +22,7 @@ fn line_of_five<L: Line<Parcel> + Drop>(rt: &impl Abort, alloc: Global) -> L {
 
 /// Which ticket leaves, the seat at which it is looked for, none for a removal by its ticket alone, and the serial of
 /// the item that it has.
-type Leaving = (u64, Option<u64>, Option<u64>);
+pub type Leaving = (u64, Option<u64>, Option<u64>);
 
 /// From the middle, by seat, by ticket alone, and by a seat that holds another, that holds none, or that isn't there;
 /// then tickets that are gone or never were.
@@ -41,7 +41,7 @@ const LEAVINGS: [Leaving; 8] = [
 const FEW: [Leaving; 2] = [(3, Some(3), Some(30)), (2, None, Some(20))];
 
 /// Each leaves as it should, and gives its room back.
-fn leave<L: Line<Parcel>>(rt: &impl Abort, line: &mut L, leavings: &[Leaving]) {
+pub fn leave<L: Line<Parcel>>(rt: &impl Abort, line: &mut L, leavings: &[Leaving]) {
     for (number, at, wanted) in leavings {
         let room = line.room();
         let taken = serial(match at {
@@ -54,7 +54,7 @@ fn leave<L: Line<Parcel>>(rt: &impl Abort, line: &mut L, leavings: &[Leaving]) {
 }
 
 /// All leave a line of five, the first few of them another, and it meets the rest in this order.
-fn leaves<L: Line<Parcel> + Drop>(rt: &impl Abort, alloc: Global, rest: &[u64]) {
+pub fn leaves<L: Line<Parcel> + Drop>(rt: &impl Abort, alloc: Global, rest: &[u64]) {
     let mut line: L = line_of_five(rt, alloc);
     leave(rt, &mut line, &LEAVINGS);
     meets_in_order(rt, &mut line, &[]);
@@ -77,8 +77,8 @@ fn who_leaves_a_stack_by_a_seat(rt: HostRuntime) {
     leaves::<StackSeats<Parcel>>(&rt, rt.alloc(), &[50, 40, 10]);
 }
 
-/// Places for so many seats make no room, and take none; and room for more than these makes places.
-fn widens<L: Line<Parcel> + Drop>(rt: &impl Abort, alloc: Global) {
+/// Places for so many seats make no room, and take none; and room may be for more nodes than there are places.
+pub fn widens<L: Line<Parcel> + Drop>(rt: &impl Abort, alloc: Global) {
     let mut line = L::empty(alloc);
     line.widen(3).expect(rt, "memory");
     assert_eq!(rt; line.room(), 0);
@@ -93,7 +93,10 @@ fn widens<L: Line<Parcel> + Drop>(rt: &impl Abort, alloc: Global) {
     assert_eq!(rt; line.room() + 2, room);
     line.reserve(70_000).expect(rt, "memory");
     assert!(rt; line.room() >= 70_000);
-    assert_eq!(rt; serial(line.remove_at(seat(rt, 65_535), ticket(rt, 65_535))), Some(30));
+    assert_eq!(rt;
+        serial(line.remove_at(seat(rt, 65_535), ticket(rt, 65_535))),
+        Some(30)
+    );
     assert_eq!(rt; line.len(), 1);
 }
 

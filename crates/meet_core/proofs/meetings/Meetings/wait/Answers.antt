@@ -8,7 +8,7 @@ use Rattle.meet_core.proofs.meetings.Meetings.wait.Goals as goal
 pub push_back-requires-clause-fits : goal.push_back-requires-clause-fits
 push_back-requires-clause-fits g c =
     let seat : c.args.seat < length c.self.inside.seats.holds = rw (← c.self.view_is) at c.requires.seat in
-    g.met.L.Line.seated _ _ _ refl (omega (arith, seat, c.self.invariant.4)) (seat-free c.args.seat c.self.invariant.0 (rw (← c.self.view_is) at c.requires.free))
+    g.met.L.Line.seated _ _ _ refl (omega (arith, seat, c.self.invariant.4)) (seat-free c.args.seat c.self.invariant.0 (rw (← c.self.view_is) at c.requires.free)) (rw (← c.self.view_is) at c.requires.new)
 
 pub invariant_of-self : goal.invariant_of-self
 invariant_of-self g c = (

@@ -16,7 +16,7 @@ returns-clause-entries g c =
     let at = first-sits c.args.self.now.entries c.in_ok-key.key (sym c.in_ok-key.was ∙ c.first_seat.ensures) in
     (c.take_out.ensures.entries [] at.0 at.1 at.2 at.3).1 ∙ sym (met-first c.args.self.now.entries at.0 at.1 at.2).1
 
-pub returns-clause-room : goal.returns-clause-room
-returns-clause-room g c =
+pub returns-clause-count : goal.returns-clause-count
+returns-clause-count g c =
     let at = first-sits c.args.self.now.entries c.in_ok-key.key (sym c.in_ok-key.was ∙ c.first_seat.ensures) in
-    c.take_out.ensures.room ∙ ap (λ o. c.args.self.now.room + length (option_to_list o)) (sym (c.take_out.ensures.entries [] at.0 at.1 at.2 at.3).0)
+    ap (λ o. length c.take_out.new.self.entries + length (option_to_list o)) (c.take_out.ensures.entries [] at.0 at.1 at.2 at.3).0 ∙ c.take_out.ensures.count

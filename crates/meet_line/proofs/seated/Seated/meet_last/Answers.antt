@@ -19,7 +19,7 @@ returns-clause-entries g c =
     let at = last.0 in
     (c.take_out.ensures.entries at.front at.entry at.rest at.all at.own).1 ∙ sym (met-last c.args.self.now.entries at.front at.entry at.rest at.all last.1).1
 
-pub returns-clause-room : goal.returns-clause-room
-returns-clause-room g c =
+pub returns-clause-count : goal.returns-clause-count
+returns-clause-count g c =
     let at = (subst (IsLastSeat c.args.self.now.entries) c.in_ok-key.was c.last_seat.ensures).0 in
-    c.take_out.ensures.room ∙ ap (λ o. c.args.self.now.room + length (option_to_list o)) (sym (c.take_out.ensures.entries at.front at.entry at.rest at.all at.own).0)
+    ap (λ o. length c.take_out.new.self.entries + length (option_to_list o)) (c.take_out.ensures.entries at.front at.entry at.rest at.all at.own).0 ∙ c.take_out.ensures.count

@@ -18,7 +18,7 @@ returns-then-has-clause-entries g c =
     let at = there.at in
     (c.take_out.ensures.entries at.front at.entry at.rest at.all at.own).1 ∙ sym there.gone
 
-pub returns-then-has-clause-room : goal.returns-then-has-clause-room
-returns-then-has-clause-room g c =
+pub returns-then-has-clause-count : goal.returns-then-has-clause-count
+returns-then-has-clause-count g c =
     let at = (found_at c.args.self.now.entries c.args.ticket c.number-key.result (c.if-has.ensures.found refl)).at in
-    c.take_out.ensures.room ∙ ap (λ o. c.args.self.now.room + length (option_to_list o)) (sym (c.take_out.ensures.entries at.front at.entry at.rest at.all at.own).0)
+    ap (λ o. length c.take_out.new.self.entries + length (option_to_list o)) (c.take_out.ensures.entries at.front at.entry at.rest at.all at.own).0 ∙ c.take_out.ensures.count
