@@ -24,10 +24,7 @@ pub struct Verdict {
 fn no_ticket() -> Ticket
     ensures { result ≡ 0 }
 {
-    match Ticket::new(0) {
-        Some(ticket) => ticket,
-        None => unreachable!(),
-    }
+    Ticket::new(0).unwrap()
 }
 
 /// Memory for one verdict (an envelope). The thread that waits allocates it before its request, so that the thread that

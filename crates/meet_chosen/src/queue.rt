@@ -18,7 +18,7 @@ ghost use Rattle.meet_chosen.specs.declared.queue.ChosenQueue.TheVariants.{Trans
 use meet_book::Book;
 use meet_place::{Back, Gate, Ledgers, Pending, Seat, Turn};
 use meet_queues::{Dual, Unbounded};
-use meet_sync::{Chronicle, FairLine, NewQueue, QueueFault, StackLine, SyncQueue, TransferQueue};
+use meet_sync::{Chronicle, FairSeats, NewQueue, QueueFault, StackSeats, SyncQueue, TransferQueue};
 use meet_tickets::{Deed, MOST_RECORDS, Marked, Order, Refused, SeatNo};
 use std::alloc::Global;
 use std::sync::Wait;
@@ -44,9 +44,9 @@ pub(crate) use whichever;
 #[derive(Drop)]
 pub enum ChosenQueue<T: Marked, G, N: Ledgers> {
     /// `new SynchronousQueue(true)`.
-    Fair(SyncQueue<T, FairLine<T>, G, N>),
+    Fair(SyncQueue<T, FairSeats<T>, G, N>),
     /// `new SynchronousQueue(false)`.
-    Unfair(SyncQueue<T, StackLine<T>, G, N>),
+    Unfair(SyncQueue<T, StackSeats<T>, G, N>),
     /// `new LinkedTransferQueue()`.
     Transfer(TransferQueue<T, G, N>),
 }
@@ -55,9 +55,9 @@ pub enum ChosenQueue<T: Marked, G, N: Ledgers> {
 #[derive(Drop)]
 pub enum ChosenBook<T: Marked> {
     /// The log of `new SynchronousQueue(true)`.
-    Fair(Book<Dual<T, FairLine<T>>>),
+    Fair(Book<Dual<T, FairSeats<T>>>),
     /// The log of `new SynchronousQueue(false)`.
-    Unfair(Book<Dual<T, StackLine<T>>>),
+    Unfair(Book<Dual<T, StackSeats<T>>>),
     /// The log of `new LinkedTransferQueue()`.
     Transfer(Book<Unbounded<T>>),
 }
@@ -212,7 +212,7 @@ macro_rules! as_chosen {
 
 /// Why a queue in fair mode was not closed, as one of the order that was chosen.
 fn fair_fault<T: Marked, G, N: Ledgers>(
-    fault: QueueFault<SyncQueue<T, FairLine<T>, G, N>, Book<Dual<T, FairLine<T>>>, N>,
+    fault: QueueFault<SyncQueue<T, FairSeats<T>, G, N>, Book<Dual<T, FairSeats<T>>>, N>,
 ) -> QueueFault<ChosenQueue<T, G, N>, ChosenBook<T>, N>
     ensures { (count : ℕ) (seats : List (Back Deed N)) → QueueFaultFits count seats fault
         → ChosenFaultFits (FairOne count) seats result }
@@ -222,7 +222,7 @@ fn fair_fault<T: Marked, G, N: Ledgers>(
 
 /// Why a queue in the default mode was not closed, as one of the order that was chosen.
 fn unfair_fault<T: Marked, G, N: Ledgers>(
-    fault: QueueFault<SyncQueue<T, StackLine<T>, G, N>, Book<Dual<T, StackLine<T>>>, N>,
+    fault: QueueFault<SyncQueue<T, StackSeats<T>, G, N>, Book<Dual<T, StackSeats<T>>>, N>,
 ) -> QueueFault<ChosenQueue<T, G, N>, ChosenBook<T>, N>
     ensures { (count : ℕ) (seats : List (Back Deed N)) → QueueFaultFits count seats fault
         → ChosenFaultFits (UnfairOne count) seats result }

@@ -9,7 +9,7 @@ ghost use Rattle.meet_tickets.specs.Refusals.{IsWhy};
 
 use crate::answers::{Gave, Offered, Polled, Put, Took};
 use crate::seats::SeatTable;
-use meet_line::Line;
+use meet_line::{BufferLine, Line};
 use meet_tickets::{Marked, Refusal, Refused, SeatNo, Ticket};
 use std::alloc::Global;
 use std::marker::Model;
@@ -38,7 +38,7 @@ pub struct Meetings<T: Marked, L: Line<T>> {
 }
 
 impl<T: Marked, L: Line<T>> Model for Meetings<T, L> {
-    ghost use Rattle.std.specs.Prelude.{◌≡◌, ◌<◌};
+    ghost use Rattle.std.specs.Prelude.{◌≡◌, ◌<◌, ◌≤◌, length};
     ghost use Rattle.meet_tickets.specs.Meeting.{kept_count, count_on};
     ghost use Rattle.meet_tickets.specs.declared.places.Side.TheVariants.{Giver};
     ghost use Rattle.meet_core.specs.Table.{hold_at};
@@ -59,12 +59,13 @@ impl<T: Marked, L: Line<T>> Model for Meetings<T, L> {
         IsSound (L.entries meetings.line) (hold_at meetings.seats.holds) meetings.next
         × (meetings.kept ≡ kept_count (L.entries meetings.line))
         × (meetings.kept < meetings.next)
-        × (meetings.givers ≡ count_on Giver (L.entries meetings.line)) };
+        × (meetings.givers ≡ count_on Giver (L.entries meetings.line))
+        × (length meetings.seats.holds ≤ L.width meetings.line) };
 }
 
 impl<T: Marked, L: Line<T>> Meetings<T, L> {
     ghost use Rattle.meet_core.specs.Queue.{seats_of, count_of, places_of, admit_refusal};
-    ghost use Rattle.meet_core.specs.Steps.{GiveStep, PutStep, TakeStep, OfferStep, PollStep};
+    ghost use Rattle.meet_core.specs.Steps.{GiveStep, TakeStep, OfferStep, PollStep};
     ghost use Rattle.meet_tickets.specs.declared.refusals.Refusal.TheVariants.{Memory};
 
     /// Creates a queue with no room yet, with this many seats, at most 65,536, and this first ticket, 1 to 2^63 - 1.
@@ -83,12 +84,20 @@ impl<T: Marked, L: Line<T>> Meetings<T, L> {
         ensures nothing_kept { IfOk result (λ queue. kept_count queue.line ≡ 0) }
         ensures memory { IfErr result (λ why. why ≡ Memory) }
     {
+        let mut line = L::empty(alloc);
+        if line.widen(seats).is_err() {
+            line.destroy_empty();
+            return Err(Refusal::Memory);
+        }
         let seats = match SeatTable::new(alloc, seats) {
             Ok(seats) => seats,
-            Err(_) => return Err(Refusal::Memory),
+            Err(_) => {
+                line.destroy_empty();
+                return Err(Refusal::Memory);
+            }
         };
         Ok(Meetings {
-            line: L::empty(alloc),
+            line,
             seats,
             last: Ticket::new(0).unwrap(),
             next: first,
@@ -160,33 +169,6 @@ impl<T: Marked, L: Line<T>> Meetings<T, L> {
         Ok(self.give_admitted(seat, item))
     }
 
-    /// Puts an item. It goes to the consumer that is met, or is buffered, and its producer goes on. The put fails if as
-    /// many items are buffered as the bound allows.
-    ///
-    /// # Errors
-    /// Nothing has changed, and the item is returned.
-    /// - NoSuchSeat, SeatOpen or TicketsSpent, as `admit`.
-    /// - Memory, if an allocation fails, and never if there is room.
-    ///
-    /// Java: `LinkedTransferQueue.put`.
-    pub fn put(&mut self, seat: SeatNo, item: T, bound: Option<u64>) -> Result<Put<T>, Refused<T>>
-        ensures step { IfOk result (λ answer. PutStep T.mark_of L.end bound self.old seat item answer self.new) }
-        ensures admitted { IfOk result (λ _. admit_refusal self.old seat ≡ None) }
-        ensures enough { 0 < self.old.room → admit_refusal self.old seat ≡ None → IsOk result }
-        ensures places { places_of self.old ≤ places_of self.new }
-        ensures why { IfErr result (λ refused. IsWhy (admit_refusal self.old seat) refused.why) }
-        ensures back { IfErr result (λ refused. refused.back ≡ item) }
-        ensures unchanged { IfErr result (λ _. self.new ≡ self.old) }
-    {
-        if let Err(why) = self.admit(seat) {
-            return Err(Refused { why, back: item });
-        }
-        if let Err(why) = self.reserve(1) {
-            return Err(Refused { why, back: item });
-        }
-        Ok(self.put_admitted(seat, item, bound))
-    }
-
     /// Takes an item. It comes from the producer that is met, or the consumer goes to the wait queue, or the request is
     /// refused at entry if the seat is flagged.
     ///
@@ -249,5 +231,37 @@ impl<T: Marked, L: Line<T>> Meetings<T, L> {
     {
         self.admit(seat)?;
         Ok(self.poll_admitted(seat))
+    }
+}
+
+impl<T: Marked, L: BufferLine<T>> Meetings<T, L> {
+    ghost use Rattle.meet_core.specs.Queue.{places_of, admit_refusal};
+    ghost use Rattle.meet_core.specs.Steps.{PutStep};
+
+    /// Puts an item. It goes to the consumer that is met, or is buffered, and its producer goes on. The put fails if as
+    /// many items are buffered as the bound allows.
+    ///
+    /// # Errors
+    /// Nothing has changed, and the item is returned.
+    /// - NoSuchSeat, SeatOpen or TicketsSpent, as `admit`.
+    /// - Memory, if an allocation fails, and never if there is room.
+    ///
+    /// Java: `LinkedTransferQueue.put`.
+    pub fn put(&mut self, seat: SeatNo, item: T, bound: Option<u64>) -> Result<Put<T>, Refused<T>>
+        ensures step { IfOk result (λ answer. PutStep T.mark_of L.end bound self.old seat item answer self.new) }
+        ensures admitted { IfOk result (λ _. admit_refusal self.old seat ≡ None) }
+        ensures enough { 0 < self.old.room → admit_refusal self.old seat ≡ None → IsOk result }
+        ensures places { places_of self.old ≤ places_of self.new }
+        ensures why { IfErr result (λ refused. IsWhy (admit_refusal self.old seat) refused.why) }
+        ensures back { IfErr result (λ refused. refused.back ≡ item) }
+        ensures unchanged { IfErr result (λ _. self.new ≡ self.old) }
+    {
+        if let Err(why) = self.admit(seat) {
+            return Err(Refused { why, back: item });
+        }
+        if let Err(why) = self.reserve(1) {
+            return Err(Refused { why, back: item });
+        }
+        Ok(self.put_admitted(seat, item, bound))
     }
 }

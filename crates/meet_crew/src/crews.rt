@@ -17,7 +17,9 @@ use crate::slots::{Room, joined};
 use crate::start::Start;
 use meet_cells::ParkGate;
 use meet_core::{Dual, QueueLeaves};
-use meet_sync::{Back, Chronicle, FairLine, Ledgers, NewQueue, Queue, QueueFault, Seat, StackLine};
+use meet_sync::{
+    Back, Chronicle, FairSeats, Ledgers, NewQueue, Queue, QueueFault, Seat, StackSeats,
+};
 use meet_tickets::{Deed, MOST_SEATS, Marked, Refusal};
 use meet_transfer::Unbounded;
 use std::alloc::Global;
@@ -148,6 +150,29 @@ fn fits(threads: u64) -> bool
     threads != 0 && threads <= MOST_SEATS
 }
 
+/// Runs a crew in this hall, whose threads are started by `$seated`, and closes its queue.
+macro_rules! run_crew {
+    ($rt:ident, $alloc:ident, $hall:ident, $crew:ident, $seated:ident) => {{
+        let Hall { queue, seats, room } = $hall;
+        let Room {
+            handles,
+            backs,
+            answers,
+        } = room;
+        let start = Start::new();
+        let Some(threads) = $seated($rt, $alloc, &queue, $crew, &start, seats, handles) else {
+            return Err(Refusal::NoThread);
+        };
+        let Some((backs, told)) = joined($rt, threads, backs, answers) else {
+            return Err(Refusal::NoThread);
+        };
+        Ok(Done {
+            told,
+            closed: closed($alloc, queue, backs),
+        })
+    }};
+}
+
 /// A crew at a synchronous queue in fair mode of these parts.
 fn at_fair<T, N, R, V>(
     rt: &R,
@@ -170,23 +195,8 @@ where
         IsUnclosed) }
     ensures why { IfErr result (IsCrewWhy N.parts) }
 {
-    let Hall { queue, seats, room } = Hall::<Dual<T, FairLine<T>>, N, V::Told>::new(alloc, parts)?;
-    let Room {
-        handles,
-        backs,
-        answers,
-    } = room;
-    let start = Start::new();
-    let Some(threads) = seated_fair(rt, alloc, &queue, crew, &start, seats, handles) else {
-        return Err(Refusal::NoThread);
-    };
-    let Some((backs, told)) = joined(rt, threads, backs, answers) else {
-        return Err(Refusal::NoThread);
-    };
-    Ok(Done {
-        told,
-        closed: closed(alloc, queue, backs),
-    })
+    let hall = Hall::<Dual<T, FairSeats<T>>, N, V::Told>::new(alloc, parts)?;
+    run_crew!(rt, alloc, hall, crew, seated_fair)
 }
 
 /// A crew at a synchronous queue in its default mode of these parts.
@@ -211,23 +221,8 @@ where
         IsUnclosed) }
     ensures why { IfErr result (IsCrewWhy N.parts) }
 {
-    let Hall { queue, seats, room } = Hall::<Dual<T, StackLine<T>>, N, V::Told>::new(alloc, parts)?;
-    let Room {
-        handles,
-        backs,
-        answers,
-    } = room;
-    let start = Start::new();
-    let Some(threads) = seated_unfair(rt, alloc, &queue, crew, &start, seats, handles) else {
-        return Err(Refusal::NoThread);
-    };
-    let Some((backs, told)) = joined(rt, threads, backs, answers) else {
-        return Err(Refusal::NoThread);
-    };
-    Ok(Done {
-        told,
-        closed: closed(alloc, queue, backs),
-    })
+    let hall = Hall::<Dual<T, StackSeats<T>>, N, V::Told>::new(alloc, parts)?;
+    run_crew!(rt, alloc, hall, crew, seated_unfair)
 }
 
 /// A crew at a transfer queue of these parts.
@@ -252,23 +247,8 @@ where
         IsUnclosed) }
     ensures why { IfErr result (IsCrewWhy N.parts) }
 {
-    let Hall { queue, seats, room } = Hall::<Unbounded<T>, N, V::Told>::new(alloc, parts)?;
-    let Room {
-        handles,
-        backs,
-        answers,
-    } = room;
-    let start = Start::new();
-    let Some(threads) = seated_transfer(rt, alloc, &queue, crew, &start, seats, handles) else {
-        return Err(Refusal::NoThread);
-    };
-    let Some((backs, told)) = joined(rt, threads, backs, answers) else {
-        return Err(Refusal::NoThread);
-    };
-    Ok(Done {
-        told,
-        closed: closed(alloc, queue, backs),
-    })
+    let hall = Hall::<Unbounded<T>, N, V::Told>::new(alloc, parts)?;
+    run_crew!(rt, alloc, hall, crew, seated_transfer)
 }
 
 /// Runs `threads` threads at a new fair synchronous queue, each with a chair, and closes the queue. It waits until all

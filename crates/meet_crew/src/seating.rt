@@ -10,7 +10,7 @@ use crate::kinds::CrewQueue;
 use crate::slots::Sat;
 use crate::start::Start;
 use meet_cells::ParkGate;
-use meet_sync::{FairLine, Ledgers, Queue, Seat, StackLine, SyncQueue, TransferQueue};
+use meet_sync::{FairSeats, Ledgers, Queue, Seat, StackSeats, SyncQueue, TransferQueue};
 use meet_tickets::{Deed, Marked};
 use std::alloc::Global;
 use std::sync::Wait;
@@ -45,12 +45,30 @@ where
     }
 }
 
+/// Starts a thread for each seat in this scope; the same text at a queue of each kind.
+macro_rules! seat_all {
+    ($scope:ident, $rt:ident, $alloc:ident, $queue:ident, $crew:ident, $start:ident, $seats:ident, $empty:ident) => {{
+        let mut threads = $empty;
+        for seat in $seats {
+            let Ok(thread) =
+                $scope.spawn(move || sit($rt, $alloc, $queue, $crew, $start, seat))
+            else {
+                $start.give($rt, false);
+                return None;
+            };
+            threads.push_reserved(thread);
+        }
+        $start.give($rt, true);
+        Some(threads)
+    }};
+}
+
 /// Starts all threads of a crew at a synchronous queue in fair mode, waits until each has ended, and returns their
 /// handles; None if one couldn't be started, and then no thread began to work. The empty list has room for them.
 pub(crate) fn seated_fair<T, N, R, V>(
     rt: &R,
     alloc: Global,
-    queue: &SyncQueue<T, FairLine<T>, ParkGate, N>,
+    queue: &SyncQueue<T, FairSeats<T>, ParkGate, N>,
     crew: &V,
     start: &Start,
     seats: Vec<Seat<Deed, N>>,
@@ -73,19 +91,7 @@ where
             requires empty { empty.items ≡ [] }
             requires room { vec_len seats ≤ vec_capacity empty }
             ensures { IfSome result (λ threads. vec_len threads ≡ vec_len seats) }
-        {
-            let mut threads = empty;
-            for seat in seats {
-                let Ok(thread) = scope.spawn(move || sit(rt, alloc, queue, crew, start, seat))
-                else {
-                    start.give(rt, false);
-                    return None;
-                };
-                threads.push_reserved(thread);
-            }
-            start.give(rt, true);
-            Some(threads)
-        },
+        { seat_all!(scope, rt, alloc, queue, crew, start, seats, empty) },
     )
 }
 
@@ -93,7 +99,7 @@ where
 pub(crate) fn seated_unfair<T, N, R, V>(
     rt: &R,
     alloc: Global,
-    queue: &SyncQueue<T, StackLine<T>, ParkGate, N>,
+    queue: &SyncQueue<T, StackSeats<T>, ParkGate, N>,
     crew: &V,
     start: &Start,
     seats: Vec<Seat<Deed, N>>,
@@ -116,19 +122,7 @@ where
             requires empty { empty.items ≡ [] }
             requires room { vec_len seats ≤ vec_capacity empty }
             ensures { IfSome result (λ threads. vec_len threads ≡ vec_len seats) }
-        {
-            let mut threads = empty;
-            for seat in seats {
-                let Ok(thread) = scope.spawn(move || sit(rt, alloc, queue, crew, start, seat))
-                else {
-                    start.give(rt, false);
-                    return None;
-                };
-                threads.push_reserved(thread);
-            }
-            start.give(rt, true);
-            Some(threads)
-        },
+        { seat_all!(scope, rt, alloc, queue, crew, start, seats, empty) },
     )
 }
 
@@ -159,18 +153,6 @@ where
             requires empty { empty.items ≡ [] }
             requires room { vec_len seats ≤ vec_capacity empty }
             ensures { IfSome result (λ threads. vec_len threads ≡ vec_len seats) }
-        {
-            let mut threads = empty;
-            for seat in seats {
-                let Ok(thread) = scope.spawn(move || sit(rt, alloc, queue, crew, start, seat))
-                else {
-                    start.give(rt, false);
-                    return None;
-                };
-                threads.push_reserved(thread);
-            }
-            start.give(rt, true);
-            Some(threads)
-        },
+        { seat_all!(scope, rt, alloc, queue, crew, start, seats, empty) },
     )
 }

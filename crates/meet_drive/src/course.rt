@@ -4,7 +4,7 @@ use crate::history::History;
 use crate::progress::Progress;
 use meet_cells::{Gate, ParkGate, Turn};
 use meet_sync::{
-    Answer, Asked, FairLine, Followed, Ledgers, Pending, Request, Seat, SyncQueue, TakenBack,
+    Answer, Asked, FairSeats, Followed, Ledgers, Pending, Request, Seat, SyncQueue, TakenBack,
 };
 use meet_tickets::{Deed, Record, Refusal, SeatNo};
 use std::alloc::Global;
@@ -19,7 +19,7 @@ const SECOND: u64 = 1_000;
 /// far they are.
 #[derive(Drop)]
 pub struct Course<G, N: Ledgers> {
-    queue: SyncQueue<u64, FairLine<u64>, G, N>,
+    queue: SyncQueue<u64, FairSeats<u64>, G, N>,
     /// How many records there may be before they are handed out.
     most: u64,
     history: Mutex<History>,
@@ -50,7 +50,7 @@ pub enum Passed {
 
 impl<G, N: Ledgers> Course<G, N> {
     /// Creates a course over this queue, whose records are handed out after more than `most` were written.
-    pub fn new(alloc: Global, queue: SyncQueue<u64, FairLine<u64>, G, N>, most: u64) -> Self {
+    pub fn new(alloc: Global, queue: SyncQueue<u64, FairSeats<u64>, G, N>, most: u64) -> Self {
         Course {
             queue,
             most,
@@ -65,7 +65,7 @@ impl<G, N: Ledgers> Course<G, N> {
     }
 
     /// Returns the queue, and the records that it handed out.
-    pub fn into_parts(self) -> (SyncQueue<u64, FairLine<u64>, G, N>, Vec<Record<Deed>>) {
+    pub fn into_parts(self) -> (SyncQueue<u64, FairSeats<u64>, G, N>, Vec<Record<Deed>>) {
         let Course { queue, history, .. } = self;
         (queue, history.into_inner().into_records())
     }

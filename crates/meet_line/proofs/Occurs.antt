@@ -1,8 +1,10 @@
 -- How often a key stands in a list.
-use Rattle.std.proofs.Common.{◌≡◌, ◌≢◌, ℕ, ◌+◌, ◌≤◌, ◌==◌, Bool, true, false, cond, Option, Some, None, List, [], ◌∷◌, ◌++◌, refl, sym, ap, ◌∙◌, inl, inr, arith, reverse}
-use Rattle.std.specs.List.{filter}
+use Rattle.std.proofs.Common.{◌≡◌, ◌≢◌, ℕ, ◌+◌, ◌<◌, ◌≤◌, ◌==◌, ◌||◌, length, eqb, Bool, true, false, cond, Option, Some, None, List, [], ◌∷◌, ◌++◌, refl, sym, ap, ◌∙◌, inl, inr, arith, reverse}
+use Rattle.std.specs.List.{filter, list_any, AllByRecursion}
+use Rattle.std.specs.List.{IsDistinct as StdDistinct}
 use Rattle.std.proofs.lemmas.List.{reverse-append}
 use Rattle.std.proofs.lemmas.Bool.Decides.{eqb_tells}
+use Rattle.std.proofs.lemmas.Map.Steps.{length-le_from_distinct_below}
 use Rattle.meet_line.specs.Runs.{occurs, IsAbsent, IsDistinct}
 
 pub occurs-append : (j : ℕ) (xs ys : List ℕ) → occurs j (xs ++ ys) ≡ occurs j xs + occurs j ys
@@ -75,3 +77,34 @@ distinct-push keys n distinct absent j =
           omega (arith, none, occurs-append j keys (n ∷ []), occurs-same j n y.1)
       | inr m ↦ omega (arith, distinct j, occurs-append j keys (n ∷ []), occurs-other j n m.1)
     ]
+
+-- a key that occurs is among them
+any_from_occurs : (q : ℕ) (keys : List ℕ) → list_any (λ k. q == k) keys ≡ true → 1 ≤ occurs q keys
+any_from_occurs q [] any = absurd (cc)
+any_from_occurs q (k ∷ keys) any =
+    elim (eqb_tells q k) [
+      | inl y ↦ omega (arith, occurs-same q k (sym y.1))
+      | inr n ↦
+          let rest : list_any (λ i. q == i) keys ≡ true = ap (λ b. b || list_any (λ i. q == i) keys) (sym n.0) ∙ any in
+          omega (arith, any_from_occurs q keys rest)
+    ]
+
+differs_from_absent : (k : ℕ) (keys : List ℕ) → IsAbsent (Some k) keys → AllByRecursion (λ j. (k == j) ≡ false) keys
+differs_from_absent k [] absent = tt
+differs_from_absent k (j ∷ keys) absent =
+    let here : (k == j) ≡ false = elim (eqb_tells k j) [
+      | inl y ↦ let same : Some j ≡ Some k = ap (λ i. Some i) (sym y.1) in absurd (absent-head (Some k) j keys absent same)
+      | inr n ↦ n.0
+    ] in
+    (here, differs_from_absent k keys (absent-tail (Some k) j keys absent))
+
+distinct-std : (keys : List ℕ) → IsDistinct keys → StdDistinct eqb keys
+unfolding StdDistinct
+distinct-std [] distinct = tt
+distinct-std (k ∷ keys) distinct =
+    (differs_from_absent k keys (distinct-head k keys distinct), distinct-std keys (distinct-tail k keys distinct))
+
+-- there are no more keys below a number than that
+pub length-below : (keys : List ℕ) (n : ℕ) → IsDistinct keys → ((j : ℕ) → 1 ≤ occurs j keys → j < n) → length keys ≤ n
+length-below keys n distinct below =
+    length-le_from_distinct_below keys n (distinct-std keys distinct) (λ q any. below q (any_from_occurs q keys any))

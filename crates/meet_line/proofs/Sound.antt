@@ -236,3 +236,8 @@ IsSound-kept {T} end i t item sound closed earlier used alone =
       closed = λ _. closed;
       used = used;
     }) earlier alone
+
+-- where a seat has nothing open, nothing that waits is of it
+pub seat-free : {T : Type 0} {line : List (Entry T)} {holds : ℕ → Hold T} {next : ℕ} (seat : ℕ) → IsSound line holds next → holds seat ≡ Free → All (λ e. e.waits ≡ true → e.seat ≢ seat) line
+seat-free {line = line} {holds = holds} {next = next} seat sound free =
+    All-weaker (Stands holds next) (λ e. e.waits ≡ true → e.seat ≢ seat) (λ e stands waits same. let clash : Waiting e.ticket ≡ Free = sym (stands.held waits) ∙ ap holds same ∙ free in absurd (cc)) line sound.standing

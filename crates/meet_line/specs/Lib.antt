@@ -1,8 +1,10 @@
 pub mod Lined
 pub mod Links
+pub mod Merged
 pub mod Nodes
 pub mod Rolled
 pub mod Runs
+pub mod Seated
 pub mod Seen
 pub mod Sound
 pub mod Stored

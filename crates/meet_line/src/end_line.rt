@@ -2,17 +2,18 @@
 //! or the last.
 
 ghost use Rattle.std.specs.Prelude.{◌≡◌, ◌≢◌, ◌+◌, ◌*◌, ◌<◌, ◌≤◌, ◌==◌, ◌⊎◌, [], ◌∷◌, ◌++◌, All, find, length};
-ghost use Rattle.std.specs.Prelude.{IsOk, IfErr, OnOk, OnErr, option_to_list};
+ghost use Rattle.std.specs.Prelude.{IsOk, IfErr, OnOk, OnErr, ⊤, option_to_list};
+ghost use Rattle.meet_tickets.specs.Limits.{most_seats};
 ghost use Rattle.meet_tickets.specs.BySeat.{unmet, without_first};
 ghost use Rattle.meet_tickets.specs.Meeting.{met};
 ghost use Rattle.meet_tickets.specs.declared.refusals.Refusal.TheVariants.{Memory};
 ghost use Rattle.meet_line.specs.Rolled.{IsTableSize};
 ghost use Rattle.meet_line.specs.Stored.{fellows, IsLookedAt};
 
-use crate::line::Line;
+use crate::line::{BufferLine, Line};
 use crate::linked::Linked;
 use crate::met_at::{First, Last, MetAt};
-use meet_tickets::{End, Entry, Refusal, Ticket};
+use meet_tickets::{End, Entry, Refusal, SeatNo, Ticket};
 use std::alloc::Global;
 use std::marker::{Model, PhantomData};
 
@@ -64,6 +65,12 @@ impl<T, A: MetAt> Line<T> for EndLine<T, A> {
 
     ghost end = { A.end };
 
+    ghost width = { λ line. most_seats };
+
+    ghost fits = { λ width line entry. ⊤ };
+
+    ghost seated = { λ width line entry waits within free above. tt };
+
     fn empty(alloc: Global) -> Self
         ensures entries { result.entries ≡ [] }
         ensures room { result.room ≡ 0 }
@@ -74,6 +81,11 @@ impl<T, A: MetAt> Line<T> for EndLine<T, A> {
             line: Linked::empty(alloc),
             at: PhantomData,
         }
+    }
+
+    fn widen(&mut self, seats: u64) -> Result<(), Refusal> {
+        let _ = seats;
+        Ok(())
     }
 
     fn reserve(&mut self, count: u64) -> Result<(), Refusal>
@@ -130,6 +142,11 @@ impl<T, A: MetAt> Line<T> for EndLine<T, A> {
         self.line.remove(ticket)
     }
 
+    fn remove_at(&mut self, seat: SeatNo, ticket: Ticket) -> Option<Entry<T>> {
+        let _ = seat;
+        self.remove(ticket)
+    }
+
     fn first(&self) -> Option<&Entry<T>> {
         self.line.first()
     }
@@ -154,4 +171,8 @@ impl<T, A: MetAt> Line<T> for EndLine<T, A> {
         let EndLine { line, at: _ } = self;
         line.destroy_empty();
     }
+}
+
+impl<T, A: MetAt> BufferLine<T> for EndLine<T, A> {
+    ghost any = { λ width line entry waits above. tt };
 }

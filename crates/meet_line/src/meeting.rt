@@ -33,6 +33,7 @@ pub fn meet<T, L: Line<T>>(line: &mut L, givers: u64, side: Side) -> Option<Entr
     ensures rest { L.entries line.new ≡ (if is_some result then unmet L.end (L.entries line.old)
         else L.entries line.old) }
     ensures room { L.spare line.new ≡ L.spare line.old + length (option_to_list result) }
+    ensures width { L.width line.new ≡ L.width line.old }
 {
     if is_alone(line, givers, side) {
         return None;

@@ -2,11 +2,12 @@
 //! a pool do, it writes less than a wait queue of linked nodes: a node is written once, and nothing else. A node that
 //! leaves from elsewhere is looked for from the first one on, and those on one side of it move.
 
-ghost use Rattle.std.specs.Prelude.{◌≡◌, ◌≢◌, ◌+◌, ◌<◌, [], ◌∷◌, ◌++◌, All};
+ghost use Rattle.std.specs.Prelude.{◌≡◌, ◌≢◌, ◌+◌, ◌^◌, ◌<◌, ⊤, [], ◌∷◌, ◌++◌, All, AllPairs, length};
+ghost use Rattle.meet_tickets.specs.Limits.{most_seats};
 
-use crate::line::Line;
+use crate::line::{BufferLine, Line};
 use crate::met_at::{First, Last, MetAt};
-use meet_tickets::{End, Entry, Refusal, Ticket};
+use meet_tickets::{End, Entry, Refusal, SeatNo, Ticket};
 use std::alloc::Global;
 use std::collections::VecDeque;
 use std::marker::{Model, PhantomData};
@@ -45,12 +46,23 @@ impl<T, A: MetAt> Line<T> for RingLine<T, A> {
 
     ghost end = { A.end };
 
+    ghost width = { λ line. most_seats };
+
+    ghost fits = { λ width line entry. ⊤ };
+
+    ghost seated = { λ width line entry waits within free above. tt };
+
     fn empty(alloc: Global) -> Self {
         RingLine {
             entries: VecDeque::new(alloc),
             room: 0,
             at: PhantomData,
         }
+    }
+
+    fn widen(&mut self, seats: u64) -> Result<(), Refusal> {
+        let _ = seats;
+        Ok(())
     }
 
     #[inline(always)]
@@ -96,6 +108,11 @@ impl<T, A: MetAt> Line<T> for RingLine<T, A> {
         Some(removed)
     }
 
+    fn remove_at(&mut self, seat: SeatNo, ticket: Ticket) -> Option<Entry<T>> {
+        let _ = seat;
+        self.remove(ticket)
+    }
+
     #[inline(always)]
     fn first(&self) -> Option<&Entry<T>> {
         self.entries.front()
@@ -112,7 +129,11 @@ impl<T, A: MetAt> Line<T> for RingLine<T, A> {
         }
     }
 
-    fn len(&self) -> u64 {
+    fn len(&self) -> u64
+        ensures count { result ≡ length self.now.entries }
+        ensures distinct { AllPairs (λ e f. e.ticket ≢ f.ticket) self.now.entries }
+        ensures few { length self.now.entries + self.now.room < 2 ^ 64 }
+    {
         self.entries.len() as u64
     }
 
@@ -128,4 +149,8 @@ impl<T, A: MetAt> Line<T> for RingLine<T, A> {
         } = self;
         entries.destroy_empty();
     }
+}
+
+impl<T, A: MetAt> BufferLine<T> for RingLine<T, A> {
+    ghost any = { λ width line entry waits above. tt };
 }

@@ -6,7 +6,7 @@ ghost use Rattle.meet_tickets.specs.Limits.{most_seats};
 
 use crate::parcels::{Parcel, first_serial, join, meets_in_order, seat, ticket};
 use meet_core::SeatTable;
-use meet_line::{FairLine, FairRing, Line, StackLine, StackRing};
+use meet_line::{FairLine, FairRing, FairSeats, Line, StackLine, StackRing, StackSeats};
 use meet_tickets::Refusal;
 use std::alloc::Global;
 use std::process::Abort;
@@ -14,6 +14,7 @@ use std::process::Abort;
 /// Room for so many entries more, at the second try where there was no memory at first.
 fn reserves<L: Line<Parcel>>(rt: &impl Abort, line: &mut L, count: u64)
     ensures room { count ≤ L.spare line.new }
+    ensures width { L.width line.old ≤ L.width line.new }
     ensures same { L.entries line.new ≡ L.entries line.old }
 {
     let before = (line.len(), line.room(), first_serial(line));
@@ -21,6 +22,20 @@ fn reserves<L: Line<Parcel>>(rt: &impl Abort, line: &mut L, count: u64)
         assert!(rt; why == Refusal::Memory);
         assert_eq!(rt; (line.len(), line.room(), first_serial(line)), before);
         line.reserve(count).expect(rt, "memory");
+    }
+}
+
+/// Places for so many seats, at the second try where there was no memory at first.
+fn widens<L: Line<Parcel>>(rt: &impl Abort, line: &mut L, seats: u64)
+    requires { seats ≤ most_seats }
+    ensures width { seats ≤ L.width line.new }
+    ensures same { L.entries line.new ≡ L.entries line.old }
+{
+    let before = (line.len(), line.room(), first_serial(line));
+    if let Err(why) = line.widen(seats) {
+        assert!(rt; why == Refusal::Memory);
+        assert_eq!(rt; (line.len(), line.room(), first_serial(line)), before);
+        line.widen(seats).expect(rt, "memory");
     }
 }
 
@@ -33,8 +48,9 @@ fn has_three<L: Line<Parcel>>(rt: &impl Abort, line: &L) {
 }
 
 /// A line that grows three times, each time while others stand in it but the first, and meets in this order.
-fn grows<L: Line<Parcel> + Drop>(rt: &impl Abort, alloc: Global, serials: &[u64]) {
+pub fn grows<L: Line<Parcel> + Drop>(rt: &impl Abort, alloc: Global, serials: &[u64]) {
     let mut line = L::empty(alloc);
+    widens(rt, &mut line, 4);
     reserves(rt, &mut line, 1);
     join(rt, &mut line, 1, 10);
     reserves(rt, &mut line, 2);
@@ -63,6 +79,16 @@ fn a_fair_list_grows(rt: HostRuntime) {
 #[test]
 fn a_list_of_a_stack_grows(rt: HostRuntime) {
     grows::<StackRing<Parcel>>(&rt, rt.alloc(), &[30, 20, 10]);
+}
+
+#[test]
+fn a_fair_line_of_seats_grows(rt: HostRuntime) {
+    grows::<FairSeats<Parcel>>(&rt, rt.alloc(), &[10, 20, 30]);
+}
+
+#[test]
+fn a_stack_of_seats_grows(rt: HostRuntime) {
+    grows::<StackSeats<Parcel>>(&rt, rt.alloc(), &[30, 20, 10]);
 }
 
 /// A table of so many seats, at the second try where there was no memory at first.

@@ -1,13 +1,13 @@
 //! What is left in a queue, of items that can't be let go: each comes out once, with its giver's ticket.
 
 use meet_core::{Followed, Gave, Left, LeftStanding, Meetings, Put, Took};
-use meet_line::{FairLine, Line, StackLine};
+use meet_line::{BufferLine, FairLine, StackLine};
 use meet_tickets::{Marked, Refused, SeatNo, Ticket};
 use std::alloc::Global;
 use std::process::Abort;
 
 /// An item that can't be let go: its type isn't `Drop`.
-struct Seal {
+pub struct Seal {
     serial: u64,
 }
 
@@ -27,7 +27,7 @@ fn broken(seal: Seal) -> u64 {
 
 /// What a seat asks; an item by its serial number.
 #[derive(Clone, Copy)]
-enum Ask {
+pub enum Ask {
     Give(u64),
     Put(u64),
     Take,
@@ -75,7 +75,7 @@ fn followed(followed: Followed<Seal>) -> Option<u64> {
 }
 
 /// A seat asks; the serial number of the item that comes out by it.
-fn asks<L: Line<Seal>>(
+fn asks<L: BufferLine<Seal>>(
     rt: &impl Abort,
     queue: &mut Meetings<Seal, L>,
     at: SeatNo,
@@ -98,10 +98,10 @@ fn asks<L: Line<Seal>>(
 }
 
 /// A seat asks, and this item comes out by it.
-type Row = (u64, Ask, Option<u64>);
+pub type Row = (u64, Ask, Option<u64>);
 
 /// A giver's ticket, its item, and how that stood in the queue.
-type Found = (u64, u64, LeftStanding);
+pub type Found = (u64, u64, LeftStanding);
 
 /// The list has these items, and nothing else.
 fn has(rt: &impl Abort, list: Vec<Left<Seal>>, wanted: &[Found]) {
@@ -121,7 +121,7 @@ fn has(rt: &impl Abort, list: Vec<Left<Seal>>, wanted: &[Found]) {
 }
 
 /// Seats ask, one after another, and then these items are left.
-fn leaves<L: Line<Seal>>(rt: &impl Abort, alloc: Global, rows: &[Row], wanted: &[Found]) {
+pub fn leaves<L: BufferLine<Seal>>(rt: &impl Abort, alloc: Global, rows: &[Row], wanted: &[Found]) {
     let mut queue: Meetings<Seal, L> = Meetings::new(alloc, 8, 1).expect(rt, "memory");
     for (number, ask, out) in rows {
         let at = SeatNo::new(*number).expect(rt, "no such seat number");
@@ -135,7 +135,7 @@ fn leaves<L: Line<Seal>>(rt: &impl Abort, alloc: Global, rows: &[Row], wanted: &
 
 /// One item waits to be collected, one was collected, one's giver was cut, two are offered, and between these one is
 /// kept.
-const MIXED: [Row; 10] = [
+pub const MIXED: [Row; 10] = [
     (4, Ask::Take, None),
     (0, Ask::Give(10), None),
     (5, Ask::Take, None),
@@ -148,16 +148,18 @@ const MIXED: [Row; 10] = [
     (0, Ask::Give(60), None),
 ];
 
+/// What is left of these in a line whose first is met.
+pub const LEFT_BY_FIRST: [Found; 5] = [
+    (6, 40, LeftStanding::Offered),
+    (7, 50, LeftStanding::Kept),
+    (8, 60, LeftStanding::Offered),
+    (5, 30, LeftStanding::Ready),
+    (2, 10, LeftStanding::Ready),
+];
+
 #[test]
 fn of_a_fair_line_who_came_first_is_first(rt: HostRuntime) {
-    let wanted = [
-        (6, 40, LeftStanding::Offered),
-        (7, 50, LeftStanding::Kept),
-        (8, 60, LeftStanding::Offered),
-        (5, 30, LeftStanding::Ready),
-        (2, 10, LeftStanding::Ready),
-    ];
-    leaves::<FairLine<Seal>>(&rt, rt.alloc(), &MIXED, &wanted);
+    leaves::<FairLine<Seal>>(&rt, rt.alloc(), &MIXED, &LEFT_BY_FIRST);
 }
 
 #[test]
@@ -173,7 +175,7 @@ fn of_a_stack_who_came_last_is_first(rt: HostRuntime) {
 }
 
 /// An item went to a taker whose giver wasn't told, a taker was cut, and two wait.
-const TAKERS: [Row; 6] = [
+pub const TAKERS: [Row; 6] = [
     (0, Ask::Give(10), None),
     (1, Ask::Take, Some(10)),
     (2, Ask::Take, None),
@@ -189,7 +191,7 @@ fn takers_leave_nothing(rt: HostRuntime) {
 }
 
 /// A queue in which nobody is there is dropped.
-fn goes_empty<L: Line<Seal>>(rt: &impl Abort, alloc: Global) {
+pub fn goes_empty<L: BufferLine<Seal>>(rt: &impl Abort, alloc: Global) {
     let mut queue: Meetings<Seal, L> = Meetings::new(alloc, 8, 1).expect(rt, "memory");
     queue.reserve(8).expect(rt, "memory");
     queue.destroy_empty();

@@ -15,4 +15,8 @@ mod parcels;
 #[cfg(test)]
 mod sealed;
 #[cfg(test)]
+mod seats;
+#[cfg(test)]
 mod tables;
+#[cfg(test)]
+mod transfers;

@@ -1,8 +1,7 @@
 //! What every line does, in either order.
 
 use crate::parcels::{Parcel, first_serial, join, meets_in_order, serial, ticket};
-use meet_line::{FairLine, FairRing, Line, StackLine, StackRing};
-use meet_tickets::Entry;
+use meet_line::{FairLine, FairRing, FairSeats, Line, StackLine, StackRing, StackSeats};
 use std::alloc::Global;
 use std::process::Abort;
 
@@ -11,6 +10,7 @@ fn line_of_three<L: Line<Parcel> + Drop>(rt: &impl Abort, alloc: Global) -> L {
     let mut line = L::empty(alloc);
     assert_eq!(rt; line.len(), 0);
     assert_eq!(rt; line.room(), 0);
+    line.widen(4).expect(rt, "memory");
     line.reserve(100_000).expect(rt, "memory");
     assert!(rt; line.room() >= 100_000);
     join(rt, &mut line, 1, 10);
@@ -29,7 +29,7 @@ fn removes<L: Line<Parcel>>(rt: &impl Abort, line: &mut L) {
 }
 
 /// A line meets three entries in the order `all`, and without the middle one in the order `rest`.
-fn serves<L: Line<Parcel> + Drop>(rt: &impl Abort, alloc: Global, all: &[u64], rest: &[u64]) {
+pub fn serves<L: Line<Parcel> + Drop>(rt: &impl Abort, alloc: Global, all: &[u64], rest: &[u64]) {
     let mut line: L = line_of_three(rt, alloc);
     assert_eq!(rt; line.len(), 3);
     assert_eq!(rt; first_serial(&line), Some(10));
@@ -58,4 +58,14 @@ fn a_list_meets_who_came_first(rt: HostRuntime) {
 #[test]
 fn a_list_meets_who_came_last(rt: HostRuntime) {
     serves::<StackRing<Parcel>>(&rt, rt.alloc(), &[30, 20, 10], &[30, 10]);
+}
+
+#[test]
+fn a_line_of_seats_meets_who_came_first(rt: HostRuntime) {
+    serves::<FairSeats<Parcel>>(&rt, rt.alloc(), &[10, 20, 30], &[10, 30]);
+}
+
+#[test]
+fn a_line_of_seats_meets_who_came_last(rt: HostRuntime) {
+    serves::<StackSeats<Parcel>>(&rt, rt.alloc(), &[30, 20, 10], &[30, 10]);
 }

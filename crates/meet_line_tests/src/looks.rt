@@ -1,20 +1,22 @@
-//! Lines that find tickets in buckets: how many nodes a removal looks at; and that all four lines do alike.
+//! Lines that find tickets in buckets: how many nodes a removal looks at; and that all six lines do alike.
 
 ghost use Rattle.std.specs.Prelude.{◌<◌, ◌^◌};
 
-use crate::parcels::{Parcel, join, meets_in_order, serial, ticket};
-use meet_line::{FairLine, FairRing, Line, StackLine, StackRing, marked_line};
+use crate::parcels::{Parcel, join, join_seat_0, meets_in_order, serial, ticket};
+use meet_line::{
+    BufferLine, FairLine, FairRing, FairSeats, Line, StackLine, StackRing, StackSeats, marked_line,
+};
 use std::alloc::Global;
 use std::process::Abort;
 
 /// The tickets from 1 to this one, as many as there was room made for.
-fn crowd<L: Line<Parcel> + Drop>(rt: &impl Abort, alloc: Global, last: u64) -> L
+fn crowd<L: BufferLine<Parcel> + Drop>(rt: &impl Abort, alloc: Global, last: u64) -> L
     requires few { last < 2 ^ 32 }
 {
     let mut line = L::empty(alloc);
     line.reserve(last).expect(rt, "memory");
     for number in 1..last + 1 {
-        join(rt, &mut line, number, number);
+        join_seat_0(rt, &mut line, number, number);
     }
     line
 }
@@ -41,7 +43,7 @@ fn a_stack_looks_at_one(rt: HostRuntime) {
 const MANY: u64 = 66_000;
 
 /// A large line lists all who are there, in the order in which they came, and so do the marks of their items.
-fn lists_many<L: Line<Parcel> + Drop>(rt: &impl Abort, alloc: Global) {
+pub fn lists_many<L: BufferLine<Parcel> + Drop>(rt: &impl Abort, alloc: Global) {
     let line: L = crowd(rt, alloc, MANY);
     let list = line.list(alloc).expect(rt, "memory");
     assert_eq!(rt; list.len() as u64, MANY);
@@ -64,11 +66,12 @@ fn a_large_line_is_listed(rt: HostRuntime) {
 }
 
 /// Which ticket leaves, none for a meeting, and the serial of the item that it has.
-type Step = (Option<u64>, Option<u64>);
+pub type Step = (Option<u64>, Option<u64>);
 
 /// These steps of a line of five tickets, of which three share a bucket, and five more in their places.
-fn plays<L: Line<Parcel> + Drop>(rt: &impl Abort, alloc: Global, steps: &[Step], rest: &[u64]) {
+pub fn plays<L: Line<Parcel> + Drop>(rt: &impl Abort, alloc: Global, steps: &[Step], rest: &[u64]) {
     let mut line = L::empty(alloc);
+    line.widen(40).expect(rt, "memory");
     line.reserve(5).expect(rt, "memory");
     join(rt, &mut line, 1, 10);
     join(rt, &mut line, 9, 90);
@@ -78,6 +81,7 @@ fn plays<L: Line<Parcel> + Drop>(rt: &impl Abort, alloc: Global, steps: &[Step],
     takes(rt, &mut line, steps);
     assert_eq!(rt; line.len(), 0);
     assert!(rt; line.room() >= 5);
+    line.widen(40).expect(rt, "it is as wide");
     join(rt, &mut line, 25, 250);
     join(rt, &mut line, 33, 330);
     join(rt, &mut line, 34, 340);
@@ -96,7 +100,7 @@ fn takes<L: Line<Parcel>>(rt: &impl Abort, line: &mut L, steps: &[Step]) {
 }
 
 /// What leaves a line whose first is met.
-const FIRST: [Step; 8] = [
+pub const FIRST: [Step; 8] = [
     (Some(9), Some(90)),
     (Some(25), None),
     (None, Some(10)),
@@ -123,10 +127,12 @@ const LAST: [Step; 8] = [
 fn fair_lines_do_alike(rt: HostRuntime) {
     plays::<FairLine<Parcel>>(&rt, rt.alloc(), &FIRST, &[250, 330, 340]);
     plays::<FairRing<Parcel>>(&rt, rt.alloc(), &FIRST, &[250, 330, 340]);
+    plays::<FairSeats<Parcel>>(&rt, rt.alloc(), &FIRST, &[250, 330, 340]);
 }
 
 #[test]
 fn stacks_do_alike(rt: HostRuntime) {
     plays::<StackLine<Parcel>>(&rt, rt.alloc(), &LAST, &[340, 330, 250]);
     plays::<StackRing<Parcel>>(&rt, rt.alloc(), &LAST, &[340, 330, 250]);
+    plays::<StackSeats<Parcel>>(&rt, rt.alloc(), &LAST, &[340, 330, 250]);
 }

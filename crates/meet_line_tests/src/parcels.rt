@@ -1,8 +1,8 @@
 //! Items that a test knows again, and lines of them.
 
-ghost use Rattle.std.specs.Prelude.{◌≡◌, ◌+◌, ◌<◌, All};
+ghost use Rattle.std.specs.Prelude.{◌≡◌, ◌+◌, ◌<◌, true, false, All};
 
-use meet_line::Line;
+use meet_line::{BufferLine, Line};
 use meet_tickets::{Entry, Marked, SeatNo, Ticket};
 use std::process::Abort;
 
@@ -44,19 +44,57 @@ pub fn first_serial<L: Line<Parcel>>(line: &L) -> Option<u64> {
     Some(line.first()?.item.as_ref()?.serial)
 }
 
-/// An entry whose ticket is the newest comes to the line.
+/// An entry that waits, of this ticket and this seat.
+pub fn entry_of(ticket: Ticket, seat: SeatNo, serial: u64) -> Entry<Parcel>
+    ensures ticket { result.ticket ≡ ticket }
+    ensures seat { result.seat ≡ seat }
+    ensures waits { result.waits ≡ true }
+{
+    Entry {
+        ticket,
+        seat,
+        item: Some(Parcel { serial }),
+        waits: true,
+    }
+}
+
+/// An entry that doesn't wait, a buffered item, of this ticket and this seat.
+pub fn buffered_of(ticket: Ticket, seat: SeatNo, serial: u64) -> Entry<Parcel>
+    ensures ticket { result.ticket ≡ ticket }
+    ensures seat { result.seat ≡ seat }
+    ensures waits { result.waits ≡ false }
+{
+    Entry {
+        ticket,
+        seat,
+        item: Some(Parcel { serial }),
+        waits: false,
+    }
+}
+
+/// An entry whose ticket is the newest comes to the line; its seat has the number of its ticket.
 pub fn join<L: Line<Parcel>>(rt: &impl Abort, line: &mut L, number: u64, serial: u64)
+    requires room { 0 < L.spare line.old }
+    requires width { number < L.width line.old }
+    requires newest { All (λ e. e.ticket < number) (L.entries line.old) }
+    requires seats { All (λ e. e.seat < number) (L.entries line.old) }
+    ensures room { L.spare line.new + 1 ≡ L.spare line.old }
+    ensures width { L.width line.new ≡ L.width line.old }
+    ensures newest { All (λ e. e.ticket < number + 1) (L.entries line.new) }
+    ensures seats { All (λ e. e.seat < number + 1) (L.entries line.new) }
+{
+    line.push_back(entry_of(ticket(rt, number), seat(rt, number), serial));
+}
+
+/// An entry whose ticket is the newest comes to a line that buffers, and doesn't wait; its seat is 0, as that of all
+/// others.
+pub fn join_seat_0<L: BufferLine<Parcel>>(rt: &impl Abort, line: &mut L, number: u64, serial: u64)
     requires room { 0 < L.spare line.old }
     requires newest { All (λ e. e.ticket < number) (L.entries line.old) }
     ensures room { L.spare line.new + 1 ≡ L.spare line.old }
     ensures newest { All (λ e. e.ticket < number + 1) (L.entries line.new) }
 {
-    line.push_back(Entry {
-        ticket: ticket(rt, number),
-        seat: seat(rt, 0),
-        item: Some(Parcel { serial }),
-        waits: true,
-    });
+    line.push_back(buffered_of(ticket(rt, number), seat(rt, 0), serial));
 }
 
 /// The entries are met in this order, each gives its room back, and then nobody is there.

@@ -1,18 +1,23 @@
-//! Items that can't be dropped go through the lines that find tickets in buckets, which are then let go empty.
+//! Items that can't be dropped go through the lines that find tickets in buckets or by seats, which are then let go empty.
+
+ghost use Rattle.std.specs.Prelude.{◌≡◌, true};
 
 use crate::parcels::{seat, ticket};
-use meet_line::{FairLine, Line, StackLine};
+use meet_line::{FairLine, FairSeats, Line, StackLine, StackSeats};
 use meet_tickets::{Entry, SeatNo, Ticket};
 use std::alloc::Global;
 use std::process::Abort;
 
 /// An item that has to be opened.
-struct Sealed {
+pub struct Sealed {
     serial: u64,
 }
 
 /// An entry with such an item.
-fn entry_of(ticket: Ticket, seat: SeatNo, serial: u64) -> Entry<Sealed> {
+fn entry_of(ticket: Ticket, seat: SeatNo, serial: u64) -> Entry<Sealed>
+    ensures seat { result.seat ≡ seat }
+    ensures waits { result.waits ≡ true }
+{
     Entry {
         ticket,
         seat,
@@ -34,9 +39,10 @@ fn opened(entry: Option<Entry<Sealed>>) -> Option<u64> {
 }
 
 /// The serial number of the one item of a line, which is met; then the line is dropped empty.
-fn goes_through<L: Line<Sealed>>(rt: &impl Abort, alloc: Global) -> Option<u64> {
+pub fn goes_through<L: Line<Sealed>>(rt: &impl Abort, alloc: Global) -> Option<u64> {
     let (ticket, seat) = (ticket(rt, 7), seat(rt, 0));
     let mut line = L::empty(alloc);
+    line.widen(1).expect(rt, "memory");
     line.reserve(1).expect(rt, "memory");
     line.push_back(entry_of(ticket, seat, 70));
     let met = opened(line.meet());
@@ -53,5 +59,17 @@ fn a_fair_line_of_sealed_items(rt: HostRuntime) {
 #[test]
 fn a_stack_of_sealed_items(rt: HostRuntime) {
     let met = goes_through::<StackLine<Sealed>>(&rt, rt.alloc());
+    assert_eq!(rt; met, Some(70));
+}
+
+#[test]
+fn a_line_of_seats_of_sealed_items(rt: HostRuntime) {
+    let met = goes_through::<FairSeats<Sealed>>(&rt, rt.alloc());
+    assert_eq!(rt; met, Some(70));
+}
+
+#[test]
+fn a_stack_of_seats_of_sealed_items(rt: HostRuntime) {
+    let met = goes_through::<StackSeats<Sealed>>(&rt, rt.alloc());
     assert_eq!(rt; met, Some(70));
 }

@@ -1,6 +1,6 @@
 //! How many tickets have which fate.
 
-ghost use Rattle.std.specs.Prelude.{◌≡◌, ◌+◌, ◌<◌, ◌^◌, [], map};
+ghost use Rattle.std.specs.Prelude.{◌≡◌, ◌+◌, ◌<◌, ◌^◌, [], map, if◌then◌else◌};
 ghost use Rattle.meet_tickets.specs.declared.fates.Fate.TheVariants.{Kept, Waiting, Withdrawn};
 ghost use Rattle.meet_sum.specs.FatesCounted.{fates_counted, numbers_of, with_fate};
 ghost use Rattle.meet_sum.specs.Stories.{fate_told, fate_asked, fate_stood, fate_met};
@@ -75,10 +75,10 @@ fn add_back(counts: &mut FateCounts, cause: Cause)
     }
 }
 
-/// Counts a ticket more whose request waits.
-fn add_waits(counts: &mut FateCounts, story: &Story)
+/// Counts a ticket more that stood in the wait queue, and whose item was buffered there if `kept`.
+fn add_stood(counts: &mut FateCounts, story: &Story, kept: bool)
     requires { fates_counted counts.old + 1 < 2 ^ 64 }
-    ensures { counts.new ≡ with_fate counts.old (fate_stood story.now Waiting) }
+    ensures { counts.new ≡ with_fate counts.old (fate_stood story.now (if kept then Kept else Waiting)) }
 {
     if story.met {
         return add_met(counts, story.learned);
@@ -88,28 +88,10 @@ fn add_waits(counts: &mut FateCounts, story: &Story)
         None => {
             if story.cut {
                 counts.cut += 1;
+            } else if kept {
+                counts.kept += 1;
             } else {
                 counts.waiting += 1;
-            }
-        }
-    }
-}
-
-/// Counts a ticket more whose item was buffered.
-fn add_kept(counts: &mut FateCounts, story: &Story)
-    requires { fates_counted counts.old + 1 < 2 ^ 64 }
-    ensures { counts.new ≡ with_fate counts.old (fate_stood story.now Kept) }
-{
-    if story.met {
-        return add_met(counts, story.learned);
-    }
-    match story.back {
-        Some(cause) => add_back(counts, cause),
-        None => {
-            if story.cut {
-                counts.cut += 1;
-            } else {
-                counts.kept += 1;
             }
         }
     }
@@ -121,8 +103,8 @@ fn add_asked(counts: &mut FateCounts, story: &Story, how: AtOnce)
     ensures { counts.new ≡ with_fate counts.old (fate_asked story.now how) }
 {
     match how {
-        AtOnce::Waits => add_waits(counts, story),
-        AtOnce::IsKept => add_kept(counts, story),
+        AtOnce::Waits => add_stood(counts, story, false),
+        AtOnce::IsKept => add_stood(counts, story, true),
         AtOnce::Meets => add_met(counts, story.learned),
         AtOnce::Fails => counts.failed += 1,
         AtOnce::Refused => counts.entry_refused += 1,

@@ -47,7 +47,7 @@ pub use laws::{
 pub use making::NewQueue;
 pub use meet_core::{Left, LeftStanding};
 pub use meet_laws::Tally;
-pub use meet_line::{FairLine, StackLine};
+pub use meet_line::{FairLine, FairSeats, SeatLine, StackLine, StackSeats};
 pub use meet_place::{Back, Blanks, Gate, Ledgers, Moment, Pending, Seat, Turn};
 pub use queue::Queue;
 pub use sync_queue::SyncQueue;

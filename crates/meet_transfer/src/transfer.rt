@@ -9,7 +9,7 @@ ghost use Rattle.meet_tickets.specs.Refusals.{IsWhy};
 ghost use Rattle.meet_tickets.specs.declared.places.End.TheVariants.{Front};
 
 use meet_core::{Gave, Meetings, Offered, Polled, Put, Took};
-use meet_line::FairLine;
+use meet_line::TransferLine;
 use meet_tickets::{Base, Marked, Refusal, Refused, SeatNo, Ticket};
 use std::alloc::Global;
 use std::marker::Model;
@@ -25,7 +25,7 @@ mod probes;
 /// Java: `LinkedTransferQueue`.
 #[derive(Drop)]
 pub struct Transfer<T: Marked> {
-    meetings: Meetings<T, FairLine<T>>,
+    meetings: Meetings<T, TransferLine<T>>,
     bound: Option<u64>,
 }
 

@@ -63,8 +63,5 @@ pub fn work<J: Marked>(
     requires state { pool_refusal book.old.object seat call ≡ None }
     ensures { PoolStep book.old.object seat call result.0 book.new.object }
 {
-    match book.step(seat, call) {
-        Ok(made) => made,
-        Err(_) => unreachable!(),
-    }
+    book.step(seat, call).unwrap()
 }

@@ -26,6 +26,18 @@ use std::collections::VecDeque;
 use std::marker::Model;
 use std::mem;
 
+/// What is made of the core's answer to a call. A call has one kind of answer, which is named here.
+macro_rules! told {
+    ($answer:expr, $own:pat => $then:expr) => {
+        match $answer {
+            $own => $then,
+            _ => unreachable!(), // the answer to another call
+        }
+    };
+}
+
+pub(crate) use told;
+
 /// The book of a pool's core, the jobs that lie in the pool, and the seats of the workers that aren't there. The jobs
 /// are those that the core knows by their tags, and the seats are of those workers that it knows to be absent. The
 /// core's settings are those that the pool was made with. The fields lie in the order that is written here (`repr(C)`):
@@ -114,10 +126,9 @@ impl<W: Work, C: Drop, N: PoolLedgers> PoolShared<W, C, N> {
             });
         }
         match shared.step(seat, PoolCall::Execute(job.tag())) {
-            Ok(answer) => match answer {
-                PoolAnswer::Executed(_ticket, answer) => Ok(place(kept, given, seats, job, answer)),
-                _ => unreachable!(), // the answer to another call
-            },
+            Ok(answer) => told!(answer, PoolAnswer::Executed(_ticket, answer) => {
+                Ok(place(kept, given, seats, job, answer))
+            }),
             Err(refused) => Err(back_with(refused, job)),
         }
     }
@@ -140,10 +151,7 @@ impl<W: Work, C: Drop, N: PoolLedgers> PoolShared<W, C, N> {
         ensures same { IfErr result (λ _. seat.new ≡ seat.old) }
     {
         match self.shared.step(seat, PoolCall::ShutDown) {
-            Ok(answer) => match answer {
-                PoolAnswer::WasShut => Ok(()),
-                _ => unreachable!(), // the answer to another call
-            },
+            Ok(answer) => told!(answer, PoolAnswer::WasShut => Ok(())),
             Err(refused) => Err(refused.why),
         }
     }
@@ -172,10 +180,9 @@ impl<W: Work, C: Drop, N: PoolLedgers> PoolShared<W, C, N> {
     {
         let PoolShared { shared, kept, .. } = self;
         match shared.step(seat, PoolCall::ShutDownNow) {
-            Ok(answer) => match answer {
-                PoolAnswer::Returned(_tasks) => Ok(mem::replace(kept, VecDeque::new(alloc))),
-                _ => unreachable!(), // the answer to another call
-            },
+            Ok(answer) => told!(answer, PoolAnswer::Returned(_tasks) => {
+                Ok(mem::replace(kept, VecDeque::new(alloc)))
+            }),
             Err(refused) => Err(refused.why),
         }
     }

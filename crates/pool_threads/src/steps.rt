@@ -12,7 +12,7 @@ ghost use Rattle.pool_threads.specs.declared.steps.WorkerCall.TheVariants.{Finis
 use crate::jobs::{Job, Work};
 use crate::ledgers::PoolLedgers;
 use crate::moving::{put_back, run, take};
-use crate::shared::PoolShared;
+use crate::shared::{PoolShared, told};
 use crate::worth::WorkerSeat;
 use pool_core::{Followed, IdleEnd, PoolAnswer, PoolCall, Ready};
 use std::collections::VecDeque;
@@ -82,12 +82,9 @@ impl<W: Work, C: Drop, N: PoolLedgers> PoolShared<W, C, N> {
         let w = shared.probe().worker_of(seat.number()) as usize;
         match seat.step(shared, PoolCall::Ready) {
             Err(_) => Next::Refused(seat),
-            Ok(answer) => match answer {
-                PoolAnswer::BeReady(_ticket, answer) => after_ready(
-                    kept, given, seats, w, seat, answer,
-                ),
-                _ => unreachable!(), // the answer to another call
-            },
+            Ok(answer) => told!(answer, PoolAnswer::BeReady(_ticket, answer) => {
+                after_ready(kept, given, seats, w, seat, answer)
+            }),
         }
     }
 
@@ -107,12 +104,9 @@ impl<W: Work, C: Drop, N: PoolLedgers> PoolShared<W, C, N> {
         let w = shared.probe().worker_of(seat.number()) as usize;
         match seat.step(shared, PoolCall::Follow) {
             Err(_) => Next::Refused(seat),
-            Ok(answer) => match answer {
-                PoolAnswer::Followed(_ticket, answer) => after_follow(
-                    kept, given, seats, w, seat, answer,
-                ),
-                _ => unreachable!(), // the answer to another call
-            },
+            Ok(answer) => told!(answer, PoolAnswer::Followed(_ticket, answer) => {
+                after_follow(kept, given, seats, w, seat, answer)
+            }),
         }
     }
 
@@ -130,10 +124,7 @@ impl<W: Work, C: Drop, N: PoolLedgers> PoolShared<W, C, N> {
     {
         match seat.step(&mut self.shared, PoolCall::Finish(answer)) {
             Err(_) => Next::Refused(seat),
-            Ok(answer) => match answer {
-                PoolAnswer::Finished(_ticket) => Next::Ended(seat),
-                _ => unreachable!(), // the answer to another call
-            },
+            Ok(answer) => told!(answer, PoolAnswer::Finished(_ticket) => Next::Ended(seat)),
         }
     }
 
@@ -147,10 +138,9 @@ impl<W: Work, C: Drop, N: PoolLedgers> PoolShared<W, C, N> {
         let w = shared.probe().worker_of(seat.number()) as usize;
         match seat.step(shared, PoolCall::IdleEnd) {
             Err(_) => Next::Refused(seat),
-            Ok(answer) => match answer {
-                PoolAnswer::Idled(_ticket, answer) => after_idle(seats, w, seat, answer),
-                _ => unreachable!(), // the answer to another call
-            },
+            Ok(answer) => told!(answer, PoolAnswer::Idled(_ticket, answer) => {
+                after_idle(seats, w, seat, answer)
+            }),
         }
     }
 
@@ -164,13 +154,10 @@ impl<W: Work, C: Drop, N: PoolLedgers> PoolShared<W, C, N> {
         let w = shared.probe().worker_of(seat.number()) as usize;
         match seat.step(shared, PoolCall::Leave) {
             Err(_) => Next::Refused(seat),
-            Ok(answer) => match answer {
-                PoolAnswer::Left => {
-                    put_back(seats, w, seat);
-                    Next::Gone
-                }
-                _ => unreachable!(), // the answer to another call
-            },
+            Ok(answer) => told!(answer, PoolAnswer::Left => {
+                put_back(seats, w, seat);
+                Next::Gone
+            }),
         }
     }
 
@@ -189,12 +176,9 @@ impl<W: Work, C: Drop, N: PoolLedgers> PoolShared<W, C, N> {
         let w = shared.probe().worker_of(seat.number()) as usize;
         match seat.step(shared, PoolCall::StartFailed) {
             Err(_) => None,
-            Ok(answer) => match answer {
-                PoolAnswer::NotStarted(_ticket, first) => after_failed(
-                    given, seats, w, seat, first,
-                ),
-                _ => unreachable!(), // the answer to another call
-            },
+            Ok(answer) => told!(answer, PoolAnswer::NotStarted(_ticket, first) => {
+                after_failed(given, seats, w, seat, first)
+            }),
         }
     }
 }

@@ -10,7 +10,7 @@ use crate::handoffs::round::HandoffRound;
 use crate::handoffs::threads::{Call, Passed, Slot, Track, run_timed};
 use meet_cells::{Gate, ParkGate, SpinGate};
 use meet_sync::{
-    Back, End, Ended, FairLine, Interrupted, Ledgers, NewQueue, Seat, SeatRefused, SyncQueue,
+    Back, End, Ended, FairSeats, Interrupted, Ledgers, NewQueue, Seat, SeatRefused, SyncQueue,
 };
 use meet_tickets::{Deed, Refusal, SeatNo};
 use std::alloc::Global;
@@ -27,7 +27,7 @@ use std::time::Clock;
 const TURNS: u64 = 16;
 
 /// The queue of a round.
-type Fair<G, N> = SyncQueue<u64, FairLine<u64>, G, N>;
+type Fair<G, N> = SyncQueue<u64, FairSeats<u64>, G, N>;
 
 /// How a call passed that ended so.
 pub fn passed_of(end: End<u64>) -> Passed {

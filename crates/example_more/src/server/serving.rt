@@ -1,7 +1,8 @@
 //! What the listener and the workers do.
 
 use ibisbookcase::queues::{
-    Deed, End, FairLine, Ledgers, Marked, ParkGate, Refusal, Seat, SeatPool, SeatRefused, SyncQueue,
+    Deed, End, FairSeats, Ledgers, Marked, ParkGate, Refusal, Seat, SeatPool, SeatRefused,
+    SyncQueue,
 };
 use std::sync::Wait;
 use std::sync::atomic::{AtomicBool, AtomicU64, Ordering};
@@ -25,7 +26,7 @@ impl Marked for Connection {
 }
 
 /// A synchronous queue in fair mode, over which connections are handed on.
-pub type Handover<N> = SyncQueue<Connection, FairLine<Connection>, ParkGate, N>;
+pub type Handover<N> = SyncQueue<Connection, FairSeats<Connection>, ParkGate, N>;
 
 /// What the threads share.
 #[derive(Drop)]

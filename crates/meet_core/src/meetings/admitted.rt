@@ -5,12 +5,12 @@ ghost use Rattle.meet_tickets.specs.Meeting.{kept_count};
 
 use crate::answers::{Gave, Offered, Polled, Put, Took};
 use crate::meetings::Meetings;
-use meet_line::Line;
+use meet_line::{BufferLine, Line};
 use meet_tickets::{Marked, SeatNo};
 
 impl<T: Marked, L: Line<T>> Meetings<T, L> {
     ghost use Rattle.meet_core.specs.Queue.{places_of, admit_refusal};
-    ghost use Rattle.meet_core.specs.Steps.{GiveStep, PutStep, TakeStep, OfferStep, PollStep};
+    ghost use Rattle.meet_core.specs.Steps.{GiveStep, TakeStep, OfferStep, PollStep};
 
     /// Gives an item: it goes to the consumer that is met, or its producer goes to the wait queue, or the request is
     /// refused at entry if the seat is flagged. It requires that `admit` succeeds, and that there is room. It can't
@@ -35,27 +35,6 @@ impl<T: Marked, L: Line<T>> Meetings<T, L> {
             Err(item) => {
                 self.wait(seat, ticket, Some(item));
                 Gave::Waits(ticket)
-            }
-        }
-    }
-
-    /// Puts an item: it goes to the consumer that is met, or is buffered, or is returned if as many as the bound are
-    /// buffered. It requires that `admit` succeeds, and that there is room. It can't fail.
-    ///
-    /// Java: `LinkedTransferQueue.put`.
-    pub fn put_admitted(&mut self, seat: SeatNo, item: T, bound: Option<u64>) -> Put<T>
-        requires admitted { admit_refusal self.old seat ≡ None }
-        requires room { 0 < self.old.room }
-        ensures step { PutStep T.mark_of L.end bound self.old seat item result self.new }
-        ensures places { places_of self.new ≡ places_of self.old }
-    {
-        let ticket = self.draw();
-        match self.hand(ticket, item) {
-            Ok(with) => Put::Meets(ticket, with),
-            Err(item) if self.is_full(bound) => Put::Fails(ticket, item),
-            Err(item) => {
-                self.keep(seat, ticket, item);
-                Put::Kept(ticket)
             }
         }
     }
@@ -118,6 +97,32 @@ impl<T: Marked, L: Line<T>> Meetings<T, L> {
         match self.fetch(ticket) {
             Some((with, item)) => Polled::Meets(ticket, with, item),
             None => Polled::Fails(ticket),
+        }
+    }
+}
+
+impl<T: Marked, L: BufferLine<T>> Meetings<T, L> {
+    ghost use Rattle.meet_core.specs.Queue.{places_of, admit_refusal};
+    ghost use Rattle.meet_core.specs.Steps.{PutStep};
+
+    /// Puts an item: it goes to the consumer that is met, or is buffered, or is returned if as many as the bound are
+    /// buffered. It requires that `admit` succeeds, and that there is room. It can't fail.
+    ///
+    /// Java: `LinkedTransferQueue.put`.
+    pub fn put_admitted(&mut self, seat: SeatNo, item: T, bound: Option<u64>) -> Put<T>
+        requires admitted { admit_refusal self.old seat ≡ None }
+        requires room { 0 < self.old.room }
+        ensures step { PutStep T.mark_of L.end bound self.old seat item result self.new }
+        ensures places { places_of self.new ≡ places_of self.old }
+    {
+        let ticket = self.draw();
+        match self.hand(ticket, item) {
+            Ok(with) => Put::Meets(ticket, with),
+            Err(item) if self.is_full(bound) => Put::Fails(ticket, item),
+            Err(item) => {
+                self.keep(seat, ticket, item);
+                Put::Kept(ticket)
+            }
         }
     }
 }

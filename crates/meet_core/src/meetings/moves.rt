@@ -12,7 +12,7 @@ ghost use Rattle.meet_tickets.specs.declared.places.Side.TheVariants.{Giver, Tak
 
 use crate::meetings::Meetings;
 use crate::meetings::partners::{collect, release, serve};
-use meet_line::{Line, meet};
+use meet_line::{BufferLine, Line, meet};
 use meet_tickets::{Entry, Hold, Marked, Refusal, SeatNo, Side, Ticket};
 
 /// One for a giver, which presents an item, else 0.
@@ -52,9 +52,7 @@ impl<T: Marked, L: Line<T>> Meetings<T, L> {
         ensures countable { kept_count self.old.line + 1 < self.new.next }
         ensures next { self.new ≡ record self.old { last = self.old.next; next = self.old.next + 1 } }
     {
-        let Some(ticket) = Ticket::new(self.next) else {
-            unreachable!()
-        };
+        let ticket = Ticket::new(self.next).unwrap();
         self.last = ticket;
         self.next += 1;
         ticket
@@ -122,28 +120,6 @@ impl<T: Marked, L: Line<T>> Meetings<T, L> {
         self.givers += gives;
     }
 
-    /// The giver's item goes to the line's end and is kept there; its seat has nothing open.
-    pub(super) fn keep(&mut self, seat: SeatNo, ticket: Ticket, item: T)
-        requires room { 0 < self.old.room }
-        requires new { All (λ e. e.ticket < ticket) self.old.line }
-        requires unopened { (seat : ℕ) → open_ticket ((seats_of self.old).holds seat) ≢ Some ticket }
-        requires used { ticket < self.old.next }
-        requires countable { kept_count self.old.line + 1 < self.old.next }
-        requires alone { partner L.end self.old.line Giver ≡ None }
-        ensures queued { Leaves self.old self.new (queued (seats_of self.old) seat ticket (Some item) false) }
-        ensures places { places_of self.new ≡ places_of self.old }
-    {
-        self.kept += 1;
-        self.line.push_back(Entry {
-            ticket,
-            seat,
-            item: Some(item),
-            waits: false,
-        });
-        let _entries = self.line.len();
-        self.givers += 1;
-    }
-
     /// Whether as many items are kept as the bound says.
     pub(super) fn is_full(&self, bound: Option<u64>) -> bool
         ensures full { result ≡ true → MatchOption bound ⊥ (λ most. most ≤ kept_count self.now.line) }
@@ -172,7 +148,7 @@ impl<T: Marked, L: Line<T>> Meetings<T, L> {
             Hold::Waiting(ticket) => *ticket,
             _ => return None,
         };
-        match self.line.remove(ticket) {
+        match self.line.remove_at(seat, ticket) {
             None => None,
             Some(entry) => {
                 self.givers -= count_if_gives(&entry.item);
@@ -180,5 +156,32 @@ impl<T: Marked, L: Line<T>> Meetings<T, L> {
                 Some(entry)
             }
         }
+    }
+}
+
+impl<T: Marked, L: BufferLine<T>> Meetings<T, L> {
+    ghost use Rattle.meet_core.specs.Queue.{seats_of, places_of};
+    ghost use Rattle.meet_core.specs.Steps.{Leaves};
+
+    /// The giver's item goes to the line's end and is kept there; its seat has nothing open.
+    pub(super) fn keep(&mut self, seat: SeatNo, ticket: Ticket, item: T)
+        requires room { 0 < self.old.room }
+        requires new { All (λ e. e.ticket < ticket) self.old.line }
+        requires unopened { (seat : ℕ) → open_ticket ((seats_of self.old).holds seat) ≢ Some ticket }
+        requires used { ticket < self.old.next }
+        requires countable { kept_count self.old.line + 1 < self.old.next }
+        requires alone { partner L.end self.old.line Giver ≡ None }
+        ensures queued { Leaves self.old self.new (queued (seats_of self.old) seat ticket (Some item) false) }
+        ensures places { places_of self.new ≡ places_of self.old }
+    {
+        self.kept += 1;
+        self.line.push_back(Entry {
+            ticket,
+            seat,
+            item: Some(item),
+            waits: false,
+        });
+        let _entries = self.line.len();
+        self.givers += 1;
     }
 }

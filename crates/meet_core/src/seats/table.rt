@@ -183,10 +183,7 @@ impl<T> SeatTable<T> {
         self.settled += u64::from(hold.is_settled());
         let was = mem::replace(&mut self.holds[seat.number() as usize], hold);
         self.changed = Some(seat);
-        match was {
-            Hold::Free => {}
-            _ => unreachable!(),
-        }
+        let_go_hold(was);
     }
 
     /// Sets what this seat holds, which is settled, after its ticket stood in the wait queue.
@@ -202,10 +199,7 @@ impl<T> SeatTable<T> {
         self.settled += 1;
         let was = mem::replace(&mut self.holds[seat.number() as usize], hold);
         self.changed = Some(seat);
-        match was {
-            Hold::Waiting(_) => {}
-            _ => unreachable!(),
-        }
+        let_go_hold(was);
     }
 
     /// Takes what this seat holds, which is settled.

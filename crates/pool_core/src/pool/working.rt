@@ -296,9 +296,7 @@ impl<J> PoolCore<J> {
         ensures room { self.old.room ≤ self.new.room }
     {
         let take = ticket_of(self.next);
-        let Some(oldest) = self.line.partner(Side::Taker) else {
-            unreachable!() // it was placed so
-        };
+        let oldest = self.line.partner(Side::Taker).unwrap(); // it was placed so
         let Entry {
             ticket,
             seat: _,

@@ -1,5 +1,5 @@
 -- Proof of `Meetings::fetch`, src/meetings/moves.rt. Fetches the item of the giver that is met, with its ticket.
-use Rattle.std.proofs.Common.{◌≡◌, ◌-◌, ◌∙◌, sym, refl, arith}
+use Rattle.std.proofs.Common.{◌≡◌, ◌-◌, ◌∙◌, sym, refl, ap, length, arith}
 use Rattle.meet_tickets.specs.declared.places.Side.TheVariants.{Giver, Taker}
 use Rattle.meet_tickets.specs.Meeting.{count_on}
 use Rattle.meet_tickets.proofs.Line.Counted.{giver-fetched}
@@ -32,6 +32,7 @@ invariant_of-self-then-giver g c =
       c.self.invariant.1 ∙ sym (kept-paired g.L.Line.end _ _ Taker c.in_ok-giver.giver (sym c.in_ok-giver.ensures.partner) c.in_ok-giver.ensures.rest c.if-giver.true),
       c.self.invariant.2,
       fewer,
+      omega (arith, c.self.invariant.4, c.in_ok-giver.ensures.width, c.collect.ensures.count),
     )
 
 pub overflow_sub-self-else-giver : goal.overflow_sub-self-else-giver
@@ -51,4 +52,5 @@ invariant_of-self-else-giver g c =
       omega (arith, less, c.self.invariant.1),
       omega (arith, c.self.invariant.2),
       omega (arith, one, c.self.invariant.3),
+      omega (arith, c.self.invariant.4, c.in_ok-giver.ensures.width, ap (λ table. length table.holds) c.forget_changed.ensures.same),
     )

@@ -1,5 +1,5 @@
 -- Proof of `Meetings::follow_up`, src/meetings/endings.rt. The follow-up of the seat's open ticket.
-use Rattle.std.proofs.Common.{◌≡◌, ◌∙◌, sym, ap, true}
+use Rattle.std.proofs.Common.{◌≡◌, ◌∙◌, sym, ap, true, arith}
 use Rattle.meet_tickets.specs.BySeat.{is_settled}
 use Rattle.meet_core.specs.Table.{hold_at}
 use Rattle.meet_core.proofs.Following.{not_waiting}
@@ -16,4 +16,5 @@ invariant_of-self g c =
       c.self.invariant.1,
       c.self.invariant.2,
       c.self.invariant.3,
+      omega (arith, c.self.invariant.4, c.free_up.ensures.count),
     )

@@ -1,6 +1,6 @@
 -- Proof of `Meetings::hand`, src/meetings/moves.rt. Hands the item to the taker that is met, and answers its ticket;
 -- without one the item comes back.
-use Rattle.std.proofs.Common.{◌≡◌, ◌∙◌, sym, ap, refl, Some, false}
+use Rattle.std.proofs.Common.{◌≡◌, ◌∙◌, sym, ap, refl, Some, false, arith}
 use Rattle.meet_tickets.specs.declared.places.Side.TheVariants.{Giver}
 use Rattle.meet_tickets.specs.Meeting.{is_on}
 use Rattle.meet_tickets.proofs.Line.Counted.{givers-stay}
@@ -33,6 +33,7 @@ invariant_of-self g c =
       c.self.invariant.1 ∙ sym (kept-paired g.L.Line.end _ _ Giver c.in-Some.taker found c.in-Some.ensures.rest waits),
       c.self.invariant.2,
       c.self.invariant.3 ∙ sym (givers-stay g.L.Line.end _ _ c.in-Some.taker (HasOneSide-sound c.self.invariant.0) found c.in-Some.ensures.rest),
+      omega (arith, c.self.invariant.4, c.in-Some.ensures.width, c.serve.ensures.count),
     )
 
 pub returns-in-Some-clause-kept : goal.returns-in-Some-clause-kept

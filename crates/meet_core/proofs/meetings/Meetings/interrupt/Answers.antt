@@ -1,6 +1,6 @@
 -- Proof of `Meetings::interrupt`, src/meetings/endings.rt. `Thread.interrupt` of the target: its ticket is cut where it
 -- stands in the line, and awaits its follow-up; else the target is flagged.
-use Rattle.std.proofs.Common.{◌≡◌, ◌≢◌, ℕ, sym, refl, subst}
+use Rattle.std.proofs.Common.{◌≡◌, ◌≢◌, ℕ, sym, refl, subst, arith}
 use Rattle.meet_tickets.specs.declared.lines.Hold.TheVariants.{Free, Waiting}
 use Rattle.meet_core.specs.Table.{hold_at, HasNoItem}
 use Rattle.meet_tickets.specs.BySeat.{withdrawn}
@@ -23,6 +23,7 @@ invariant_of-self g c =
       c.self-2.invariant.1,
       c.self-2.invariant.2,
       c.self-2.invariant.3,
+      omega (arith, c.self-2.invariant.4, c.put.ensures.count),
     )
 
 pub returns-in-Some-clause-step : goal.returns-in-Some-clause-step

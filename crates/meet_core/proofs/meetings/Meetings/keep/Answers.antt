@@ -7,6 +7,9 @@ use Rattle.meet_tickets.proofs.Line.Keeping.{kept-more}
 use Rattle.meet_line.proofs.Sound.{IsSound-kept}
 use Rattle.meet_core.proofs.meetings.Meetings.keep.Goals as goal
 
+pub push_back-requires-clause-fits : goal.push_back-requires-clause-fits
+push_back-requires-clause-fits g c = g.met.L.BufferLine.any _ _ _ refl (rw (← c.self.view_is) at c.requires.new)
+
 pub invariant_of-self : goal.invariant_of-self
 invariant_of-self g c =
     let few : kept_count (g.L.Line.entries c.self.inside.line) + 1 < c.self.inside.next = rw (← c.self.view_is) at c.requires.countable in (
@@ -18,4 +21,5 @@ invariant_of-self g c =
       ap (λ n. n + 1) c.self.invariant.1 ∙ sym (kept-more _ _ _ c.push_back.ensures.entries refl),
       omega (arith, few, c.self.invariant.1),
       omega (arith, c.self.invariant.3, giver-joins _ _ _ c.push_back.ensures.entries),
+      omega (arith, c.self.invariant.4, c.push_back.ensures.width),
     )

@@ -1,5 +1,5 @@
 -- Proof of `RingLine::remove`, src/ring_line.rt.
-use Rattle.std.proofs.Common.{◌≡◌, ◌≢◌, ◌∙◌, ◌<◌, ◌==◌, length, sym, rules, arith, tests}
+use Rattle.std.proofs.Common.{◌≡◌, ◌≢◌, ◌∙◌, ◌<◌, ◌==◌, length, sym, refl, rules, arith, tests}
 use Rattle.std.specs.List.{position}
 use Rattle.std.proofs.lemmas.Iterator.Search.{position_from_yields_List}
 use Rattle.std.proofs.lemmas.Iterator.Consumers.{YieldsList-from_deque}
@@ -17,7 +17,7 @@ stops g c =
 pub returns-in_err-index : goal.returns-in_err-index
 returns-in_err-index g c =
     let removed = removed_nowhere (λ e. e.ticket == c.args.ticket) c.self.inside.entries.items (sym (stops g (goal.at.returns-in_err-index g c).After-position) ∙ c.in_err-index.was) in
-    rw (← c.self.view_is) (record { entry = c.from_residual.ensures ∙ removed.0; entries = removed.1; room = search rules })
+    rw (← c.self.view_is) (record { entry = c.from_residual.ensures ∙ removed.0; entries = removed.1; room = search rules; width = refl })
 
 pub invariant_of-self-2 : goal.invariant_of-self-2
 invariant_of-self-2 g c =
@@ -29,4 +29,4 @@ invariant_of-self-2 g c =
 pub returns : goal.returns
 returns g c =
     let removed = removed_there (λ e. e.ticket == c.args.ticket) c.self.inside.entries.items c.remove.new.self.items c.in_ok-index.index c.in_ok-removed.removed (sym (stops g (goal.at.returns g c).After-position) ∙ c.in_ok-index.was) c.in_ok-removed.ensures.value c.in_ok-removed.ensures.items in
-    rw (← c.self.view_is) (record { entry = removed.0; entries = removed.1; room = search rules })
+    rw (← c.self.view_is) (record { entry = removed.0; entries = removed.1; room = search rules; width = refl })
