@@ -22,10 +22,13 @@ use std::marker::Model;
 /// A bounded log of an object's steps: the object (the place), the snapshot (the base) of the compacted records, and
 /// the records of all steps since. On the base the records are legal, and they lead to the place as it is. There is
 /// room for those that its pending requests may still need.
+///
+/// The records stand before the object, so that their number, which each step writes, lies beside what a step writes
+/// first of the object.
 #[derive(Drop)]
 pub struct Book<O: Object> {
-    object: O,
     records: Vec<Record<O::Deed>>,
+    object: O,
     cap: u64,
     alloc: Global,
     base: O::Base,

@@ -33,8 +33,8 @@ pub struct Meetings<T: Marked, L: Line<T>> {
     givers: u64,
     last: Ticket,
     next: u64,
-    kept: u64,
     seats: SeatTable<T>,
+    kept: u64,
 }
 
 impl<T: Marked, L: Line<T>> Model for Meetings<T, L> {
