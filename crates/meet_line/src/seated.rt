@@ -182,7 +182,8 @@ impl<T> Seated<T> {
     }
 
     /// The last node leaves, if there is one.
-    #[inline(always)]
+    // Not inlined as `meet_first` is: the line of each end has the text of both, and the compiler drops the attribute of
+    // a caller that has grown too large.
     pub(crate) fn meet_last(&mut self) -> Option<Entry<T>>
         ensures entry { result ≡ met Back self.old.entries }
         ensures entries { self.new.entries ≡ unmet Back self.old.entries }
