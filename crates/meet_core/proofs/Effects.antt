@@ -47,8 +47,7 @@ use Rattle.meet_core.specs.declared.calls.queue_calls.QueueCall.TheVariants.{Put
 use Rattle.meet_core.specs.declared.calls.queue_calls.QueueAnswer.{QueueAnswer}
 use Rattle.meet_core.specs.declared.calls.queue_calls.QueueAnswer.TheVariants.{Put as ToPut, Gave as ToGive, Offered as ToOffer, Took as ToTake, Polled as ToPoll, Followed as ToFollowUp, TakenBack as ToWithdrawal, Interrupted as ToInterrupt}
 use Rattle.meet_core.specs.QueueRecords.{made, give_record, offer_record, put_record, take_record, poll_record, follow_record, back_record, interrupt_record, queue_record}
-use Rattle.meet_core.specs.QueueSteps.{DualStep, QueueStep, kind_of, queue_refusal, queue_need, queue_room, queue_owed}
-use Rattle.meet_core.specs.Synchronous.{synchronous-end}
+use Rattle.meet_core.specs.QueueSteps.{DualStep, QueueStep, queue_refusal, queue_need, queue_room, queue_owed}
 use Rattle.meet_line.proofs.Marks.{partner-marked}
 use Rattle.meet_core.proofs.Marking.{entry_of-marked, kept-marked, queued-marked, paired-marked, released-marked, withdrawn-marked, cut_off-marked}
 use Rattle.meet_core.proofs.Owed.{owed-same, owed-more, owed-fewer}
@@ -300,9 +299,6 @@ module _ {T : Type 0} (mark : T → ℕ) (k : Kind) (old new : Queue T) where
   queue-effect i call answer sound none step = call-effect i call answer sound none step
 
   -- by the record that was told
-  pub dual-made : (i : ℕ) (call : QueueCall T) (answer : QueueAnswer T) (r : Option (Record Deed)) → r ≡ queue_record mark i call answer → IsSound old.line (seats_of old).holds old.next → queue_refusal old i call ≡ None → DualStep mark (end_of k.order) old i call answer new → HasEffect mark k old new (queue_need call) (queue_room call) r
-  dual-made i call answer r is sound none step = subst (λ r. HasEffect mark k old new (queue_need call) (queue_room call) r) (sym is) (call-effect i call answer sound none step)
-
   pub queue-made : (i : ℕ) (call : QueueCall T) (answer : QueueAnswer T) (r : Option (Record Deed)) → r ≡ queue_record mark i call answer → IsSound old.line (seats_of old).holds old.next → queue_refusal old i call ≡ None → QueueStep mark k old i call answer new → HasEffect mark k old new (queue_need call) (queue_room call) r
   queue-made i call answer r is sound none step = subst (λ r. HasEffect mark k old new (queue_need call) (queue_room call) r) (sym is) (queue-effect i call answer sound none step)
 
@@ -317,8 +313,3 @@ module _ {T : Type 0} (mark : T → ℕ) (k : Kind) (old new : Queue T) where
   effect-room need room (Some r) (writes, costs) places =
       let whole : length new.line + new.room ≡ length old.line + old.room = places in
       omega (arith, whole, costs.line)
-
--- a synchronous queue's step, by the record that was told
-pub synchronous-made : {T : Type 0} (mark : T → ℕ) (end : End) (old new : Queue T) (i : ℕ) (call : QueueCall T) (answer : QueueAnswer T) (r : Option (Record Deed)) → r ≡ queue_record mark i call answer → IsSound old.line (seats_of old).holds old.next → queue_refusal old i call ≡ None → DualStep mark end old i call answer new → HasEffect mark (kind_of end) old new (queue_need call) (queue_room call) r
-synchronous-made mark end old new i call answer r is sound none step =
-    dual-made mark (kind_of end) old new i call answer r is sound none (subst (λ e. DualStep mark e old i call answer new) (sym (synchronous-end end)) step)

@@ -10,7 +10,6 @@ use Rattle.meet_tickets.specs.Bases.{Based, no_base, moment_of_base, IsBaseOf}
 use Rattle.meet_tickets.proofs.OnBases.Folded.{folds}
 use Rattle.meet_tickets.proofs.OnBases.Based.{tellings_agree_on, no_base_well_formed}
 use Rattle.meet_core.specs.Queue.{Queue, seats_of}
-use Rattle.meet_core.specs.QueueSteps.{bounded_kind}
 use Rattle.meet_core.specs.Seen.{marked, moment_of_queue}
 use Rattle.meet_core.specs.QueueSteps.{LeadsTo}
 use Rattle.meet_core.proofs.Effects.{Writes, HasEffect}
@@ -67,5 +66,5 @@ base-leads mark k q gone new is b records leads =
     record { well_formed = folded.well_formed; legal = tt; last = ap (λ m. m.last) stands; next = leads.next; leaves = ap (λ m. m.seats) stands }
 
 -- a bound that stays is the same kind
-pub bounded-on : {T : Type 0} {mark : T → ℕ} {base : Based} {records : List (Record Deed)} {q : Queue T} {old new : Option ℕ} → new ≡ old → LeadsTo mark (bounded_kind old) base records q → LeadsTo mark (bounded_kind new) base records q
-bounded-on {T} {mark} {base} {records} {q} same leads = subst (λ b. LeadsTo mark (bounded_kind b) base records q) (sym same) leads
+pub bounded-on : {T : Type 0} {mark : T → ℕ} {base : Based} {records : List (Record Deed)} {q : Queue T} {old new : Option ℕ} (kind : Option ℕ → Kind) → new ≡ old → LeadsTo mark (kind old) base records q → LeadsTo mark (kind new) base records q
+bounded-on {T} {mark} {base} {records} {q} kind same leads = subst (λ b. LeadsTo mark (kind b) base records q) (sym same) leads

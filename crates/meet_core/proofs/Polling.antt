@@ -1,5 +1,5 @@
 -- A poll of a queue in which a giver stands.
-use Rattle.std.proofs.Common.{◌≤◌, ◌≡◌, ◌≢◌, ℕ, ◌+◌, ◌<◌, refl, sym, ap, ◌∙◌, Bool, true, false, cond, Some, None, arith}
+use Rattle.std.proofs.Common.{◌≤◌, ◌≡◌, ◌≢◌, ℕ, ◌+◌, ◌<◌, refl, sym, ap, ◌∙◌, Bool, true, false, cond, Option, Some, None, arith}
 use Rattle.std.specs.Prelude.{nat_lt, nat_le}
 use Rattle.std.proofs.lemmas.Bool.{ne_eqb, le-ltb}
 use Rattle.std.proofs.lemmas.Bool.Decides.{leb_tells}
@@ -9,7 +9,8 @@ use Rattle.meet_tickets.specs.declared.lines.Hold.TheVariants.{Free, Waiting}
 use Rattle.meet_tickets.specs.declared.places.Side.TheVariants.{Giver, Taker}
 use Rattle.meet_tickets.specs.declared.places.End.{End}
 use Rattle.meet_tickets.specs.declared.refusals.Refusal.TheVariants.{NoSuchSeat, SeatOpen, TicketsSpent}
-use Rattle.meet_tickets.specs.Meeting.{count_on}
+use Rattle.meet_tickets.specs.declared.places.Kind.{Kind}
+use Rattle.meet_tickets.specs.Meeting.{count_on, end_of}
 use Rattle.meet_tickets.specs.BySeat.{Seats, put_at, is_open, owed_of, paired_hold}
 use Rattle.meet_tickets.specs.Limits.{last_ticket}
 use Rattle.meet_tickets.specs.Refusals.{refusal_of}
@@ -24,6 +25,7 @@ use Rattle.meet_core.specs.declared.calls.queue_calls.QueueCall.TheVariants.{Pol
 use Rattle.meet_core.specs.declared.calls.queue_calls.QueueAnswer.{QueueAnswer}
 use Rattle.meet_core.specs.declared.calls.queue_calls.QueueAnswer.TheVariants.{Put as ToPut, Gave as ToGive, Offered as ToOffer, Took as ToTake, Polled as ToPoll, Followed as ToFollowUp, TakenBack as ToWithdrawal, Interrupted as ToInterrupt}
 use Rattle.meet_core.specs.QueueRecords.{queue_record}
+use Rattle.meet_core.specs.Bounded.{Bounded, BoundedStep}
 use Rattle.meet_core.specs.QueueSteps.{DualStep, queue_refusal, queue_owed, queue_available, queue_unspent}
 use Rattle.meet_core.proofs.Effects.{met-open}
 
@@ -79,3 +81,9 @@ poll-takes mark end old sound seat (ToTake answer) new step none some = absurd s
 poll-takes mark end old sound seat (ToFollowUp answer) new step none some = absurd step
 poll-takes mark end old sound seat (ToWithdrawal answer) new step none some = absurd step
 poll-takes mark end old sound seat (ToInterrupt answer) new step none some = absurd step
+
+-- of a queue whose kind is known by its bound, which stays
+pub bounded-takes : {T : Type 0} (mark : T → ℕ) (kind : Option ℕ → Kind) (old : Bounded T) → IsSound old.queue.line (seats_of old.queue).holds old.queue.next → (seat : ℕ) (answer : QueueAnswer T) (new : Bounded T) → BoundedStep mark kind old seat Poll answer new → queue_refusal old.queue seat Poll ≡ None → 0 < queue_available old.queue → TakesOne (λ b. queue_available b.queue) (λ b. queue_unspent b.queue) (λ b. queue_owed b.queue) (λ b. queue_refusal b.queue seat Poll) (queue_record mark seat Poll answer) old new
+bounded-takes mark kind old sound seat answer new step none some =
+    let one = poll-takes mark (end_of (kind old.bound).order) old.queue sound seat answer new.queue step.1 none some in
+    record { recorded = one.recorded; available = one.available; tickets = one.tickets; owed = one.owed; free = one.free }

@@ -1,5 +1,6 @@
 pub mod Answers
 pub mod Awaits
+pub mod Bounded
 pub mod Handed
 pub mod Left
 pub mod LeftTold

@@ -17,8 +17,8 @@
 
 mod answers;
 mod calls;
-mod dual;
 mod left;
+mod local_queue;
 mod meetings;
 mod seats;
 
@@ -27,7 +27,9 @@ pub use calls::{
     Answered, QueueAnswer, QueueCall, QueueDrains, QueueLeaves, QueuePlace, admit_call,
     answered_put, handed_items_were_brought, make_call,
 };
-pub use dual::Dual;
 pub use left::{Left, LeftStanding};
+pub use local_queue::{
+    AnyNumber, Buffers, Dual, LocalQueue, Nothing, OneKind, Transfer, Unbounded, UpTo,
+};
 pub use meetings::Meetings;
 pub use seats::{Opened, SeatTable, open_tickets};

@@ -6,10 +6,11 @@ ghost use Rattle.meet_tickets.specs.Meeting.{kept_count};
 ghost use Rattle.meet_tickets.specs.BySeat.{nobody};
 ghost use Rattle.meet_tickets.specs.Limits.{most_seats, last_ticket};
 ghost use Rattle.meet_tickets.specs.Refusals.{IsWhy};
+ghost use Rattle.meet_core.specs.Bounded.{IsBuffering};
 
 use crate::answers::{Gave, Offered, Polled, Put, Took};
 use crate::seats::SeatTable;
-use meet_line::{BufferLine, Line};
+use meet_line::Line;
 use meet_tickets::{Marked, Refusal, Refused, SeatNo, Ticket};
 use std::alloc::Global;
 use std::marker::Model;
@@ -65,7 +66,7 @@ impl<T: Marked, L: Line<T>> Model for Meetings<T, L> {
 
 impl<T: Marked, L: Line<T>> Meetings<T, L> {
     ghost use Rattle.meet_core.specs.Queue.{seats_of, count_of, places_of, admit_refusal};
-    ghost use Rattle.meet_core.specs.Steps.{GiveStep, TakeStep, OfferStep, PollStep};
+    ghost use Rattle.meet_core.specs.Steps.{GiveStep, PutStep, TakeStep, OfferStep, PollStep};
     ghost use Rattle.meet_tickets.specs.declared.refusals.Refusal.TheVariants.{Memory};
 
     /// Creates a queue with no room yet, with this many seats, at most 65,536, and this first ticket, 1 to 2^63 - 1.
@@ -232,14 +233,9 @@ impl<T: Marked, L: Line<T>> Meetings<T, L> {
         self.admit(seat)?;
         Ok(self.poll_admitted(seat))
     }
-}
-
-impl<T: Marked, L: BufferLine<T>> Meetings<T, L> {
-    ghost use Rattle.meet_core.specs.Queue.{places_of, admit_refusal};
-    ghost use Rattle.meet_core.specs.Steps.{PutStep};
 
     /// Puts an item. It goes to the consumer that is met, or is buffered, and its producer goes on. The put fails if as
-    /// many items are buffered as the bound allows.
+    /// many items are buffered as the bound allows. It requires a wait queue that buffers.
     ///
     /// # Errors
     /// Nothing has changed, and the item is returned.
@@ -248,6 +244,7 @@ impl<T: Marked, L: BufferLine<T>> Meetings<T, L> {
     ///
     /// Java: `LinkedTransferQueue.put`.
     pub fn put(&mut self, seat: SeatNo, item: T, bound: Option<u64>) -> Result<Put<T>, Refused<T>>
+        requires buffers { IsBuffering L.fits }
         ensures step { IfOk result (λ answer. PutStep T.mark_of L.end bound self.old seat item answer self.new) }
         ensures admitted { IfOk result (λ _. admit_refusal self.old seat ≡ None) }
         ensures enough { 0 < self.old.room → admit_refusal self.old seat ≡ None → IsOk result }

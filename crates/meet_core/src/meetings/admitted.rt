@@ -2,15 +2,16 @@
 
 ghost use Rattle.std.specs.Prelude.{◌≡◌, ◌<◌, ◌≤◌, None};
 ghost use Rattle.meet_tickets.specs.Meeting.{kept_count};
+ghost use Rattle.meet_core.specs.Bounded.{IsBuffering};
 
 use crate::answers::{Gave, Offered, Polled, Put, Took};
 use crate::meetings::Meetings;
-use meet_line::{BufferLine, Line};
+use meet_line::Line;
 use meet_tickets::{Marked, SeatNo};
 
 impl<T: Marked, L: Line<T>> Meetings<T, L> {
     ghost use Rattle.meet_core.specs.Queue.{places_of, admit_refusal};
-    ghost use Rattle.meet_core.specs.Steps.{GiveStep, TakeStep, OfferStep, PollStep};
+    ghost use Rattle.meet_core.specs.Steps.{GiveStep, PutStep, TakeStep, OfferStep, PollStep};
 
     /// Gives an item: it goes to the consumer that is met, or its producer goes to the wait queue, or the request is
     /// refused at entry if the seat is flagged. It requires that `admit` succeeds, and that there is room. It can't
@@ -99,17 +100,13 @@ impl<T: Marked, L: Line<T>> Meetings<T, L> {
             None => Polled::Fails(ticket),
         }
     }
-}
-
-impl<T: Marked, L: BufferLine<T>> Meetings<T, L> {
-    ghost use Rattle.meet_core.specs.Queue.{places_of, admit_refusal};
-    ghost use Rattle.meet_core.specs.Steps.{PutStep};
 
     /// Puts an item: it goes to the consumer that is met, or is buffered, or is returned if as many as the bound are
-    /// buffered. It requires that `admit` succeeds, and that there is room. It can't fail.
+    /// buffered. It requires a wait queue that buffers, that `admit` succeeds, and that there is room. It can't fail.
     ///
     /// Java: `LinkedTransferQueue.put`.
     pub fn put_admitted(&mut self, seat: SeatNo, item: T, bound: Option<u64>) -> Put<T>
+        requires buffers { IsBuffering L.fits }
         requires admitted { admit_refusal self.old seat ≡ None }
         requires room { 0 < self.old.room }
         ensures step { PutStep T.mark_of L.end bound self.old seat item result self.new }

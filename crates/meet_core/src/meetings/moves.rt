@@ -6,13 +6,14 @@ ghost use Rattle.std.specs.Prelude.{MatchOption, All, true, false, is_some, if�
 ghost use Rattle.meet_tickets.specs.Meeting.{partner, kept_count, IsAlone};
 ghost use Rattle.meet_tickets.specs.BySeat.{queued, open_ticket, entry_of, withdrawn};
 ghost use Rattle.meet_tickets.specs.Limits.{last_ticket};
+ghost use Rattle.meet_core.specs.Bounded.{IsBuffering};
 ghost use Rattle.meet_tickets.specs.declared.refusals.Refusal.TheVariants.{TicketsSpent};
 ghost use Rattle.meet_tickets.specs.declared.lines.Hold.TheVariants.{Free};
 ghost use Rattle.meet_tickets.specs.declared.places.Side.TheVariants.{Giver, Taker};
 
 use crate::meetings::Meetings;
 use crate::meetings::partners::{collect, release, serve};
-use meet_line::{BufferLine, Line, meet};
+use meet_line::{Line, meet};
 use meet_tickets::{Entry, Hold, Marked, Refusal, SeatNo, Side, Ticket};
 
 /// One for a giver, which presents an item, else 0.
@@ -157,14 +158,10 @@ impl<T: Marked, L: Line<T>> Meetings<T, L> {
             }
         }
     }
-}
-
-impl<T: Marked, L: BufferLine<T>> Meetings<T, L> {
-    ghost use Rattle.meet_core.specs.Queue.{seats_of, places_of};
-    ghost use Rattle.meet_core.specs.Steps.{Leaves};
 
     /// The giver's item goes to the line's end and is kept there; its seat has nothing open.
     pub(super) fn keep(&mut self, seat: SeatNo, ticket: Ticket, item: T)
+        requires buffers { IsBuffering L.fits }
         requires room { 0 < self.old.room }
         requires new { All (λ e. e.ticket < ticket) self.old.line }
         requires unopened { (seat : ℕ) → open_ticket ((seats_of self.old).holds seat) ≢ Some ticket }

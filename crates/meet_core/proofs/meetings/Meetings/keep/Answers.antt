@@ -8,7 +8,7 @@ use Rattle.meet_line.proofs.Sound.{IsSound-kept}
 use Rattle.meet_core.proofs.meetings.Meetings.keep.Goals as goal
 
 pub push_back-requires-clause-fits : goal.push_back-requires-clause-fits
-push_back-requires-clause-fits g c = g.met.L.BufferLine.any _ _ _ refl (rw (← c.self.view_is) at c.requires.new)
+push_back-requires-clause-fits g c = c.requires.buffers _ _ _ refl (rw (← c.self.view_is) at c.requires.new)
 
 pub invariant_of-self : goal.invariant_of-self
 invariant_of-self g c =

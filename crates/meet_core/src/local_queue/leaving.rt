@@ -6,16 +6,16 @@ ghost use Rattle.meet_tickets.specs.BySeat.{nobody};
 ghost use Rattle.meet_core.specs.Left.{left_in};
 ghost use Rattle.meet_core.specs.Queue.{seats_of};
 
-use crate::dual::Dual;
 use crate::left::Left;
+use crate::local_queue::{Buffers, LocalQueue};
 use meet_line::Line;
 use meet_tickets::Marked;
 
-impl<T: Marked, L: Line<T>> Dual<T, L> {
-    /// Returns how many items are left in the queue: those that are offered in the wait queue, and those that were
+impl<T: Marked, L: Line<T>, K: Buffers<T, L>> LocalQueue<T, L, K> {
+    /// Returns how many items are left in the queue: those in the wait queue, offered or buffered, and those that were
     /// interrupted or taken and not collected. It looks at every seat.
     pub fn left(&self) -> u64
-        ensures { result ≡ length (left_in L.end self.now) }
+        ensures { result ≡ length (left_in L.end self.now.queue) }
     {
         self.meetings.left()
     }
@@ -26,15 +26,15 @@ impl<T: Marked, L: Line<T>> Dual<T, L> {
     /// dropped.
     pub fn into_left(self, empty: Vec<Left<T>>) -> Vec<Left<T>>
         requires empty { empty.items ≡ [] }
-        requires room { length (left_in L.end self) ≤ vec_capacity empty }
-        ensures { result.items ≡ left_in L.end self }
+        requires room { length (left_in L.end self.queue) ≤ vec_capacity empty }
+        ensures { result.items ≡ left_in L.end self.queue }
     {
         self.meetings.into_left(empty)
     }
 
     /// Drops an empty queue, even if its items can't be dropped.
     pub fn destroy_empty(self)
-        requires empty { seats_of self ≡ nobody }
+        requires empty { seats_of self.queue ≡ nobody }
     {
         self.meetings.destroy_empty();
     }
