@@ -1,7 +1,6 @@
 -- A poll of a queue of any kind in which a giver stands.
-use Rattle.std.proofs.Common.{◌≡◌, ℕ, ◌<◌, refl, subst, None}
+use Rattle.std.proofs.Common.{◌≡◌, ℕ, ◌<◌, refl, subst, Option, None}
 use Rattle.meet_tickets.specs.declared.places.End.{End}
-use Rattle.meet_tickets.specs.declared.places.End.TheVariants.{Front}
 use Rattle.meet_tickets.specs.declared.places.Kind.{Kind}
 use Rattle.meet_tickets.specs.Meeting.{end_of}
 use Rattle.meet_core.specs.Queue.{Queue}
@@ -10,7 +9,7 @@ use Rattle.meet_core.specs.declared.calls.queue_calls.QueueCall.TheVariants.{Pol
 use Rattle.meet_core.specs.declared.calls.queue_calls.QueueAnswer.{QueueAnswer}
 use Rattle.meet_core.specs.QueueRecords.{queue_record}
 use Rattle.meet_core.specs.QueueSteps.{DualStep, QueueStep, queue_refusal, queue_owed, queue_available, queue_unspent}
-use Rattle.meet_transfer.specs.Bounded.{Bounded, BoundedStep}
+use Rattle.meet_core.specs.Bounded.{Bounded, BoundedStep}
 use Rattle.meet_queues.specs.Queues.{QueueOfKind}
 
 -- what a poll of a queue takes
@@ -25,8 +24,8 @@ any-takes old k q is takes seat answer new step none some =
     let one = here seat answer new.queue step.1 none some in
     record { recorded = one.recorded; available = one.available; tickets = one.tickets; owed = one.owed; free = one.free }
 
--- and so does one with a bound
-pub kept-takes : (old : Bounded ℕ) → ((seat : ℕ) (answer : QueueAnswer ℕ) (new : Bounded ℕ) → BoundedStep (λ m. m) old seat Poll answer new → queue_refusal old.queue seat Poll ≡ None → 0 < queue_available old.queue → TakesOne (λ b. queue_available b.queue) (λ b. queue_unspent b.queue) (λ b. queue_owed b.queue) (λ b. queue_refusal b.queue seat Poll) (queue_record (λ m. m) seat Poll answer) old new) → PollTakes Front old.queue
-kept-takes old takes seat answer new step none some =
+-- and so does one whose kind is known by its bound
+pub kept-takes : (kind : Option ℕ → Kind) (old : Bounded ℕ) → ((seat : ℕ) (answer : QueueAnswer ℕ) (new : Bounded ℕ) → BoundedStep (λ m. m) kind old seat Poll answer new → queue_refusal old.queue seat Poll ≡ None → 0 < queue_available old.queue → TakesOne (λ b. queue_available b.queue) (λ b. queue_unspent b.queue) (λ b. queue_owed b.queue) (λ b. queue_refusal b.queue seat Poll) (queue_record (λ m. m) seat Poll answer) old new) → PollTakes (end_of (kind old.bound).order) old.queue
+kept-takes kind old takes seat answer new step none some =
     let one = takes seat answer (record { queue = new; bound = old.bound }) (refl, step) none some in
     record { recorded = one.recorded; available = one.available; tickets = one.tickets; owed = one.owed; free = one.free }

@@ -15,6 +15,6 @@ pub record QueueOfKind : Type 0 where
 
 -- each variant has its kind
 abbrev pub of_kind : ByKind → QueueOfKind
-of_kind (Fair q) = record { kind = kind_of Front; queue = q }
-of_kind (Unfair q) = record { kind = kind_of Back; queue = q }
+of_kind (Fair q) = record { kind = kind_of Front; queue = q.queue }
+of_kind (Unfair q) = record { kind = kind_of Back; queue = q.queue }
 of_kind (Transfer q) = record { kind = bounded_kind q.bound; queue = q.queue }

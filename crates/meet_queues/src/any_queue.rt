@@ -117,14 +117,8 @@ impl AnyQueue {
         ensures { result ≡ kept_count self.now.queue.line }
     {
         match &self.queue {
-            ByKind::Fair(queue) => {
-                queue.stays_sound();
-                0
-            }
-            ByKind::Unfair(queue) => {
-                queue.stays_sound();
-                0
-            }
+            ByKind::Fair(queue) => queue.kept(),
+            ByKind::Unfair(queue) => queue.kept(),
             ByKind::Transfer(queue) => queue.kept(),
         }
     }

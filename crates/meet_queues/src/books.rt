@@ -35,10 +35,10 @@ pub fn queue_book<T: Marked, L: Line<T>>(
     requires first_to { first ≤ last_ticket }
     requires cap_from { 0 < cap }
     requires cap_to { cap ≤ most_records }
-    ensures fresh { IfOk result (λ book. seats_of book.object ≡ nobody) }
-    ensures seats { IfOk result (λ book. count_of book.object ≡ seats) }
-    ensures unused { IfOk result (λ book. book.object.last ≡ 0) }
-    ensures first { IfOk result (λ book. book.object.next ≡ first) }
+    ensures fresh { IfOk result (λ book. seats_of book.object.queue ≡ nobody) }
+    ensures seats { IfOk result (λ book. count_of book.object.queue ≡ seats) }
+    ensures unused { IfOk result (λ book. book.object.queue.last ≡ 0) }
+    ensures first { IfOk result (λ book. book.object.queue.next ≡ first) }
     ensures base { IfOk result (λ book. book.base ≡ no_base) }
     ensures records { IfOk result (λ book. book.records ≡ []) }
     ensures cap { IfOk result (λ book. book.cap ≡ cap) }

@@ -4,8 +4,8 @@ use crate::answers::queue;
 use crate::parcels::{Ask, Parcel, Told, numbered, seat, ticket};
 use crate::places::{Place, Shown};
 use meet_book::{Book, Object, Receipt};
-use meet_core::Dual;
-use meet_line::Line;
+use meet_core::{Buffers, Dual, LocalQueue};
+use meet_line::{Line, TransferLine};
 use meet_queues::{QueueAnswer, QueueCall};
 use meet_tickets::{Base, Deed, Record, Refused, SeatNo};
 use meet_transfer::{Transfer, Unbounded};
@@ -72,7 +72,7 @@ fn told(made: Result<QueueAnswer<Parcel>, Refused<QueueCall<Parcel>>>) -> Told {
     }
 }
 
-impl<L: Line<Parcel>> Place for Book<Dual<Parcel, L>> {
+impl<L: Line<Parcel>, K: Buffers<Parcel, L>> Place for Book<LocalQueue<Parcel, L, K>> {
     fn answer<A: Abort>(&mut self, rt: &A, at: SeatNo, ask: Ask) -> Told {
         told(steps(rt, self, at, call_of(rt, ask)))
     }
@@ -92,20 +92,11 @@ impl<L: Line<Parcel>> Shown for Book<Dual<Parcel, L>> {
     }
 }
 
-impl Place for Book<Transfer<Parcel>> {
-    fn answer<A: Abort>(&mut self, rt: &A, at: SeatNo, ask: Ask) -> Told {
-        told(steps(rt, self, at, call_of(rt, ask)))
-    }
-}
-
-impl Place for Book<Unbounded<Parcel>> {
-    fn answer<A: Abort>(&mut self, rt: &A, at: SeatNo, ask: Ask) -> Told {
-        told(steps(rt, self, at, call_of(rt, ask)))
-    }
-}
-
 /// What a book of a transfer queue shows, which has so many records.
-fn shown_of(records: usize, place: &Transfer<Parcel>) -> [u64; 6] {
+fn shown_of<K: Buffers<Parcel, TransferLine<Parcel>>>(
+    records: usize,
+    place: &LocalQueue<Parcel, TransferLine<Parcel>, K>,
+) -> [u64; 6] {
     [
         records as u64,
         place.room(),
@@ -124,6 +115,6 @@ impl Shown for Book<Transfer<Parcel>> {
 
 impl Shown for Book<Unbounded<Parcel>> {
     fn shown(&self) -> [u64; 6] {
-        shown_of(self.records().len(), self.probe().as_transfer())
+        shown_of(self.records().len(), self.probe())
     }
 }

@@ -73,42 +73,34 @@ impl<T: Marked, G, N: Ledgers> Queue<Unbounded<T>, G, N> {
     ///
     /// Java: `LinkedTransferQueue.size`.
     pub fn size<R: Wait>(&self, rt: &R) -> u64 {
-        self.place.hold(rt).probe().as_transfer().size()
+        self.place.hold(rt).probe().givers()
     }
 
     /// Returns true if no producer is in the wait queue.
     ///
     /// Java: `LinkedTransferQueue.isEmpty`.
     pub fn is_empty<R: Wait>(&self, rt: &R) -> bool {
-        self.place.hold(rt).probe().as_transfer().is_empty()
+        self.place.hold(rt).probe().givers() == 0
     }
 
     /// Returns the mark of the first producer's item.
     ///
     /// Java: `LinkedTransferQueue.peek`.
     pub fn peek_mark<R: Wait>(&self, rt: &R) -> Option<u64> {
-        self.place.hold(rt).probe().as_transfer().peek_mark()
+        self.place.hold(rt).probe().first_mark()
     }
 
     /// Returns the number of consumers in the wait queue.
     ///
     /// Java: `LinkedTransferQueue.getWaitingConsumerCount`.
     pub fn waiting_consumers<R: Wait>(&self, rt: &R) -> u64 {
-        self.place
-            .hold(rt)
-            .probe()
-            .as_transfer()
-            .waiting_consumers()
+        self.place.hold(rt).probe().takers()
     }
 
     /// Returns true if a consumer is in the wait queue.
     ///
     /// Java: `LinkedTransferQueue.hasWaitingConsumer`.
     pub fn has_waiting_consumer<R: Wait>(&self, rt: &R) -> bool {
-        self.place
-            .hold(rt)
-            .probe()
-            .as_transfer()
-            .has_waiting_consumer()
+        self.place.hold(rt).probe().takers() > 0
     }
 }

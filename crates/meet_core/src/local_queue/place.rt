@@ -270,8 +270,9 @@ impl<T: Marked, L: Line<T>, K: Buffers<T, L>> LocalQueue<T, L, K> {
         }
     }
 
-    /// Makes an admitted put, for which there is room: it buffers its item or fails, or waits where nothing is buffered.
-    #[inline(always)]
+    /// Makes an admitted put, for which there is room: it buffers its item or fails, or waits where nothing is buffered. It
+    /// isn't inlined: `make` has the text of `make_call` already, and the compiler drops the attribute of what has grown
+    /// too large.
     fn make_put(&mut self, seat: SeatNo, item: T) -> Answered<T>
         requires admitted { admit_refusal self.old.queue seat ≡ None }
         requires room { 0 < self.old.queue.room }

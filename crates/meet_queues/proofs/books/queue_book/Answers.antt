@@ -6,4 +6,4 @@ use Rattle.meet_core.proofs.Leading.{fresh-leads}
 use Rattle.meet_queues.proofs.books.queue_book.Goals as goal
 
 pub new-requires-2-clause-fresh : goal.new-requires-2-clause-fresh
-new-requires-2-clause-fresh g c = fresh-leads g.T.Marked.mark_of (kind_of g.L.Line.end) c.in_ok-queue.queue c.in_ok-queue.ensures.fresh c.in_ok-queue.ensures.unused (subst (λ n. 0 < n) (sym c.in_ok-queue.ensures.first) c.requires.first_from)
+new-requires-2-clause-fresh g c = fresh-leads g.T.Marked.mark_of (kind_of g.L.Line.end) c.in_ok-queue.queue.queue c.in_ok-queue.ensures.fresh c.in_ok-queue.ensures.unused (subst (λ n. 0 < n) (sym c.in_ok-queue.ensures.first) c.requires.first_from)

@@ -1,19 +1,15 @@
 -- Proof of `AnyQueue::step`, src/any_queue.rt.
 use Rattle.std.proofs.Common.{refl, ap}
-use Rattle.meet_tickets.specs.declared.places.End.TheVariants.{Front, Back}
 use Rattle.meet_core.specs.QueueSteps.{bounded_kind}
-use Rattle.meet_core.specs.Synchronous.{synchronous-step}
 use Rattle.meet_queues.proofs.any_queue.AnyQueueObject.step.Goals as goal
 
 pub returns-in-Fair-clause-step : goal.returns-in-Fair-clause-step
 returns-in-Fair-clause-step c =
-    let step = synchronous-step (λ mark. mark) Front c.in-Fair.queue c.args.seat c.args.call c.step.result.0 c.step.new.self c.step.ensures.step in
-    rw (← c.self.view_is, c.in-Fair.is) (refl, step)
+    rw (← c.self.view_is, c.in-Fair.is) (refl, c.step.ensures.step.1)
 
 pub returns-in-Unfair-clause-step : goal.returns-in-Unfair-clause-step
 returns-in-Unfair-clause-step c =
-    let step = synchronous-step (λ mark. mark) Back c.in-Unfair.queue c.args.seat c.args.call c.step-in-Unfair.result.0 c.step-in-Unfair.new.self c.step-in-Unfair.ensures.step in
-    rw (← c.self.view_is, c.in-Unfair.is) (refl, step)
+    rw (← c.self.view_is, c.in-Unfair.is) (refl, c.step-in-Unfair.ensures.step.1)
 
 pub returns-in-Transfer-clause-step : goal.returns-in-Transfer-clause-step
 returns-in-Transfer-clause-step c =

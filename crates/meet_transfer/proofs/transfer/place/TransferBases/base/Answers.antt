@@ -1,8 +1,0 @@
--- Proof of `Transfer::base`, src/transfer/place.rt.
-use Rattle.std.proofs.lemmas.Result.{IfOk-weaker}
-use Rattle.meet_core.specs.QueueSteps.{bounded_kind}
-use Rattle.meet_core.proofs.Leading.{base-leads}
-use Rattle.meet_transfer.proofs.transfer.place.TransferBases.base.Goals as goal
-
-pub returns-clause-leads : goal.returns-clause-leads
-returns-clause-leads g c = IfOk-weaker _ _ _ (λ new is. base-leads g.T.Marked.mark_of (bounded_kind c.args.self.now.bound) c.args.self.now.queue c.args.gone new is) c.base.ensures.base
