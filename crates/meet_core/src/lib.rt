@@ -1,7 +1,7 @@
 #![tactic(auto)]
 //! The queue of one thread: whom a request meets, what each seat learns of it, and the record of each call. With it
-//! comes the synchronous queue (`SynchronousQueue`), each waiting call split into its request and its completion. The
-//! crate knows neither threads nor locks, nor which wait queue it stands over.
+//! come the synchronous queue (`SynchronousQueue`) and the transfer queue (`LinkedTransferQueue`), each waiting call split
+//! into its request and its completion. The crate knows neither threads nor locks, nor which wait queue it stands over.
 //!
 //! It is a dual data structure (Scherer and Scott, DISC 2004; Scherer, Lea and Scott, PPoPP 2006): its wait queue holds
 //! pending requests (reservations), of producers or of consumers and never of both. A request meets the node at the end
@@ -9,7 +9,7 @@
 //! follow-up, cancel or expiry completes its ticket. A seat that was matched keeps the result. There, threads meet by
 //! atomic steps on a list of nodes. Here, a queue for threads is this one under a lock: a call is one step, and has one
 //! record. What seats hold is in `seats`, how requests meet, for all queues, in `meetings`, the calls and records in
-//! `calls`, the synchronous queue in `dual`.
+//! `calls`, the queue over what it buffers in `local_queue`.
 //!
 //! `#[inline(always)]` stands where a put or a take passes on its way from `step` to the wait queue and the seats. So a
 //! call is one function from where a program makes it, and nine matches on its kind fall away. The other calls are
