@@ -94,7 +94,7 @@ impl<D: Copy, N: Ledgers> Holds<D> for BareSeat<D, N> {
 }
 
 /// Takes a seat and its share apart.
-fn part<D: Copy, N: Ledgers>(back: Back<D, N>) -> (BareSeat<D, N>, Stake<N>)
+pub(crate) fn part<D: Copy, N: Ledgers>(back: Back<D, N>) -> (BareSeat<D, N>, Stake<N>)
     ensures seat { result.0 ≡ back }
     ensures share { (result.1.parts ≡ 1) × (result.1.amount ≡ share_of back) × (result.1.folds ≡ folded_of back) }
 {

@@ -14,6 +14,7 @@ ghost use Rattle.meet_place.specs.Seats.{Adds, AreFresh, IsLater, Trims, TrimsPe
 ghost use Rattle.meet_place.specs.Holds.{BookRefuses, IsBookOf, IsSince, sizes_refusal};
 
 use crate::ledgers::{Blanks, Ledgers, Moment};
+use crate::lending::Lent;
 use crate::opening::hold;
 use crate::seats::{Pending, Seat};
 use crate::shared::Shared;
@@ -347,6 +348,17 @@ impl<O: Object, G: Gate, N: Ledgers> Place<O, G, N> {
         limit: Option<u64>,
     ) -> Turn {
         let at = pending.number().number() as usize;
+        self.gates[at].wait(rt, limit)
+    }
+
+    /// The same of a seat whose share is lent.
+    pub fn wait_lent<R: Wait + Clock>(
+        &self,
+        rt: &R,
+        lent: &Lent<O::Deed, N>,
+        limit: Option<u64>,
+    ) -> Turn {
+        let at = lent.number().number() as usize;
         self.gates[at].wait(rt, limit)
     }
 }

@@ -1,5 +1,6 @@
 pub mod Asking
 pub mod Chronicles
+pub mod Custody
 pub mod Drained
 pub mod Ending
 pub mod Faults

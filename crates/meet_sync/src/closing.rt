@@ -7,6 +7,7 @@ ghost use Rattle.meet_sync.specs.Chronicles.{IsChronicle};
 ghost use Rattle.meet_sync.specs.Faults.{QueueFaultFits, missing_in, why_of};
 ghost use Rattle.meet_tickets.specs.declared.refusals.Refusal.TheVariants.{Memory as NoMemory};
 
+use crate::custody::clear;
 use crate::queue::Queue;
 use meet_book::{Book, Receipt};
 use meet_core::{Left, QueueLeaves};
@@ -161,7 +162,18 @@ impl<O: QueueLeaves, G: Drop, N: Ledgers> Queue<O, G, N> {
         ensures cap { IfOk result (λ c. length c.records.items ≤ N.cap) }
         ensures fault { IfErr result (λ fault. QueueFaultFits self seats.items fault) }
     {
-        let Queue { place } = self;
+        let Queue { place, cells } = self;
+        let made = place.seats();
+        let have = seats.len() as u64;
+        if have < made {
+            return Err(QueueFault::SeatMissing {
+                have,
+                made,
+                queue: Queue { place, cells },
+                seats,
+            });
+        }
+        let seats = clear(cells, seats);
         match place.close(alloc, seats) {
             Ok(closed) => {
                 let Closed {
@@ -186,11 +198,17 @@ impl<O: QueueLeaves, G: Drop, N: Ledgers> Queue<O, G, N> {
                 } => Err(QueueFault::SeatMissing {
                     have,
                     made,
-                    queue: Queue { place },
+                    queue: Queue {
+                        place,
+                        cells: Vec::new(alloc),
+                    },
                     seats,
                 }),
                 CloseFault::Memory { place, seats } => Err(QueueFault::Memory {
-                    queue: Queue { place },
+                    queue: Queue {
+                        place,
+                        cells: Vec::new(alloc),
+                    },
                     seats,
                 }),
                 CloseFault::Differs {

@@ -21,6 +21,7 @@ mod asked;
 mod chapters;
 mod checkpoints;
 mod closing;
+mod custody;
 mod draining;
 mod endings;
 mod laws;

@@ -10,6 +10,7 @@ ghost use Rattle.meet_place.specs.Ledgers.{AreOf};
 ghost use Rattle.meet_place.specs.Seats.{AreFresh};
 ghost use Rattle.meet_sync.specs.Making.{making_refusal};
 
+use crate::custody::fill;
 use crate::queue::Queue;
 use meet_book::Book;
 use meet_cells::{ParkGate, SpinGate};
@@ -111,14 +112,26 @@ impl<O: QueuePlace, G: Drop, N: Ledgers> Queue<O, G, N> {
         ensures back { IfErr result (λ refused. refused.back ≡ parts) }
     {
         let NewQueue { gates, blanks } = parts;
+        let Ok(room) = Vec::with_capacity(alloc, gates.len()) else {
+            let (queue, _, _) = book.into_parts();
+            queue.destroy_empty();
+            return Err(Refused {
+                why: Refusal::Memory,
+                back: NewQueue { gates, blanks },
+            });
+        };
         let whole = NewPlace {
             book,
             gates,
             blanks,
         };
         match Place::new(alloc, whole) {
-            Ok((place, seats)) => Ok((Queue { place }, seats)),
+            Ok((place, seats)) => {
+                let cells = fill(room, place.seats());
+                Ok((Queue { place, cells }, seats))
+            }
             Err(refused) => {
+                room.destroy_empty();
                 let Refused { why, back } = refused;
                 let NewPlace {
                     book,

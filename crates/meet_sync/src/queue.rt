@@ -7,7 +7,9 @@ ghost use Rattle.meet_place.specs.Seats.{Adds, IsLater};
 ghost use Rattle.meet_sync.specs.Told.{IsAnswer, IsEnding, IsRefusalOf, LookedAt, RefusedSince, ending_call};
 ghost use Rattle.meet_core.specs.declared.calls.queue_calls.QueueAnswer.{QueueAnswer};
 ghost use Rattle.meet_tickets.specs.Limits.{most_seats};
+ghost use Rattle.meet_tickets.specs.declared.records.Deed.{Deed};
 
+use crate::custody::Cells;
 use meet_core::{QueueAnswer, QueueCall, QueuePlace};
 use meet_place::{Gate, Ledgers, Pending, Place, Seat, Turn};
 use meet_tickets::{Deed, Refused, SeatNo, Ticket};
@@ -20,6 +22,7 @@ use std::time::Clock;
 #[derive(Drop)]
 pub struct Queue<O: QueuePlace, G, N: Ledgers> {
     pub(crate) place: Place<O, G, N>,
+    pub(crate) cells: Cells<O::Item, N>,
 }
 
 impl<O: QueuePlace, G, N: Ledgers> Model for Queue<O, G, N> {
@@ -62,6 +65,31 @@ impl<O: QueuePlace, G, N: Ledgers> Queue<O, G, N> {
     }
 }
 
+impl<O: QueuePlace, G, N: Ledgers> Queue<O, G, N> {
+    /// Makes a call of a seat, whose list has room for its receipt, under one hold of the lock, and the follow-up of
+    /// whom it should wake, where that seat is in custody: the call's answer, and whom it should wake, once the lock is
+    /// free again. It refuses what the queue's book does; then the seat is as it was, and the call comes back.
+    #[inline(always)]
+    fn locked_step<R: Wait>(
+        &self,
+        rt: &R,
+        seat: &mut Seat<Deed, N>,
+        call: QueueCall<O::Item>,
+    ) -> Result<(QueueAnswer<O::Item>, Option<SeatNo>), Refused<QueueCall<O::Item>>>
+        requires room { 0 < seat.old.room }
+    {
+        let mut shared = self.place.hold_since(rt, &seat.moment());
+        match shared.step(seat, call) {
+            Ok(answer) => {
+                let woken = shared.probe().wakes(&answer);
+                self.deliver(rt, &mut *shared, &woken);
+                Ok((answer, woken))
+            }
+            Err(refused) => Err(refused),
+        }
+    }
+}
+
 impl<O: QueuePlace, G: Gate, N: Ledgers> Queue<O, G, N> {
     /// Makes a call of a seat, whose list has room for its receipt, under one hold of the lock, and wakes whom it
     /// should. It refuses what the queue's book does; then the seat is as it was, and the call comes back.
@@ -86,7 +114,7 @@ impl<O: QueuePlace, G: Gate, N: Ledgers> Queue<O, G, N> {
         ensures back { IfErr result (λ refused. refused.back ≡ call) }
         ensures same { IfErr result (λ _. seat.new ≡ seat.old) }
     {
-        match self.place.locked_step(rt, seat, call) {
+        match self.locked_step(rt, seat, call) {
             Ok((answer, woken)) => {
                 self.place.wake(woken);
                 Ok(answer)

@@ -10,7 +10,7 @@ use crate::asked::{Asked, End, Ended, Followed, Request, SeatRefused, TakenBack}
 use crate::queue::Queue;
 use meet_cells::Deadline;
 use meet_core::QueuePlace;
-use meet_place::{Gate, Ledgers, Pending, Seat, Turn};
+use meet_place::{Gate, Ledgers, Lent, Pending, Seat, Turn};
 use meet_tickets::Deed;
 use std::sync::Wait;
 use std::time::Clock;
@@ -123,6 +123,42 @@ impl<O: QueuePlace, G: Gate, N: Ledgers> Queue<O, G, N> {
         unreachable!()
     }
 
+    /// The same for a seat in custody: whoever meets it, or cuts it, leaves its end in its cell. Where it is woken and
+    /// finds none there, or its time is up, it goes on by itself.
+    fn await_lent<R: Wait + Clock>(
+        &self,
+        rt: &R,
+        lent: Lent<Deed, N>,
+        limit: Option<u64>,
+    ) -> Ended<O::Item, N>
+        ensures outcome { OutcomeOf O.Item.mark_of lent result }
+        ensures untimed { IfNone limit (NotExpired result.end) }
+    {
+        let deadline = Deadline::after(rt, limit);
+        let is_up = match limit {
+            None => {
+                let _ = self.place.wait_lent(rt, &lent, None);
+                false
+            }
+            Some(time) => {
+                time == 0 || self.place.wait_lent(rt, &lent, limit) == Turn::Elapsed
+            }
+        };
+        let pending = match self.collect(rt, lent) {
+            Ok(ended) => return ended,
+            Err(pending) => pending,
+        };
+        let followed = if is_up && limit.is_some() {
+            self.run_out(rt, pending)
+        } else {
+            self.look(rt, pending)
+        };
+        match followed {
+            Ok(ended) => ended,
+            Err(pending) => self.await_end(rt, pending, remaining_until(rt, deadline)),
+        }
+    }
+
     /// Makes a whole call, of a queue of any kind: a request, and the wait for its completion. `limit` is in
     /// milliseconds; without one it may wait for ever. Put is `BlockingQueue.put`, Give `TransferQueue.transfer`, Offer
     /// `TransferQueue.tryTransfer`. In a synchronous queue the first two are the same, and the last is its `offer`.
@@ -151,7 +187,10 @@ impl<O: QueuePlace, G: Gate, N: Ledgers> Queue<O, G, N> {
                 seat,
                 end: answer.into_end(),
             }),
-            Asked::Parked(pending) => Ok(self.await_end(rt, pending, limit)),
+            Asked::Parked(pending) => match self.entrust(rt, pending) {
+                Ok(lent) => Ok(self.await_lent(rt, lent, limit)),
+                Err(pending) => Ok(self.await_end(rt, pending, limit)),
+            },
         }
     }
 
