@@ -158,7 +158,7 @@ impl<D: Copy, N: Ledgers> Seat<D, N> {
         ensures { result ≡ is_to_look cap seats self.now }
     {
         let _ = self.number;
-        let last = last_place(self.list.as_slice());
+        let last = place_of_last(self.list.as_slice());
         last.saturating_sub(self.past.seen) > cap / 2 && self.list.len() as u64 > cap / seats / 4
     }
 
@@ -192,7 +192,7 @@ impl<D: Copy, N: Ledgers> Seat<D, N> {
 }
 
 /// Where the last of these receipts stands among all records; 0 if there is none.
-fn last_place<D: Copy>(list: &[Receipt<D>]) -> u64
+pub(crate) fn place_of_last<D: Copy>(list: &[Receipt<D>]) -> u64
     ensures { result ≡ last_place list.now }
 {
     match list.last() {
