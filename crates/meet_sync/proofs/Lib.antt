@@ -1,6 +1,7 @@
 pub mod Askings
 pub mod Awaited
 pub mod Looked
+pub mod Entrusted
 pub mod Overs
 pub mod Histories
 pub mod Reasons

@@ -12,7 +12,8 @@ ghost use Rattle.std.specs.Prelude.{◌≡◌, ◌≤◌, Some, false, true, IfO
 ghost use Rattle.meet_book.specs.Booking.{record_of_receipt};
 ghost use Rattle.meet_core.specs.QueueRecords.{queue_record};
 ghost use Rattle.meet_core.specs.declared.calls.queue_calls.QueueCall.TheVariants.{FollowUp};
-ghost use Rattle.meet_sync.specs.Custody.{IsOverOf, is_expired};
+ghost use Rattle.meet_place.specs.Tending.{last_place};
+ghost use Rattle.meet_sync.specs.Custody.{IsOverOf, IsAgain, is_expired};
 ghost use Rattle.meet_sync.specs.Ending.{MarksBack, NotExpired, OutcomeOf, last_deed};
 ghost use Rattle.meet_sync.specs.Told.{IsEnding};
 
@@ -43,6 +44,7 @@ pub(crate) struct Over<T: Marked, N: Ledgers> {
     end: End<T>,
     ghost deed: { last_deed T.mark_of end ≡ Some receipt.entry.deed },
     ghost untimed: { is_expired end ≡ false },
+    ghost within: { receipt.place ≤ loan.moment },
 }
 
 /// What lies in a seat's cell.
@@ -130,6 +132,7 @@ impl<T: Marked, N: Ledgers> Over<T, N> {
         entry.seat == lent.number()
             && entry.ticket == lent.ticket()
             && lent.is_counted(&self.loan, 1)
+            && lent.is_before(self.receipt.place())
             && self.end.is_back_with(lent.mark())
     }
 
@@ -140,11 +143,7 @@ impl<T: Marked, N: Ledgers> Over<T, N> {
         ensures outcome { OutcomeOf T.mark_of lent result }
         ensures untimed { NotExpired result.end }
     {
-        let Over {
-            receipt,
-            loan,
-            end,
-        } = self;
+        let Over { receipt, loan, end } = self;
         Ended {
             seat: lent.finish(loan, receipt),
             end,
@@ -181,6 +180,7 @@ fn end_lent<O: QueuePlace, N: Ledgers>(
         (FollowUp awaited.0) made.0) }
     ensures record { IfSome result (λ made. record_of_receipt made.1
         ≡ queue_record O.Item.mark_of seat (FollowUp awaited.0) made.0) }
+    ensures within { IfSome result (λ made. IfSome made.1 (λ receipt. receipt.place ≤ loan.new.moment)) }
 {
     let (ticket, mark) = awaited;
     if !shared.probe().awaits(seat, ticket, mark) {
@@ -228,9 +228,7 @@ fn follow<O: QueuePlace, N: Ledgers>(
             });
         }
     };
-    let Some(receipt) = made else {
-        unreachable!()
-    };
+    let Some(receipt) = made else { unreachable!() };
     Cell::Over(Over { receipt, loan, end })
 }
 
@@ -251,7 +249,8 @@ fn lend_into<T: Marked, N: Ledgers>(
     cell: &mut Cell<T, N>,
     pending: Pending<Deed, N>,
 ) -> Result<Lent<Deed, N>, Pending<Deed, N>>
-    ensures lent { IfOk result (λ lent. lent ≡ pending) }
+    requires stands { last_place pending.list ≤ pending.moment }
+    ensures lent { IfOk result (λ lent. lent ≡ record pending { moment = last_place pending.list }) }
     ensures back { IfErr result (λ back. back ≡ pending) }
 {
     match cell {
@@ -305,7 +304,8 @@ impl<O: QueuePlace, G, N: Ledgers> Queue<O, G, N> {
         rt: &R,
         pending: Pending<Deed, N>,
     ) -> Result<Lent<Deed, N>, Pending<Deed, N>>
-        ensures lent { IfOk result (λ lent. lent ≡ pending) }
+        requires stands { last_place pending.list ≤ pending.moment }
+        ensures lent { IfOk result (λ lent. lent ≡ record pending { moment = last_place pending.list }) }
         ensures back { IfErr result (λ back. back ≡ pending) }
     {
         let Some(cell) = self.cells.get(pending.number().number() as usize) else {
@@ -335,7 +335,7 @@ impl<O: QueuePlace, G, N: Ledgers> Queue<O, G, N> {
     ) -> Result<Ended<O::Item, N>, Pending<Deed, N>>
         ensures outcome { IfOk result (λ ended. OutcomeOf O.Item.mark_of lent ended) }
         ensures untimed { IfOk result (λ ended. NotExpired ended.end) }
-        ensures again { IfErr result (λ again. again ≡ lent) }
+        ensures again { IfErr result (IsAgain lent) }
     {
         match self.take_out(rt, lent.number()) {
             Cell::Over(over) => {

@@ -3,7 +3,11 @@
 
 ghost use Rattle.std.specs.Prelude.{◌≡◌, ◌+◌, ◌<◌, ◌≤◌, None, length, option_to_list, IfOk, IfErr, IfSome, IfNone, MatchOption};
 ghost use Rattle.meet_core.specs.QueueRecords.{queue_record};
+ghost use Rattle.meet_book.specs.Booked.{Booked};
+ghost use Rattle.meet_book.specs.Booking.{book_refusal};
+ghost use Rattle.meet_place.specs.Holds.{BookRefuses, IsBookOf, IsSince};
 ghost use Rattle.meet_place.specs.Seats.{Adds, IsLater};
+ghost use Rattle.meet_tickets.specs.Bases.{Based};
 ghost use Rattle.meet_sync.specs.Told.{IsAnswer, IsEnding, IsRefusalOf, LookedAt, RefusedSince, ending_call};
 ghost use Rattle.meet_core.specs.declared.calls.queue_calls.QueueAnswer.{QueueAnswer};
 ghost use Rattle.meet_tickets.specs.Limits.{most_seats};
@@ -77,6 +81,24 @@ impl<O: QueuePlace, G, N: Ledgers> Queue<O, G, N> {
         call: QueueCall<O::Item>,
     ) -> Result<(QueueAnswer<O::Item>, Option<SeatNo>), Refused<QueueCall<O::Item>>>
         requires room { 0 < seat.old.room }
+        ensures number { seat.new.number ≡ seat.old.number }
+        ensures within { seat.old.number < N.parts }
+        ensures past { seat.new.past ≡ seat.old.past }
+        ensures room { length seat.new.list + seat.new.room ≡ length seat.old.list + seat.old.room }
+        ensures adds { IfOk result (λ made. Adds seat.old.list seat.new.list
+            (option_to_list (O.record_of seat.old.number call made.0))) }
+        ensures later { IsLater seat.old.moment seat.new.moment seat.old.list seat.new.list }
+        ensures step { IfOk result (λ made. (book : Booked O Based Deed) × (new : O)
+            × IsBookOf O.seat_count_of N.parts N.cap book
+            × IsSince O.leads O.gone_of seat.old.moment book
+            × (book_refusal (O.refusal_of book.object seat.old.number call) (O.owed_of book.object) (O.need_of call)
+            book ≡ None) × O.steps book.object seat.old.number call made.0 new) }
+        ensures why { IfErr result (λ refused. (book : Booked O Based Deed)
+            × IsBookOf O.seat_count_of N.parts N.cap book × IsSince O.leads O.gone_of seat.old.moment book
+            × BookRefuses (O.refusal_of book.object seat.old.number call) (O.owed_of book.object) (O.need_of call)
+            (O.spare book.object) (O.room_of call) book refused.why) }
+        ensures back { IfErr result (λ refused. refused.back ≡ call) }
+        ensures same { IfErr result (λ _. seat.new ≡ seat.old) }
     {
         let mut shared = self.place.hold_since(rt, &seat.moment());
         match shared.step(seat, call) {

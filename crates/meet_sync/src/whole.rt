@@ -140,9 +140,7 @@ impl<O: QueuePlace, G: Gate, N: Ledgers> Queue<O, G, N> {
                 let _ = self.place.wait_lent(rt, &lent, None);
                 false
             }
-            Some(time) => {
-                time == 0 || self.place.wait_lent(rt, &lent, limit) == Turn::Elapsed
-            }
+            Some(time) => { time == 0 || self.place.wait_lent(rt, &lent, limit) == Turn::Elapsed }
         };
         let pending = match self.collect(rt, lent) {
             Ok(ended) => return ended,
