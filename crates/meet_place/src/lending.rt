@@ -75,6 +75,7 @@ impl<D: Copy, N: Ledgers> Model for Lent<D, N> {
 
 impl<D: Copy, N: Ledgers> Pending<D, N> {
     /// Lends the seat's share. Its last record is no later than its moment.
+    #[inline(always)]
     pub fn lend(self) -> (Lent<D, N>, Loan<N>)
         requires stands { last_place self.list ≤ self.moment }
         ensures lent { result.0 ≡ record self { moment = last_place self.list } }
@@ -130,6 +131,7 @@ impl<D: Copy, N: Ledgers> Lent<D, N> {
     }
 
     /// Whether a loan counts what this seat has, and so many receipts more.
+    #[inline(always)]
     pub fn is_counted(&self, loan: &Loan<N>, more: u64) -> bool
         ensures { result ≡ true → CountsFor more self.now loan.now }
     {
@@ -141,6 +143,7 @@ impl<D: Copy, N: Ledgers> Lent<D, N> {
     }
 
     /// Whether a record at this place stands behind all those of this seat.
+    #[inline(always)]
     pub fn is_before(&self, place: u64) -> bool
         ensures { result ≡ true → self.now.moment < place }
     {
@@ -173,6 +176,7 @@ impl<D: Copy, N: Ledgers> Lent<D, N> {
     }
 
     /// Returns the seat with its share again, whose request was completed for it, with the receipt of the completion.
+    #[inline(always)]
     pub fn finish(self, loan: Loan<N>, receipt: Receipt<D>) -> Seat<D, N>
         requires counted { CountsFor 1 self loan }
         requires after { self.moment < receipt.place }
@@ -210,6 +214,7 @@ impl<O: Object, N: Ledgers> Shared<O, N> {
     ///
     /// # Errors
     /// What the book's `step` refuses, and never an admitted call that needs no record.
+    #[inline(always)]
     pub fn step_lent(
         &mut self,
         number: SeatNo,

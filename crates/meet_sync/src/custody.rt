@@ -279,7 +279,6 @@ fn stay<R: Wait>(rt: &R)
 
 impl<O: QueuePlace, G, N: Ledgers> Queue<O, G, N> {
     /// Under this hold, makes the follow-up of a seat that was met or cut, where it is in custody.
-    #[inline(always)]
     pub(crate) fn deliver<R: Wait>(
         &self,
         rt: &R,
