@@ -7,6 +7,7 @@
 //! - The ledger: each seat keeps its receipts in a list of its own, which no lock guards. A ghost counter (a ledger)
 //!   counts the records over all seats; each seat has a share of it, as large as its list, which can't be copied. So no
 //!   receipt is counted twice, and none is missing if all shares are there.
+//! - A loan: a seat that waits lends its share, and the thread that completes its request counts the record there.
 //! - The end: `close` takes all seats back, and compares the records with their receipts, seat by seat. So what threads
 //!   did, however they interleaved, is one legal history, with each seat's calls in the seat's order and no others.
 //!

@@ -1,12 +1,13 @@
-//! Seats in custody: while a whole call waits, its seat's share lies in the seat's cell. Whoever meets or cuts the ticket
-//! makes its follow-up in the same hold of the queue's lock, and leaves its receipt and its end there, so who waited
-//! takes that lock no more.
+//! Seats in custody: while a whole call waits, its seat's share of the ledger lies in the seat's cell. The thread that
+//! meets or interrupts its request makes the follow-up in the same critical section (hold) of the queue's lock, and
+//! leaves the receipt and the end there. So the thread that waited doesn't take that lock again.
 //!
-//! - A cell is a hint: where nothing lies in it, the seat is woken alone, and follows its ticket up itself. So it makes
-//!   no difference to what is recorded whether a share is put there before another seat meets the ticket or behind it.
-//! - Who waited takes out what lies in its cell, once: its own share, and nothing has ended its ticket for it, nor
-//!   will; or the end. It compares what it finds with what it has, since of a value that a lock guards nothing is known.
-//! - The lock of a cell is taken under that of the queue, and never the other way round.
+//! - A cell is a hint: if nothing lies in it, the seat is only woken, and follows its ticket up itself. So the records
+//!   are the same whether a share is put there before another thread meets the request or after it.
+//! - The thread that waited takes out what lies in its cell, once: the end, or its own share, and then nobody has
+//!   completed its request for it, nor will. It compares what it finds with what it has, since nothing is known of a
+//!   value that a lock guards.
+//! - The lock of a cell is taken under the lock of the queue, and never the other way round.
 
 ghost use Rattle.std.specs.Prelude.{◌≡◌, ◌≤◌, Some, false, true, IfOk, IfErr, IfSome, option_map, vec_len};
 ghost use Rattle.meet_book.specs.Booking.{record_of_receipt};
@@ -36,7 +37,7 @@ pub(crate) struct Waiting<N: Ledgers> {
     loan: Loan<N>,
 }
 
-/// How a ticket in custody ended: the receipt, the share that counts it, and the end that its seat is told.
+/// How a request in custody was completed: the receipt, the share that counts it, and the end that its caller is told.
 #[derive(Drop)]
 pub(crate) struct Over<T: Marked, N: Ledgers> {
     receipt: Receipt<Deed>,
@@ -50,9 +51,9 @@ pub(crate) struct Over<T: Marked, N: Ledgers> {
 /// What lies in a seat's cell.
 #[derive(Drop)]
 pub(crate) enum Cell<T: Marked, N: Ledgers> {
-    /// Nothing: whoever meets the seat wakes it alone.
+    /// Nothing: the thread that meets the seat's request only wakes it.
     Empty,
-    /// The seat waits, and whoever meets it makes its follow-up.
+    /// The seat waits, and the thread that meets its request makes the follow-up.
     Waits(Waiting<N>),
     /// Its follow-up was made.
     Over(Over<T, N>),
@@ -61,7 +62,7 @@ pub(crate) enum Cell<T: Marked, N: Ledgers> {
 /// The cells of a queue, one for each seat.
 pub(crate) type Cells<T, N> = Vec<CachePadded<Mutex<Cell<T, N>>>>;
 
-/// So many cells in which nothing lies, as far as the list has room for them.
+/// Returns this many cells in which nothing lies, as far as the list has room for them.
 pub(crate) fn fill<T: Marked, N: Ledgers>(mut cells: Cells<T, N>, count: u64) -> Cells<T, N> {
     for _ in 0..count {
         if cells.len() < cells.capacity() {
@@ -71,7 +72,7 @@ pub(crate) fn fill<T: Marked, N: Ledgers>(mut cells: Cells<T, N>, count: u64) ->
     cells
 }
 
-/// Lets the cells go, where all seats are there: so none is in custody, and no end lies in a cell.
+/// Drops the cells if all seats are there: so none is in custody, and no end lies in a cell.
 pub(crate) fn clear<T: Marked, N: Ledgers>(
     cells: Cells<T, N>,
     seats: Vec<Back<Deed, N>>,
@@ -96,7 +97,7 @@ pub(crate) fn clear<T: Marked, N: Ledgers>(
 }
 
 impl<T: Marked> End<T> {
-    /// Whether what it hands back has this mark, or there is none where this is none.
+    /// Whether the item that it returns has this mark, or there is none if this is none.
     fn is_back_with(&self, mark: Option<u64>) -> bool
         ensures { result ≡ true → MarksBack T.mark_of mark self.now }
     {
@@ -108,7 +109,7 @@ impl<T: Marked> End<T> {
     }
 }
 
-/// Whether an item has this mark, or there is none where this is none.
+/// Whether an item has this mark, or there is none if this is none.
 fn is_marked<T: Marked>(item: &Option<T>, mark: Option<u64>) -> bool
     ensures { result ≡ true → option_map T.mark_of item.now ≡ mark }
 {
@@ -122,7 +123,7 @@ fn is_marked<T: Marked>(item: &Option<T>, mark: Option<u64>) -> bool
 }
 
 impl<T: Marked, N: Ledgers> Over<T, N> {
-    /// Whether it is the end of this seat's ticket.
+    /// Whether it is the end of this seat's request.
     #[inline(always)]
     fn is_of(&self, lent: &Lent<Deed, N>) -> bool
         ensures { result ≡ true → IsOverOf self.now.receipt self.now.loan (MarksBack T.mark_of lent.now.mark self.now.end)
@@ -167,7 +168,7 @@ impl<T: Marked, N: Ledgers> Cell<T, N> {
     }
 }
 
-/// Follows the ticket of a seat in custody up, where it is the seat's open one: the answer, and the receipt, where there
+/// Follows the ticket of a seat in custody up, if it is the seat's open one. Returns the answer, and the receipt, if there
 /// is one, which the share counts then.
 #[inline(always)]
 fn end_lent<O: QueuePlace, N: Ledgers>(
@@ -192,7 +193,7 @@ fn end_lent<O: QueuePlace, N: Ledgers>(
     }
 }
 
-/// Makes the follow-up of a seat in custody: its end, or the seat as it was, where its ticket still stands in the line.
+/// Makes the follow-up of a seat in custody: its end, or the seat as it was if its request still waits.
 #[inline(always)]
 fn follow<O: QueuePlace, N: Ledgers>(
     shared: &mut Shared<O, N>,
@@ -232,7 +233,7 @@ fn follow<O: QueuePlace, N: Ledgers>(
     Cell::Over(Over { receipt, loan, end })
 }
 
-/// Makes the follow-up of the seat whose cell this is, where it is in custody.
+/// Makes the follow-up of the seat whose cell this is, if it is in custody.
 #[inline(always)]
 fn follow_in<O: QueuePlace, N: Ledgers>(shared: &mut Shared<O, N>, cell: &mut Cell<O::Item, N>) {
     let left = match mem::replace(cell, Cell::Empty) {
@@ -243,7 +244,7 @@ fn follow_in<O: QueuePlace, N: Ledgers>(shared: &mut Shared<O, N>, cell: &mut Ce
     cell.put(left);
 }
 
-/// Puts a seat into custody, where nothing lies in its cell.
+/// Puts a seat into custody, if nothing lies in its cell.
 #[inline(always)]
 fn lend_into<T: Marked, N: Ledgers>(
     cell: &mut Cell<T, N>,
@@ -278,7 +279,8 @@ fn stay<R: Wait>(rt: &R)
 }
 
 impl<O: QueuePlace, G, N: Ledgers> Queue<O, G, N> {
-    /// Under this hold, makes the follow-up of a seat that was met or cut, where it is in custody.
+    /// In this critical section, makes the follow-up of a seat whose request was met or interrupted, if it is in custody.
+    /// It isn't inlined: with it the compiler would drop that of the call which it is part of.
     pub(crate) fn deliver<R: Wait>(
         &self,
         rt: &R,
@@ -296,7 +298,7 @@ impl<O: QueuePlace, G, N: Ledgers> Queue<O, G, N> {
         follow_in(shared, &mut *guard);
     }
 
-    /// Puts a seat whose ticket is open into custody.
+    /// Puts a seat whose request is pending into custody.
     #[inline(always)]
     pub(crate) fn entrust<R: Wait>(
         &self,
@@ -324,8 +326,8 @@ impl<O: QueuePlace, G, N: Ledgers> Queue<O, G, N> {
         mem::replace(&mut *guard, Cell::Empty)
     }
 
-    /// Takes a seat out of custody: how its ticket ended, or the seat with its ticket open, which nobody has followed
-    /// up. What lies in its cell is its own; where it weren't, the call would wait for ever.
+    /// Takes a seat out of custody: how its request was completed, or the seat with its pending request. What lies in its
+    /// cell is its own; if it weren't, the call would wait for ever.
     #[inline(always)]
     pub(crate) fn collect<R: Wait>(
         &self,

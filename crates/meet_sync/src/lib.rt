@@ -4,9 +4,12 @@
 //!
 //! - A request is one step under the lock. If it finds its counterpart, the counterpart's gate (parker) is woken after
 //!   the lock is free.
-//! - If it finds none, its seat waits at its gate with the lock free. It follows its ticket up each time that it is
-//!   woken: a wake states nothing, only the queue does. A gate keeps one wake, so one that comes between the request
-//!   and the wait isn't lost. A limit is checked once more after each wake.
+//! - If it finds none, its seat waits at its gate with the lock free. A wake states nothing, only the queue does, so a
+//!   seat that is woken follows its ticket up. A gate keeps one wake, so one that comes between the request and the wait
+//!   isn't lost. A limit is checked once more after each wake.
+//! - While a whole call waits, its seat is in custody: the thread that meets its request makes the follow-up in the same
+//!   critical section, and lays the end into the seat's cell (`custody`). So a handoff takes the lock twice, not three
+//!   times. A split request is followed up by its own thread.
 //! - A completion is one step too: the request is completed if it was matched or interrupted, or taken back if its time
 //!   ran out. Both can't happen, since each is a step under the same lock: a withdrawal that comes too late returns
 //!   Late, and a follow-up completes the request.

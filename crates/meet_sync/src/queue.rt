@@ -70,9 +70,10 @@ impl<O: QueuePlace, G, N: Ledgers> Queue<O, G, N> {
 }
 
 impl<O: QueuePlace, G, N: Ledgers> Queue<O, G, N> {
-    /// Makes a call of a seat, whose list has room for its receipt, under one hold of the lock, and the follow-up of
-    /// whom it should wake, where that seat is in custody: the call's answer, and whom it should wake, once the lock is
-    /// free again. It refuses what the queue's book does; then the seat is as it was, and the call comes back.
+    /// Makes a call of a seat, whose list has room for its receipt, in one critical section, and the follow-up of the
+    /// seat that it should wake, if that is in custody. Returns the call's result, and the seat that it should wake
+    /// after the lock is free again. It refuses what the queue's book does; then the seat is as it was, and the call
+    /// comes back.
     #[inline(always)]
     fn locked_step<R: Wait>(
         &self,

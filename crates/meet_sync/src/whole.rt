@@ -123,8 +123,8 @@ impl<O: QueuePlace, G: Gate, N: Ledgers> Queue<O, G, N> {
         unreachable!()
     }
 
-    /// The same for a seat in custody: whoever meets it, or cuts it, leaves its end in its cell. Where it is woken and
-    /// finds none there, or its time is up, it goes on by itself.
+    /// The same for a seat in custody: the thread that meets or interrupts its request leaves the end in its cell. If it is
+    /// woken and finds none there, or its time is up, it goes on by itself.
     fn await_lent<R: Wait + Clock>(
         &self,
         rt: &R,
