@@ -20,8 +20,8 @@ pub fn take_now<L: Line<Parcel>>(
     queue: &mut Dual<Parcel, L>,
     seat: SeatNo,
 ) -> Result<Option<Parcel>, Refusal>
-    ensures came { IfOk result (λ taken. taken ≡ option_and_then (λ e. e.item) (partner L.end queue.old.line Taker)) }
-    ensures nobody { IfOk result (λ taken. IsNone taken ↔ (partner L.end queue.old.line Taker ≡ None)) }
+    ensures came { IfOk result (λ taken. taken ≡ option_and_then (λ e. e.item) (partner L.end queue.old.queue.line Taker)) }
+    ensures nobody { IfOk result (λ taken. IsNone taken ↔ (partner L.end queue.old.queue.line Taker ≡ None)) }
 {
     match queue.poll(seat)? {
         Polled::Meets(_, _, parcel) => Ok(Some(parcel)),

@@ -21,8 +21,8 @@ pub fn take_on_record<L: Line<Parcel>>(
     seat: SeatNo,
 ) -> Result<Option<(Parcel, Receipt<Deed>)>, Refusal>
     ensures came { IfOk result (λ made. option_map (λ taken. taken.0) made
-        ≡ option_and_then (λ e. e.item) (partner L.end book.old.object.line Taker)) }
-    ensures nobody { IfOk result (λ made. IsNone made ↔ (partner L.end book.old.object.line Taker ≡ None)) }
+        ≡ option_and_then (λ e. e.item) (partner L.end book.old.object.queue.line Taker)) }
+    ensures nobody { IfOk result (λ made. IsNone made ↔ (partner L.end book.old.object.queue.line Taker ≡ None)) }
     ensures named { IfOk result (λ made. IfSome made (λ taken. Names seat taken.0 taken.1.entry)) }
 {
     let (answer, receipt) = book.step(seat, QueueCall::Poll).map_err(Refused::into_why)?;
