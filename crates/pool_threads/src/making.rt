@@ -15,6 +15,7 @@ use crate::home::{Home, Made};
 use crate::jobs::{Job, Work};
 use crate::ledgers::PoolLedgers;
 use crate::pool::Pool;
+use crate::posts::Post;
 use crate::shared::PoolShared;
 use crate::worth::WorkerSeat;
 use crossbeam_utils::CachePadded;
@@ -84,19 +85,20 @@ fn workers_of<W: Work, N: Ledgers>(
     workers
 }
 
-/// These gates, each on a cache line of its own.
-fn padded<G>(alloc: Global, gates: Vec<G>) -> Result<Vec<CachePadded<G>>, Refusal>
-where
-    G: Drop,
+/// The posts of the workers with these gates, each on cache lines of its own.
+fn posts_of<W: Work, C: Drop, G: Drop, N: PoolLedgers>(
+    alloc: Global,
+    gates: Vec<G>,
+) -> Result<Vec<CachePadded<Post<W, C, G, N>>>, Refusal>
     ensures { IfErr result (λ why. why ≡ Memory) }
 {
-    let mut padded = Vec::new(alloc);
+    let mut posts = Vec::new(alloc);
     for gate in gates {
-        if padded.push(CachePadded::new(gate)).is_err() {
+        if posts.push(CachePadded::new(Post::new(gate))).is_err() {
             return Err(Refusal::Memory);
         }
     }
-    Ok(padded)
+    Ok(posts)
 }
 
 /// How often a thread that finds the lock of a pool taken lets others run before it tries again. If jobs are buffered,
@@ -106,6 +108,16 @@ fn patience_of(queue: PoolQueue) -> u64 {
     match queue {
         PoolQueue::Hand(_) => 1,
         PoolQueue::Unbounded | PoolQueue::Bounded(_) => 32,
+    }
+}
+
+/// Whether the seat of a worker that waits lies at its post, so that a caller makes the worker's next step. If jobs are
+/// buffered, the callers are what an empty job waits for, and it pays that each worker makes its own steps.
+/// Implementation-defined; nothing is promised of it.
+fn entrusts(queue: PoolQueue) -> bool {
+    match queue {
+        PoolQueue::Hand(_) => true,
+        PoolQueue::Unbounded | PoolQueue::Bounded(_) => false,
     }
 }
 
@@ -159,7 +171,7 @@ impl<W: Work, C: Drop, G: Drop, S: Drop, N: PoolLedgers> Pool<W, C, G, S, N> {
         let callers = sizes.callers as usize;
         let maximum = sizes.maximum as usize;
         let given = no_jobs(alloc, maximum)?;
-        let gates = padded(alloc, gates)?;
+        let posts = posts_of(alloc, gates)?;
         let Ok(room) = Vec::with_capacity(alloc, callers + maximum) else {
             return Err(Refusal::Memory);
         };
@@ -178,12 +190,13 @@ impl<W: Work, C: Drop, G: Drop, S: Drop, N: PoolLedgers> Pool<W, C, G, S, N> {
         };
         let home = Home {
             shared: CachePadded::new(Mutex::new(shared)),
-            gates,
+            posts,
             moved: Condvar::new(),
             made: Made::new(callers + maximum),
             callers: sizes.callers,
             patience: patience_of(queue),
             keep_alive: sizes.keep_alive,
+            entrusts: entrusts(queue),
             folded: AtomicU64::new(0),
         };
         match Arc::new(alloc, home) {
