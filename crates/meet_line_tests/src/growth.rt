@@ -25,7 +25,7 @@ fn reserves<L: Line<Parcel>>(rt: &impl Abort, line: &mut L, count: u64)
     }
 }
 
-/// Places for so many seats, at the second try where there was no memory at first.
+/// Makes places for this number of seats, at the second try if the first allocation fails.
 fn widens<L: Line<Parcel>>(rt: &impl Abort, line: &mut L, seats: u64)
     requires { seats ≤ most_seats }
     ensures width { seats ≤ L.width line.new }

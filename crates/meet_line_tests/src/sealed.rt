@@ -1,4 +1,4 @@
-//! Items that can't be dropped go through the lines that find tickets in buckets or by seats, which are then let go empty.
+//! Items that can't be dropped, in wait queues that find tickets in buckets or by seats. The empty wait queues are dropped.
 
 ghost use Rattle.std.specs.Prelude.{◌≡◌, true};
 

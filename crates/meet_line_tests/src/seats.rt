@@ -77,7 +77,7 @@ fn who_leaves_a_stack_by_a_seat(rt: HostRuntime) {
     leaves::<StackSeats<Parcel>>(&rt, rt.alloc(), &[50, 40, 10]);
 }
 
-/// Places for so many seats neither make room nor take it. There may be room for more nodes than there are places.
+/// `widen` changes no capacity, and there may be capacity for more nodes than there are places.
 pub fn widens<L: Line<Parcel> + Drop>(rt: &impl Abort, alloc: Global) {
     let mut line = L::empty(alloc);
     line.widen(3).expect(rt, "memory");

@@ -9,7 +9,7 @@ ghost use Rattle.meet_core.specs.Synchronous.{synchronous-end, synchronous-never
 use meet_line::{Line, TransferLine};
 use meet_tickets::Marked;
 
-/// What a queue over this wait queue buffers, as a type: so each queue is compiled for its own.
+/// What a queue over this wait queue buffers, as a type: a queue is compiled for each of them.
 pub trait Buffers<T: Marked, L: Line<T>> {
     ghost use Rattle.std.specs.Prelude.{◌≡◌, ◌≤◌, ℕ, Option, true};
     ghost use Rattle.meet_tickets.specs.declared.places.Kind.{Kind};
@@ -19,42 +19,42 @@ pub trait Buffers<T: Marked, L: Line<T>> {
     /// The kind of a queue with this bound.
     ghost kind: { Option ℕ → Kind };
 
-    /// Whether so many items may be buffered.
+    /// Whether this number of items may be buffered.
     ghost allows: { ℕ → Type 0 };
 
     /// Returns whether a queue with this bound buffers items.
     fn keeps_items(bound: Option<u64>) -> bool
         ensures { result ≡ keeps (kind bound).order };
 
-    /// Returns how many it buffers at most, or none.
+    /// Returns the most items that it buffers, or None if there is no bound.
     fn most(bound: Option<u64>) -> Option<u64>
         ensures { result ≡ (kind bound).bound };
 
-    /// Its wait queue is met at the end at which its kind is.
+    /// Its wait queue is met at the same end as its kind.
     ghost met_at: { (bound : Option ℕ) → end_of (kind bound).order ≡ L.end };
 
-    /// Where items are buffered, their nodes may come to the wait queue.
+    /// If items are buffered, their nodes may come to the wait queue.
     ghost buffers: { (bound : Option ℕ) → keeps (kind bound).order ≡ true → IsBuffering L.fits };
 
-    /// And any number of them may be.
+    /// If items are buffered, any number of them may be.
     ghost allows_any: { (bound : Option ℕ) → keeps (kind bound).order ≡ true → (kept : ℕ) → allows kept };
 
-    /// None may be.
+    /// A queue may buffer no item.
     ghost allows_none: { allows 0 };
 
-    /// Where some may be, fewer may.
+    /// If a number of items may be buffered, so may fewer.
     ghost allows_fewer: { (kept fewer : ℕ) → fewer ≤ kept → allows kept → allows fewer };
 }
 
-/// Where a queue is of one kind, whatever its bound.
+/// A queue that is of one kind, whatever its bound.
 pub trait OneKind<T: Marked, L: Line<T>>: Buffers<T, L> {
     ghost use Rattle.std.specs.Prelude.{◌≡◌, ℕ, Option, None};
 
-    /// It is.
+    /// The kind is the same with each bound.
     ghost one_kind: { (bound : Option ℕ) → Self.kind bound ≡ Self.kind None };
 }
 
-/// It buffers nothing: a put waits.
+/// The queue buffers nothing: a put waits.
 pub struct Nothing {}
 
 /// It buffers as many items as its bound says, or any number where there is none.
