@@ -16,8 +16,9 @@ module _ {C : Type 0} where
   DutyFits (duty.Run seat job) = (2 ≤ seat.room) × EndsRunning seat.list job.tag
   DutyFits (duty.Await seat) = 3 ≤ seat.room
 
-  -- what came of being ready is such a duty
-  abbrev pub IsReadied : Next C (SeatView (PoolDeed ℕ)) → Type 0
-  IsReadied (next.Run seat job) = (2 ≤ seat.room) × EndsRunning seat.list job.tag
-  IsReadied (next.Waits seat) = 3 ≤ seat.room
-  IsReadied other = ⊤
+  -- what came of being ready, or of a look whether there is a job, is such a duty
+  abbrev pub IsStepped : Next C (SeatView (PoolDeed ℕ)) → Type 0
+  IsStepped (next.Run seat job) = (2 ≤ seat.room) × EndsRunning seat.list job.tag
+  IsStepped (next.Waits seat) = 3 ≤ seat.room
+  IsStepped (next.Stays seat) = 3 ≤ seat.room
+  IsStepped other = ⊤

@@ -300,8 +300,8 @@ impl<W: Work, C: Drop, G: Gate + Drop, S: Drop, N: PoolLedgers> Pool<W, C, G, S,
     /// Wakes all that wait in the pool.
     fn wake_all(&self) {
         self.home.moved.notify_all();
-        for gate in self.home.gates.as_slice() {
-            gate.wake();
+        for post in self.home.posts.as_slice() {
+            post.gate.wake();
         }
     }
 
@@ -386,7 +386,7 @@ impl<W: Work, C: Drop, G: Gate + Drop, S: Drop, N: PoolLedgers> Pool<W, C, G, S,
         } = self;
         let Home {
             shared: lock,
-            gates,
+            posts,
             moved,
             made: count,
             callers,
@@ -404,7 +404,7 @@ impl<W: Work, C: Drop, G: Gate + Drop, S: Drop, N: PoolLedgers> Pool<W, C, G, S,
         {
             let home = Home {
                 shared: CachePadded::new(Mutex::new(inside)),
-                gates,
+                posts,
                 moved,
                 made: count,
                 callers,

@@ -2,13 +2,14 @@
 
 ghost use Rattle.std.specs.Prelude.{◌≡◌, ◌<◌, ◌≤◌, IfSome};
 ghost use Rattle.meet_tickets.specs.Limits.{most_seats};
-ghost use Rattle.pool_threads.specs.Duties.{DutyFits, IsReadied};
+ghost use Rattle.pool_threads.specs.Duties.{DutyFits, IsStepped};
 ghost use Rattle.pool_threads.specs.NextFits.{NextFits};
 ghost use Rattle.pool_threads.specs.Worthy.{EndsRunning, EndsRunningWorth};
 ghost use Rattle.pool_threads.specs.declared.steps.WorkerCall.TheVariants.{Finish};
 
 use crate::jobs::{Call, Job, Work};
 use crate::ledgers::PoolLedgers;
+use crate::posts::Post;
 use crate::shared::PoolShared;
 use crate::steps::{Next, WorkerCall};
 use crate::worth::WorkerSeat;
@@ -20,12 +21,12 @@ use std::sync::atomic::{AtomicU64, Ordering};
 use std::sync::{Condvar, Mutex, Wait};
 use std::time::Clock;
 
-/// A pool's core under a lock, with the jobs and seats beside it; a gate for each worker; and how long a worker waits
-/// at it at a time, in milliseconds.
+/// A pool's core under a lock, with the jobs and seats beside it; a post for each worker; and how long a worker waits
+/// there at a time, in milliseconds.
 #[derive(Drop)]
 pub struct Home<W: Work, C, G, N: PoolLedgers> {
     pub(crate) shared: CachePadded<Mutex<PoolShared<W, C, N>>>,
-    pub(crate) gates: Vec<CachePadded<G>>,
+    pub(crate) posts: Vec<CachePadded<Post<W, C, G, N>>>,
     pub(crate) moved: Condvar,
     pub(crate) made: Made<N>,
     pub(crate) callers: u64,
@@ -87,17 +88,18 @@ pub enum Duty<C, S> {
     Await(S),
 }
 
-/// What a worker does that was ready; none where it has gone.
+/// What a worker does after it was ready, or looked whether it was handed a job; none if it is gone.
 #[inline(always)]
-fn duty_of<W: Work, C: Drop, N: PoolLedgers>(
+pub(crate) fn duty_of<W: Work, C: Drop, N: PoolLedgers>(
     next: Next<C, WorkerSeat<W, N>>,
 ) -> Option<Duty<C, WorkerSeat<W, N>>>
-    requires { IsReadied next }
+    requires { IsStepped next }
     ensures { IfSome result DutyFits }
 {
     match next {
         Next::Run(seat, job) => Some(Duty::Run(seat, job)),
         Next::Waits(seat) => Some(Duty::Await(seat)),
+        Next::Stays(seat) => Some(Duty::Await(seat)),
         _ => None,
     }
 }
@@ -201,7 +203,8 @@ impl<W: Work, C: Call<W> + Drop, G: Gate, N: PoolLedgers> Home<W, C, G, N> {
         }
     }
 
-    /// Waits at the worker's gate until it is handed a job, or ends.
+    /// Waits at the worker's post until it is handed a job, or ends. The thread that hands it a job mostly leaves it there;
+    /// otherwise, and if its time ran out, it takes its seat and makes its steps itself.
     fn await_job<R: Wait + Clock>(
         &self,
         rt: &R,
@@ -212,8 +215,12 @@ impl<W: Work, C: Call<W> + Drop, G: Gate, N: PoolLedgers> Home<W, C, G, N> {
     {
         let mut seat = first;
         for _ in rt.forever() {
-            let turn = self.wait(rt, &seat);
-            match self.step(rt, seat, WorkerCall::Follow) {
+            let (duty, turn) = self.stand_by(rt, seat);
+            let waiting = match duty? {
+                Duty::Await(waiting) => waiting,
+                handed => return Some(handed),
+            };
+            match self.step(rt, waiting, WorkerCall::Follow) {
                 Next::Run(seat, job) => return Some(Duty::Run(seat, job)),
                 Next::Stays(again) => seat = again,
                 _ => return None,
@@ -228,14 +235,22 @@ impl<W: Work, C: Call<W> + Drop, G: Gate, N: PoolLedgers> Home<W, C, G, N> {
         unreachable!() // it loops for ever
     }
 
-    /// Waits once at the worker's gate.
-    fn wait<R: Wait + Clock>(&self, rt: &R, seat: &WorkerSeat<W, N>) -> Turn {
+    /// Waits once at the worker's post, where its seat lies meanwhile. Returns what the worker does next; none if it is gone.
+    fn stand_by<R: Wait + Clock>(
+        &self,
+        rt: &R,
+        seat: WorkerSeat<W, N>,
+    ) -> (Option<Duty<C, WorkerSeat<W, N>>>, Turn)
+        requires room { 3 ≤ seat.room }
+        ensures { IfSome result.0 DutyFits }
+    {
         let at = seat.number().number().saturating_sub(self.callers) as usize;
-        if at < self.gates.len() {
-            self.gates[at].wait(rt, Some(self.keep_alive))
-        } else {
-            Turn::Woken
-        }
+        let Some(post) = self.posts.get(at) else {
+            return (Some(Duty::Await(seat)), Turn::Woken);
+        };
+        post.entrust(rt, seat);
+        let turn = post.gate.wait(rt, Some(self.keep_alive));
+        (post.collect(rt), turn)
     }
 
     /// What a worker does, from its start to its end. Then who waits for the pool's end looks again.

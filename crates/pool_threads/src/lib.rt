@@ -18,6 +18,7 @@ mod making;
 mod moving;
 mod outcomes;
 mod pool;
+mod posts;
 mod refusals;
 mod rooms;
 mod shared;

@@ -15,6 +15,7 @@ use crate::home::{Home, Made};
 use crate::jobs::{Job, Work};
 use crate::ledgers::PoolLedgers;
 use crate::pool::Pool;
+use crate::posts::Post;
 use crate::shared::PoolShared;
 use crate::worth::WorkerSeat;
 use crossbeam_utils::CachePadded;
@@ -84,19 +85,20 @@ fn workers_of<W: Work, N: Ledgers>(
     workers
 }
 
-/// These gates, each on a cache line of its own.
-fn padded<G>(alloc: Global, gates: Vec<G>) -> Result<Vec<CachePadded<G>>, Refusal>
-where
-    G: Drop,
+/// The posts of the workers with these gates, each on cache lines of its own.
+fn posts_of<W: Work, C: Drop, G: Drop, N: PoolLedgers>(
+    alloc: Global,
+    gates: Vec<G>,
+) -> Result<Vec<CachePadded<Post<W, C, G, N>>>, Refusal>
     ensures { IfErr result (λ why. why ≡ Memory) }
 {
-    let mut padded = Vec::new(alloc);
+    let mut posts = Vec::new(alloc);
     for gate in gates {
-        if padded.push(CachePadded::new(gate)).is_err() {
+        if posts.push(CachePadded::new(Post::new(gate))).is_err() {
             return Err(Refusal::Memory);
         }
     }
-    Ok(padded)
+    Ok(posts)
 }
 
 /// How often a thread that finds the lock of a pool taken lets others run before it tries again. If jobs are buffered,
@@ -159,7 +161,7 @@ impl<W: Work, C: Drop, G: Drop, S: Drop, N: PoolLedgers> Pool<W, C, G, S, N> {
         let callers = sizes.callers as usize;
         let maximum = sizes.maximum as usize;
         let given = no_jobs(alloc, maximum)?;
-        let gates = padded(alloc, gates)?;
+        let posts = posts_of(alloc, gates)?;
         let Ok(room) = Vec::with_capacity(alloc, callers + maximum) else {
             return Err(Refusal::Memory);
         };
@@ -178,7 +180,7 @@ impl<W: Work, C: Drop, G: Drop, S: Drop, N: PoolLedgers> Pool<W, C, G, S, N> {
         };
         let home = Home {
             shared: CachePadded::new(Mutex::new(shared)),
-            gates,
+            posts,
             moved: Condvar::new(),
             made: Made::new(callers + maximum),
             callers: sizes.callers,

@@ -12,10 +12,12 @@ use crate::home::Home;
 use crate::jobs::{Call, Executed, Job, Work};
 use crate::ledgers::PoolLedgers;
 use crate::outcomes::{Begun, Outcome};
+use crate::posts::Post;
 use crate::refusals::PoolRefused;
 use crate::shared::Placed;
 use crate::workers::{Starter, Worker, start};
 use crate::worth::WorkerSeat;
+use crossbeam_utils::CachePadded;
 use meet_cells::Gate;
 use meet_place::{Seat, hold, hold_patiently};
 use meet_tickets::{Refusal, Refused};
@@ -92,7 +94,8 @@ pub fn outcome_of<W: Work, C: Call<W> + Drop>(executed: Executed<C>) -> Outcome<
 }
 
 impl<W: Work, C: Drop, G: Gate + Drop, S, N: PoolLedgers> Pool<W, C, G, S, N> {
-    /// Hands a job in under one hold of the lock, and wakes the worker that it was handed to.
+    /// Hands a job in under one hold of the lock, and wakes the worker that it was handed to. In the same hold it makes the
+    /// step with which that worker takes the job, if the worker's seat lies at its post.
     fn hand<R: Wait>(
         &self,
         rt: &R,
@@ -112,9 +115,17 @@ impl<W: Work, C: Drop, G: Gate + Drop, S, N: PoolLedgers> Pool<W, C, G, S, N> {
     {
         let mut shared = hold_patiently(rt, &self.home.shared, self.home.patience);
         let placed = shared.execute(seat, job);
+        let handed = match &placed {
+            Ok(placed) => wakes(&placed.executed),
+            Err(_) => None,
+        };
+        let post = self.post_of(handed);
+        if let Some(post) = post {
+            post.deliver(rt, &mut *shared);
+        }
         drop(shared);
-        if let Ok(placed) = &placed {
-            self.wake(wakes(&placed.executed));
+        if let Some(post) = post {
+            post.gate.wake();
         }
         placed
     }
@@ -158,14 +169,9 @@ impl<W: Work, C: Drop, G: Gate + Drop, S, N: PoolLedgers> Pool<W, C, G, S, N> {
         }
     }
 
-    /// Wakes a worker, if one is given and is there.
-    fn wake(&self, worker: Option<u64>) {
-        if let Some(w) = worker {
-            let at = w as usize;
-            if at < self.home.gates.len() {
-                self.home.gates[at].wake();
-            }
-        }
+    /// The post of a worker, if one is given and is there.
+    fn post_of(&self, worker: Option<u64>) -> Option<&CachePadded<Post<W, C, G, N>>> {
+        self.home.posts.get(worker? as usize)
     }
 
     /// A worker couldn't be started, with a job of this tag, if one is given: its job. Where the pool has another for
