@@ -392,6 +392,7 @@ impl<W: Work, C: Drop, G: Gate + Drop, S: Drop, N: PoolLedgers> Pool<W, C, G, S,
             callers,
             patience,
             keep_alive,
+            entrusts,
             folded,
         } = alone(rt, home);
         let inside = lock.into_inner().into_inner();
@@ -410,6 +411,7 @@ impl<W: Work, C: Drop, G: Gate + Drop, S: Drop, N: PoolLedgers> Pool<W, C, G, S,
                 callers,
                 patience,
                 keep_alive,
+                entrusts,
                 folded,
             };
             let pool = Pool {

@@ -33,6 +33,8 @@ pub struct Home<W: Work, C, G, N: PoolLedgers> {
     /// How often a thread that finds the lock taken lets others run at most, before it tries again.
     pub(crate) patience: u64,
     pub(crate) keep_alive: u64,
+    /// Whether the seat of a worker that waits lies at its post.
+    pub(crate) entrusts: bool,
     /// How many records callers folded away or had handed out so far: a hint, by which workers let go of receipts.
     pub(crate) folded: AtomicU64,
 }
@@ -203,8 +205,8 @@ impl<W: Work, C: Call<W> + Drop, G: Gate, N: PoolLedgers> Home<W, C, G, N> {
         }
     }
 
-    /// Waits at the worker's post until it is handed a job, or ends. The thread that hands it a job mostly leaves it there;
-    /// otherwise, and if its time ran out, it takes its seat and makes its steps itself.
+    /// Waits at the worker's post until it is handed a job, or ends. The thread that hands it a job may leave it there with
+    /// the worker's seat; otherwise the worker takes its seat, and makes its steps itself.
     fn await_job<R: Wait + Clock>(
         &self,
         rt: &R,
@@ -235,7 +237,8 @@ impl<W: Work, C: Call<W> + Drop, G: Gate, N: PoolLedgers> Home<W, C, G, N> {
         unreachable!() // it loops for ever
     }
 
-    /// Waits once at the worker's post, where its seat lies meanwhile. Returns what the worker does next; none if it is gone.
+    /// Waits once at the worker's post, where its seat lies meanwhile if the pool entrusts it. Returns what the worker does
+    /// next; none if it is gone.
     fn stand_by<R: Wait + Clock>(
         &self,
         rt: &R,
@@ -248,6 +251,10 @@ impl<W: Work, C: Call<W> + Drop, G: Gate, N: PoolLedgers> Home<W, C, G, N> {
         let Some(post) = self.posts.get(at) else {
             return (Some(Duty::Await(seat)), Turn::Woken);
         };
+        if !self.entrusts {
+            let turn = post.gate.wait(rt, Some(self.keep_alive));
+            return (Some(Duty::Await(seat)), turn);
+        }
         post.entrust(rt, seat);
         let turn = post.gate.wait(rt, Some(self.keep_alive));
         (post.collect(rt), turn)

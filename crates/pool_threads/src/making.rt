@@ -111,6 +111,16 @@ fn patience_of(queue: PoolQueue) -> u64 {
     }
 }
 
+/// Whether the seat of a worker that waits lies at its post, so that a caller makes the worker's next step. If jobs are
+/// buffered, the callers are what an empty job waits for, and it pays that each worker makes its own steps.
+/// Implementation-defined; nothing is promised of it.
+fn entrusts(queue: PoolQueue) -> bool {
+    match queue {
+        PoolQueue::Hand(_) => true,
+        PoolQueue::Unbounded | PoolQueue::Bounded(_) => false,
+    }
+}
+
 impl<W: Work, C: Drop, G: Drop, S: Drop, N: PoolLedgers> Pool<W, C, G, S, N> {
     /// Creates a pool without a job, and a seat for each caller, numbered from 0.
     ///
@@ -186,6 +196,7 @@ impl<W: Work, C: Drop, G: Drop, S: Drop, N: PoolLedgers> Pool<W, C, G, S, N> {
             callers: sizes.callers,
             patience: patience_of(queue),
             keep_alive: sizes.keep_alive,
+            entrusts: entrusts(queue),
             folded: AtomicU64::new(0),
         };
         match Arc::new(alloc, home) {

@@ -121,7 +121,9 @@ impl<W: Work, C: Drop, G: Gate + Drop, S, N: PoolLedgers> Pool<W, C, G, S, N> {
         };
         let post = self.post_of(handed);
         if let Some(post) = post {
-            post.deliver(rt, &mut *shared);
+            if self.home.entrusts {
+                post.deliver(rt, &mut *shared);
+            }
         }
         drop(shared);
         if let Some(post) = post {

@@ -17,6 +17,8 @@ mod meeting;
 #[cfg(test)]
 mod pools;
 #[cfg(test)]
+mod posts;
+#[cfg(test)]
 mod starts;
 
 use meet_place::Seat;
