@@ -6,6 +6,8 @@ mod chance;
 #[cfg(test)]
 mod custody;
 #[cfg(test)]
+mod custody_drains;
+#[cfg(test)]
 mod custody_interrupts;
 #[cfg(test)]
 mod flags;
