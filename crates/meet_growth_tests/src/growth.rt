@@ -8,6 +8,7 @@ mod books;
 mod chapters;
 mod checkpoints;
 mod fresh;
+mod not_closed;
 
 use meet_cells::ParkGate;
 use meet_history::check;

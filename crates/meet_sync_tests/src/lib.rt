@@ -14,6 +14,8 @@ mod drains;
 #[cfg(test)]
 mod laws;
 #[cfg(test)]
+mod not_closed;
+#[cfg(test)]
 mod seals;
 #[cfg(test)]
 mod split;
