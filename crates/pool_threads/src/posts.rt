@@ -6,8 +6,8 @@
 //!   same whether a seat is laid there before another thread hands its worker a job or after it.
 //! - The lock of a post is taken under the lock of the pool, and never the other way round.
 
-ghost use Rattle.std.specs.Prelude.{IfSome};
-ghost use Rattle.pool_threads.specs.Duties.{DutyFits, IsStepped};
+ghost use Rattle.std.specs.Prelude.{◌≤◌, IfSome};
+ghost use Rattle.pool_threads.specs.Duties.{DutyFits};
 
 use crate::home::{Duty, duty_of};
 use crate::jobs::Work;
@@ -16,6 +16,7 @@ use crate::shared::PoolShared;
 use crate::steps::WorkerCall;
 use crate::worth::WorkerSeat;
 use meet_place::hold;
+use std::marker::Model;
 use std::mem;
 use std::sync::{Mutex, Wait};
 
@@ -23,7 +24,20 @@ use std::sync::{Mutex, Wait};
 #[derive(Drop)]
 pub(crate) struct Lying<W: Work, C, N: PoolLedgers> {
     duty: Option<Duty<C, WorkerSeat<W, N>>>,
-    ghost fits: { IfSome duty DutyFits },
+}
+
+impl<W: Work, C, N: PoolLedgers> Model for Lying<W, C, N> {
+    ghost use Rattle.std.specs.Prelude.{ℕ, Option, IfSome};
+    ghost use Rattle.meet_place.specs.Seats.{SeatView};
+    ghost use Rattle.pool_core.specs.declared.deeds.PoolDeed.{PoolDeed as Told};
+    ghost use Rattle.pool_threads.specs.declared.home.Duty.{Duty};
+    ghost use Rattle.pool_threads.specs.Duties.{DutyFits};
+
+    ghost Value = { Option (Duty C (SeatView (Told ℕ))) };
+
+    ghost view = { λ l. l.duty };
+
+    ghost invariant = { λ l. IfSome l.duty DutyFits };
 }
 
 /// The post of a worker: the gate at which it waits, and what lies there.
