@@ -7,7 +7,7 @@
 //! - The thread that waited takes out what lies in its cell, once: the end, or its own share, and then nobody has
 //!   completed its request for it, nor will. It compares what it finds with what it has, since nothing is known of a
 //!   value that a lock guards.
-//! - The lock of a cell is taken under the lock of the queue, and never the other way round.
+//! - The lock of a cell is tried under the lock of the queue, where no thread waits for it, and never the other way round.
 
 ghost use Rattle.std.specs.Prelude.{◌≡◌, ◌≤◌, Some, false, true, IfOk, IfErr, IfSome, option_map, vec_len};
 ghost use Rattle.meet_book.specs.Booking.{record_of_receipt};
@@ -280,13 +280,9 @@ fn stay<R: Wait>(rt: &R)
 
 impl<O: QueuePlace, G, N: Ledgers> Queue<O, G, N> {
     /// In this critical section, makes the follow-up of a seat whose request was met or interrupted, if it is in custody.
-    /// It isn't inlined: with it the compiler would drop that of the call which it is part of.
-    pub(crate) fn deliver<R: Wait>(
-        &self,
-        rt: &R,
-        shared: &mut Shared<O, N>,
-        freed: &Option<SeatNo>,
-    ) {
+    /// If its cell is locked, the seat makes it itself. It isn't inlined: with it the compiler would drop that of the call
+    /// which it is part of.
+    pub(crate) fn deliver(&self, shared: &mut Shared<O, N>, freed: &Option<SeatNo>) {
         let seat = match freed {
             None => return,
             Some(seat) => *seat,
@@ -294,7 +290,9 @@ impl<O: QueuePlace, G, N: Ledgers> Queue<O, G, N> {
         let Some(cell) = self.cells.get(seat.number() as usize) else {
             return;
         };
-        let mut guard = hold(rt, cell);
+        let Some(mut guard) = cell.try_lock() else {
+            return;
+        };
         follow_in(shared, &mut *guard);
     }
 

@@ -105,7 +105,7 @@ impl<O: QueuePlace, G, N: Ledgers> Queue<O, G, N> {
         match shared.step(seat, call) {
             Ok(answer) => {
                 let woken = shared.probe().wakes(&answer);
-                self.deliver(rt, &mut *shared, &woken);
+                self.deliver(&mut *shared, &woken);
                 Ok((answer, woken))
             }
             Err(refused) => Err(refused),

@@ -37,7 +37,7 @@ impl Held {
         self.is_released.store(true, Ordering::SeqCst);
     }
 
-    /// Waits until the gate's waits are so many, ten seconds at most. Returns whether they are.
+    /// Waits until threads waited `count` times at the gate, ten seconds at most. Returns whether they did.
     pub fn await_waits<R: Wait + Clock>(&self, rt: &R, count: u64) -> bool {
         for _ in 0..LOOKS {
             if self.waits.load(Ordering::SeqCst) >= count {
@@ -59,14 +59,14 @@ impl Held {
     }
 }
 
-/// How waits at a gate end.
+/// How the waits at a gate end.
 #[derive(Clone, Copy)]
 pub struct Ends {
-    /// How many waits end at once, with no event.
+    /// The number of waits that end at once, with no event.
     pub early: u64,
-    /// How these end.
+    /// The result of these.
     pub early_turn: Turn,
-    /// How each later wait ends, after the gate was released.
+    /// The result of each later wait, which ends after the gate was released.
     pub turn: Turn,
 }
 
@@ -78,7 +78,7 @@ pub struct HeldGate {
 }
 
 impl HeldGate {
-    /// A gate that notes it here, and whose waits end so.
+    /// Creates a gate that counts its waits and wakes here.
     pub fn new(held: Arc<Held>, ends: Ends) -> HeldGate {
         HeldGate { held, ends }
     }

@@ -122,7 +122,7 @@ impl<W: Work, C: Drop, G: Gate + Drop, S, N: PoolLedgers> Pool<W, C, G, S, N> {
         let post = self.post_of(handed);
         if let Some(post) = post {
             if self.home.entrusts {
-                post.deliver(rt, &mut *shared);
+                post.deliver(&mut *shared);
             }
         }
         drop(shared);

@@ -4,7 +4,7 @@
 //!
 //! - A post is a hint: if no seat lies there, the worker is only woken, and makes the step itself. So the records are the
 //!   same whether a seat is laid there before another thread hands its worker a job or after it.
-//! - The lock of a post is taken under the lock of the pool, and never the other way round.
+//! - The lock of a post is tried under the lock of the pool, where no thread waits for it, and never the other way round.
 
 ghost use Rattle.std.specs.Prelude.{◌≤◌, IfSome};
 ghost use Rattle.pool_threads.specs.Duties.{DutyFits};
@@ -83,9 +83,12 @@ impl<W: Work, C: Drop, G, N: PoolLedgers> Post<W, C, G, N> {
         }
     }
 
-    /// In this critical section, makes the next step of the worker, if its seat lies here.
-    pub(crate) fn deliver<R: Wait>(&self, rt: &R, shared: &mut PoolShared<W, C, N>) {
-        let mut lying = hold(rt, &self.lying);
+    /// In this critical section, makes the next step of the worker, if its seat lies here. If the post is locked, the
+    /// worker makes it itself.
+    pub(crate) fn deliver(&self, shared: &mut PoolShared<W, C, N>) {
+        let Some(mut lying) = self.lying.try_lock() else {
+            return;
+        };
         lying.follow(shared);
     }
 
