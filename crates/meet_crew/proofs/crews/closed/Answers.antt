@@ -56,7 +56,7 @@ returns g c =
     let kind = g.O.QueuePlace.kind in
     let all : length c.args.seats.items ≡ count = omega (arith, c.requires.all, c.args.seats.ok.0) in
     left count c.args.seats.items all mark kind c.close.result c.told_of.result c.told_of.ensures
-        (history_of count c.args.seats.items all mark kind g.N.Ledgers.cap c.requires.cap c.close.result
-        c.close.ensures.history (subst (λ n. IfOk c.close.result (λ c. vec_len c.lists ≡ n)) c.requires.whole c.close.ensures.count)
-        c.close.ensures.cap c.close.ensures.few)
-        (subst (λ n. IfErr c.close.result (QueueFaultFits n c.args.seats.items)) c.requires.whole c.close.ensures.fault)
+    (history_of count c.args.seats.items all mark kind g.N.Ledgers.cap c.requires.cap c.close.result
+    c.close.ensures.history (subst (λ n. IfOk c.close.result (λ c. vec_len c.lists ≡ n)) c.requires.whole c.close.ensures.count)
+    c.close.ensures.cap c.close.ensures.few)
+    (subst (λ n. IfErr c.close.result (QueueFaultFits n c.args.seats.items)) c.requires.whole c.close.ensures.fault)
