@@ -21,4 +21,11 @@ pub trait Gate {
 
     /// Wakes the thread that waits here, or else the next that comes to wait.
     fn wake(&self);
+
+    /// Returns true if waits here found the processors oversubscribed: other programs want them too. Then it is quicker
+    /// to sleep than to let another thread run and look again. It is a hint; a gate that doesn't look for it returns
+    /// false.
+    fn is_oversubscribed(&self) -> bool {
+        false
+    }
 }

@@ -9,10 +9,10 @@ use crate::gates::{Gate, Turn};
 use meet_tickets::Refusal;
 use std::alloc::Global;
 use std::sync::Wait;
-use std::sync::atomic::{AtomicBool, Ordering};
+use std::sync::atomic::{AtomicBool, AtomicU64, Ordering};
 use std::thread;
 use std::thread::Parker;
-use std::time::Clock;
+use std::time::{Clock, Duration, Instant};
 
 /// How often a thread looks for a wake before it parks, and lets another thread run after each look. Who wakes it is
 /// often about to: a look and a yield take some 250 nanoseconds, to park and be woken takes 2,000 to 5,000. With one
@@ -20,16 +20,42 @@ use std::time::Clock;
 /// 16, and more looks gained nothing.
 const TURNS: u64 = 16;
 
+/// How many microseconds a yield may take. One that takes longer gave the processor to another program, for a time slice
+/// of some milliseconds, and so will the next one: then it is quicker to park. Beside 31 threads of the same program, on
+/// four processors, a yield takes some 10.
+const LONG_YIELD: u128 = 300;
+
+/// How many waits park at once after a long yield, before one yields again: they take some 5 microseconds each.
+const PARKED_WAITS: u64 = 256;
+
 /// A gate at which one thread at a time parks, until it is woken. Before it parks it lets other threads run some times,
-/// as by `Thread.yield`: often one of them is the one that wakes it, and to park and be woken costs more than that. One
-/// wake is kept for the next wait, and a spurious wakeup doesn't end one. A limit is in milliseconds of the machine's
-/// clock. If there is no clock, a wait with a limit returns Elapsed at once, unless a wake came by then.
+/// as by `Thread.yield`: often one of them is the one that wakes it, and to park and be woken costs more than that. If
+/// that takes long, since other programs want the processor too, this wait and the next ones park at once. One wake is
+/// kept for the next wait, and a spurious wakeup doesn't end one. A limit is in milliseconds of the machine's clock. If
+/// there is no clock, a wait with a limit returns Elapsed at once, unless a wake came by then.
 ///
 /// Java: `LockSupport.park`, `parkNanos`, `unpark`.
 #[derive(Drop)]
 pub struct ParkGate {
     parker: Parker,
     woken: AtomicBool,
+    /// How many of the next waits park at once.
+    parked_waits: AtomicU64,
+}
+
+/// Lets another thread run: how long that took; none if there is no clock.
+fn time_yield<R: Clock>(rt: &R) -> Option<Duration> {
+    let start = Instant::now(rt).ok();
+    thread::yield_now();
+    start?.elapsed(rt).ok()
+}
+
+/// Lets another thread run: whether that took long.
+fn yields_long<R: Clock>(rt: &R) -> bool {
+    match time_yield(rt) {
+        None => false,
+        Some(took) => took.as_micros() > LONG_YIELD,
+    }
 }
 
 impl ParkGate {
@@ -38,6 +64,7 @@ impl ParkGate {
         ParkGate {
             parker: Parker::new(),
             woken: AtomicBool::new(false),
+            parked_waits: AtomicU64::new(0),
         }
     }
 
@@ -66,13 +93,28 @@ impl ParkGate {
         self.woken.load(Ordering::SeqCst) && self.woken.swap(false, Ordering::SeqCst)
     }
 
-    /// Looks for a wake so many times, and lets another thread run after each: whether one came.
-    fn spin(&self, turns: u64) -> bool {
+    /// Whether a wait is to park at once, since a yield took long some waits ago. It counts the wait.
+    fn parks_at_once(&self) -> bool {
+        let parked = self.parked_waits.load(Ordering::SeqCst);
+        if parked > 0 {
+            self.parked_waits.store(parked - 1, Ordering::SeqCst);
+        }
+        parked > 0
+    }
+
+    /// Looks for a wake so many times, and lets another thread run after each, until that takes long: whether a wake came.
+    fn spin<R: Clock>(&self, rt: &R, turns: u64) -> bool {
+        if self.parks_at_once() {
+            return false;
+        }
         for _ in 0..turns {
             if self.take_wake() {
                 return true;
             }
-            thread::yield_now();
+            if yields_long(rt) {
+                self.parked_waits.store(PARKED_WAITS, Ordering::SeqCst);
+                return false;
+            }
         }
         false
     }
@@ -101,8 +143,8 @@ impl ParkGate {
         unreachable!()
     }
 
-    /// Spins so many turns, and then parks until somebody wakes the gate, or until the time is up where there is a
-    /// limit.
+    /// Spins so many turns, fewer if a yield takes long, and then parks until somebody wakes the gate, or until the time is
+    /// up where there is a limit.
     pub(crate) fn spin_and_park<R: Wait + Clock>(
         &self,
         rt: &R,
@@ -112,7 +154,7 @@ impl ParkGate {
         ensures { IfNone limit (result ≡ Woken) }
     {
         let deadline = Deadline::after(rt, limit);
-        let woken = self.spin(turns);
+        let woken = self.spin(rt, turns);
         match deadline {
             _ if woken => Turn::Woken,
             None => {
@@ -136,5 +178,10 @@ impl Gate for ParkGate {
     fn wake(&self) {
         self.woken.store(true, Ordering::SeqCst);
         self.parker.unpark();
+    }
+
+    /// Returns true if a yield took long, and the next wait parks at once therefore.
+    fn is_oversubscribed(&self) -> bool {
+        self.parked_waits.load(Ordering::SeqCst) > 0
     }
 }

@@ -12,8 +12,9 @@ use std::sync::Wait;
 use std::time::Clock;
 
 /// A gate at which a thread looks for a wake some turns, and then parks as at a `ParkGate`: as the transferers of
-/// `SynchronousQueue` spin before they park. After each turn it lets another thread run, as by `Thread.yield`. The time
-/// of the turns counts towards the limit, which is checked after they are over.
+/// `SynchronousQueue` spin before they park. After each turn it lets another thread run, as by `Thread.yield`; if that
+/// takes long, this wait and the next ones park at once, as at a `ParkGate`. The time of the turns counts towards the
+/// limit, which is checked after they are over.
 #[derive(Drop)]
 pub struct SpinGate {
     gate: ParkGate,
@@ -59,5 +60,10 @@ impl Gate for SpinGate {
 
     fn wake(&self) {
         self.gate.wake();
+    }
+
+    /// Returns true if a turn took long, and the next wait parks at once therefore.
+    fn is_oversubscribed(&self) -> bool {
+        self.gate.is_oversubscribed()
     }
 }

@@ -4,6 +4,7 @@ use meet_cells::{Deadline, Gate, ParkGate, SpinGate, Turn};
 use std::io::ErrorKind;
 use std::process::Abort;
 use std::sync::Wait;
+use std::sync::atomic::{AtomicU64, Ordering};
 use std::test::*;
 use std::thread::Threads;
 use std::time::{Clock, Duration, Instant};
@@ -19,12 +20,12 @@ const LATE: u64 = 10_000;
 const LONG: u64 = 60_000;
 
 /// A wake is kept for the next wait, with and without a limit, and two are kept as one.
-fn keeps_one_wake<G: Gate, R: Wait + Clock + Abort>(rt: &R, gate: &G) {
+fn keeps_one_wake<G: Gate, C: Wait + Clock>(rt: &impl Abort, clock: &C, gate: &G) {
     for limit in [None, Some(0), Some(SHORT), Some(u64::MAX)] {
         gate.wake();
         gate.wake();
-        assert_eq!(rt; gate.wait(rt, limit), Turn::Woken);
-        assert_eq!(rt; gate.wait(rt, Some(0)), Turn::Elapsed);
+        assert_eq!(rt; gate.wait(clock, limit), Turn::Woken);
+        assert_eq!(rt; gate.wait(clock, Some(0)), Turn::Elapsed);
     }
 }
 
@@ -75,12 +76,50 @@ impl<R: Wait> Clock for Clockless<'_, R> {
     }
 }
 
+/// A runtime whose clock goes on by so many milliseconds each time it is read: so a yield takes as long.
+#[derive(Drop)]
+struct Ticking<'a, R: Wait> {
+    rt: &'a R,
+    read: AtomicU64,
+    step: u64,
+}
+
+impl<R: Wait> Wait for Ticking<'_, R> {}
+
+impl<R: Wait> Clock for Ticking<'_, R> {
+    fn monotonic(&self) -> io::Result<Duration> {
+        let read = self.read.fetch_add(1, Ordering::SeqCst);
+        Ok(Duration::from_millis(read.saturating_mul(self.step)))
+    }
+
+    fn since_1970(&self) -> io::Result<Duration> {
+        self.monotonic()
+    }
+}
+
+/// A clock that goes on by so much.
+fn clock_by<R: Wait>(rt: &R, step: u64) -> Ticking<'_, R> {
+    Ticking {
+        rt,
+        read: AtomicU64::new(0),
+        step,
+    }
+}
+
+/// Whether a gate finds the processors oversubscribed after so many waits, in which nobody wakes it.
+fn found_after<G: Gate, C: Wait + Clock>(rt: &impl Abort, clock: &C, gate: &G, waits: u64) -> bool {
+    for _ in 0..waits {
+        assert_eq!(rt; gate.wait(clock, Some(0)), Turn::Elapsed);
+    }
+    gate.is_oversubscribed()
+}
+
 /// What is asked of every gate.
 fn serves<G: Gate + Sync, R: Threads + Wait + Clock + Abort + Sync>(
     rt: &R,
     gate: &G,
 ) -> Result<(), Fail> {
-    keeps_one_wake(rt, gate);
+    keeps_one_wake(rt, rt, gate);
     elapses(rt, gate)?;
     for limit in [None, Some(LONG), Some(u64::MAX)] {
         assert_eq!(rt; is_woken(rt, gate, limit), Turn::Woken);
@@ -108,6 +147,33 @@ fn without_a_clock_a_limit_is_over(rt: HostRuntime) {
     assert_eq!(rt; gate.wait(&clockless, Some(LONG)), Turn::Woken);
     gate.wake();
     assert_eq!(rt; gate.wait(&clockless, None), Turn::Woken);
+}
+
+/// A yield of 50 milliseconds is a time slice of other programs. The waits after it keep wakes as before, and some time
+/// later one yields again.
+#[test]
+fn a_long_yield_is_noticed(rt: HostRuntime) {
+    let gate = ParkGate::new();
+    let slow = clock_by(&rt, 50);
+    let quick = clock_by(&rt, 0);
+    assert!(rt; !found_after(&rt, &quick, &gate, 100));
+    assert!(rt; found_after(&rt, &slow, &gate, 1));
+    keeps_one_wake(&rt, &slow, &gate);
+    assert!(rt; found_after(&rt, &slow, &gate, 100));
+    assert!(rt; !found_after(&rt, &quick, &gate, 10_000));
+    assert!(rt; found_after(&rt, &slow, &gate, 1));
+}
+
+#[test]
+fn a_spin_gate_notices_a_long_turn(rt: HostRuntime) {
+    let slow = clock_by(&rt, 50);
+    assert!(rt; found_after(&rt, &slow, &SpinGate::new(1), 1));
+    assert!(rt; !found_after(&rt, &slow, &SpinGate::new(0), 100));
+}
+
+#[test]
+fn without_a_clock_no_yield_is_long(rt: HostRuntime) {
+    assert!(rt; !found_after(&rt, &Clockless { rt: &rt }, &ParkGate::new(), 100));
 }
 
 /// A limit remains but for the milliseconds that passed, and nothing remains of one that is over.

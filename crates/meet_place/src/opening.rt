@@ -10,6 +10,7 @@ use crate::ledgers::{Blanks, Ledgers, Stake, Totals};
 use crate::place::seat_of;
 use crate::seats::Seat;
 use std::alloc::Global;
+use std::sync::atomic::{AtomicBool, Ordering};
 use std::sync::{Mutex, MutexGuard, Wait};
 use std::thread;
 
@@ -25,6 +26,33 @@ pub fn hold<'a, T, R: Wait>(rt: &R, lock: &'a Mutex<T>) -> MutexGuard<'a, T> {
         Some(guard) => guard,
         None => hold_later(rt, lock, 1),
     }
+}
+
+/// Takes a lock as `hold` does, or, if the processors are oversubscribed, sleeps at once where it is held.
+#[inline(always)]
+pub(crate) fn hold_or_sleep<'a, T, R: Wait>(
+    rt: &R,
+    lock: &'a Mutex<T>,
+    oversubscribed: &AtomicBool,
+) -> MutexGuard<'a, T> {
+    match lock.try_lock() {
+        Some(guard) => guard,
+        None => hold_or_sleep_later(rt, lock, oversubscribed),
+    }
+}
+
+/// The same where the lock was taken.
+#[cold]
+#[inline(never)]
+fn hold_or_sleep_later<'a, T, R: Wait>(
+    rt: &R,
+    lock: &'a Mutex<T>,
+    oversubscribed: &AtomicBool,
+) -> MutexGuard<'a, T> {
+    if oversubscribed.load(Ordering::SeqCst) {
+        return lock.lock(rt);
+    }
+    hold_later(rt, lock, 1)
 }
 
 /// Takes a lock as `hold` does. A thread yields twice as often after each try as after the one before, at most `most`

@@ -14,7 +14,7 @@ ghost use Rattle.meet_place.specs.Seats.{Adds, AreFresh, IsLater, Trims, TrimsPe
 ghost use Rattle.meet_place.specs.Holds.{BookRefuses, IsBookOf, IsSince, sizes_refusal};
 
 use crate::ledgers::{Blanks, Ledgers, Moment};
-use crate::opening::hold;
+use crate::opening::hold_or_sleep;
 use crate::seats::{Pending, Seat};
 use crate::shared::Shared;
 use crossbeam_utils::CachePadded;
@@ -23,6 +23,7 @@ use meet_cells::{Gate, Turn};
 use meet_tickets::{MOST_SEATS, Refusal, Refused, SeatNo};
 use std::alloc::Global;
 use std::marker::Model;
+use std::sync::atomic::{AtomicBool, Ordering};
 use std::sync::{Mutex, MutexGuard, Wait};
 use std::time::Clock;
 
@@ -45,6 +46,8 @@ pub struct Place<O: Object, G, N: Ledgers> {
     /// How many records there are at most at a time.
     pub(crate) cap: u64,
     shared: CachePadded<Mutex<Shared<O, N>>>,
+    /// Whether the last wait at a gate found the processors oversubscribed: a hint.
+    oversubscribed: AtomicBool,
 }
 
 impl<O: Object, G, N: Ledgers> Model for Place<O, G, N> {
@@ -146,6 +149,7 @@ impl<O: Object, G: Drop, N: Ledgers> Place<O, G, N> {
             gates: padded,
             cap: book.cap(),
             shared: CachePadded::new(Mutex::new(Shared::new(book, total, rest))),
+            oversubscribed: AtomicBool::new(false),
         };
         (place, seats)
     }
@@ -162,9 +166,10 @@ impl<O: Object, G, N: Ledgers> Place<O, G, N> {
     }
 
     /// Takes the lock after no other thread has it, and holds it until the guard is dropped. A step is short, so it
-    /// first lets another thread run a few times, and sleeps only if the lock is held even then.
+    /// first lets another thread run a few times, and sleeps only if the lock is held even then, or if waits at the gates
+    /// found the processors oversubscribed.
     pub fn hold<R: Wait>(&self, rt: &R) -> MutexGuard<'_, Shared<O, N>> {
-        hold(rt, &self.shared)
+        hold_or_sleep(rt, &self.shared, &self.oversubscribed)
     }
 
     /// Takes the lock as `hold`, and states that what it guards isn't older than a moment.
@@ -238,6 +243,7 @@ impl<O: Object, G, N: Ledgers> Place<O, G, N> {
             gates,
             cap: shared.cap(),
             shared: CachePadded::new(Mutex::new(shared)),
+            oversubscribed: AtomicBool::new(false),
         }
     }
 }
@@ -339,6 +345,13 @@ impl<O: Object, G: Gate, N: Ledgers> Place<O, G, N> {
         }
     }
 
+    /// Notes whether a wait found the processors oversubscribed. It writes only what is new, since all threads read it.
+    fn note(&self, oversubscribed: bool) {
+        if self.oversubscribed.load(Ordering::SeqCst) != oversubscribed {
+            self.oversubscribed.store(oversubscribed, Ordering::SeqCst);
+        }
+    }
+
     /// Waits at the gate of this seat, for `limit` milliseconds if there is a limit.
     pub fn wait<R: Wait + Clock>(
         &self,
@@ -347,6 +360,8 @@ impl<O: Object, G: Gate, N: Ledgers> Place<O, G, N> {
         limit: Option<u64>,
     ) -> Turn {
         let at = pending.number().number() as usize;
-        self.gates[at].wait(rt, limit)
+        let turn = self.gates[at].wait(rt, limit);
+        self.note(self.gates[at].is_oversubscribed());
+        turn
     }
 }

@@ -9,13 +9,15 @@ use meet_cells::ParkGate;
 use meet_place::{Back, Blanks, CloseFault, Closed, Ledgers, NewPlace, Pending, Place, Seat};
 use meet_tickets::{Refusal, Refused, Ticket};
 use std::alloc::Global;
+use std::fmt::Display;
 use std::marker::Brand;
 use std::mem::ManuallyDrop;
 use std::process::Abort;
 use std::sync::Wait;
-use std::thread;
+use std::sync::atomic::{AtomicU64, Ordering};
 use std::thread::Threads;
-use std::time::Clock;
+use std::time::{Clock, Duration};
+use std::{io, thread};
 
 /// A till that threads share.
 pub type Shop<N> = Place<Till, ParkGate, N>;
@@ -322,9 +324,56 @@ fn play<R: Abort + Threads + Wait + Clock + Sync>(
     meeting::<Brand, _>(rt, alloc, Blanks::new(2), times, given)
 }
 
+/// A runtime whose clock goes on by 50 milliseconds each time it is read: so a yield takes as long, as if other programs
+/// wanted all processors.
+#[derive(Drop)]
+struct Slow<'a, R: Abort + Threads + Wait + Sync> {
+    rt: &'a R,
+    read: AtomicU64,
+}
+
+impl<R: Abort + Threads + Wait + Sync> Abort for Slow<'_, R> {
+    fn abort(&self) -> ! {
+        self.rt.abort()
+    }
+
+    fn exit(&self, code: i32) -> ! {
+        self.rt.exit(code)
+    }
+
+    fn panic<D: Display + Drop>(&self, message: D) -> ! {
+        self.rt.panic(message)
+    }
+}
+
+impl<R: Abort + Threads + Wait + Sync> Threads for Slow<'_, R> {}
+
+impl<R: Abort + Threads + Wait + Sync> Wait for Slow<'_, R> {}
+
+impl<R: Abort + Threads + Wait + Sync> Clock for Slow<'_, R> {
+    fn monotonic(&self) -> io::Result<Duration> {
+        let read = self.read.fetch_add(1, Ordering::SeqCst);
+        Ok(Duration::from_millis(read.saturating_mul(50)))
+    }
+
+    fn since_1970(&self) -> io::Result<Duration> {
+        self.monotonic()
+    }
+}
+
 #[test]
 fn one_adds_and_one_waits(rt: HostRuntime) {
     let got = play(&rt, rt.alloc(), 2_000, 2);
+    assert_eq!(rt; got, (2_000, true, Ending::Closed(2_001, 2, Some(20_001))));
+}
+
+#[test]
+fn one_adds_and_one_waits_where_yields_take_long(rt: HostRuntime) {
+    let slow = Slow {
+        rt: &rt,
+        read: AtomicU64::new(0),
+    };
+    let got = play(&slow, rt.alloc(), 2_000, 2);
     assert_eq!(rt; got, (2_000, true, Ending::Closed(2_001, 2, Some(20_001))));
 }
 
