@@ -3,7 +3,7 @@
 # first where it isn't there or its sources are newer; beside it, where they are installed, of `bench/Race.java`, of the channels of the
 # Rust crate crossbeam-channel (`bench/crossbeam`, also from Debian's librust-crossbeam-channel-dev) and of Go (`bench/race.go`), both of
 # capacity 0. With `quick`, a sixteenth of the items, and rough. Each run's items and their sum are compared with what they must be; where
-# they differ the status is 1.
+# they differ the status is 1. With `loaded`, 4,000 items beside a busy loop for each processor: the first table alone, by three rounds.
 #
 # A row is so many threads that put and as many that take, 100,000 items in all. A time is that of the clock from before the first thread
 # is started until all have ended, by the item, in nanoseconds; the processor's is that of all threads together. A number is the median of
@@ -14,11 +14,14 @@ set -euo pipefail
 . "$(dirname "$0")/../../bin/built.bash"
 items=100000
 samples=12
+ways=(bare park steady spin fair unfair transfer crossbeam go)
 [ "${1:-}" = quick ] && items=$((items / 16)) && samples=3
+[ "${1:-}" = loaded ] && items=4000 && samples=3 && ways=(park fair unfair transfer crossbeam go)
 
 build bench_threads
 work=$(mktemp -d)
-trap 'rm -rf "$work"' EXIT
+loops=()
+trap 'kill "${loops[@]}" 2>/dev/null || true; rm -rf "$work"' EXIT
 
 # Builds what is to be compared with: each is there where its compiler is.
 command -v javac >/dev/null && javac -d "$work" "$top/bench/Race.java"
@@ -71,7 +74,14 @@ ratio() {
     awk -v one="$1" -v other="$2" 'BEGIN { if (one == "-" || other == "-") print "-"; else printf "%.2f", one / other }'
 }
 
-ways=(bare park steady spin fair unfair transfer crossbeam go)
+# `timeout` ends a loop where this script is killed.
+if [ "${1:-}" = loaded ]; then
+    for ((loop = 0; loop < $(nproc); loop++)); do
+        timeout 1800 bash -c 'while :; do :; done' &
+        loops+=($!)
+    done
+fi
+
 for pairs in 1 2 4 16; do
     handed=$((items / pairs * pairs))
     for ((sample = 0; sample < samples; sample++)); do
@@ -106,6 +116,11 @@ table() {
     done
 }
 
+if [ "${1:-}" = loaded ]; then
+    echo "nanoseconds an item beside $(nproc) busy loops, $items items in all, the median of $samples rounds: $(nproc) processors, $(date -u +%F)"
+    table clock park/fair park/crossbeam
+    exit 0
+fi
 cat <<END
 nanoseconds an item, $items items in all, the median of $samples rounds: $(nproc) processors, $(date -u +%F); fair, unfair and transfer are
 Java's. Aims: park/fair at most 0.20, 0.45, 0.90, 0.85, and park/crossbeam 1.10
