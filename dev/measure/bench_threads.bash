@@ -3,7 +3,7 @@
 # first where it isn't there or its sources are newer; beside it, where they are installed, of `bench/Race.java`, of the channels of the
 # Rust crate crossbeam-channel (`bench/crossbeam`, also from Debian's librust-crossbeam-channel-dev) and of Go (`bench/race.go`), both of
 # capacity 0. With `quick`, a sixteenth of the items, and rough. Each run's items and their sum are compared with what they must be; where
-# they differ the status is 1. With `loaded`, 4,000 items beside a busy loop for each processor: the first table alone, by three rounds.
+# they differ the status is 1. With `loaded`, 20,000 items beside a busy loop for each processor: the first table alone, by three rounds.
 #
 # A row is so many threads that put and as many that take, 100,000 items in all. A time is that of the clock from before the first thread
 # is started until all have ended, by the item, in nanoseconds; the processor's is that of all threads together. A number is the median of
@@ -16,7 +16,7 @@ items=100000
 samples=12
 ways=(bare park steady spin fair unfair transfer crossbeam go)
 [ "${1:-}" = quick ] && items=$((items / 16)) && samples=3
-[ "${1:-}" = loaded ] && items=4000 && samples=3 && ways=(park fair unfair transfer crossbeam go)
+[ "${1:-}" = loaded ] && items=20000 && samples=3 && ways=(park fair unfair transfer crossbeam go)
 
 build bench_threads
 work=$(mktemp -d)

@@ -21,12 +21,14 @@ use std::time::{Clock, Duration, Instant};
 const TURNS: u64 = 16;
 
 /// How many microseconds a yield may take. One that takes longer gave the processor to another program, for a time slice
-/// of some milliseconds, and so will the next one: then it is quicker to park. Beside 31 threads of the same program, on
-/// four processors, a yield takes some 10.
-const LONG_YIELD: u128 = 300;
+/// of milliseconds, and so will the next one: then it is quicker to park. Beside seven threads of its own program on the
+/// same processor a yield takes some 10.
+const LONG_YIELD: u128 = 500;
 
-/// How many waits park at once after a long yield, before one yields again: they take some 5 microseconds each.
-const PARKED_WAITS: u64 = 256;
+/// How many waits park at once after a long yield, before one yields again: they take some 5 microseconds each. With
+/// 256, 16 pairs of threads on four processors took a fifth more time, since a thread of their own now and then runs for
+/// as long as a time slice.
+const PARKED_WAITS: u64 = 64;
 
 /// A gate at which one thread at a time parks, until it is woken. Before it parks it lets other threads run some times,
 /// as by `Thread.yield`: often one of them is the one that wakes it, and to park and be woken costs more than that. If
