@@ -104,7 +104,8 @@ impl ParkGate {
         parked > 0
     }
 
-    /// Looks for a wake so many times, and lets another thread run after each, until that takes long: whether a wake came.
+    /// Looks for a wake `turns` times, and lets another thread run after each, until that takes long. Returns whether a
+    /// wake came.
     fn spin<R: Clock>(&self, rt: &R, turns: u64) -> bool {
         if self.parks_at_once() {
             return false;
@@ -145,8 +146,8 @@ impl ParkGate {
         unreachable!()
     }
 
-    /// Spins so many turns, fewer if a yield takes long, and then parks until somebody wakes the gate, or until the time is
-    /// up where there is a limit.
+    /// Spins `turns` turns, fewer if a yield takes long, and then parks until another thread wakes the gate, or until the
+    /// time is up if there is a limit.
     pub(crate) fn spin_and_park<R: Wait + Clock>(
         &self,
         rt: &R,

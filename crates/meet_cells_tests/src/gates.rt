@@ -76,7 +76,7 @@ impl<R: Wait> Clock for Clockless<'_, R> {
     }
 }
 
-/// A runtime whose clock goes on by so many milliseconds each time it is read: so a yield takes as long.
+/// A runtime whose clock goes on by `step` milliseconds each time it is read: so a yield takes as long.
 #[derive(Drop)]
 struct Ticking<'a, R: Wait> {
     rt: &'a R,
@@ -97,7 +97,7 @@ impl<R: Wait> Clock for Ticking<'_, R> {
     }
 }
 
-/// A clock that goes on by so much.
+/// A clock that goes on by `step` milliseconds each time it is read.
 fn clock_by<R: Wait>(rt: &R, step: u64) -> Ticking<'_, R> {
     Ticking {
         rt,
@@ -106,7 +106,7 @@ fn clock_by<R: Wait>(rt: &R, step: u64) -> Ticking<'_, R> {
     }
 }
 
-/// Whether a gate finds the processors oversubscribed after so many waits, in which nobody wakes it.
+/// Whether a gate finds the processors oversubscribed after `waits` waits, in which nobody wakes it.
 fn found_after<G: Gate, C: Wait + Clock>(rt: &impl Abort, clock: &C, gate: &G, waits: u64) -> bool {
     for _ in 0..waits {
         assert_eq!(rt; gate.wait(clock, Some(0)), Turn::Elapsed);
