@@ -155,6 +155,11 @@ impl<T, A: MetAt> Line<T> for EndLine<T, A> {
         self.line.entry(ticket)
     }
 
+    fn entry_at(&self, seat: SeatNo, ticket: Ticket) -> Option<&Entry<T>> {
+        let _ = seat;
+        self.entry(ticket)
+    }
+
     fn list(&self, alloc: Global) -> Result<Vec<&Entry<T>>, Refusal> {
         self.line.list(alloc)
     }

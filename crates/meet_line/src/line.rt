@@ -102,6 +102,11 @@ pub trait Line<T> {
     fn entry(&self, ticket: Ticket) -> Option<&Entry<T>>
         ensures { option_map (λ e. e.now) result ≡ find (λ e. e.ticket == ticket) (entries self.now) };
 
+    /// Returns the node of this ticket as `entry` does. It is looked for at this seat first, if nodes have the places of
+    /// their seats.
+    fn entry_at(&self, seat: SeatNo, ticket: Ticket) -> Option<&Entry<T>>
+        ensures { option_map (λ e. e.now) result ≡ find (λ e. e.ticket == ticket) (entries self.now) };
+
     /// Returns the nodes in order of arrival, borrowed.
     ///
     /// # Errors

@@ -122,6 +122,11 @@ impl<T, A: MetAt> Line<T> for RingLine<T, A> {
         self.entries.iter().find(|entry| entry.ticket == ticket)
     }
 
+    fn entry_at(&self, seat: SeatNo, ticket: Ticket) -> Option<&Entry<T>> {
+        let _ = seat;
+        self.entry(ticket)
+    }
+
     fn list(&self, alloc: Global) -> Result<Vec<&Entry<T>>, Refusal> {
         match self.entries.iter().collect(alloc) {
             Ok(list) => Ok(list),

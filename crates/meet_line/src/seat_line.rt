@@ -116,6 +116,10 @@ impl<T, A: MetAt> Line<T> for SeatLine<T, A> {
         self.line.entry(ticket)
     }
 
+    fn entry_at(&self, seat: SeatNo, ticket: Ticket) -> Option<&Entry<T>> {
+        self.line.entry_at(seat, ticket)
+    }
+
     fn list(&self, alloc: Global) -> Result<Vec<&Entry<T>>, Refusal> {
         self.line.list(alloc)
     }

@@ -128,7 +128,7 @@ impl<T> Seated<T> {
     }
 
     /// The node of this seat.
-    fn entry_at(&self, key: usize) -> Option<&Entry<T>>
+    fn node_at(&self, key: usize) -> Option<&Entry<T>>
         requires { Sits self.now.entries key }
         ensures { (front : List (Entry T)) (e : Entry T) (rest : List (Entry T))
             → self.now.entries ≡ front ++ e ∷ rest → e.seat ≡ key → option_map (λ f. f.now) result ≡ Some e }
@@ -225,7 +225,7 @@ impl<T> Seated<T> {
         ensures { IsItemAt self.now.entries 0 result }
     {
         let key = self.first_seat()?;
-        self.entry_at(key)
+        self.node_at(key)
     }
 
     /// The node of this ticket, if it is there.
@@ -233,7 +233,18 @@ impl<T> Seated<T> {
         ensures { option_map (λ e. e.now) result ≡ find (λ e. e.ticket == ticket) self.now.entries }
     {
         let key = self.find(ticket)?;
-        self.entry_at(key)
+        self.node_at(key)
+    }
+
+    /// The same, and the place of this seat is looked at first.
+    pub(crate) fn entry_at(&self, seat: SeatNo, ticket: Ticket) -> Option<&Entry<T>>
+        ensures { option_map (λ e. e.now) result ≡ find (λ e. e.ticket == ticket) self.now.entries }
+    {
+        let key = seat.number() as usize;
+        if self.has(key, ticket) {
+            return self.node_at(key);
+        }
+        self.entry(ticket)
     }
 
     /// The nodes in order of arrival, borrowed. Fails only if an allocation fails.
@@ -247,7 +258,7 @@ impl<T> Seated<T> {
         let mut at = self.first_seat();
         for _step in 0..self.len() {
             if let Some(key) = at {
-                if let Some(entry) = self.entry_at(key) {
+                if let Some(entry) = self.node_at(key) {
                     list.push_reserved(entry);
                 }
                 at = self.seat_after(key);

@@ -157,6 +157,13 @@ impl<T> Line<T> for TransferLine<T> {
         }
     }
 
+    fn entry_at(&self, seat: SeatNo, ticket: Ticket) -> Option<&Entry<T>> {
+        match self.seats.entry_at(seat, ticket) {
+            Some(entry) => Some(entry),
+            None => self.ring.entry_at(seat, ticket),
+        }
+    }
+
     fn list(&self, alloc: Global) -> Result<Vec<&Entry<T>>, Refusal> {
         let Ok(waiting) = self.seats.list(alloc) else {
             return Err(Refusal::Memory);

@@ -39,9 +39,14 @@ pub fn serial(entry: Option<Entry<Parcel>>) -> Option<u64> {
     Some(entry?.item?.serial)
 }
 
+/// The serial number of the item of an entry that stays.
+pub fn serial_of(entry: Option<&Entry<Parcel>>) -> Option<u64> {
+    Some(entry?.item.as_ref()?.serial)
+}
+
 /// The serial number of the item that came first.
 pub fn first_serial<L: Line<Parcel>>(line: &L) -> Option<u64> {
-    Some(line.first()?.item.as_ref()?.serial)
+    serial_of(line.first())
 }
 
 /// An entry that waits, of this ticket and this seat.

@@ -1,7 +1,7 @@
-//! Lines with a place for each seat, and what all lines do of that: who leaves by a seat, by a ticket alone, and by a
-//! seat that holds another ticket; and the places that come.
+//! Lines with a place for each seat, and what all lines do of that: who is found and leaves by a seat, by a ticket alone,
+//! and by a seat that holds another ticket; and the places that come.
 
-use crate::parcels::{Parcel, join, meets_in_order, seat, serial, ticket};
+use crate::parcels::{Parcel, join, meets_in_order, seat, serial, serial_of, ticket};
 use meet_line::{FairLine, FairRing, FairSeats, Line, StackLine, StackRing, StackSeats};
 use std::alloc::Global;
 use std::process::Abort;
@@ -40,17 +40,27 @@ const LEAVINGS: [Leaving; 8] = [
 /// The first of these alone.
 const FEW: [Leaving; 2] = [(3, Some(3), Some(30)), (2, None, Some(20))];
 
-/// Each leaves as it should, and gives its room back.
+/// Each is found as it should be, leaves and isn't found any more, and gives its room back.
 pub fn leave<L: Line<Parcel>>(rt: &impl Abort, line: &mut L, leavings: &[Leaving]) {
     for (number, at, wanted) in leavings {
         let room = line.room();
+        assert_eq!(rt; find(rt, line, *number, *at), *wanted);
         let taken = serial(match at {
             Some(at) => line.remove_at(seat(rt, *at), ticket(rt, *number)),
             None => line.remove(ticket(rt, *number)),
         });
         assert_eq!(rt; taken, *wanted);
         assert_eq!(rt; line.room() - room, u64::from(wanted.is_some()));
+        assert_eq!(rt; find(rt, line, *number, *at), None);
     }
+}
+
+/// The serial of the item of this ticket, which is looked for at this seat, or by its ticket alone.
+fn find<L: Line<Parcel>>(rt: &impl Abort, line: &L, number: u64, at: Option<u64>) -> Option<u64> {
+    serial_of(match at {
+        Some(at) => line.entry_at(seat(rt, at), ticket(rt, number)),
+        None => line.entry(ticket(rt, number)),
+    })
 }
 
 /// All leave a line of five, the first few of them another, and it meets the rest in this order.

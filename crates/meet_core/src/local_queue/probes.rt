@@ -1,5 +1,5 @@
-//! The read-only queries of a queue, each at constant cost but `awaits`, which looks for a ticket in the wait queue.
-//! None of these allocates.
+//! The read-only queries of a queue, each at constant cost but `awaits`, which looks for a ticket in the wait queue if
+//! nodes don't have the places of their seats. None of these allocates.
 
 ghost use Rattle.std.specs.Prelude.{◌+◌, ◌≡◌, ◌≤◌, ◌-◌, ◌↔◌, IsOk, IfOk, IfErr, OnOk, OnErr, IsTrue};
 ghost use Rattle.std.specs.Prelude.{option_map, slice_get};
@@ -28,7 +28,7 @@ impl<T: Marked, L: Line<T>, K: Buffers<T, L>> LocalQueue<T, L, K> {
 
     /// Returns true if the seat's open ticket is this one, with this mark. While its item lies here, since it waits or
     /// was interrupted, the item has to have this mark, or there has to be none if this is none. A ticket that waits is
-    /// looked for in the wait queue.
+    /// looked for in the wait queue, at its seat first.
     #[inline(always)]
     pub fn awaits(&self, seat: SeatNo, ticket: Ticket, mark: Option<u64>) -> bool
         ensures { IsTrue result ↔ AwaitsAs T.mark_of (seats_of self.now.queue) seat ticket mark }

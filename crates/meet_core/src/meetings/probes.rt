@@ -1,5 +1,5 @@
-//! The read-only queries of a queue, each at constant cost but `awaits`, which looks for a ticket in the wait queue.
-//! None of these allocates.
+//! The read-only queries of a queue, each at constant cost but `awaits`, which looks for a ticket in the wait queue if
+//! nodes don't have the places of their seats. None of these allocates.
 
 ghost use Rattle.std.specs.Prelude.{◌+◌, ◌≡◌, ◌≤◌, ◌-◌, ◌↔◌, IsTrue, option_map, slice_get};
 ghost use Rattle.std.specs.Option.{option_and_then};
@@ -44,7 +44,7 @@ impl<T: Marked, L: Line<T>> Meetings<T, L> {
 
     /// Returns true if the seat's open ticket is this one, with this mark. While its item lies here, since it waits or
     /// was interrupted, the item has to have this mark, or there has to be none if this is none. A ticket that waits is
-    /// looked for in the wait queue.
+    /// looked for in the wait queue, at its seat first.
     #[inline(always)]
     pub fn awaits(&self, seat: SeatNo, ticket: Ticket, mark: Option<u64>) -> bool
         ensures { IsTrue result ↔ AwaitsAs T.mark_of (seats_of self.now) seat ticket mark }
@@ -53,7 +53,7 @@ impl<T: Marked, L: Line<T>> Meetings<T, L> {
             return false;
         }
         match self.seats.hold(seat) {
-            Hold::Waiting(_) => match self.line.entry(ticket) {
+            Hold::Waiting(_) => match self.line.entry_at(seat, ticket) {
                 Some(entry) => has_mark(&entry.item, mark),
                 None => true,
             },

@@ -1,19 +1,12 @@
--- Proof of `Seated::entry_at`, src/seated.rt. The node of this seat.
-use Rattle.std.proofs.Common.{◌≡◌, ◌∙◌, ap, sym, subst, None, arith}
-use Rattle.meet_line.specs.Stored.{slot_at}
-use Rattle.meet_line.specs.Seated.{Sits, slots_of}
-use Rattle.meet_line.proofs.Relinks.{field-read}
-use Rattle.meet_line.proofs.Sitting.{sits-within, seat_split}
+-- Proof of `Seated::entry_at`, src/seated.rt. The same, and the place of this seat is looked at first.
+use Rattle.std.proofs.Common.{◌∙◌, sym, refl}
+use Rattle.meet_line.proofs.Walking.{found_at}
 use Rattle.meet_line.proofs.seated.Seated.entry_at.Goals as goal
 
-pub index-requires : goal.index-requires
-index-requires g c =
-    let at = subst (λ v. Sits v.entries c.args.key) (sym c.self.view_is) c.requires in
-    omega (arith, sits-within c.self.inside.spots.items c.self.inside.first c.self.inside.last c.self.inside.len _ c.self.invariant c.args.key at, c.self.inside.spots.ok.0)
+pub node_at-requires : goal.node_at-requires
+node_at-requires g c = (found_at c.args.self.now.entries c.args.ticket c.number-key.result (c.if-has.ensures.found refl)).at
 
-pub returns : goal.returns
-returns g c front e rest all own =
-    let at = subst (λ v. Sits v.entries c.args.key) (sym c.self.view_is) c.requires in
-    let within = sits-within c.self.inside.spots.items c.self.inside.first c.self.inside.last c.self.inside.len _ c.self.invariant c.args.key at in
-    let read : c.index.result.now.entry ≡ slot_at (slots_of c.self.inside.spots.items) c.args.key = sym (field-read (λ s. s.entry) c.self.inside.spots.items c.args.key c.index.result.now None within c.index.ensures) in
-    c.as_ref.ensures.value ∙ read ∙ (seat_split c.self.inside.spots.items c.self.inside.first c.self.inside.last c.self.inside.len _ c.self.invariant front e rest c.args.key (ap (λ v. v.entries) c.self.view_is ∙ all) own).3
+pub returns-then-has : goal.returns-then-has
+returns-then-has g c =
+    let there = found_at c.args.self.now.entries c.args.ticket c.number-key.result (c.if-has.ensures.found refl) in
+    c.node_at.ensures there.at.front there.at.entry there.at.rest there.at.all there.at.own ∙ sym there.found

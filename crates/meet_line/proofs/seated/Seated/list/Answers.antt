@@ -3,7 +3,7 @@ use Rattle.std.proofs.Common.{◌≡◌, ◌+◌, ◌<◌, ◌∙◌, ◌∷◌,
 use Rattle.std.specs.Vec.{vec_capacity}
 use Rattle.std.proofs.lemmas.List.{map-append}
 use Rattle.meet_line.proofs.Walking.{Walked, walked-none, walked-sits, walked-more, walked-end}
-use Rattle.meet_line.proofs.seated.Seated.list.Goals.{in-Some, in-Some-entry_at, in_default-entry_at, in_default-at}
+use Rattle.meet_line.proofs.seated.Seated.list.Goals.{in-Some, in-Some-node_at, in_default-node_at, in_default-at}
 use Rattle.meet_line.proofs.seated.Seated.list.Goals as goal
 
 pub loop-step-init : goal.loop-step-init
@@ -25,21 +25,21 @@ loop-step-preserved g c =
           let walked = subst (λ o. (v : Walked line o step) × (map (λ e. e.now) c.loop-step.list.items ≡ v.done)) w.in-Some.is (inv.0, inv.1) in
           let at = walked-sits line w.in-Some.key step walked.0 in
           let on = walked-more line w.in-Some.key step w.seat_after-at.result walked.0 w.seat_after-at.ensures in
-          let here = w.entry_at.ensures at.front at.entry at.rest at.all at.own in
-          elim w.match-entry_at.branch [
-            | in-Some-entry_at w' ↦
-                let both : Some w'.in-Some-entry_at.entry.now ≡ Some at.entry = sym (ap (option_map (λ e. e.now)) w'.in-Some-entry_at.is) ∙ here in
-                let same : w'.in-Some-entry_at.entry.now ≡ at.entry = cc in
+          let here = w.node_at.ensures at.front at.entry at.rest at.all at.own in
+          elim w.match-node_at.branch [
+            | in-Some-node_at w' ↦
+                let both : Some w'.in-Some-node_at.entry.now ≡ Some at.entry = sym (ap (option_map (λ e. e.now)) w'.in-Some-node_at.is) ∙ here in
+                let same : w'.in-Some-node_at.entry.now ≡ at.entry = cc in
                 let list = w.list-is ∙ w'.list-is in
-                let items : map (λ e. e.now) c.match-at.list.items ≡ on.0.done = ap (λ v. map (λ e. e.now) v.items) list ∙ ap (map (λ e. e.now)) w'.push_reserved.ensures.items ∙ map-append (λ e. e.now) c.loop-step.list.items (_ ∷ []) ∙ ap (λ es. es ++ w'.in-Some-entry_at.entry.now ∷ []) walked.1 ∙ ap (λ e. walked.0.done ++ e ∷ []) same ∙ sym on.1 in
+                let items : map (λ e. e.now) c.match-at.list.items ≡ on.0.done = ap (λ v. map (λ e. e.now) v.items) list ∙ ap (map (λ e. e.now)) w'.push_reserved.ensures.items ∙ map-append (λ e. e.now) c.loop-step.list.items (_ ∷ []) ∙ ap (λ es. es ++ w'.in-Some-node_at.entry.now ∷ []) walked.1 ∙ ap (λ e. walked.0.done ++ e ∷ []) same ∙ sym on.1 in
                 let out = subst (λ o. (v : Walked line o (step + 1)) × (map (λ e. e.now) c.match-at.list.items ≡ v.done)) (sym w.at-is) (on.0, items) in (
                   out.0,
                   out.1,
                   omega (arith, inv.2, w'.push_reserved.ensures.len, ap vec_len list),
                   omega (arith, inv.3, w'.push_reserved.ensures.capacity, ap vec_capacity list),
                 )
-            | in_default-entry_at w' ↦
-                let none : w.entry_at.result ≡ None = search rules in
+            | in_default-node_at w' ↦
+                let none : w.node_at.result ≡ None = search rules in
                 let clash : None ≡ Some at.entry = sym (ap (option_map (λ e. e.now)) none) ∙ here in
                 absurd (cc)
           ]
