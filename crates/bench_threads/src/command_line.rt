@@ -6,15 +6,18 @@ ghost use Rattle.bench_threads.specs.Asked.{HasSlots};
 pub mod checkpoints;
 pub mod exchanges;
 pub mod handoffs;
+pub mod withdrawals;
 
 use checkpoints::Folding;
 use exchanges::{ExchangeRace, Way};
 use handoffs::{HandoffRace, Queue};
+use withdrawals::Withdrawing;
 
 /// What is said of words that can't be read.
 const USAGE: &str = "\
 usage: bench_threads park|spin|bare PAIRS EACH ROUNDS [tails|steady [CAP]]
        bench_threads checkpoint SEATS KEPT ROUNDS
+       bench_threads withdraw WAITING ROUNDS
        bench_threads arena|lock THREADS SLOTS EACH ROUNDS";
 
 /// What a command line asks for.
@@ -24,6 +27,8 @@ pub enum Measure {
     Handoffs(HandoffRace),
     /// How long checkpoints take.
     Checkpoints(Folding),
+    /// How long it takes to take a request back.
+    Withdrawals(Withdrawing),
     /// How long threads take to exchange items.
     Exchanges(ExchangeRace),
 }
@@ -37,6 +42,8 @@ pub enum Wrong {
     Handoffs,
     /// A number of checkpoints is out of its limits.
     Checkpoints,
+    /// A number of withdrawals is out of its limits.
+    Withdrawals,
     /// A number of exchanges is out of its limits.
     Exchanges,
 }
@@ -48,6 +55,7 @@ impl Wrong {
             Wrong::Words => USAGE,
             Wrong::Handoffs => handoffs::LIMITS,
             Wrong::Checkpoints => checkpoints::LIMITS,
+            Wrong::Withdrawals => withdrawals::LIMITS,
             Wrong::Exchanges => exchanges::LIMITS,
         }
     }
@@ -71,6 +79,7 @@ impl Measure {
             "spin" => Ok(Measure::Handoffs(HandoffRace::of_words(Queue::Spin, numbers)?)),
             "bare" => Ok(Measure::Handoffs(HandoffRace::of_words(Queue::Bare, numbers)?)),
             "checkpoint" => Ok(Measure::Checkpoints(Folding::of_words(numbers)?)),
+            "withdraw" => Ok(Measure::Withdrawals(Withdrawing::of_words(numbers)?)),
             "arena" => Ok(Measure::Exchanges(ExchangeRace::of_words(Way::Arena, numbers)?)),
             "lock" => Ok(Measure::Exchanges(ExchangeRace::of_words(Way::Lock, numbers)?)),
             _ => Err(Wrong::Words),

@@ -1,11 +1,13 @@
 //! The program `bench_threads`: how long it takes threads to hand items on or to exchange them, and how long a
-//! checkpoint takes.
+//! checkpoint and a withdrawal take.
 //!
 //!     bench_threads park|spin|bare PAIRS EACH ROUNDS [tails|steady [CAP]]
 //!     bench_threads checkpoint SEATS KEPT ROUNDS
+//!     bench_threads withdraw WAITING ROUNDS
 //!     bench_threads arena|lock THREADS SLOTS EACH ROUNDS
 //!
-//! What each of these does and prints is said in `handoffs`, `checkpoints` and `exchanges`.
+//! What each of these does and prints is said in `handoffs`, `checkpoints`, `withdrawals` and
+//! `exchanges`.
 #![tactic(auto)]
 
 ghost use Rattle.std.specs.Prelude.{◌<◌};
@@ -19,6 +21,7 @@ mod handoffs;
 mod stopwatch;
 mod times;
 mod waiting;
+mod withdrawals;
 
 use command_line::Measure;
 use meet_tickets::Refusal;
@@ -56,6 +59,7 @@ where
             run_rounds(race.rounds, || handoffs::run_round(rt, alloc, race))
         }
         Measure::Checkpoints(folding) => checkpoints::run(rt, alloc, folding),
+        Measure::Withdrawals(asked) => withdrawals::run(rt, alloc, asked),
         Measure::Exchanges(race) => {
             let run_round = ||
                 requires { 0 < race.slots }
