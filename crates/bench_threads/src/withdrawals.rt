@@ -158,24 +158,21 @@ impl<N: Ledgers> Waiters<N> {
 }
 
 /// Makes the calls at a queue of these parts, and closes it.
-fn run_at<N, R>(
+fn run_at<N: Ledgers, R: Wait + Clock>(
     rt: &R,
     alloc: Global,
     parts: NewQueue<ParkGate>,
     rounds: u64,
 ) -> Result<Withdrawn, Refusal>
-where
-    N: Ledgers,
-    R: Wait + Clock,
     requires ledgers { AreOf N.name N.folds N.moments N.parts parts.blanks }
     requires one_each { N.parts ≡ vec_len parts.gates }
     requires cap { N.cap ≡ most_records }
 {
+    let mut waiters = Waiters::new(alloc);
     let (queue, seats) = match Waiting::<N>::new(alloc, parts) {
         Ok(made) => made,
         Err(refused) => return Err(refused.into_why()), // the gates and the ledgers are dropped
     };
-    let mut waiters = Waiters::new(alloc);
     waiters.fill(rt, &queue, seats);
     for _ in 0..rounds {
         waiters.turn(rt, &queue);

@@ -41,6 +41,8 @@ const PARKED_WAITS: u64 = 64;
 pub struct ParkGate {
     parker: Parker,
     woken: AtomicBool,
+    /// Whether the thread parks, or is about to: then a wake has to unpark it.
+    parks: AtomicBool,
     /// How many of the next waits park at once.
     parked_waits: AtomicU64,
 }
@@ -66,6 +68,7 @@ impl ParkGate {
         ParkGate {
             parker: Parker::new(),
             woken: AtomicBool::new(false),
+            parks: AtomicBool::new(false),
             parked_waits: AtomicU64::new(0),
         }
     }
@@ -122,10 +125,23 @@ impl ParkGate {
         false
     }
 
+    /// Announces that the thread parks, unless a wake is kept, which it takes. Returns whether the thread is to park.
+    ///
+    /// A thread that wakes the gate writes the wake, and then reads whether one parks; the thread that waits writes that
+    /// it parks, and then reads whether there is a wake. So one of both sees what the other wrote.
+    fn is_to_park(&self) -> bool {
+        self.parks.store(true, Ordering::SeqCst);
+        if self.take_wake() {
+            self.parks.store(false, Ordering::SeqCst);
+            return false;
+        }
+        true
+    }
+
     /// Parks until somebody wakes the gate.
     fn park<R: Wait>(&self, rt: &R) {
         for _ in rt.forever() {
-            if self.take_wake() {
+            if !self.is_to_park() {
                 return;
             }
             self.parker.park(rt);
@@ -135,13 +151,14 @@ impl ParkGate {
     /// Parks until somebody wakes the gate, or until the time is up.
     fn park_until<R: Wait + Clock>(&self, rt: &R, deadline: Deadline) -> Turn {
         for _ in rt.forever() {
-            if self.take_wake() {
+            if !self.is_to_park() {
                 return Turn::Woken;
             }
-            match deadline.rest(rt) {
-                None => return Turn::Elapsed,
-                Some(rest) => self.parker.park_timeout(rt, rest),
-            }
+            let Some(rest) = deadline.rest(rt) else {
+                self.parks.store(false, Ordering::SeqCst);
+                return Turn::Elapsed;
+            };
+            self.parker.park_timeout(rt, rest);
         }
         unreachable!()
     }
@@ -178,9 +195,12 @@ impl Gate for ParkGate {
         self.spin_and_park(rt, TURNS, limit)
     }
 
+    // A thread that only yields is often about to look, so the gate's cache line isn't written twice for it.
     fn wake(&self) {
         self.woken.store(true, Ordering::SeqCst);
-        self.parker.unpark();
+        if self.parks.load(Ordering::SeqCst) {
+            self.parker.unpark();
+        }
     }
 
     /// Returns true if a yield took long, and the next wait parks at once therefore.

@@ -29,7 +29,7 @@ fn keeps_one_wake<G: Gate, C: Wait + Clock>(rt: &impl Abort, clock: &C, gate: &G
     }
 }
 
-/// A limit passes, not too soon, and not seconds later. The wake before leaves the parker a wakeup for no reason.
+/// A limit passes, not too soon, and not seconds later, also after a wake.
 fn elapses<G: Gate, R: Wait + Clock + Abort>(rt: &R, gate: &G) -> Result<(), Fail> {
     gate.wake();
     assert_eq!(rt; gate.wait(rt, None), Turn::Woken);
@@ -56,6 +56,35 @@ fn is_woken<G: Gate + Sync, R: Threads + Wait + Clock + Sync>(
         },
     );
     turn
+}
+
+/// Two threads wake each other in turn, each after it was woken: whether none of `turns` wakes was lost.
+fn alternate<G: Gate + Sync, R: Threads + Wait + Clock + Sync>(
+    rt: &R,
+    one: &G,
+    other: &G,
+    turns: u64,
+) -> bool {
+    let (first, second) = thread::join(
+        rt,
+        move || answers(rt, one, other, turns),
+        move || {
+            one.wake();
+            answers(rt, other, one, turns)
+        },
+    );
+    first && second
+}
+
+/// Wakes the other gate after each wake at its own. It ends with the first that doesn't come.
+fn answers<G: Gate, R: Wait + Clock>(rt: &R, own: &G, other: &G, turns: u64) -> bool {
+    for _ in 0..turns {
+        if own.wait(rt, Some(LONG)) != Turn::Woken {
+            return false;
+        }
+        other.wake();
+    }
+    true
 }
 
 /// A runtime without a clock.
@@ -136,6 +165,13 @@ fn a_park_gate_serves(rt: HostRuntime) -> Result<(), Fail> {
 fn spin_gates_serve(rt: HostRuntime) -> Result<(), Fail> {
     serves(&rt, &SpinGate::new(0))?;
     serves(&rt, &SpinGate::new(1_000))
+}
+
+#[test]
+fn no_wake_is_lost(rt: HostRuntime) {
+    assert!(rt; alternate(&rt, &ParkGate::new(), &ParkGate::new(), 20_000));
+    assert!(rt; alternate(&rt, &SpinGate::new(0), &SpinGate::new(0), 5_000));
+    assert!(rt; alternate(&rt, &SpinGate::new(1), &SpinGate::new(1), 5_000));
 }
 
 #[test]

@@ -1,6 +1,6 @@
 //! The words that ask for withdrawals.
 
-ghost use Rattle.std.specs.Prelude.{◌≤◌, IsTrue, IfOk};
+ghost use Rattle.std.specs.Prelude.{◌≤◌, IfOk};
 ghost use Rattle.meet_tickets.specs.Limits.{most_seats};
 
 use crate::command_line::{Wrong, number_of};
@@ -29,22 +29,11 @@ impl Withdrawing {
         let [waiting, rounds] = words else {
             return Err(Wrong::Words);
         };
-        let asked = Withdrawing {
-            waiting: number_of(waiting.as_str())?,
-            rounds: number_of(rounds.as_str())?,
-        };
-        if asked.is_within_limits() {
-            Ok(asked)
-        } else {
-            Err(Wrong::Withdrawals)
+        let waiting = number_of(waiting.as_str())?;
+        let rounds = number_of(rounds.as_str())?;
+        if waiting == 0 || waiting > MOST_SEATS || rounds == 0 || rounds > MOST_WITHDRAWALS {
+            return Err(Wrong::Withdrawals);
         }
-    }
-
-    /// Whether its numbers are within their limits.
-    fn is_within_limits(&self) -> bool
-        ensures seats { IsTrue result → self.now.waiting ≤ most_seats }
-    {
-        let is_some = self.waiting != 0 && self.rounds != 0;
-        is_some && self.waiting <= MOST_SEATS && self.rounds <= MOST_WITHDRAWALS
+        Ok(Withdrawing { waiting, rounds })
     }
 }
