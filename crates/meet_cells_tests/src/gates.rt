@@ -19,6 +19,9 @@ const LATE: u64 = 10_000;
 /// A limit that doesn't pass while a test runs, in milliseconds.
 const LONG: u64 = 60_000;
 
+/// How often `dally` looks at most: for longer than a thread yields before it parks.
+const MOST_LOOKS: u64 = 32_749;
+
 /// A wake is kept for the next wait, with and without a limit, and two are kept as one.
 fn keeps_one_wake<G: Gate, C: Wait + Clock>(rt: &impl Abort, clock: &C, gate: &G) {
     for limit in [None, Some(0), Some(SHORT), Some(u64::MAX)] {
@@ -76,15 +79,27 @@ fn alternate<G: Gate + Sync, R: Threads + Wait + Clock + Sync>(
     first && second
 }
 
-/// Wakes the other gate after each wake at its own. It ends with the first that doesn't come.
+/// Wakes the other gate after each wake at its own, sometimes at once and sometimes later, so that now and then a wake
+/// comes just as its thread begins to park. It ends with the first wake that doesn't come.
 fn answers<G: Gate, R: Wait + Clock>(rt: &R, own: &G, other: &G, turns: u64) -> bool {
-    for _ in 0..turns {
+    for turn in 0..turns {
         if own.wait(rt, Some(LONG)) != Turn::Woken {
             return false;
         }
+        dally(turn.wrapping_mul(7_919) % MOST_LOOKS);
         other.wake();
     }
     true
+}
+
+/// Passes some time without a look at a clock: about a nanosecond for each of `looks` looks at a word.
+fn dally(looks: u64) {
+    let word = AtomicU64::new(0);
+    for _ in 0..looks {
+        if word.load(Ordering::SeqCst) != 0 {
+            return;
+        }
+    }
 }
 
 /// A runtime without a clock.
@@ -169,9 +184,9 @@ fn spin_gates_serve(rt: HostRuntime) -> Result<(), Fail> {
 
 #[test]
 fn no_wake_is_lost(rt: HostRuntime) {
-    assert!(rt; alternate(&rt, &ParkGate::new(), &ParkGate::new(), 20_000));
-    assert!(rt; alternate(&rt, &SpinGate::new(0), &SpinGate::new(0), 5_000));
-    assert!(rt; alternate(&rt, &SpinGate::new(1), &SpinGate::new(1), 5_000));
+    assert!(rt; alternate(&rt, &ParkGate::new(), &ParkGate::new(), 4_000));
+    assert!(rt; alternate(&rt, &SpinGate::new(0), &SpinGate::new(0), 500));
+    assert!(rt; alternate(&rt, &SpinGate::new(1), &SpinGate::new(1), 1_000));
 }
 
 #[test]
