@@ -3,8 +3,8 @@
 # `bench_threads`, which is built first where it isn't there or its sources are newer. With `quick`, a tenth of the rounds.
 #
 # A row is a fair queue with so many seats, each with a request that waits. One thread makes all calls. The columns are the median of the
-# withdrawals, and what 99 and 999 in 1,000 of them didn't exceed, in nanoseconds by the clock, from call to return, of which a look at the
-# clock is a part. How many requests were taken back, and how many records there are, is compared with what it must be; where that differs the
+# withdrawals, and what 99 in 100 and 999 in 1,000 of them didn't exceed, in nanoseconds by the clock, from call to return, of which a look at
+# the clock is a part. How many requests were taken back, and how many records there are, is compared with what it must be; where that differs the
 # status is 1.
 set -euo pipefail
 . "$(dirname "$0")/../../bin/built.bash"

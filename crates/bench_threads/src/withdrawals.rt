@@ -1,9 +1,9 @@
 //! Requests that are taken back from the middle of a wait queue: how long each takes.
 //!
 //! Each of WAITING seats of a fair queue makes a request that waits. Then, ROUNDS times, the first request of the second
-//! half is taken back, and its seat makes another, which goes to the end. A line on standard output tells how many
-//! requests were taken back, and how many records there are; one on standard error the median of these calls in
-//! nanoseconds, and what 99 and 999 in 1,000 of them didn't exceed. Each was timed by itself, from call to return.
+//! half is taken back, and its seat makes another, which goes to the end. It prints a line with the number of requests
+//! that were taken back and the number of records. On standard error it prints the median of these calls in nanoseconds,
+//! and the limits that 99 in 100 and 999 in 1,000 of them didn't exceed. Each was timed by itself, from call to return.
 
 ghost use Rattle.std.specs.Prelude.{◌≡◌, vec_len};
 ghost use Rattle.meet_place.specs.Ledgers.{AreOf};
@@ -195,8 +195,13 @@ fn run_at<N: Ledgers, R: Wait + Clock>(
     }
 }
 
-/// Takes requests back, and writes what came of it. It refuses what one of the calls was refused, ReadFault where the
-/// clock can't be read, what the close refuses, Memory, or WriteFault.
+/// Takes requests back, and prints what came of it.
+///
+/// # Errors
+/// - The error of the first call that fails, or of the close.
+/// - ReadFault, if the clock can't be read.
+/// - Memory, if an allocation fails.
+/// - WriteFault, if a line can't be printed.
 pub fn run<R>(rt: &R, alloc: Global, asked: Withdrawing) -> Result<(), Refusal>
 where
     R: Wait + Clock + Print + Eprint,
@@ -206,7 +211,7 @@ where
     tell(rt, withdrawn).map_err(|_| Refusal::WriteFault)
 }
 
-/// Writes what came of withdrawals.
+/// Prints what came of withdrawals.
 fn tell<R: Print + Eprint>(rt: &R, withdrawn: Withdrawn) -> io::Result<()> {
     let Withdrawn {
         taken,
