@@ -11,7 +11,7 @@ const SEATS: u64 = 65_536;
 /// your own is an item of a queue without an impl of `Marked`.
 ///
 /// # Example
-/// From `crates/example_words/src/main.rt`:
+/// From `crates/examples/src/words.rt`:
 ///
 ///     let Labelled { mark, value } = item;
 ///
@@ -36,7 +36,7 @@ impl<T> Marked for Labelled<T> {
 /// of different seats, until a seat has labelled 2^48 of them; then the numbers begin again.
 ///
 /// # Example
-/// From `crates/example_words/src/main.rt`:
+/// From `crates/examples/src/words.rt`:
 ///
 ///     let text = format!(in self.alloc; "an ibis").map_err(|_| Refusal::Memory)?;
 ///     let item = Labels::of_seat(0).label(text);

@@ -1,7 +1,7 @@
 //! The queues for threads, for a program that holds seats, gates (parkers) and ledgers (ghost counters) itself, and a
 //! pool of their seats.
 //!
-//! Each call takes a seat, and returns it. From `crates/example_parcels/src/passing.rt`:
+//! Each call takes a seat, and returns it. From `crates/examples/src/parcels/passing.rt`:
 //!
 //!     match counter.transfer_for(rt, seat, parcel, plan.patience) {
 //!         Ok(ended) => {

@@ -322,7 +322,7 @@ pub trait Chair<T: Marked>: Probes {
     /// - Memory, HistoryFull, TicketsSpent or SeatOpen, as `ask`.
     ///
     /// # Example
-    /// From `crates/example_words/src/main.rt`:
+    /// From `crates/examples/src/words.rt`:
     ///
     ///     let item = Labels::of_seat(0).label(text);
     ///     chair
@@ -453,7 +453,7 @@ pub trait Chair<T: Marked>: Probes {
     /// - Memory, HistoryFull, TicketsSpent or SeatOpen, as `ask`.
     ///
     /// # Example
-    /// From `crates/example_words/src/main.rt`:
+    /// From `crates/examples/src/words.rt`:
     ///
     ///     return chair.poll_for(60_000).map_err(|refused| refused.why); // milliseconds
     ///

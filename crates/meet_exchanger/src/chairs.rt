@@ -28,7 +28,7 @@ impl<T> Unmet<T> {
     /// Returns the item that the call brought.
     ///
     /// # Example
-    /// From `crates/example_exchanger/src/main.rt`:
+    /// From `crates/examples/src/exchanger.rt`:
     ///
     ///     Err(unmet) => unmet.into_item(), // nobody came for a minute
     pub fn into_item(self) -> T
@@ -133,7 +133,7 @@ pub trait ExchangeChair<T: Marked> {
     /// - TimedOut, Worn or Memory, as `exchange_within`.
     ///
     /// # Example
-    /// From `crates/example_exchanger/src/main.rt`:
+    /// From `crates/examples/src/exchanger.rt`:
     ///
     ///     match chair.exchange_for(chair.number(), 60_000) {
     ///         Ok(other) => other,

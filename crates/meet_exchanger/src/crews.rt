@@ -23,7 +23,7 @@ use std::time::Clock;
 /// States what the threads of a crew do at their exchanger.
 ///
 /// # Example
-/// From `crates/example_exchanger/src/main.rt`:
+/// From `crates/examples/src/exchanger.rt`:
 ///
 ///     impl ExchangeCrew<u64> for Swapping {
 ///         type Told = u64;
@@ -197,9 +197,9 @@ where
 /// - NoThread, if a thread can't be started; then no thread has begun to work.
 ///
 /// # Example
-/// From `crates/example_exchanger/src/main.rt`:
+/// From `crates/examples/src/exchanger.rt`:
 ///
-///     for got in at_exchanger(&rt, rt.alloc(), 2, &Swapping)?.told {
+///     for got in at_exchanger(rt, alloc, 2, &Swapping)?.told {
 ///         println!(rt; "got {got}").map_err(|_| Refusal::WriteFault)?;
 ///     }
 ///

@@ -80,7 +80,7 @@ fn push_answers(answers: &mut Vec<Answer>, list: &[Receipt<PoolDeed<u64>>]) -> R
 /// - Memory, if an allocation fails.
 ///
 /// # Example
-/// From `crates/example_pool/src/main.rt`:
+/// From `crates/examples/src/pool.rt`:
 ///
 ///     let answers = answers_of(alloc, &done.closed?)?;
 pub fn answers_of<C>(alloc: Global, chronicle: &PoolChronicle<C>) -> Result<Vec<Answer>, Refusal>

@@ -32,7 +32,7 @@ use std::time::Clock;
 /// States what the threads of a crew do at their pool: they hand jobs in, and look at it.
 ///
 /// # Example
-/// From `crates/example_pool/src/main.rt`:
+/// From `crates/examples/src/pool.rt`:
 ///
 ///     impl PoolCrew<ItsTag, Task<Greeting>> for Ten {
 pub trait PoolCrew<W: Work, C: Call<W>> {
@@ -208,9 +208,9 @@ where
 /// - NoThread, if a caller's thread can't be started; then none has begun to work.
 ///
 /// # Example
-/// From `crates/example_pool/src/main.rt`:
+/// From `crates/examples/src/pool.rt`:
 ///
-///     let done = at_fixed_pool(&rt, alloc, 1, 2, &Ten)?; // one caller, two workers
+///     let done = at_fixed_pool(rt, alloc, 1, 2, &Ten)?; // one caller, two workers
 ///
 /// Java: `Executors.newFixedThreadPool(workers)`.
 pub fn at_fixed_pool<W, C, R, V>(

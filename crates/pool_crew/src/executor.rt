@@ -25,7 +25,7 @@ use std::time::Clock;
 /// Java: `ThreadPoolExecutor`, as one of its callers sees it.
 ///
 /// # Example
-/// From `crates/example_pool/src/main.rt`:
+/// From `crates/examples/src/pool.rt`:
 ///
 ///     let _ = pool.execute(Task::new(n, Greeting));
 pub trait Executor<W: Work, C: Call<W>> {
@@ -73,7 +73,7 @@ pub trait Executor<W: Work, C: Call<W>> {
     ///   the worker was started with it; otherwise it is buffered.
     ///
     /// # Example
-    /// From `crates/example_pool/src/main.rt`:
+    /// From `crates/examples/src/pool.rt`:
     ///
     ///     let _ = pool.execute(Task::new(n, Greeting));
     ///

@@ -9,7 +9,7 @@ use pool_threads::{Call, ItsTag};
 /// Java: `Runnable`.
 ///
 /// # Example
-/// From `crates/example_pool/src/main.rt`:
+/// From `crates/examples/src/pool.rt`:
 ///
 ///     impl Run for Greeting {
 ///         fn run(self) {} // its work
@@ -22,7 +22,7 @@ pub trait Run {
 /// A job of a tag, which runs this once, and returns its tag.
 ///
 /// # Example
-/// From `crates/example_pool/src/main.rt`:
+/// From `crates/examples/src/pool.rt`:
 ///
 ///     let _ = pool.execute(Task::new(n, Greeting));
 #[derive(Drop)]
