@@ -8,7 +8,7 @@ use Rattle.meet_exchange.specs.Calls.{StandsAt}
 use Rattle.meet_exchange.specs.declared.records.SlotDeed.TheVariants.{Collected, Withdrawn}
 use Rattle.meet_exchange.specs.declared.seats.Back.{Back}
 use Rattle.meet_exchange.specs.declared.seats.Back.TheVariants.{Free, Held}
-use Rattle.examples.specs.declared.one_thread.swapped.parcels.Parcel.{Parcel}
+use Rattle.examples.specs.declared.parcels.passing.Parcel.{Parcel}
 
 -- the seat s is that of the offer p with one part more, which names the parcel that came: another's, or the own one,
 -- taken back after a look that saw no answer

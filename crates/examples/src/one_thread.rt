@@ -2,18 +2,23 @@
 //! that it uses, in place of `ibisbookcase`, and needs none of those for threads.
 
 mod handoff;
-mod parcels;
 mod recorded;
 mod swapped;
 mod telling;
 mod transfers;
 
+use crate::parcels::passing::Parcel;
 use anyhow::Result;
 use handoff::{hand_over, poll_twice};
 use meet_tickets::{Refusal, SeatNo};
 use recorded::keep_book;
 use swapped::swap_parcels;
 use transfers::leave_and_wait;
+
+/// A parcel of this number, of 250 g.
+pub fn parcel_of(mark: u64) -> Parcel {
+    Parcel { mark, grams: 250 }
+}
 
 /// Runs the program.
 pub fn run(rt: &HostRuntime) -> Result<()> {

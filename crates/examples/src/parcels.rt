@@ -9,7 +9,7 @@
 //! GIVES parcels, the other takes TAKES, each waits PATIENCE milliseconds at most for the other, and the queue has room
 //! for CAP records.
 
-mod passing;
+pub mod passing;
 
 use anyhow::Result;
 use meet_run::write_trace;

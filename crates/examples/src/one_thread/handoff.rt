@@ -5,10 +5,11 @@ ghost use Rattle.std.specs.Option.{option_and_then};
 ghost use Rattle.meet_tickets.specs.Meeting.{partner};
 ghost use Rattle.meet_tickets.specs.declared.places.Side.TheVariants.{Taker};
 
-use crate::one_thread::parcels::{Parcel, parcel_of};
+use crate::one_thread::parcel_of;
 use crate::one_thread::telling::{
     tell_back, tell_followed, tell_gave, tell_interrupted, tell_taken, tell_took,
 };
+use crate::parcels::passing::Parcel;
 use anyhow::Result;
 use meet_core::{Dual, Polled};
 use meet_line::{FairLine, Line};

@@ -6,7 +6,8 @@ ghost use Rattle.meet_tickets.specs.Meeting.{partner};
 ghost use Rattle.meet_tickets.specs.declared.places.Side.TheVariants.{Taker};
 ghost use Rattle.examples.specs.Named.{Names};
 
-use crate::one_thread::parcels::{Parcel, parcel_of};
+use crate::one_thread::parcel_of;
+use crate::parcels::passing::Parcel;
 use anyhow::Result;
 use meet_book::{Book, Receipt};
 use meet_core::{Dual, Polled, QueueAnswer, QueueCall};

@@ -3,10 +3,9 @@ ghost use Rattle.std.specs.Prelude.{◌<◌, IfOk};
 ghost use Rattle.examples.specs.Came.{IsOf};
 
 mod endings;
-mod parcels;
 
 use self::endings::end_offer;
-use self::parcels::Parcel;
+use crate::parcels::passing::Parcel;
 use anyhow::Result;
 use meet_exchange::{Arena, Back, CloseFault, Closed, Offered};
 use meet_tickets::Refusal;

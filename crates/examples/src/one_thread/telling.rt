@@ -1,6 +1,6 @@
 //! Results as lines on standard output.
 
-use crate::one_thread::parcels::Parcel;
+use crate::parcels::passing::Parcel;
 use anyhow::Result;
 use meet_core::{Followed, Gave, Interrupted, Offered, Put, TakenBack, Took};
 use meet_tickets::Ticket;

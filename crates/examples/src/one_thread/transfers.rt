@@ -1,7 +1,8 @@
 //! The transfer queue: parcels that are buffered, and parcels whose producer waits.
 
-use crate::one_thread::parcels::{Parcel, parcel_of};
+use crate::one_thread::parcel_of;
 use crate::one_thread::telling::{tell_gave, tell_offered, tell_put};
+use crate::parcels::passing::Parcel;
 use anyhow::Result;
 use meet_tickets::{Refused, SeatNo};
 use meet_transfer::Transfer;

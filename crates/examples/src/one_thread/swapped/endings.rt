@@ -3,7 +3,7 @@
 ghost use Rattle.std.specs.Prelude.{◌≡◌, ◌<◌, IfOk, IfErr};
 ghost use Rattle.examples.specs.Came.{Came, Stands};
 
-use crate::one_thread::swapped::parcels::Parcel;
+use crate::parcels::passing::Parcel;
 use meet_exchange::{Arena, Gathered, Pending, Seat, TakenBack};
 
 /// Ends an offer without waiting: the parcel of another seat that answered, or the own one back. Where another seat
