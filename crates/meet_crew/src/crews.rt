@@ -54,9 +54,9 @@ pub trait Crew<T: Marked> {
 /// chapter that `rotate` returned.
 ///
 /// # Example
-/// From `crates/soak_crews/src/main.rt`:
+/// From `crates/meet_crew_tests/src/chapters.rt`:
 ///
-///     let done = at_transfer_queue(rt, alloc, 1, &KeepLog(Alone { items }))?;
+///     let done = at_transfer_queue(&rt, rt.alloc(), 1, &KeepLog(Writing)).expect(&rt, "a crew");
 #[derive(Drop)]
 pub struct KeepLog<V>(pub V);
 

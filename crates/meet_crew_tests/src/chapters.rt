@@ -38,7 +38,7 @@ fn a_chapter_has_the_records_since_the_last(rt: HostRuntime) {
     assert_eq!(&rt; chronicle.records.len(), 1);
 }
 
-/// A crew whose log is kept does what it does otherwise (`soak_crews` fills one).
+/// A crew whose log is kept does what it does otherwise.
 #[test]
 fn a_log_that_is_kept_has_the_same_chapters(rt: HostRuntime) {
     let done = at_transfer_queue(&rt, rt.alloc(), 1, &KeepLog(Writing)).expect(&rt, "a crew");
