@@ -1,24 +1,21 @@
 //! Two threads and an exchanger: each brings a number, and gets the other's.
 #![tactic(auto)]
 
-use ibisbookcase::exchanger::{ExchangeChair, ExchangeCrew, Refusal, at_exchanger};
+use anyhow::Result;
+use ibisbookcase::exchanger::{ExchangeTask, ExchangerHandle, Unmet, run_exchanger};
 
-struct Swapping;
+struct Swap;
 
-impl ExchangeCrew<u64> for Swapping {
-    type Told = u64;
+impl ExchangeTask<u64> for Swap {
+    type Output = Result<u64, Unmet<u64>>;
 
-    fn work<C: ExchangeChair<u64>>(&self, chair: &mut C) -> u64 {
-        match chair.exchange_for(chair.number(), 60_000) {
-            Ok(other) => other,
-            Err(unmet) => unmet.into_item(), // nobody came for a minute
-        }
+    fn run<X: ExchangerHandle<u64>>(&self, exchanger: &mut X) -> Self::Output {
+        exchanger.exchange_for(exchanger.number(), 60_000) // milliseconds
     }
 }
 
-fn main(rt: HostRuntime) -> Result<(), Refusal> {
-    for got in at_exchanger(&rt, rt.alloc(), 2, &Swapping)?.told {
-        println!(rt; "got {got}").map_err(|_| Refusal::WriteFault)?;
-    }
+fn main(rt: HostRuntime) -> Result<()> {
+    let done = run_exchanger(&rt, rt.alloc(), 2, &Swap)?;
+    println!(rt; "{:?}", done.results)?;
     Ok(())
 }

@@ -1,41 +1,39 @@
-//! Two threads and a queue of texts: one hands a `String` over, and the other takes it.
+//! Producers and consumers: two threads put numbers into a transfer queue, and three others take them and add them up.
 #![tactic(auto)]
 
-use ibisbookcase::crews::{Chair, Crew, End, Labelled, Labels, Refusal, at_fair_queue};
-use std::alloc::Global;
+use anyhow::Result;
+use ibisbookcase::queues::{Handoff, NotReceived, Order, QueueHandle, Unsent, run_handoff};
 
-#[derive(Clone, Copy)]
-struct Greeting {
-    alloc: Global,
-}
+/// Each producer puts the numbers from 1 to 300, and each consumer takes 200.
+struct Adding;
 
-impl Crew<Labelled<String>> for Greeting {
-    type Told = Result<End<Labelled<String>>, Refusal>;
+impl Handoff<u64> for Adding {
+    type Produced = Result<(), Unsent<u64>>;
 
-    fn work<C: Chair<Labelled<String>>>(
-        &self,
-        chair: &mut C,
-    ) -> Result<End<Labelled<String>>, Refusal> {
-        if chair.number() != 0 {
-            return chair.poll_for(60_000).map_err(|refused| refused.why); // milliseconds
+    type Consumed = Result<u64, NotReceived>;
+
+    fn produce<Q: QueueHandle<u64>>(&self, queue: &mut Q) -> Self::Produced {
+        for number in 1..=300u64 {
+            queue.put(number)?;
         }
-        let text = format!(in self.alloc; "an ibis").map_err(|_| Refusal::Memory)?;
-        let item = Labels::of_seat(0).label(text);
-        chair
-            .transfer_for(item, 60_000)
-            .map_err(|refused| refused.why)
+        Ok(())
+    }
+
+    fn consume<Q: QueueHandle<u64>>(&self, queue: &mut Q) -> Self::Consumed {
+        let mut sum = 0u64;
+        for _ in 0..200 {
+            sum = sum.saturating_add(queue.take()?);
+        }
+        Ok(sum)
     }
 }
 
-fn main(rt: HostRuntime) -> Result<(), Refusal> {
-    let alloc = rt.alloc();
-    for told in at_fair_queue(&rt, alloc, 2, &Greeting { alloc })?.told {
-        if let End::Got(_, item) = told? {
-            let Labelled { mark, value } = item;
-            println!(rt; "{value} was taken, whose number is {mark}").map_err(
-                |_| Refusal::WriteFault,
-            )?;
-        }
+fn main(rt: HostRuntime) -> Result<()> {
+    let done = run_handoff(&rt, rt.alloc(), Order::Transfer, 2, 3, &Adding)?;
+    let mut sum = 0u64;
+    for part in done.consumed {
+        sum = sum.saturating_add(part?);
     }
+    println!(rt; "{:?} {sum}, {} left", done.produced, done.log?.left.len())?;
     Ok(())
 }

@@ -1,4 +1,4 @@
-//! Crews that make call after call, and nothing else: the log of their queue is compacted by the calls themselves.
+//! Tasks that make call after call, and nothing else: the log of their queue is compacted by the calls themselves.
 //!
 //!     soak_crews HANDED PASSED [kept]
 //!
@@ -6,9 +6,8 @@
 //! With `kept` it does so once more at a queue whose log is kept: that ends with HistoryFull.
 #![tactic(auto)]
 
-use meet_crew::{Chair, Crew, KeepLog, at_fair_queue, at_transfer_queue};
-use meet_sync::End;
-use meet_tickets::Refusal;
+use meet_tasks::{KeepLog, NotReceived, QueueHandle, QueueTask, run_queue};
+use meet_tickets::{Order, Refusal};
 use std::alloc::Global;
 use std::process::ExitCode;
 use std::sync::Wait;
@@ -20,83 +19,34 @@ use std::{env, io};
 #[derive(Clone, Copy)]
 struct Told {
     items: u64,
-    why: Option<Refusal>,
+    why: Option<NotReceived>,
 }
 
-/// A crew of two: the first thread hands `items` items over, and the second takes them.
+/// A task of two: the first thread hands `items` items over, and the second takes them.
 #[derive(Drop)]
 struct Handing {
     items: u64,
 }
 
-impl Crew<u64> for Handing {
-    type Told = Told;
+impl QueueTask<u64> for Handing {
+    type Output = Told;
 
-    fn work<C: Chair<u64>>(&self, chair: &mut C) -> Told {
+    fn run<Q: QueueHandle<u64>>(&self, queue: &mut Q) -> Told {
         for item in 0..self.items {
-            let called = if chair.number() == 0 {
-                chair.transfer(item)
+            let why = if queue.number() == 0 {
+                queue.transfer(item).err().map(|unsent| unsent.why)
             } else {
-                chair.take()
-            };
-            match called {
-                Ok(end) => {
-                    if !went_over(end, item) {
+                match queue.take() {
+                    Ok(got) if got == item => None,
+                    Ok(_) => {
                         return Told {
                             items: item,
                             why: None,
                         };
                     }
+                    Err(why) => Some(why),
                 }
-                Err(refused) => {
-                    return Told {
-                        items: item,
-                        why: Some(refused.into_why()),
-                    };
-                }
-            }
-        }
-        Told {
-            items: self.items,
-            why: None,
-        }
-    }
-}
-
-/// Whether a call ended since this item went from thread to thread.
-fn went_over(end: End<u64>, item: u64) -> bool {
-    match end {
-        End::Gave(_) => true,
-        End::Done => true,
-        End::Got(_, got) => got == item,
-        _ => false,
-    }
-}
-
-/// A crew of one thread, which puts `items` items, and polls each.
-#[derive(Drop)]
-struct Alone {
-    items: u64,
-}
-
-/// Puts an item, and polls it.
-fn put_and_poll<C: Chair<u64>>(chair: &mut C, item: u64) -> Option<Refusal> {
-    match chair.put(item) {
-        Ok(_) => {}
-        Err(refused) => return Some(refused.into_why()),
-    }
-    match chair.poll() {
-        Ok(_) => None,
-        Err(refused) => Some(refused.into_why()),
-    }
-}
-
-impl Crew<u64> for Alone {
-    type Told = Told;
-
-    fn work<C: Chair<u64>>(&self, chair: &mut C) -> Told {
-        for item in 0..self.items {
-            let why = put_and_poll(chair, item);
+            };
             if why.is_some() {
                 return Told { items: item, why };
             }
@@ -108,7 +58,38 @@ impl Crew<u64> for Alone {
     }
 }
 
-/// What the last thread of a crew told: the one that takes, where there are two.
+/// A task of one thread, which puts `items` items, and polls each.
+#[derive(Drop)]
+struct Alone {
+    items: u64,
+}
+
+/// Puts an item, and polls it.
+fn put_and_poll<Q: QueueHandle<u64>>(queue: &mut Q, item: u64) -> Option<NotReceived> {
+    match queue.put(item) {
+        Ok(()) => queue.poll().err(),
+        Err(unsent) => Some(unsent.why),
+    }
+}
+
+impl QueueTask<u64> for Alone {
+    type Output = Told;
+
+    fn run<Q: QueueHandle<u64>>(&self, queue: &mut Q) -> Told {
+        for item in 0..self.items {
+            let why = put_and_poll(queue, item);
+            if why.is_some() {
+                return Told { items: item, why };
+            }
+        }
+        Told {
+            items: self.items,
+            why: None,
+        }
+    }
+}
+
+/// What the last thread of a task told: the one that takes, where there are two.
 fn last_of(told: &[Told]) -> Told {
     match told {
         [.., last] => *last,
@@ -124,9 +105,9 @@ fn hand_over<R>(rt: &R, alloc: Global, items: u64) -> Result<Told, Refusal>
 where
     R: Threads + Wait + Clock + Sync,
 {
-    let done = at_fair_queue(rt, alloc, 2, &Handing { items })?;
-    done.closed?;
-    Ok(last_of(done.told.as_slice()))
+    let done = run_queue(rt, alloc, Order::Fair, 2, &Handing { items })?;
+    done.log?;
+    Ok(last_of(done.results.as_slice()))
 }
 
 /// Puts and polls this number of items.
@@ -134,9 +115,9 @@ fn pass_alone<R>(rt: &R, alloc: Global, items: u64) -> Result<Told, Refusal>
 where
     R: Threads + Wait + Clock + Sync,
 {
-    let done = at_transfer_queue(rt, alloc, 1, &Alone { items })?;
-    done.closed?;
-    Ok(last_of(done.told.as_slice()))
+    let done = run_queue(rt, alloc, Order::Transfer, 1, &Alone { items })?;
+    done.log?;
+    Ok(last_of(done.results.as_slice()))
 }
 
 /// The same at a queue whose log is kept.
@@ -144,9 +125,9 @@ fn pass_alone_kept<R>(rt: &R, alloc: Global, items: u64) -> Result<Told, Refusal
 where
     R: Threads + Wait + Clock + Sync,
 {
-    let done = at_transfer_queue(rt, alloc, 1, &KeepLog(Alone { items }))?;
-    done.closed?;
-    Ok(last_of(done.told.as_slice()))
+    let done = run_queue(rt, alloc, Order::Transfer, 1, &KeepLog(Alone { items }))?;
+    done.log?;
+    Ok(last_of(done.results.as_slice()))
 }
 
 /// Prints how many items there were, and the reason where there is one.
