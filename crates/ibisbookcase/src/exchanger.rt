@@ -1,7 +1,7 @@
 //! Exchangers: two threads exchange their items (`Exchanger`).
 //!
 //! The shortest way is `run_exchanger`, which starts threads at an exchanger that it makes, each with a handle.
-//! From `crates/example_exchanger/src/main.rt`:
+//! From `crates/examples/src/exchanger.rt`:
 //!
 //!     impl ExchangeTask<u64> for Swap {
 //!         type Output = Result<u64, Unmet<u64>>;
@@ -14,7 +14,7 @@
 //! `Exchanger` is for a program that holds its seats itself.
 //!
 //! Two seats exchange items in a slot of an `Arena`, by single steps (`offer`, `collect`, `withdraw`) or by a call that
-//! waits (`exchange`). From `crates/example_one_thread/src/swapped.rt`, whose `offer` and `end` print what the steps
+//! waits (`exchange`). From `crates/examples/src/one_thread/swapped.rt`, whose `offer` and `end` print what the steps
 //! return:
 //!
 //!     let (arena, mut seats) = Arena::<Parcel>::new(alloc, 1, 2)?; // one slot, two seats

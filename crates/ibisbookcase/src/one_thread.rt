@@ -1,13 +1,13 @@
 //! The queues for one thread, alone or with a log (a book) that keeps their records.
 //!
-//! A call is one step, and says at once whether its request waits. From `crates/example_one_thread/src/handoff.rt`:
+//! A call is one step, and says at once whether its request waits. From `crates/examples/src/one_thread/handoff.rt`:
 //!
 //!     let mut queue: Dual<Parcel, FairLine<Parcel>> = Dual::new(alloc, 3, 1)?; // seats 0 to 2, first ticket 1
 //!     let gave = queue.give(seat_0, item).map_err(Refused::into_why)?; // Gave::Waits(ticket), Gave::Meets(..), ..
 //!     let took = queue.take(seat_1)?; // Took::Meets(ticket, with, item), Took::Waits(ticket), ..
 //!     let followed = queue.follow_up(seat_0, ticket)?; // Followed::Done, Followed::Got(with, item), ..
 //!
-//! A log (a `Book`) records each step and returns its receipt. From `crates/example_one_thread/src/recorded.rt`:
+//! A log (a `Book`) records each step and returns its receipt. From `crates/examples/src/one_thread/recorded.rt`:
 //!
 //!     let mut book: Book<Dual<Parcel, FairLine<Parcel>>> = queue_book(alloc, 3, 1, 1_000)?; // at most 1,000 records
 //!     let given = book.step(seat, QueueCall::Give(item));

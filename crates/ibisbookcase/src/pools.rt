@@ -2,7 +2,7 @@
 //!
 //! A job is a closure without an argument, which is done once and returns a `u64`, in a `Box`. It is `Send`, so what it
 //! captures is moved to a worker. `Boxed` gives it a tag: a number by which records name it, and which it returns. It
-//! can be called at once, and ends: both are proved. From `crates/example_jobs/src/main.rt`:
+//! can be called at once, and ends: both are proved. From `crates/examples/src/jobs.rt`:
 //!
 //!     let call: JobFn = Box::new(
 //!         alloc,

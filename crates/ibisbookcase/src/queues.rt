@@ -9,7 +9,7 @@
 //! task is a `KeepLog`. An item that has no number of its own gets one by `QueueHandle::label`.
 //!
 //! The other names are for a program that holds seats, gates (parkers) and ledgers (ghost counters) itself, or a pool of
-//! their seats. Each call takes a seat, and returns it. From `crates/example_parcels/src/passing.rt`:
+//! their seats. Each call takes a seat, and returns it. From `crates/examples/src/parcels/passing.rt`:
 //!
 //!     match counter.transfer_for(rt, seat, parcel, plan.patience) {
 //!         Ok(ended) => {

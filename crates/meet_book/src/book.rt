@@ -88,7 +88,7 @@ impl<O: Object> Book<O> {
     /// place as it is.
     ///
     /// # Example
-    /// From `crates/example_one_thread/src/recorded.rt`:
+    /// From `crates/examples/src/one_thread/recorded.rt`:
     ///
     ///     let records = book.records(); // the records since the book was cut last
     ///     println!(rt; "{} records", records.len())?;
@@ -166,7 +166,7 @@ impl<O: Object> Book<O> {
     /// - Memory, if an allocation fails, and never if there is room for them and for the call in its place.
     ///
     /// # Example
-    /// From `crates/example_one_thread/src/recorded.rt`:
+    /// From `crates/examples/src/one_thread/recorded.rt`:
     ///
     ///     let given = book.step(seat, QueueCall::Give(item));
     ///     let (_, receipt) = given.map_err(Refused::into_why)?; // QueueAnswer::Gave(..), Some(receipt)
@@ -241,7 +241,7 @@ where
     /// - Memory, if the base can't grow.
     ///
     /// # Example
-    /// From `crates/example_one_thread/src/recorded.rt`:
+    /// From `crates/examples/src/one_thread/recorded.rt`:
     ///
     ///     let gone = book.cut()?; // folds them into book.base(): a book never fills for good
     pub fn cut(&mut self) -> Result<u64, Refusal>

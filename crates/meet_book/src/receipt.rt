@@ -38,7 +38,7 @@ impl<D: Copy> Receipt<D> {
     /// Returns the record.
     ///
     /// # Example
-    /// From `crates/example_one_thread/src/recorded.rt`:
+    /// From `crates/examples/src/one_thread/recorded.rt`:
     ///
     ///     let entry = receipt.entry(); // the record; receipt.place() is its number
     pub fn entry(&self) -> Record<D>

@@ -79,7 +79,7 @@ impl ParkGate {
     /// - Memory, if an allocation fails.
     ///
     /// # Example
-    /// From `crates/example_jobs/src/main.rt`:
+    /// From `crates/examples/src/jobs.rt`:
     ///
     ///     let gates = ParkGate::many(alloc, 2)?; // one for each worker
     pub fn many(alloc: Global, count: u64) -> Result<Vec<ParkGate>, Refusal>

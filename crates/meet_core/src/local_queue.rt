@@ -123,7 +123,7 @@ impl<T: Marked, L: Line<T>, K: Buffers<T, L>> LocalQueue<T, L, K> {
     /// - Memory, if an allocation fails, and never if there is room.
     ///
     /// # Example
-    /// From `crates/example_one_thread/src/handoff.rt`:
+    /// From `crates/examples/src/one_thread/handoff.rt`:
     ///
     ///     let gave = queue.give(seat_0, item).map_err(Refused::into_why)?; // Gave::Waits(ticket), Gave::Meets(..), ..
     ///
@@ -150,7 +150,7 @@ impl<T: Marked, L: Line<T>, K: Buffers<T, L>> LocalQueue<T, L, K> {
     /// - Memory, if an allocation fails, and never if there is room.
     ///
     /// # Example
-    /// From `crates/example_one_thread/src/handoff.rt`:
+    /// From `crates/examples/src/one_thread/handoff.rt`:
     ///
     ///     let took = queue.take(seat_1)?; // Took::Meets(ticket, with, item), Took::Waits(ticket), ..
     ///
@@ -193,7 +193,7 @@ impl<T: Marked, L: Line<T>, K: Buffers<T, L>> LocalQueue<T, L, K> {
     /// - NoSuchSeat, SeatOpen or TicketsSpent, as `admit`.
     ///
     /// # Example
-    /// From `crates/example_one_thread/src/handoff.rt`:
+    /// From `crates/examples/src/one_thread/handoff.rt`:
     ///
     ///     match queue.poll(seat)? {
     ///

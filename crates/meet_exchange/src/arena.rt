@@ -85,7 +85,7 @@ impl<T: Marked> Arena<T> {
     /// - Memory, if an allocation fails.
     ///
     /// # Example
-    /// From `crates/example_one_thread/src/swapped.rt`:
+    /// From `crates/examples/src/one_thread/swapped.rt`:
     ///
     ///     let (arena, mut seats) = Arena::<Parcel>::new(alloc, 1, 2)?; // one slot, two seats
     ///

@@ -167,7 +167,7 @@ impl<T: Marked> Arena<T> {
     /// - Memory, if an allocation fails.
     ///
     /// # Example
-    /// From `crates/example_more/src/buffers.rt`:
+    /// From `crates/examples/src/buffers.rt`:
     ///
     ///     let closed = arena.close(alloc, backs).map_err(CloseFault::into_why)?;
     pub fn close(self, alloc: Global, seats: Vec<Back<T>>) -> Result<Closed<T>, CloseFault<T>>

@@ -42,7 +42,7 @@ impl<T: Marked> Arena<T> {
     /// - `Offered::Memory`, if the seat's list can't grow.
     ///
     /// # Example
-    /// From `crates/example_one_thread/src/swapped.rt`:
+    /// From `crates/examples/src/one_thread/swapped.rt`:
     ///
     ///     match arena.offer(seat, 0, Parcel { mark, grams: 250 }) {
     ///         Offered::Posted(pending) => {

@@ -114,7 +114,7 @@ impl<T: Marked> Arena<T> {
     /// - `Exchanged::Memory`, if the seat's list can't grow.
     ///
     /// # Example
-    /// From `crates/example_more/src/buffers/loops.rt`:
+    /// From `crates/examples/src/buffers/loops.rt`:
     ///
     ///     match arena.exchange(rt, seat, 0, buffer, Some(PATIENCE)) {
     ///         Exchanged::Swapped(seat, other) => Ok((seat, other)),

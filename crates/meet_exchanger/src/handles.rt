@@ -126,7 +126,7 @@ pub trait ExchangerHandle<T: Marked> {
     /// - TimedOut, Worn or Memory, as `exchange_within`.
     ///
     /// # Example
-    /// From `crates/example_exchanger/src/main.rt`:
+    /// From `crates/examples/src/exchanger.rt`:
     ///
     ///     exchanger.exchange_for(exchanger.number(), 60_000) // milliseconds
     ///

@@ -23,7 +23,7 @@ use std::time::Clock;
 /// States what the threads of a task do at their exchanger.
 ///
 /// # Example
-/// From `crates/example_exchanger/src/main.rt`:
+/// From `crates/examples/src/exchanger.rt`:
 ///
 ///     impl ExchangeTask<u64> for Swap {
 ///         type Output = Result<u64, Unmet<u64>>;
@@ -188,10 +188,10 @@ where
 /// - NoThread, if a thread can't be started; then no thread has begun to work.
 ///
 /// # Example
-/// From `crates/example_exchanger/src/main.rt`:
+/// From `crates/examples/src/exchanger.rt`:
 ///
-///     let done = run_exchanger(&rt, rt.alloc(), 2, &Swap)?;
-///     println!(rt; "{:?}", done.results)?;
+///     let done = run_exchanger(rt, alloc, 2, &Swap)?;
+///     Ok(println!(rt; "{:?}", done.results)?)
 ///
 /// Java: `new Exchanger<>()` (JDK 21), the threads, and `join` of each.
 pub fn run_exchanger<T, R, V>(

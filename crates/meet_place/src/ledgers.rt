@@ -82,7 +82,7 @@ impl Blanks {
     /// Creates two ledgers for `seats` seats.
     ///
     /// # Example
-    /// From `crates/example_jobs/src/main.rt`:
+    /// From `crates/examples/src/jobs.rt`:
     ///
     ///     blanks: Blanks::new(3), // a part for each caller and each worker
     pub fn new(seats: u64) -> Self

@@ -21,7 +21,7 @@ use std::alloc::Global;
 /// - Memory, if an allocation fails.
 ///
 /// # Example
-/// From `crates/example_one_thread/src/recorded.rt`:
+/// From `crates/examples/src/one_thread/recorded.rt`:
 ///
 ///     let mut book: Book<Dual<Parcel, FairLine<Parcel>>> = queue_book(alloc, 3, 1, 1_000)?; // at most 1,000 records
 pub fn queue_book<T: Marked, L: Line<T>>(

@@ -28,7 +28,7 @@ impl<D: Copy + Drop, N: Ledgers> SeatPool<D, N> {
     /// - Memory, if the allocation fails; the seats are returned.
     ///
     /// # Example
-    /// From `crates/example_more/src/server.rt`:
+    /// From `crates/examples/src/server.rt`:
     ///
     ///     let pool = match SeatPool::new(alloc, seats) {
     ///         Ok(pool) => pool,
@@ -66,7 +66,7 @@ impl<D: Copy + Drop, N: Ledgers> SeatPool<D, N> {
     /// Acquires a seat, and waits until one is free. It waits for ever if no seat is released.
     ///
     /// # Example
-    /// From `crates/example_more/src/server/serving.rt`:
+    /// From `crates/examples/src/server/serving.rt`:
     ///
     ///     let seat = server.pool.acquire(rt);
     ///     match server.queue.poll_for(rt, seat, PATIENCE) {
@@ -86,7 +86,7 @@ impl<D: Copy + Drop, N: Ledgers> SeatPool<D, N> {
     /// Releases a seat, and wakes one thread that waits for a seat.
     ///
     /// # Example
-    /// From `crates/example_more/src/server/serving.rt`:
+    /// From `crates/examples/src/server/serving.rt`:
     ///
     ///     match server.queue.tend(rt, seat) {
     ///         Ok(seat) => {
@@ -104,7 +104,7 @@ impl<D: Copy + Drop, N: Ledgers> SeatPool<D, N> {
     /// Returns the free seats, to close their place: all, if each that was acquired was released. It doesn't allocate.
     ///
     /// # Example
-    /// From `crates/example_more/src/server.rt`:
+    /// From `crates/examples/src/server.rt`:
     ///
     ///     let closed = queue
     ///         .close(alloc, pool.into_seats())

@@ -79,7 +79,7 @@ impl<O: QueuePlace + Bases, G, N: Ledgers> Queue<O, G, N> {
     /// - Memory, if the base can't grow.
     ///
     /// # Example
-    /// From `crates/example_parcels/src/passing.rt`:
+    /// From `crates/examples/src/parcels/passing.rt`:
     ///
     ///     match counter.tend(rt, ended.seat) {
     ///         Ok(tended) => seat = tended,

@@ -137,7 +137,7 @@ impl<O: QueueLeaves, G: Drop, N: Ledgers> Queue<O, G, N> {
     /// - Differs, at the least seat whose receipts aren't its records; the log (the book) and the seats are returned.
     ///
     /// # Example
-    /// From `crates/example_more/src/pairs.rt`:
+    /// From `crates/examples/src/pairs.rt`:
     ///
     ///     backs.push_reserved(Back::Free(first));
     ///     backs.push_reserved(Back::Free(second));

@@ -48,7 +48,7 @@ impl NewQueue<ParkGate> {
     /// - Memory, if an allocation fails.
     ///
     /// # Example
-    /// From `crates/example_parcels/src/main.rt`:
+    /// From `crates/examples/src/parcels.rt`:
     ///
     ///     let parts = NewQueue::parked(alloc, 2)?; // two seats, each with a gate
     ///     pass::<Brand, R>(rt, alloc, parts, plan)
@@ -143,7 +143,7 @@ impl<O: QueuePlace, G: Drop, N: Ledgers> Queue<O, G, N> {
     /// - Memory, if an allocation fails.
     ///
     /// # Example
-    /// From `crates/example_parcels/src/passing.rt`:
+    /// From `crates/examples/src/parcels/passing.rt`:
     ///
     ///     let made = TransferQueue::<Parcel, ParkGate, N>::with_cap(alloc, parts, plan.cap);
     ///     let (counter, mut seats) = match made {
@@ -186,7 +186,7 @@ impl<O: QueuePlace, G: Drop, N: Ledgers> Queue<O, G, N> {
     /// - Memory, if an allocation fails.
     ///
     /// # Example
-    /// From `crates/example_more/src/pairs.rt`:
+    /// From `crates/examples/src/pairs.rt`:
     ///
     ///     match Numbers::<N>::new(alloc, parts) {
     ///         Ok((queue, seats)) => Ok((queue, pair(seats)?)),

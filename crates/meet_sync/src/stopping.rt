@@ -52,7 +52,7 @@ impl<O: QueuePlace, G: Gate, N: Ledgers> Queue<O, G, N> {
     /// - Memory, if an allocation fails.
     ///
     /// # Example
-    /// From `crates/example_more/src/pipeline/stages.rt`:
+    /// From `crates/examples/src/pipeline/stages.rt`:
     ///
     ///     for number in 1..=last {
     ///         let put = out.put(rt, seat, number).map_err(SeatRefused::into_why)?;

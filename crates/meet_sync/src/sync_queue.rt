@@ -78,7 +78,7 @@ impl<T: Marked, L: Line<T>, G: Gate, N: Ledgers> Queue<Dual<T, L>, G, N> {
     /// - Memory, SeatOpen, TicketsSpent or HistoryFull, as `request`.
     ///
     /// # Example
-    /// From `crates/example_more/src/server/serving.rt`:
+    /// From `crates/examples/src/server/serving.rt`:
     ///
     ///     match server.queue.offer_for(rt, seat, connection, PATIENCE) {
     ///         Ok(offered) => {

@@ -28,7 +28,7 @@ impl<T: Marked, G: Gate, N: Ledgers> Queue<Unbounded<T>, G, N> {
     /// - Memory, SeatOpen, TicketsSpent or HistoryFull, as `request`.
     ///
     /// # Example
-    /// From `crates/example_more/src/pipeline/stages.rt`:
+    /// From `crates/examples/src/pipeline/stages.rt`:
     ///
     ///     let put = out.put(rt, seat, number).map_err(SeatRefused::into_why)?;
     ///     seat = put.seat;
@@ -149,7 +149,7 @@ impl<T: Marked, G: Gate, N: Ledgers> Queue<Unbounded<T>, G, N> {
     /// - Memory, SeatOpen, TicketsSpent or HistoryFull, as `request`.
     ///
     /// # Example
-    /// From `crates/example_parcels/src/passing.rt`:
+    /// From `crates/examples/src/parcels/passing.rt`:
     ///
     ///     match counter.transfer_for(rt, seat, parcel, plan.patience) {
     ///         Ok(ended) => {

@@ -180,7 +180,7 @@ impl<O: QueuePlace, G: Gate, N: Ledgers> Queue<O, G, N> {
     /// - Memory, SeatOpen, TicketsSpent or HistoryFull, as `request`.
     ///
     /// # Example
-    /// From `crates/example_more/src/pipeline/stages.rt`:
+    /// From `crates/examples/src/pipeline/stages.rt`:
     ///
     ///     let taken = numbers.take(rt, from).map_err(SeatRefused::into_why)?;
     ///     from = taken.seat;
@@ -206,7 +206,7 @@ impl<O: QueuePlace, G: Gate, N: Ledgers> Queue<O, G, N> {
     /// - Memory, SeatOpen, TicketsSpent or HistoryFull, as `request`.
     ///
     /// # Example
-    /// From `crates/example_more/src/told.rt`:
+    /// From `crates/examples/src/moments.rt`:
     ///
     ///     let mut seat = seat;
     ///     seat.learn(&note.moment);
@@ -232,7 +232,7 @@ impl<O: QueuePlace, G: Gate, N: Ledgers> Queue<O, G, N> {
     /// - Memory, SeatOpen, TicketsSpent or HistoryFull, as `request`.
     ///
     /// # Example
-    /// From `crates/example_parcels/src/passing.rt`:
+    /// From `crates/examples/src/parcels/passing.rt`:
     ///
     ///     match counter.poll_for(rt, seat, plan.patience) {
     ///         Ok(ended) => {

@@ -102,7 +102,7 @@ pub trait QueueHandle<T: Marked>: Probes {
     /// of this queue gives the mark to a label, nor does this one until it has labelled 2^48 values.
     ///
     /// # Example
-    /// From `crates/example_strings/src/main.rt`:
+    /// From `crates/examples/src/strings.rt`:
     ///
     ///     let item = queue.label(format!(in self.0; "an ibis")?);
     fn label<V>(&mut self, value: V) -> Labelled<V>

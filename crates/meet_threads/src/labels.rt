@@ -13,9 +13,9 @@ const MOST_LABELS: u64 = 281_474_976_710_656; // 2^48
 /// (`QueueHandle::label`).
 ///
 /// # Example
-/// From `crates/example_strings/src/main.rt`:
+/// From `crates/examples/src/strings.rt`:
 ///
-///     let Labelled { mark, value } = received?;
+///     type Consumed = Result<Labelled<String>, NotReceived>;
 ///
 /// Java: an item is any object, and nothing names it.
 #[derive(Clone, Copy, PartialEq, Eq, Debug, Drop)]

@@ -5,7 +5,7 @@ ghost use Rattle.std.specs.Prelude.{◌≡◌, ℕ};
 /// An item with a mark (an item id), by which a record names it. Two items may have one mark.
 ///
 /// # Example
-/// From `crates/example_parcels/src/passing.rt`:
+/// From `crates/examples/src/parcels/passing.rt`:
 ///
 ///     impl Marked for Parcel {
 ///         ghost mark_of = { λ parcel. parcel.mark };

@@ -81,9 +81,9 @@ fn push_answers(answers: &mut Vec<Answer>, list: &[Receipt<PoolDeed<u64>>]) -> R
 /// - Memory, if an allocation fails.
 ///
 /// # Example
-/// From `crates/example_pool/src/main.rt`:
+/// From `crates/examples/src/pool.rt`:
 ///
-///     println!(rt; "{} jobs were done", answers_of(alloc, &done.log?)?.len())?;
+///     for answer in answers_of(alloc, &done.log?)? {
 pub fn answers_of<C>(alloc: Global, chronicle: &PoolChronicle<C>) -> Result<Vec<Answer>, Refusal>
     ensures answers { IfOk result (λ list. list.items
         ≡ answers_in (map (λ list. list.items) chronicle.now.lists.items)) }

@@ -27,9 +27,9 @@ use std::time::Clock;
 /// Java: `ThreadPoolExecutor`, as one of its callers sees it.
 ///
 /// # Example
-/// From `crates/example_pool/src/main.rt`:
+/// From `crates/examples/src/pool.rt`:
 ///
-///     pool.execute(Task::new(n, Greeting))?;
+///     pool.submit(Square { number })?;
 pub trait PoolHandle<W: Work, C: Call<W>> {
     /// The runtime handle for blocking and the clock.
     type Runtime: Wait + Clock;
@@ -75,9 +75,10 @@ pub trait PoolHandle<W: Work, C: Call<W>> {
     ///   the worker was started with it; otherwise it is buffered.
     ///
     /// # Example
-    /// From `crates/example_pool/src/main.rt`:
+    /// From `crates/pool_callers_tests/src/ends.rt`:
     ///
-    ///     pool.execute(Task::new(n, Greeting))?;
+    ///     match pool.execute(Chore { tag, until: None }) {
+    ///         Ok(Outcome::Aborted(job)) => Ok(Some(job.tag())),
     ///
     /// Java: `ThreadPoolExecutor.execute`.
     fn execute(&mut self, job: C) -> Result<Outcome<C>, ExecuteRefused<C>>
@@ -103,7 +104,7 @@ pub trait PoolHandle<W: Work, C: Call<W>> {
     /// - Memory, TicketsSpent, HistoryFull or NoThread, as `execute`.
     ///
     /// # Example
-    /// From `crates/example_pool/src/main.rt`:
+    /// From `crates/examples/src/pool.rt`:
     ///
     ///     pool.submit(Square { number })?;
     ///

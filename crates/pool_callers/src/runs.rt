@@ -32,9 +32,9 @@ use std::time::Clock;
 /// States what the callers of a pool do: they hand jobs in, and look at the pool.
 ///
 /// # Example
-/// From `crates/example_pool/src/main.rt`:
+/// From `crates/examples/src/pool.rt`:
 ///
-///     impl PoolCaller<ItsTag, Task<Greeting>> for Ten {
+///     impl PoolCaller<Squares, Square> for Ten {
 pub trait PoolCaller<W: Work, C: Call<W>> {
     /// The result of each thread.
     type Output;
@@ -197,9 +197,9 @@ where
 /// - NoThread, if a caller's thread can't be started; then none has begun to work.
 ///
 /// # Example
-/// From `crates/example_pool/src/main.rt`:
+/// From `crates/examples/src/pool.rt`:
 ///
-///     let done = run_fixed_pool(&rt, alloc, 1, 2, &Ten)?; // one caller, two workers
+///     let done = run_fixed_pool(rt, alloc, 1, 2, &Ten)?; // one caller, two workers
 ///
 /// Java: `Executors.newFixedThreadPool(workers)`.
 pub fn run_fixed_pool<W, C, R, V>(

@@ -9,11 +9,11 @@ use pool_threads::{Call, ItsTag};
 /// Java: `Runnable`.
 ///
 /// # Example
-/// From `crates/example_pool/src/main.rt`:
+/// From `crates/pool_callers_tests/src/jobs.rt`:
 ///
-///     impl Run for Greeting {
-///         fn run(self) {} // its work
-///     }
+///     impl Run for Adds {
+///         fn run(self) {
+///             self.sum.fetch_add(self.number, Ordering::SeqCst);
 pub trait Run {
     /// Does it.
     fn run(self);
@@ -22,9 +22,9 @@ pub trait Run {
 /// A job of a tag, which runs this once, and returns its tag.
 ///
 /// # Example
-/// From `crates/example_pool/src/main.rt`:
+/// From `crates/pool_callers_tests/src/jobs.rt`:
 ///
-///     pool.execute(Task::new(n, Greeting))?;
+///     Ok(Task::new(tag, Adds { number: tag, sum }))
 #[derive(Drop)]
 pub struct Task<J> {
     tag: u64,

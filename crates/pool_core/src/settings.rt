@@ -11,7 +11,7 @@ pub const MOST_TOGETHER: u64 = 1_024;
 /// The numbers of workers and callers of a pool, and its keep-alive time.
 ///
 /// # Example
-/// From `crates/example_jobs/src/main.rt`:
+/// From `crates/examples/src/jobs.rt`:
 ///
 ///     sizes: Sizes {
 ///         core: 2,

@@ -27,7 +27,7 @@ impl Boxed {
     /// Creates a job of this tag, which calls the function once.
     ///
     /// # Example
-    /// From `crates/example_jobs/src/main.rt`:
+    /// From `crates/examples/src/jobs.rt`:
     ///
     ///     let call: JobFn = Box::new(
     ///         alloc,

@@ -218,7 +218,7 @@ impl<W: Work, C: Drop, G: Gate + Drop, S: Drop, N: PoolLedgers> Pool<W, C, G, S,
     /// - Memory, if an allocation fails.
     ///
     /// # Example
-    /// From `crates/example_jobs/src/running.rt`:
+    /// From `crates/examples/src/jobs/running.rt`:
     ///
     ///     match pool.shutdown(rt, seat) {
     ///         Ok(after) => backs.push_reserved(Back::Free(after)),
@@ -316,7 +316,7 @@ impl<W: Work, C: Drop, G: Gate + Drop, S: Drop, N: PoolLedgers> Pool<W, C, G, S,
     /// Waits until the pool is shut down and has no worker, which may be never.
     ///
     /// # Example
-    /// From `crates/example_jobs/src/running.rt`:
+    /// From `crates/examples/src/jobs/running.rt`:
     ///
     ///     pool.await_end(rt); // no more jobs, no more workers
     ///
@@ -339,7 +339,7 @@ impl<W: Work, C: Drop, G: Gate + Drop, S: Drop, N: PoolLedgers> Pool<W, C, G, S,
     /// - Differs, if a seat's receipts aren't its records.
     ///
     /// # Example
-    /// From `crates/example_jobs/src/running.rt`:
+    /// From `crates/examples/src/jobs/running.rt`:
     ///
     ///     match pool.close(rt, alloc, backs) {
     ///         Ok(chronicle) => Ok(Ran { chronicle, refused }),

@@ -44,7 +44,7 @@ impl<C> Job<C> {
     /// Creates the job of this call.
     ///
     /// # Example
-    /// From `crates/example_jobs/src/running.rt`:
+    /// From `crates/examples/src/jobs/running.rt`:
     ///
     ///     match pool.execute(rt, seat, Job::new::<ItsTag>(job)) {
     pub fn new<W: Work>(call: C) -> Self

@@ -30,7 +30,7 @@ use std::sync::{Arc, Condvar, Mutex};
 /// The parts of a pool.
 ///
 /// # Example
-/// From `crates/example_jobs/src/main.rt`:
+/// From `crates/examples/src/jobs.rt`:
 ///
 ///     queue: PoolQueue::Unbounded,
 ///     policy: Policy::Abort,
@@ -136,7 +136,7 @@ impl<W: Work, C: Drop, G: Drop, S: Drop, N: PoolLedgers> Pool<W, C, G, S, N> {
     /// - Memory, if an allocation fails.
     ///
     /// # Example
-    /// From `crates/example_jobs/src/running.rt`:
+    /// From `crates/examples/src/jobs/running.rt`:
     ///
     ///     let (pool, mut seats) = Pool::<ItsTag, Boxed, ParkGate, ThreadStarter, N>::new(alloc, parts)?;
     ///     let mut seat = seats.pop().unwrap(); // the one caller's

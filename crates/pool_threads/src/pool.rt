@@ -228,7 +228,7 @@ impl<W: Work, C: Call<W> + Drop, G: Gate + Drop, S: Starter, N: PoolLedgers> Poo
     ///   the worker was started with it; otherwise it is buffered.
     ///
     /// # Example
-    /// From `crates/example_jobs/src/running.rt`:
+    /// From `crates/examples/src/jobs/running.rt`:
     ///
     ///     match pool.execute(rt, seat, Job::new::<ItsTag>(job)) {
     ///         Ok((after, _outcome)) => seat = after, // Outcome::Started(worker), Outcome::Kept, ..

@@ -72,7 +72,7 @@ impl ThreadStarter {
     /// Creates the starter.
     ///
     /// # Example
-    /// From `crates/example_jobs/src/main.rt`:
+    /// From `crates/examples/src/jobs.rt`:
     ///
     ///     starter: ThreadStarter::new(),
     pub fn new() -> ThreadStarter {

@@ -1,9 +1,6 @@
 //! Tests of how pools behave, of one caller and of two, with boxed closures as jobs.
 #![tactic(auto)]
 
-ghost use Rattle.std.specs.Prelude.{◌≡◌, ℕ, ◌<◌, IfSome};
-ghost use Rattle.meet_place.specs.Seats.{SameSeat};
-
 #[cfg(test)]
 mod callers;
 #[cfg(test)]
@@ -13,6 +10,8 @@ mod ends;
 #[cfg(test)]
 mod gates;
 #[cfg(test)]
+mod handing;
+#[cfg(test)]
 mod meeting;
 #[cfg(test)]
 mod pools;
@@ -20,36 +19,3 @@ mod pools;
 mod posts;
 #[cfg(test)]
 mod starts;
-
-use meet_place::Seat;
-use pool_core::PoolDeed;
-use pool_threads::{Boxed, ItsTag, Job, JobFn, PoolLedgers, PoolShared};
-use std::sync::{Mutex, Wait};
-
-/// Hands a boxed function in, under the lock of a pool.
-pub fn hand<N: PoolLedgers, R: Wait>(
-    rt: &R,
-    lock: &Mutex<PoolShared<ItsTag, Boxed, N>>,
-    seat: &mut Seat<PoolDeed<u64>, N>,
-    tag: u64,
-    call: JobFn,
-) -> bool
-    requires room { 0 < seat.old.room }
-    requires ready { JobFn.pre call }
-    requires worthy { (answer : ℕ) → JobFn.post call answer → answer ≡ tag }
-    ensures same { SameSeat seat.old seat.new }
-{
-    let job = Job::new::<ItsTag>(Boxed::new(tag, call));
-    let mut shared = lock.lock(rt);
-    match shared.execute(seat, job) {
-        Ok(_) => true,
-        Err(_) => false,
-    }
-}
-
-/// Runs a boxed function.
-pub fn run(job: Job<Boxed>) -> Option<u64>
-    ensures { IfSome result (λ answer. answer ≡ job.tag) }
-{
-    job.run::<ItsTag>()
-}

@@ -51,7 +51,7 @@ impl<O: Drains> Book<O> {
     /// - Memory, if an allocation fails.
     ///
     /// # Example
-    /// From `crates/example_one_thread/src/recorded.rt`:
+    /// From `crates/examples/src/one_thread/recorded.rt`:
     ///
     ///     let taken = book.drain(rt.alloc(), seat, 10)?; // up to ten items, an answer and a receipt for each
     ///     println!(rt; "drained {}", taken.len())?;

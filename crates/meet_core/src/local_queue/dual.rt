@@ -25,7 +25,7 @@ impl<T: Marked, L: Line<T>> LocalQueue<T, L, Nothing> {
     /// - Memory, if an allocation fails.
     ///
     /// # Example
-    /// From `crates/example_one_thread/src/handoff.rt`:
+    /// From `crates/examples/src/one_thread/handoff.rt`:
     ///
     ///     let mut queue: Counter = Dual::new(rt.alloc(), 3, 1)?;
     pub fn new(alloc: Global, seats: u64, first: u64) -> Result<Self, Refusal>

@@ -20,7 +20,7 @@ impl<T: Marked, L: Line<T>, K: Buffers<T, L>> LocalQueue<T, L, K> {
     ///   ticket of a buffered item is never open.
     ///
     /// # Example
-    /// From `crates/example_one_thread/src/handoff.rt`:
+    /// From `crates/examples/src/one_thread/handoff.rt`:
     ///
     ///     let followed = queue.follow_up(seat_0, ticket)?; // Followed::Done, Followed::Got(with, item), ..
     pub fn follow_up(&mut self, seat: SeatNo, ticket: Ticket) -> Result<Followed<T>, Refusal>
@@ -40,7 +40,7 @@ impl<T: Marked, L: Line<T>, K: Buffers<T, L>> LocalQueue<T, L, K> {
     /// - NotOpen, as `follow_up`.
     ///
     /// # Example
-    /// From `crates/example_one_thread/src/handoff.rt`:
+    /// From `crates/examples/src/one_thread/handoff.rt`:
     ///
     ///     let back = queue.cancel(seat_0, ticket)?; // TakenBack::Back(Some(item)), TakenBack::Late, ..
     pub fn cancel(&mut self, seat: SeatNo, ticket: Ticket) -> Result<TakenBack<T>, Refusal>
@@ -78,7 +78,7 @@ impl<T: Marked, L: Line<T>, K: Buffers<T, L>> LocalQueue<T, L, K> {
     /// - NoSuchSeat, if the target isn't there: nothing has changed.
     ///
     /// # Example
-    /// From `crates/example_one_thread/src/handoff.rt`:
+    /// From `crates/examples/src/one_thread/handoff.rt`:
     ///
     ///     let interrupted = queue.interrupt(seat_0)?; // Interrupted::Cut(ticket), Interrupted::Flagged
     ///

@@ -56,7 +56,7 @@ impl<T: Marked> LocalQueue<T, TransferLine<T>, UpTo> {
     /// - Memory, if an allocation fails.
     ///
     /// # Example
-    /// From `crates/example_one_thread/src/transfers.rt`:
+    /// From `crates/examples/src/one_thread/transfers.rt`:
     ///
     ///     let mut queue: Transfer<Parcel> = Transfer::with_bound(alloc, 3, 1, 100)?; // keeps at most 100 items
     pub fn with_bound(alloc: Global, seats: u64, first: u64, bound: u64) -> Result<Self, Refusal>
@@ -106,7 +106,7 @@ impl<T: Marked> LocalQueue<T, TransferLine<T>, UpTo> {
     /// - Memory, if an allocation fails, and never if there is room.
     ///
     /// # Example
-    /// From `crates/example_one_thread/src/transfers.rt`:
+    /// From `crates/examples/src/one_thread/transfers.rt`:
     ///
     ///     let gave = queue.transfer(seat_0, second).map_err(Refused::into_why)?; // Gave::Waits(ticket), ..
     ///
@@ -131,7 +131,7 @@ impl<T: Marked> LocalQueue<T, TransferLine<T>, UpTo> {
     /// - NoSuchSeat, SeatOpen or TicketsSpent, as `admit`.
     ///
     /// # Example
-    /// From `crates/example_one_thread/src/transfers.rt`:
+    /// From `crates/examples/src/one_thread/transfers.rt`:
     ///
     ///     let offered = queue.try_transfer(seat_1, third);
     ///
@@ -151,7 +151,7 @@ impl<T: Marked> LocalQueue<T, TransferLine<T>, UpTo> {
     /// Returns how many producers stand in the wait queue, buffered items included.
     ///
     /// # Example
-    /// From `crates/example_one_thread/src/transfers.rt`:
+    /// From `crates/examples/src/one_thread/transfers.rt`:
     ///
     ///     let size = queue.size(); // the givers in the line, kept or waiting
     ///

@@ -62,9 +62,9 @@ fn write_records<W: Write>(
 /// - WriteFault, if a write fails or takes no byte.
 ///
 /// # Example
-/// From `crates/example_parcels/src/main.rt`:
+/// From `crates/examples/src/parcels.rt`:
 ///
-///     Ok(true) => write_trace(rt.alloc(), TRANSFER, records, &mut rt.stdout())?,
+///     write_trace(host.alloc(), TRANSFER, records, &mut host.stdout())?;
 pub fn write_trace<W: Write>(
     alloc: Global,
     kind: Kind,
