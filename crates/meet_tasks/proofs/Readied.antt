@@ -4,11 +4,11 @@ use Rattle.std.specs.Prelude.{IfSome, IfOk, IfErr, IsOk}
 use Rattle.meet_tickets.specs.declared.records.Deed.{Deed}
 use Rattle.meet_place.specs.Seats.{SeatView, Checkpoints, Trims}
 use Rattle.meet_place.specs.Tending.{Tends}
-use Rattle.meet_tasks.specs.Handles.{HandleView, IsSet, Does, Readies, is_time}
+use Rattle.meet_tasks.specs.Handles.{HandleView, SameSettings, Does, Readies, is_time}
 
 -- the handle's seat was made ready, and then did this
 does : (cap seats : ℕ) (old new : HandleView) (Did : SeatView Deed → SeatView Deed → Type 0) (seat ready after : SeatView Deed)
-    → old.seat ≡ Some seat → new.seat ≡ Some after → IsSet old new
+    → old.seat ≡ Some seat → new.seat ≡ Some after → SameSettings old new
     → Readies (is_time cap seats old.keeps_log seat) seat ready → Did ready after → Does cap seats old new Did
 does cap seats old new Did seat ready after there left kept readies did =
     let InTurn = (λ (was is : Option (SeatView Deed)). IfSome was (λ seat. IfSome is (λ after. (ready : SeatView Deed)
@@ -20,7 +20,7 @@ does cap seats old new Did seat ready after there left kept readies did =
 -- the same, by a result
 pub does_ok : {A E : Type 0} (told : Result A E) (cap seats : ℕ) (old new : HandleView)
     (Did : A → SeatView Deed → SeatView Deed → Type 0) (seat ready after : SeatView Deed)
-    → old.seat ≡ Some seat → new.seat ≡ Some after → IsSet old new
+    → old.seat ≡ Some seat → new.seat ≡ Some after → SameSettings old new
     → Readies (is_time cap seats old.keeps_log seat) seat ready → IfOk told (λ a. Did a ready after)
     → IfOk told (λ a. Does cap seats old new (Did a))
 does_ok (Ok a) cap seats old new Did seat ready after there left kept readies did =
@@ -30,7 +30,7 @@ does_ok (Err e) cap seats old new Did seat ready after there left kept readies d
 -- and by an error
 pub does_err : {A E : Type 0} (told : Result A E) (cap seats : ℕ) (old new : HandleView)
     (Did : SeatView Deed → SeatView Deed → Type 0) (seat ready after : SeatView Deed)
-    → old.seat ≡ Some seat → new.seat ≡ Some after → IsSet old new
+    → old.seat ≡ Some seat → new.seat ≡ Some after → SameSettings old new
     → Readies (is_time cap seats old.keeps_log seat) seat ready → IfErr told (λ _. Did ready after)
     → IfErr told (λ _. Does cap seats old new Did)
 does_err (Ok a) cap seats old new Did seat ready after there left kept readies did = did

@@ -23,9 +23,9 @@ pub record HandleView : Type 0 where
   pub keeps_log : Bool
   pub labels : ℕ
 
--- the handle's settings stay
-abbrev pub IsSet : (old new : HandleView) → Type 0
-IsSet old new = (new.keeps_log ≡ old.keeps_log) × (new.labels ≡ old.labels)
+-- whether it keeps the log, and how many labels it gave, stay
+abbrev pub SameSettings : (old new : HandleView) → Type 0
+SameSettings old new = (new.keeps_log ≡ old.keeps_log) × (new.labels ≡ old.labels)
 
 -- what a call does to its seat first: it compacts the log if it is time to
 abbrev pub Readies : (is_time : Bool) → (seat ready : SeatView Deed) → Type 0
@@ -38,7 +38,7 @@ is_time cap seats keeps_log seat = not keeps_log && is_to_look cap seats seat
 
 -- a handle's call readied the seat, and then did this with it
 abbrev pub Does : (cap seats : ℕ) → (old new : HandleView) → (SeatView Deed → SeatView Deed → Type 0) → Type 0
-Does cap seats old new Did = IsSet old new × IfSome old.seat (λ seat. IfSome new.seat (λ after.
+Does cap seats old new Did = SameSettings old new × IfSome old.seat (λ seat. IfSome new.seat (λ after.
     (ready : SeatView Deed) × Readies (is_time cap seats old.keeps_log seat) seat ready × Did ready after))
 
 -- a call that was refused left the seat as it was then, but for room
@@ -62,7 +62,7 @@ InterruptsSome cap seats old new = Does cap seats old new (λ ready after. (belo
 -- the handle's seat did this, and nothing before
 abbrev pub DoesAlone : (old new : HandleView) → (SeatView Deed → SeatView Deed → Type 0) → Type 0
 DoesAlone old new Did =
-    IsSet old new × IfSome old.seat (λ seat. IfSome new.seat (λ after. Did seat after))
+    SameSettings old new × IfSome old.seat (λ seat. IfSome new.seat (λ after. Did seat after))
 
 -- it compacted the log, or had nothing to do
 abbrev pub TendsAs : (old new : HandleView) → Type 0

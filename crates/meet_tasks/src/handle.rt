@@ -368,7 +368,8 @@ pub trait QueueHandle<T: Marked>: Probes {
         ensures sent { IfOk result (λ _. SendsAs cap count Self.kind ⊥ T.mark_of
             (handle_of self.old) (handle_of self.new) (if keeps Self.kind.order then Put item else Offer item)) }
         ensures unsent { IfErr result (λ unsent. FailsAs cap count Self.kind ⊥ T.mark_of
-            (handle_of self.old) (handle_of self.new) (if keeps Self.kind.order then Put item else Offer item) unsent.why (Some unsent.item)) }
+            (handle_of self.old) (handle_of self.new) (if keeps Self.kind.order then Put item else Offer item)
+            unsent.why (Some unsent.item)) }
     {
         if self.keeps_items() {
             return self.put(item);
@@ -386,15 +387,20 @@ pub trait QueueHandle<T: Marked>: Probes {
     final fn offer_for(&mut self, item: T, limit: u64) -> Result<(), Unsent<T>>
         ensures kept_sent { keeps Self.kind.order ≡ true → IfOk result (λ _. SendsAs cap count Self.kind ⊥ T.mark_of
             (handle_of self.old) (handle_of self.new) (Put item)) }
-        ensures kept_unsent { keeps Self.kind.order ≡ true → IfErr result (λ unsent. FailsAs cap count Self.kind ⊥ T.mark_of
+        ensures kept_unsent { keeps Self.kind.order ≡ true → IfErr result (λ unsent.
+            FailsAs cap count Self.kind ⊥ T.mark_of
             (handle_of self.old) (handle_of self.new) (Put item) unsent.why (Some unsent.item)) }
-        ensures now_sent { keeps Self.kind.order ≡ false → limit ≡ 0 → IfOk result (λ _. SendsAs cap count Self.kind ⊥ T.mark_of
+        ensures now_sent { keeps Self.kind.order ≡ false → limit ≡ 0 → IfOk result (λ _.
+            SendsAs cap count Self.kind ⊥ T.mark_of
             (handle_of self.old) (handle_of self.new) (Offer item)) }
-        ensures now_unsent { keeps Self.kind.order ≡ false → limit ≡ 0 → IfErr result (λ unsent. FailsAs cap count Self.kind ⊥ T.mark_of
+        ensures now_unsent { keeps Self.kind.order ≡ false → limit ≡ 0 → IfErr result (λ unsent.
+            FailsAs cap count Self.kind ⊥ T.mark_of
             (handle_of self.old) (handle_of self.new) (Offer item) unsent.why (Some unsent.item)) }
-        ensures timed_sent { keeps Self.kind.order ≡ false → 0 < limit → IfOk result (λ _. SendsAs cap count Self.kind ⊤ T.mark_of
+        ensures timed_sent { keeps Self.kind.order ≡ false → 0 < limit → IfOk result (λ _.
+            SendsAs cap count Self.kind ⊤ T.mark_of
             (handle_of self.old) (handle_of self.new) (Give item)) }
-        ensures timed_unsent { keeps Self.kind.order ≡ false → 0 < limit → IfErr result (λ unsent. FailsAs cap count Self.kind ⊤ T.mark_of
+        ensures timed_unsent { keeps Self.kind.order ≡ false → 0 < limit → IfErr result (λ unsent.
+            FailsAs cap count Self.kind ⊤ T.mark_of
             (handle_of self.old) (handle_of self.new) (Give item) unsent.why (Some unsent.item)) }
     {
         if self.keeps_items() {
