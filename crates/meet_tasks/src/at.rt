@@ -11,7 +11,7 @@ ghost use Rattle.meet_tasks.specs.Outcomes.{EndFits};
 
 use crate::calls::{ask, drain, interrupt, interrupt_all, ready, rotate, tend};
 use crate::handle::QueueHandle;
-use crate::ledgers::QueueLedgers;
+use crate::ledgers::{QueueLedgers, SeatCount};
 use crate::probes::Probes;
 use crate::refused::CallRefused;
 use meet_cells::ParkGate;
@@ -29,12 +29,11 @@ pub(crate) struct At<'q, T: Marked, N: QueueLedgers, R> {
     rt: &'q R,
     alloc: Global,
     queue: &'q ChosenQueue<T, ParkGate, N>,
-    seats: u64,
+    seats: SeatCount<N>,
     seat: Option<Seat<Deed, N>>,
     keeps_log: bool,
     labels: Labels,
     ghost order: { order_of queue.now ≡ N.order },
-    ghost count: { seats ≡ N.parts },
     ghost cap: { N.cap ≡ most_records },
     ghost seated: { IsSome seat },
 }
@@ -57,7 +56,7 @@ impl<'q, T: Marked, N: QueueLedgers, R> At<'q, T, N, R> {
             rt,
             alloc,
             queue,
-            seats: queue.seats(),
+            seats: SeatCount::new(queue.seats()),
             seat: Some(seat),
             keeps_log: false,
             labels: Labels::none(),
@@ -118,7 +117,7 @@ where
     }
 
     fn seats(&self) -> u64 {
-        self.seats
+        self.seats.count()
     }
 
     fn moment(&self) -> Moment<N> {
@@ -152,7 +151,14 @@ where
         ensures why { IfErr result (λ refused. IsRequestWhy refused.why) }
     {
         let seat = self.seat.take().unwrap();
-        let seat = ready(self.rt, self.queue, self.keeps_log, self.seats, seat);
+        let seat = ready(
+            self.rt,
+            self.queue,
+            self.keeps_log,
+            self.seats.count(),
+            seat,
+        );
+        // Each arm puts its seat back: if the match returned it, each call would copy it once more.
         match self.queue {
             ChosenQueue::Fair(queue) => {
                 let (seat, answer) = ask(self.rt, queue, seat, request, limit);
@@ -174,7 +180,13 @@ where
 
     fn interrupt(&mut self, target: u64) -> Result<(), CallRefused<T>> {
         let seat = self.seat.take().unwrap();
-        let seat = ready(self.rt, self.queue, self.keeps_log, self.seats, seat);
+        let seat = ready(
+            self.rt,
+            self.queue,
+            self.keeps_log,
+            self.seats.count(),
+            seat,
+        );
         let (seat, answer) = interrupt(self.rt, self.queue, seat, target);
         self.seat = Some(seat);
         answer
@@ -182,7 +194,13 @@ where
 
     fn interrupt_all(&mut self) -> Result<(), CallRefused<T>> {
         let seat = self.seat.take().unwrap();
-        let seat = ready(self.rt, self.queue, self.keeps_log, self.seats, seat);
+        let seat = ready(
+            self.rt,
+            self.queue,
+            self.keeps_log,
+            self.seats.count(),
+            seat,
+        );
         let (seat, answer) = interrupt_all(self.rt, self.queue, seat);
         self.seat = Some(seat);
         answer
@@ -190,7 +208,13 @@ where
 
     fn drain(&mut self, max: u64) -> Result<Vec<T>, CallRefused<T>> {
         let seat = self.seat.take().unwrap();
-        let seat = ready(self.rt, self.queue, self.keeps_log, self.seats, seat);
+        let seat = ready(
+            self.rt,
+            self.queue,
+            self.keeps_log,
+            self.seats.count(),
+            seat,
+        );
         let (seat, answer) = drain(self.rt, self.alloc, self.queue, seat, max);
         self.seat = Some(seat);
         answer
