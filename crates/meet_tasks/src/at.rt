@@ -34,7 +34,6 @@ pub(crate) struct At<'q, T: Marked, N: QueueLedgers, R> {
     keeps_log: bool,
     labels: Labels,
     ghost order: { order_of queue.now ≡ N.order },
-    ghost cap: { N.cap ≡ most_records },
     ghost seated: { IsSome seat },
 }
 
@@ -150,16 +149,12 @@ where
         ensures item { IfErr result (λ refused. refused.item ≡ item_of request) }
         ensures why { IfErr result (λ refused. IsRequestWhy refused.why) }
     {
+        let seats = self.seats.count();
+        let queue = self.queue;
         let seat = self.seat.take().unwrap();
-        let seat = ready(
-            self.rt,
-            self.queue,
-            self.keeps_log,
-            self.seats.count(),
-            seat,
-        );
+        let seat = ready(self.rt, queue, self.keeps_log, seats, seat);
         // Each arm puts its seat back: if the match returned it, each call would copy it once more.
-        match self.queue {
+        match queue {
             ChosenQueue::Fair(queue) => {
                 let (seat, answer) = ask(self.rt, queue, seat, request, limit);
                 self.seat = Some(seat);
@@ -179,42 +174,27 @@ where
     }
 
     fn interrupt(&mut self, target: u64) -> Result<(), CallRefused<T>> {
+        let seats = self.seats.count();
         let seat = self.seat.take().unwrap();
-        let seat = ready(
-            self.rt,
-            self.queue,
-            self.keeps_log,
-            self.seats.count(),
-            seat,
-        );
+        let seat = ready(self.rt, self.queue, self.keeps_log, seats, seat);
         let (seat, answer) = interrupt(self.rt, self.queue, seat, target);
         self.seat = Some(seat);
         answer
     }
 
     fn interrupt_all(&mut self) -> Result<(), CallRefused<T>> {
+        let seats = self.seats.count();
         let seat = self.seat.take().unwrap();
-        let seat = ready(
-            self.rt,
-            self.queue,
-            self.keeps_log,
-            self.seats.count(),
-            seat,
-        );
+        let seat = ready(self.rt, self.queue, self.keeps_log, seats, seat);
         let (seat, answer) = interrupt_all(self.rt, self.queue, seat);
         self.seat = Some(seat);
         answer
     }
 
     fn drain(&mut self, max: u64) -> Result<Vec<T>, CallRefused<T>> {
+        let seats = self.seats.count();
         let seat = self.seat.take().unwrap();
-        let seat = ready(
-            self.rt,
-            self.queue,
-            self.keeps_log,
-            self.seats.count(),
-            seat,
-        );
+        let seat = ready(self.rt, self.queue, self.keeps_log, seats, seat);
         let (seat, answer) = drain(self.rt, self.alloc, self.queue, seat, max);
         self.seat = Some(seat);
         answer

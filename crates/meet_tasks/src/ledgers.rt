@@ -1,6 +1,7 @@
-//! The ledgers of a queue whose order is chosen, and how many seats it has.
+//! The ledgers of a queue whose order is chosen, and its sizes.
 
 ghost use Rattle.std.specs.Prelude.{◌≡◌};
+ghost use Rattle.meet_tickets.specs.Limits.{most_records};
 ghost use Rattle.meet_tickets.specs.declared.places.Order.{Order};
 ghost use Rattle.meet_tickets.specs.declared.places.Order.TheVariants.{Fair};
 
@@ -17,7 +18,7 @@ impl QueueLedgers for Brand {
     ghost order = { Fair };
 }
 
-/// How many seats a queue has.
+/// How many seats a queue has, whose log holds 1,048,576 records.
 #[derive(Drop)]
 pub(crate) struct SeatCount<N: Ledgers> {
     count: u64,
@@ -26,18 +27,20 @@ pub(crate) struct SeatCount<N: Ledgers> {
 
 impl<N: Ledgers> Model for SeatCount<N> {
     ghost use Rattle.std.specs.Prelude.{◌≡◌, ℕ};
+    ghost use Rattle.meet_tickets.specs.Limits.{most_records};
 
     ghost Value = { ℕ };
 
     ghost view = { λ seats. seats.count };
 
-    ghost invariant = { λ seats. seats.count ≡ N.parts };
+    ghost invariant = { λ seats. (seats.count ≡ N.parts) × (N.cap ≡ most_records) };
 }
 
 impl<N: Ledgers> SeatCount<N> {
     /// This number of seats.
     pub(crate) fn new(count: u64) -> Self
-        requires { count ≡ N.parts }
+        requires count { count ≡ N.parts }
+        requires cap { N.cap ≡ most_records }
     {
         SeatCount {
             count,
@@ -47,7 +50,8 @@ impl<N: Ledgers> SeatCount<N> {
 
     /// Returns the number.
     pub(crate) fn count(&self) -> u64
-        ensures { result ≡ N.parts }
+        ensures count { result ≡ N.parts }
+        ensures cap { N.cap ≡ most_records }
     {
         self.count
     }
