@@ -5,7 +5,7 @@ import java.util.concurrent.atomic.AtomicInteger;
 import java.util.concurrent.atomic.AtomicLong;
 
 /**
- * How many items Java's threads exchange: the work of the program bench_exchanger, over java.util.concurrent.Exchanger.
+ * How many items Java's threads exchange: the work of {@code bench exchanges}, over java.util.concurrent.Exchanger.
  *
  * <pre>java bench/ExchangeRace.java THREADS EACH ROUNDS
  * java bench/ExchangeRace.java alone MILLISECONDS</pre>

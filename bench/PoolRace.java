@@ -4,7 +4,7 @@ import java.util.concurrent.TimeUnit;
 import java.util.concurrent.atomic.AtomicLong;
 
 /**
- * How long it takes Java's pools to run jobs: the work of {@code soak_pools race}, at pools of java.util.concurrent.
+ * How long it takes Java's pools to run jobs: the work of {@code bench jobs}, at pools of java.util.concurrent.
  *
  * <pre>java bench/PoolRace.java fixed|cached WORKERS CALLERS EACH NANOSECONDS ROUNDS</pre>
  *

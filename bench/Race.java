@@ -5,7 +5,7 @@ import java.util.concurrent.LinkedTransferQueue;
 import java.util.concurrent.SynchronousQueue;
 
 /**
- * How long it takes Java's threads to hand items on: the work of the program bench_threads, over the queues of java.util.concurrent.
+ * How long it takes Java's threads to hand items on: the work of {@code bench handoffs}, over the queues of java.util.concurrent.
  *
  * <pre>java bench/Race.java fair|unfair|transfer PAIRS EACH ROUNDS [tails]</pre>
  *

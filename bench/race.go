@@ -1,4 +1,4 @@
-// How long it takes Go's goroutines to hand items on: the work of the program bench_threads, over a channel of capacity 0.
+// How long it takes Go's goroutines to hand items on: the work of `bench handoffs`, over a channel of capacity 0.
 //
 // usage: race PAIRS EACH ROUNDS [tails]
 //

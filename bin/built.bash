@@ -68,7 +68,7 @@ prove() {
 status_of() {
     case $1 in
     example*) echo 0 ;;
-    meet | bench_calls) echo 3 ;;
+    meet) echo 3 ;;
     *) echo 2 ;;
     esac
 }

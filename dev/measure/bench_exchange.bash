@@ -1,33 +1,29 @@
 #!/usr/bin/env bash
-# What `dev/measure/bench exchange` runs: measures how many exchanges threads make in a second, in an arena, beside it at places under a lock,
-# and at an exchanger beside Java's, by runs of the programs `bench_threads` and `bench_exchanger`, which are built first where they aren't
-# there or their sources are newer, and of `bench/ExchangeRace.java` where there is a `javac`. With `quick`, a sixteenth of the exchanges, and
-# rough. Each run's items and their sum are compared with what they must be; where they differ the status is 1.
+# What `dev/measure/bench exchange` runs: measures how many exchanges threads make in a second at an exchanger beside Java's, by runs of the
+# program `bench`, which is built first if it isn't there or its sources are newer, and of `bench/ExchangeRace.java` if there is a `javac`.
+# With `quick`, a sixteenth of the exchanges, and rough. Each run's items and their sum are compared with what they must be; if they differ
+# the status is 1.
 #
-# A row is so many threads and slots, 100,000 exchanges in all, each counted at both of its threads. In an arena and under a lock the time
-# is that of the clock from before the first thread is started until all have ended. At an exchanger and at Java's, which choose their slots,
-# it is until the last thread but one has made its last. A number is the median of five rounds, each in new slots; what stands in one row takes
-# turns, so that what else the machine does falls on all of it. The last lines are the processor's time of a thread that waits a second for a
-# partner, and none comes.
+# A row is a number of threads, 100,000 exchanges in all, each counted at both of its threads. The time is until the last thread but one
+# has made its last. A number is the median of five rounds, each at a new exchanger; both take turns, so that what else the machine does
+# falls on both. The last lines are the processor's time of a thread that waits a second for a partner, and none comes.
 set -euo pipefail
 . "$(dirname "$0")/../../bin/built.bash"
 exchanges=100000
 rounds=5
 [ "${1:-}" = quick ] && exchanges=$((exchanges / 16))
 
-build bench_threads
-build bench_exchanger
+build bench
 work=$(mktemp -d)
 trap 'rm -rf "$work"' EXIT
-ways=(arena lock exchanger)
+ways=(exchanger)
 command -v javac >/dev/null && javac -d "$work" "$top/bench/ExchangeRace.java" && ways+=(java)
 
-# The command of a round in this way, with so many threads and slots.
+# The command of a round in this way, with this number of threads.
 command_of() {
-    local threads=$2 slots=$3 each=$((exchanges / $2))
+    local threads=$2 each=$((exchanges / $2))
     case $1 in
-        arena | lock) command=("$(program_of bench_threads)" "$1" "$threads" "$slots" "$each" 1) ;;
-        exchanger) command=("$(program_of bench_exchanger)" exchange "$threads" "$each" 1) ;;
+        exchanger) command=("$(program_of bench)" exchanges "$threads" "$each" 1) ;;
         java) command=(java -cp "$work" ExchangeRace "$threads" "$each" 1) ;;
     esac
 }
@@ -53,22 +49,19 @@ median_of() {
 }
 
 echo "exchanges a second, $exchanges in all, the median of $rounds rounds: $(nproc) processors, $(date -u +%F)"
-printf '%7s %5s %10s %10s %10s %10s\n' threads slots arena lock exchanger java
+printf '%7s %10s %10s\n' threads exchanger java
 for threads in 2 4 8 16; do
-    for slots in 1 4; do
-        rm -f "$work"/rates_*
-        for ((round = 0; round < rounds; round++)); do
-            for way in "${ways[@]}"; do
-                run "$way" "$threads" "$slots"
-            done
+    rm -f "$work"/rates_*
+    for ((round = 0; round < rounds; round++)); do
+        for way in "${ways[@]}"; do
+            run "$way" "$threads"
         done
-        printf '%7d %5d %10s %10s %10s %10s\n' "$threads" "$slots" "$(median_of arena)" "$(median_of lock)" "$(median_of exchanger)" \
-            "$(median_of java)"
     done
+    printf '%7d %10s %10s\n' "$threads" "$(median_of exchanger)" "$(median_of java)"
 done
 
 TIMEFORMAT='%U %S'
-{ time "$(program_of bench_exchanger)" alone 1000 >"$work/told"; } 2>"$work/used"
+{ time "$(program_of bench)" alone 1000 >"$work/told"; } 2>"$work/used"
 awk '{ printf "a second alone at an exchanger: %.1f ms of the processor, its program included\n", ($1 + $2) * 1000 }' "$work/used"
 if [ -f "$work/ExchangeRace.class" ]; then
     java -cp "$work" ExchangeRace alone 1000 2>&1 | awk '{ printf "a second alone at Java'"'"'s: %.1f ms of the processor\n", $2 / 1e6 }'

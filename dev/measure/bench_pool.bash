@@ -1,5 +1,5 @@
 #!/usr/bin/env bash
-# What `dev/measure/bench pool` runs: measures how long it takes a pool to run jobs, by runs of the program `soak_pools`, which is built first
+# What `dev/measure/bench pool` runs: measures how long it takes a pool to run jobs, by runs of the program `bench`, which is built first
 # where it isn't there or its sources are newer, and of `bench/PoolRace.java` where there is a `java`. With `quick`, a tenth of the jobs,
 # and rough. Where not all jobs of a round ran the status is 1.
 #
@@ -26,8 +26,8 @@ workers=$(nproc)
 keeps=(env MALLOC_TRIM_THRESHOLD_=4294967296 MALLOC_MMAP_THRESHOLD_=4294967296 MALLOC_TOP_PAD_=67108864)
 [ "${1:-}" = quick ] && jobs=$((jobs / 10))
 
-build soak_pools
-program=$(program_of soak_pools)
+build bench
+program=$(program_of bench)
 work=$(mktemp -d)
 trap 'rm -rf "$work"' EXIT
 
@@ -36,7 +36,7 @@ trap 'rm -rf "$work"' EXIT
 memory_of() {
     local run
     for run in 1 2 3; do
-        /usr/bin/env time -f %M "$program" race bounded 1 1 "$1" 0 1 2>"$work/times" >"$work/told"
+        /usr/bin/env time -f %M "$program" jobs bounded 1 1 "$1" 0 1 2>"$work/times" >"$work/told"
         [ "$(cat "$work/told")" = "jobs $1 of $1" ] || return 1
         tail -n 1 "$work/times"
     done | sort -n | head -n 1
@@ -69,7 +69,7 @@ if [ "${1:-}" = causes ]; then
         for pool in fixed cached; do
             for callers in 1 4 16; do
                 printf '%8s %8s %7s %5s' "$lasts" "$pool" "$callers" ours
-                counts_of 0 "$pool" "$callers" "$lasts" "${keeps[@]}" "$program" race
+                counts_of 0 "$pool" "$callers" "$lasts" "${keeps[@]}" "$program" jobs
                 echo
                 command -v java >/dev/null || continue
                 printf '%8s %8s %7s %5s' "$lasts" "$pool" "$callers" "Java"
@@ -121,7 +121,7 @@ printf '%8s %8s %6s %8s %8s %8s %12s\n' work pool callers here Java ratio 'by ca
 for lasts in 0 10000; do
     for pool in fixed cached; do
         for callers in 1 2 4 16; do
-            here=$(cost_of $((rounds + untold)) "$pool" "$callers" "$lasts" "${keeps[@]}" "$program" race)
+            here=$(cost_of $((rounds + untold)) "$pool" "$callers" "$lasts" "${keeps[@]}" "$program" jobs)
             own=$(awk -v all=$((rounds * (jobs / callers) * callers)) '{ printf "%.1f", 100 * $1 / all }' "$work/here")
             java=$(cost_in_java "$pool" "$callers" "$lasts")
             printf '%8s %8s %6d %8s %8s %8s %12s\n' "$lasts" "$pool" "$callers" "$here" "$java" "$(ratio "$here" "$java")" "$own"

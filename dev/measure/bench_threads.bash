@@ -1,6 +1,6 @@
 #!/usr/bin/env bash
-# What `dev/measure/bench threads` runs: measures how long it takes threads to hand items on, by runs of the program `bench_threads`, which is built
-# first where it isn't there or its sources are newer; beside it, where they are installed, of `bench/Race.java`, of the channels of the
+# What `dev/measure/bench threads` runs: measures how long it takes threads to hand items on, by runs of the program `bench`, which is built
+# first where it isn't there or its sources are newer; beside it, where they are installed, of `bench/Race.java`, of `bench/bare.rs`, of the channels of the
 # Rust crate crossbeam-channel (`bench/crossbeam`, also from Debian's librust-crossbeam-channel-dev) and of Go (`bench/race.go`), both of
 # capacity 0. With `quick`, a sixteenth of the items, and rough. Each run's items and their sum are compared with what they must be; where
 # they differ the status is 1. With `loaded`, 20,000 items beside a busy loop for each processor: the first table alone, by three rounds.
@@ -14,11 +14,11 @@ set -euo pipefail
 . "$(dirname "$0")/../../bin/built.bash"
 items=100000
 samples=12
-ways=(bare park steady spin fair unfair transfer crossbeam go)
+ways=(bare park steady fair unfair transfer crossbeam go)
 [ "${1:-}" = quick ] && items=$((items / 16)) && samples=3
 [ "${1:-}" = loaded ] && items=20000 && samples=3 && ways=(park fair unfair transfer crossbeam go)
 
-build bench_threads
+build bench
 work=$(mktemp -d)
 loops=()
 trap 'kill "${loops[@]}" 2>/dev/null || true; rm -rf "$work"' EXIT
@@ -28,6 +28,7 @@ command -v javac >/dev/null && javac -d "$work" "$top/bench/Race.java"
 if command -v go >/dev/null; then
     (cd "$work" && cp "$top/bench/race.go" . && GOCACHE=$work/go GOFLAGS=-mod=mod go build -o go_race race.go) || rm -f "$work/go_race"
 fi
+command -v rustc >/dev/null && rustc -O --edition 2021 -o "$work/bare" "$top/bench/bare.rs"
 if command -v cargo >/dev/null; then
     cp -r "$top/bench/crossbeam" "$work/crossbeam"
     debian=/usr/share/cargo/registry
@@ -40,8 +41,8 @@ fi
 # The command that runs this way to hand items on; the status is 1 where it isn't installed.
 command_of() {
     case $1 in
-        park | spin | bare) command=("$(program_of bench_threads)" "$1") ;;
-        steady) command=("$(program_of bench_threads)" park) ;;
+        park | steady) command=("$(program_of bench)" handoffs) ;;
+        bare) [ -x "$work/bare" ] && command=("$work/bare") ;;
         fair | unfair | transfer) [ -f "$work/Race.class" ] && command=(java -cp "$work" Race "$1") ;;
         crossbeam) [ -x "$work/crossbeam/target/release/race" ] && command=("$work/crossbeam/target/release/race") ;;
         go) [ -x "$work/go_race" ] && command=("$work/go_race") ;;
@@ -125,7 +126,7 @@ cat <<END
 nanoseconds an item, $items items in all, the median of $samples rounds: $(nproc) processors, $(date -u +%F); fair, unfair and transfer are
 Java's. Aims: park/fair at most 0.20, 0.45, 0.90, 0.85, and park/crossbeam 1.10
 END
-table clock park/fair park/crossbeam steady/crossbeam spin/fair park/bare
+table clock park/fair park/crossbeam steady/crossbeam park/bare
 echo "nanoseconds of the processor an item; aim: park/fair at most 1.00"
 table busy park/fair park/crossbeam steady/crossbeam
 

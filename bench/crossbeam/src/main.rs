@@ -1,5 +1,5 @@
 //! How long it takes threads to hand items on through a channel of capacity 0 of the Rust crate `crossbeam-channel`: the work of the
-//! program `bench_threads`.
+//! program `bench handoffs`.
 //!
 //!     race PAIRS EACH ROUNDS [tails]
 //!

@@ -65,7 +65,7 @@ impl<T: Marked> Exchanger<T> {
     /// - Memory, if an allocation fails.
     ///
     /// # Example
-    /// From `crates/bench_exchanger/src/alone.rt`:
+    /// From `crates/bench/src/exchanges.rt`:
     ///
     ///     let (exchanger, mut seats) = Exchanger::<u64>::new(alloc, 1)?;
     ///     let seat = seats.pop().ok_or(Refusal::SeatMissing)?;

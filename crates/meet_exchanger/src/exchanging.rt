@@ -50,7 +50,7 @@ impl<T: Marked> Exchanger<T> {
     /// - `Exchanged::Worn`, `Exchanged::Memory`, as `exchange`.
     ///
     /// # Example
-    /// From `crates/bench_exchanger/src/alone.rt`:
+    /// From `crates/bench/src/exchanges.rt`:
     ///
     ///     if let Exchanged::TimedOut(_, item) = exchanger.exchange_for(rt, seat, 7, milliseconds) {
     ///         return println!(rt; "{item} was returned").map_err(|_| Refusal::WriteFault);

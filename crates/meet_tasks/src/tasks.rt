@@ -37,9 +37,9 @@ pub trait QueueTask<T: Marked> {
 /// in a chapter that `rotate` returned.
 ///
 /// # Example
-/// From `crates/soak_crews/src/main.rt`:
+/// From `crates/meet_tasks_tests/src/chapters.rt`:
 ///
-///     let done = run_queue(rt, alloc, Order::Transfer, 1, &KeepLog(Alone { items }))?;
+///     let done = run_queue(&rt, rt.alloc(), Order::Transfer, 1, &KeepLog(Writing)).expect(
 #[derive(Drop)]
 pub struct KeepLog<V>(pub V);
 

@@ -1,4 +1,0 @@
-pub mod Asked
-pub mod Calls
-pub mod Findings
-pub mod Tasks
