@@ -39,7 +39,7 @@ fn a_chapter_has_the_records_since_the_last(rt: HostRuntime) {
     assert_eq!(&rt; chronicle.records.len(), 1);
 }
 
-/// A task whose log is kept does what it does otherwise (`a_kept_log_fills` of `pool_callers_tests` fills one).
+/// A task whose log is kept does what it does otherwise.
 #[test]
 fn a_log_that_is_kept_has_the_same_chapters(rt: HostRuntime) {
     let done = run_queue(&rt, rt.alloc(), Order::Transfer, 1, &KeepLog(Writing)).expect(
