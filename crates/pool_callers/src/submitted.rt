@@ -1,7 +1,7 @@
 //! Jobs that were handed in, and won't be run.
 
 ghost use Rattle.std.specs.Prelude.{◌≡◌, Some, IsOkAnd, IsErrAnd, IfOk, IfErr};
-ghost use Rattle.pool_callers.specs.Submits.{IsTaken, Gives};
+ghost use Rattle.pool_callers.specs.Submits.{IsTaken, EndsFor, Gives};
 
 use crate::refused::ExecuteRefused;
 use meet_tickets::{Refusal, Ticket};
@@ -89,18 +89,30 @@ fn returned<C>(why: NotRun, job: Job<C>) -> Result<(), Unrun<C>>
     })
 }
 
+/// The result of `submit`, by the outcome of its job.
+fn came_to<C>(outcome: Outcome<C>) -> Result<(), Unrun<C>>
+    ensures taken { IfOk result (λ _. IsTaken outcome) }
+    ensures unrun { IfErr result (λ unrun. EndsFor unrun.why unrun.job outcome) }
+{
+    match outcome {
+        Outcome::Handed(_) => Ok(()),
+        Outcome::Started(_) => Ok(()),
+        Outcome::Kept => Ok(()),
+        Outcome::KeptStart(_) => Ok(()),
+        Outcome::RanHere(_) => Ok(()), // what it returned is what its tag is worth
+        Outcome::Aborted(job) => returned(NotRun::Rejected, job),
+        Outcome::Dropped(job) => returned(NotRun::Discarded, job),
+        Outcome::DroppedOldest(ticket, oldest) => returned(NotRun::Displaced(ticket), oldest),
+    }
+}
+
 /// The result of `submit`, by that of `execute`.
 pub(crate) fn submitted<C>(executed: Result<Outcome<C>, ExecuteRefused<C>>) -> Result<(), Unrun<C>>
     ensures taken { IfOk result (λ _. IsOkAnd executed IsTaken) }
     ensures unrun { IfErr result (λ unrun. Gives executed unrun.why unrun.job) }
 {
     match executed {
-        Ok(Outcome::Handed(_)) | Ok(Outcome::Started(_)) => Ok(()),
-        Ok(Outcome::Kept) | Ok(Outcome::KeptStart(_)) => Ok(()),
-        Ok(Outcome::RanHere(_)) => Ok(()), // what it returned is what its tag is worth
-        Ok(Outcome::Aborted(job)) => returned(NotRun::Rejected, job),
-        Ok(Outcome::Dropped(job)) => returned(NotRun::Discarded, job),
-        Ok(Outcome::DroppedOldest(ticket, oldest)) => returned(NotRun::Displaced(ticket), oldest),
+        Ok(outcome) => came_to(outcome),
         Err(refused) => {
             let ExecuteRefused { why, job } = refused;
             Err(Unrun {
