@@ -150,10 +150,11 @@ where
         ensures why { IfErr result (λ refused. IsRequestWhy refused.why) }
     {
         let seats = self.seats.count();
+        let queue = self.queue;
         let seat = self.seat.take().unwrap();
-        let seat = ready(self.rt, self.queue, self.keeps_log, seats, seat);
+        let seat = ready(self.rt, queue, self.keeps_log, seats, seat);
         // Each arm puts its seat back: if the match returned it, each call would copy it once more.
-        match self.queue {
+        match queue {
             ChosenQueue::Fair(queue) => {
                 let (seat, answer) = ask(self.rt, queue, seat, request, limit);
                 self.seat = Some(seat);
