@@ -5,7 +5,6 @@ use Rattle.meet_tickets.specs.declared.refusals.Refusal.TheVariants.{NoThread}
 use Rattle.pool_threads.specs.Told.{IsExecuteWhy}
 use Rattle.pool_threads.specs.declared.jobs.Job.{Job}
 use Rattle.pool_threads.specs.declared.outcomes.Outcome.{Outcome}
-use Rattle.pool_threads.specs.declared.outcomes.Outcome.TheVariants.{Handed, Started, Kept, KeptStart, RanHere}
 use Rattle.pool_threads.specs.declared.outcomes.Outcome.TheVariants.{Aborted, Dropped, DroppedOldest}
 use Rattle.pool_callers.specs.Handles.{HandleView, Does, Stays, HandsIn, CallFits, StartsNone, Returns}
 use Rattle.pool_callers.specs.declared.refused.ExecuteRefused.{ExecuteRefused}
@@ -20,12 +19,12 @@ module _ {C : Type 0} where
   IsTaken (DroppedOldest ticket job) = ⊥
   IsTaken outcome = ⊤
 
-  -- the pool returned this job for this reason
+  -- a job with this outcome is returned for this reason
   abbrev pub EndsFor : NotRun → (back : Option (Job C)) → Outcome C → Type 0
-  EndsFor Rejected back outcome = (job : Job C) × (outcome ≡ Aborted job) × (back ≡ Some job)
-  EndsFor Discarded back outcome = (job : Job C) × (outcome ≡ Dropped job) × (back ≡ Some job)
-  EndsFor (Displaced ticket) back outcome = (job : Job C) × (outcome ≡ DroppedOldest ticket job) × (back ≡ Some job)
-  EndsFor (Refused why) back outcome = ⊥
+  EndsFor reason back (Aborted job) = (reason ≡ Rejected) × (back ≡ Some job)
+  EndsFor reason back (Dropped job) = (reason ≡ Discarded) × (back ≡ Some job)
+  EndsFor reason back (DroppedOldest ticket job) = (reason ≡ Displaced ticket) × (back ≡ Some job)
+  EndsFor reason back outcome = ⊥
 
   -- what was executed gives this reason, and hands this back
   abbrev pub Gives : Result (Outcome C) (ExecuteRefused C) → NotRun → (back : Option (Job C)) → Type 0
