@@ -7,7 +7,7 @@
 //! had made its last.
 
 use crate::counting::{now, since};
-use meet_exchanger::{ExchangeChair, ExchangeCrew, Exchanged, Exchanger, Unmet, at_exchanger};
+use meet_exchanger::{ExchangeTask, Exchanged, Exchanger, ExchangerHandle, Unmet, run_exchanger};
 use meet_tickets::Refusal;
 use std::alloc::Global;
 use std::sync::{Mutex, Wait};
@@ -42,9 +42,9 @@ struct Race<'r, R> {
 
 impl<'r, R: Wait + Clock> Race<'r, R> {
     /// Exchanges this item for that of another thread, and waits for one while others are at work. None if none came.
-    fn exchange<C: ExchangeChair<u64>>(&self, chair: &mut C, item: u64) -> Option<u64> {
+    fn exchange<X: ExchangerHandle<u64>>(&self, exchanger: &mut X, item: u64) -> Option<u64> {
         for _ in 0..MOST_BOUTS {
-            match chair.exchange_for(item, BOUT) {
+            match exchanger.exchange_for(item, BOUT) {
                 Ok(other) => return Some(other),
                 Err(Unmet::TimedOut(_)) => {}
                 Err(_) => return None,
@@ -75,14 +75,14 @@ impl<'r, R: Wait + Clock> Race<'r, R> {
     }
 }
 
-impl<'r, R: Wait + Clock> ExchangeCrew<u64> for Race<'r, R> {
-    type Told = ();
+impl<'r, R: Wait + Clock> ExchangeTask<u64> for Race<'r, R> {
+    type Output = ();
 
-    fn work<C: ExchangeChair<u64>>(&self, chair: &mut C) {
-        let mut item = chair.number().saturating_add(1);
+    fn run<X: ExchangerHandle<u64>>(&self, exchanger: &mut X) {
+        let mut item = exchanger.number().saturating_add(1);
         let mut exchanges = 0u64;
         for _ in 0..self.each {
-            let Some(other) = self.exchange(chair, item) else {
+            let Some(other) = self.exchange(exchanger, item) else {
                 break;
             };
             item = other;
@@ -109,7 +109,7 @@ where
             nanoseconds: 0,
         }),
     };
-    if let Err(why) = at_exchanger(rt, alloc, threads, &race)?.closed {
+    if let Err(why) = run_exchanger(rt, alloc, threads, &race)?.log {
         return Err(why);
     }
     let Tally {

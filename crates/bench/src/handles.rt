@@ -2,64 +2,62 @@
 //! themselves. Two threads hand HANDED items over at a fair queue; then one thread puts and polls PASSED items at a
 //! transfer queue. Two lines say how many items these were.
 
-use meet_crew::{Chair, Crew, at_fair_queue, at_transfer_queue};
-use meet_sync::End;
-use meet_tickets::Refusal;
+use meet_tasks::{Handoff, NotReceived, QueueHandle, QueueTask, run_handoff, run_queue};
+use meet_tickets::{Order, Refusal};
 use std::alloc::Global;
 use std::sync::Wait;
 use std::thread::Threads;
 use std::time::Clock;
 
-/// Two threads: the first hands this many items over, and the second takes them.
+/// A producer hands this many items over, and a consumer takes them.
 #[derive(Drop)]
 struct Handing(u64);
+
+impl Handoff<u64> for Handing {
+    type Produced = Result<(), NotReceived>;
+
+    type Consumed = Result<u64, NotReceived>;
+
+    fn produce<Q: QueueHandle<u64>>(&self, queue: &mut Q) -> Self::Produced {
+        for item in 0..self.0 {
+            if let Err(unsent) = queue.put(item) {
+                return Err(unsent.into_why());
+            }
+        }
+        Ok(())
+    }
+
+    fn consume<Q: QueueHandle<u64>>(&self, queue: &mut Q) -> Self::Consumed {
+        let mut items = 0u64;
+        for item in 0..self.0 {
+            if queue.take()? != item {
+                break;
+            }
+            items = item.saturating_add(1);
+        }
+        Ok(items)
+    }
+}
 
 /// One thread, which puts this many items, and polls each.
 #[derive(Drop)]
 struct Alone(u64);
 
-/// Whether a call ended since this item went from thread to thread.
-fn went_over(end: End<u64>, item: u64) -> bool {
-    match end {
-        End::Gave(_) => true,
-        End::Done => true,
-        End::Got(_, got) => got == item,
-        _ => false,
-    }
-}
-
-/// Makes the call of a thread for this item: returns whether the item went over.
-fn hand<C: Chair<u64>>(chair: &mut C, item: u64) -> Result<bool, Refusal> {
-    let called = if chair.number() == 0 {
-        chair.put(item)
-    } else {
-        chair.take()
-    };
-    match called {
-        Ok(end) => Ok(went_over(end, item)),
-        Err(refused) => Err(refused.into_why()),
-    }
-}
-
 /// Puts an item, and polls it: returns whether it came.
-fn put_and_poll<C: Chair<u64>>(chair: &mut C, item: u64) -> Result<bool, Refusal> {
-    match chair.put(item) {
-        Ok(_) => {}
-        Err(refused) => return Err(refused.into_why()),
-    }
-    match chair.poll() {
-        Ok(end) => Ok(went_over(end, item)),
-        Err(refused) => Err(refused.into_why()),
+fn put_and_poll<Q: QueueHandle<u64>>(queue: &mut Q, item: u64) -> Result<bool, NotReceived> {
+    match queue.put(item) {
+        Ok(()) => Ok(queue.poll()? == item),
+        Err(unsent) => Err(unsent.into_why()),
     }
 }
 
-impl Crew<u64> for Handing {
-    type Told = Result<u64, Refusal>;
+impl QueueTask<u64> for Alone {
+    type Output = Result<u64, NotReceived>;
 
-    fn work<C: Chair<u64>>(&self, chair: &mut C) -> Result<u64, Refusal> {
+    fn run<Q: QueueHandle<u64>>(&self, queue: &mut Q) -> Self::Output {
         let mut items = 0u64;
         for item in 0..self.0 {
-            if !hand(chair, item)? {
+            if !put_and_poll(queue, item)? {
                 break;
             }
             items = item.saturating_add(1);
@@ -68,25 +66,12 @@ impl Crew<u64> for Handing {
     }
 }
 
-impl Crew<u64> for Alone {
-    type Told = Result<u64, Refusal>;
-
-    fn work<C: Chair<u64>>(&self, chair: &mut C) -> Result<u64, Refusal> {
-        let mut items = 0u64;
-        for item in 0..self.0 {
-            if !put_and_poll(chair, item)? {
-                break;
-            }
-            items = item.saturating_add(1);
-        }
-        Ok(items)
-    }
-}
-
-/// The last of these results.
-fn last_of(results: &[Result<u64, Refusal>]) -> Result<u64, Refusal> {
+/// The last of these results. A call that wasn't refused, and yet moved no item, is Differs.
+fn last_of(results: &[Result<u64, NotReceived>]) -> Result<u64, Refusal> {
     match results {
-        [.., last] => *last,
+        [.., Ok(items)] => Ok(*items),
+        [.., Err(NotReceived::Refused(why))] => Err(*why),
+        [.., Err(_)] => Err(Refusal::Differs),
         [] => Ok(0),
     }
 }
@@ -100,12 +85,12 @@ pub fn run<R>(rt: &R, alloc: Global, handed: u64, passed: u64) -> Result<(), Ref
 where
     R: Threads + Wait + Clock + Print + Sync,
 {
-    let done = at_fair_queue(rt, alloc, 2, &Handing(handed))?;
-    done.closed?;
-    let items = last_of(done.told.as_slice())?;
+    let done = run_handoff(rt, alloc, Order::Fair, 1, 1, &Handing(handed))?;
+    done.log?;
+    let items = last_of(done.consumed.as_slice())?;
     println!(rt; "{items} items handed from thread to thread").map_err(|_| Refusal::WriteFault)?;
-    let done = at_transfer_queue(rt, alloc, 1, &Alone(passed))?;
-    done.closed?;
-    let items = last_of(done.told.as_slice())?;
+    let done = run_queue(rt, alloc, Order::Transfer, 1, &Alone(passed))?;
+    done.log?;
+    let items = last_of(done.results.as_slice())?;
     println!(rt; "{items} items put and polled").map_err(|_| Refusal::WriteFault)
 }

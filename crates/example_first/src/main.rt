@@ -1,34 +1,27 @@
 //! Two threads and a queue: one hands the number 7 over, and the other takes it.
 #![tactic(auto)]
 
-use ibisbookcase::crews::{CallRefused, Chair, Crew, End, Refusal, at_fair_queue};
+use anyhow::Result;
+use ibisbookcase::queues::{Handoff, NotReceived, Order, QueueHandle, Unsent, run_handoff};
 
-struct Handing;
+struct Seven;
 
-impl Crew<u64> for Handing {
-    type Told = Result<End<u64>, CallRefused<u64>>;
+impl Handoff<u64> for Seven {
+    type Produced = Result<(), Unsent<u64>>;
 
-    fn work<C: Chair<u64>>(&self, chair: &mut C) -> Result<End<u64>, CallRefused<u64>> {
-        match chair.number() {
-            0 => chair.transfer_for(7, 60_000), // milliseconds
-            _ => chair.poll_for(60_000),
-        }
+    type Consumed = Result<u64, NotReceived>;
+
+    fn produce<Q: QueueHandle<u64>>(&self, queue: &mut Q) -> Self::Produced {
+        queue.offer_for(7, 60_000) // milliseconds
+    }
+
+    fn consume<Q: QueueHandle<u64>>(&self, queue: &mut Q) -> Self::Consumed {
+        queue.poll_for(60_000)
     }
 }
 
-fn main(rt: HostRuntime) -> Result<(), Refusal> {
-    let done = at_fair_queue(&rt, rt.alloc(), 2, &Handing)?;
-    for told in done.told {
-        let (item, fate) = match told {
-            Ok(End::Got(_, number)) => (Some(number), "was taken"),
-            Ok(End::TimedOut(back)) => (back, "was returned: no thread took it in time"),
-            Ok(_) => (None, ""), // Gave or Done: the other thread has it (nobody interrupts here)
-            Err(refused) => (refused.item, "was refused"),
-        };
-        if let Some(number) = item {
-            println!(rt; "{number} {fate}").map_err(|_| Refusal::WriteFault)?;
-        }
-    }
-    let chronicle = done.closed?;
-    println!(rt; "{} records", chronicle.records.len()).map_err(|_| Refusal::WriteFault)
+fn main(rt: HostRuntime) -> Result<()> {
+    let done = run_handoff(&rt, rt.alloc(), Order::Fair, 1, 1, &Seven)?;
+    println!(rt; "{:?} {:?}", done.produced, done.consumed)?;
+    Ok(println!(rt; "{} records", done.log?.records.len())?)
 }

@@ -1,31 +1,27 @@
 //! Two threads and an exchanger: each brings a number, and gets the other's.
 
-use ibisbookcase::exchanger::{ExchangeChair, ExchangeCrew, Refusal, at_exchanger};
+use anyhow::Result;
+use ibisbookcase::exchanger::{ExchangeTask, ExchangerHandle, Unmet, run_exchanger};
 use std::alloc::Global;
 use std::sync::Wait;
 use std::thread::Threads;
 use std::time::Clock;
 
-struct Swapping;
+struct Swap;
 
-impl ExchangeCrew<u64> for Swapping {
-    type Told = u64;
+impl ExchangeTask<u64> for Swap {
+    type Output = Result<u64, Unmet<u64>>;
 
-    fn work<C: ExchangeChair<u64>>(&self, chair: &mut C) -> u64 {
-        match chair.exchange_for(chair.number(), 60_000) {
-            Ok(other) => other,
-            Err(unmet) => unmet.into_item(), // nobody came for a minute
-        }
+    fn run<X: ExchangerHandle<u64>>(&self, exchanger: &mut X) -> Self::Output {
+        exchanger.exchange_for(exchanger.number(), 60_000) // milliseconds
     }
 }
 
 /// Runs the program.
-pub fn run<R>(rt: &R, alloc: Global) -> Result<(), Refusal>
+pub fn run<R>(rt: &R, alloc: Global) -> Result<()>
 where
     R: Threads + Wait + Clock + Print + Sync,
 {
-    for got in at_exchanger(rt, alloc, 2, &Swapping)?.told {
-        println!(rt; "got {got}").map_err(|_| Refusal::WriteFault)?;
-    }
-    Ok(())
+    let done = run_exchanger(rt, alloc, 2, &Swap)?;
+    Ok(println!(rt; "{:?}", done.results)?)
 }

@@ -1,11 +1,12 @@
 //! Programs over the library, each in a module of its own, which a word of the command line runs:
 //!
-//!     examples strings | words | exchanger | pool | jobs | pipeline | server | buffers | moments | one_thread
+//!     examples strings | adding | exchanger | pool | jobs | pipeline | server | buffers | moments | one_thread
 //!     examples parcels [trace | GIVES TAKES PATIENCE CAP]
 //!
 //! Without a word all of them run, one after another.
 #![tactic(auto)]
 
+mod adding;
 mod buffers;
 mod exchanger;
 mod jobs;
@@ -17,7 +18,6 @@ mod pipeline;
 mod pool;
 mod server;
 mod strings;
-mod words;
 
 use anyhow::Result;
 use std::env;
@@ -28,14 +28,14 @@ use std::time::Clock;
 
 /// What is said of words that name no example.
 const USAGE: &str = "\
-usage: examples [strings | words | exchanger | pool | jobs | pipeline | server | buffers | moments | one_thread]
+usage: examples [strings | adding | exchanger | pool | jobs | pipeline | server | buffers | moments | one_thread]
        examples parcels [trace | GIVES TAKES PATIENCE CAP]";
 
 /// One of the programs.
 #[derive(Clone, Copy)]
 enum Example {
     Strings,
-    Words,
+    Adding,
     Exchanger,
     Pool,
     Jobs,
@@ -50,7 +50,7 @@ enum Example {
 /// All of the programs, in the order in which they run without a word.
 const ALL: [Example; 11] = [
     Example::Strings,
-    Example::Words,
+    Example::Adding,
     Example::Exchanger,
     Example::Pool,
     Example::Jobs,
@@ -67,7 +67,7 @@ impl Example {
     fn of_word(word: &str) -> Option<Example> {
         match word {
             "strings" => Some(Example::Strings),
-            "words" => Some(Example::Words),
+            "adding" => Some(Example::Adding),
             "exchanger" => Some(Example::Exchanger),
             "pool" => Some(Example::Pool),
             "jobs" => Some(Example::Jobs),
@@ -89,7 +89,7 @@ impl Example {
         let alloc = host.alloc();
         match self {
             Example::Strings => strings::run(rt, alloc)?,
-            Example::Words => words::run(rt, alloc)?,
+            Example::Adding => adding::run(rt, alloc)?,
             Example::Exchanger => exchanger::run(rt, alloc)?,
             Example::Pool => pool::run(rt, alloc)?,
             Example::Jobs => jobs::run(rt, alloc)?,

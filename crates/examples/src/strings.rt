@@ -1,6 +1,9 @@
-//! Two threads and a queue of `String`s, in twenty lines: one hands a text over, and the other takes it.
+//! Two threads and a queue of `String`s: one hands a text over, and the other takes it.
 
-use ibisbookcase::crews::{Chair, Crew, End, Labelled, Labels, Refusal, at_fair_queue};
+use anyhow::Result;
+use ibisbookcase::queues::{
+    Handoff, Labelled, NotReceived, Order, QueueHandle, Unsent, run_handoff,
+};
 use std::alloc::Global;
 use std::sync::Wait;
 use std::thread::Threads;
@@ -9,27 +12,27 @@ use std::time::Clock;
 #[derive(Clone, Copy)]
 struct Greeting(Global);
 
-impl Crew<Labelled<String>> for Greeting {
-    type Told = Option<String>;
+impl Handoff<Labelled<String>> for Greeting {
+    type Produced = Result<()>;
 
-    fn work<C: Chair<Labelled<String>>>(&self, chair: &mut C) -> Option<String> {
-        if chair.number() == 0 {
-            let text = format!(in self.0; "an ibis").ok()?;
-            chair.put(Labels::of_seat(0).label(text)).ok()?;
-            return None;
-        }
-        match chair.poll_for(60_000) {
-            Ok(End::Got(_, item)) => Some(item.value),
-            _ => None,
-        }
+    type Consumed = Result<Labelled<String>, NotReceived>;
+
+    fn produce<Q: QueueHandle<Labelled<String>>>(&self, queue: &mut Q) -> Self::Produced {
+        let item = queue.label(format!(in self.0; "an ibis")?);
+        Ok(queue.put(item).map_err(Unsent::into_why)?)
+    }
+
+    fn consume<Q: QueueHandle<Labelled<String>>>(&self, queue: &mut Q) -> Self::Consumed {
+        queue.poll_for(60_000) // milliseconds
     }
 }
 
 /// Runs the program.
-pub fn run<R>(rt: &R, alloc: Global) -> Result<(), Refusal>
+pub fn run<R>(rt: &R, alloc: Global) -> Result<()>
 where
     R: Threads + Wait + Clock + Print + Sync,
 {
-    let done = at_fair_queue(rt, alloc, 2, &Greeting(alloc))?;
-    println!(rt; "{:?}", done.told).map_err(|_| Refusal::WriteFault)
+    let done = run_handoff(rt, alloc, Order::Fair, 1, 1, &Greeting(alloc))?;
+    println!(rt; "{:?} {:?}", done.produced, done.consumed)?;
+    Ok(())
 }

@@ -15,7 +15,7 @@ pub use Rattle.meet_sync.specs.Told
 pub use Rattle.meet_sync.specs.declared.asked.Answer
 pub use Rattle.meet_sync.specs.declared.asked.End
 pub use Rattle.meet_sync.specs.declared.asked.Request
-pub use Rattle.meet_crew.specs.Chairs
+pub use Rattle.meet_tasks.specs.Handles
 pub use Rattle.pool_core.specs.Histories
 pub use Rattle.meet_overlap.specs.Calls
 pub use Rattle.meet_overlap.specs.Explaining

@@ -1,16 +1,13 @@
 //! Exchangers: two threads exchange their items (`Exchanger`).
 //!
-//! The shortest way is `at_exchanger`, which starts threads at an exchanger that it makes, each with a handle (a
-//! chair). From `crates/examples/src/exchanger.rt`:
+//! The shortest way is `run_exchanger`, which starts threads at an exchanger that it makes, each with a handle.
+//! From `crates/examples/src/exchanger.rt`:
 //!
-//!     impl ExchangeCrew<u64> for Swapping {
-//!         type Told = u64;
+//!     impl ExchangeTask<u64> for Swap {
+//!         type Output = Result<u64, Unmet<u64>>;
 //!
-//!         fn work<C: ExchangeChair<u64>>(&self, chair: &mut C) -> u64 {
-//!             match chair.exchange_for(chair.number(), 60_000) {
-//!                 Ok(other) => other,
-//!                 Err(unmet) => unmet.into_item(), // nobody came for a minute
-//!             }
+//!         fn run<X: ExchangerHandle<u64>>(&self, exchanger: &mut X) -> Self::Output {
+//!             exchanger.exchange_for(exchanger.number(), 60_000) // milliseconds
 //!         }
 //!     }
 //!
@@ -30,6 +27,6 @@ pub use meet_exchange::{
     RoundEnd, Seat, SlotDeed, Standing, TakenBack,
 };
 pub use meet_exchanger::{
-    ExchangeChair, ExchangeCrew, Exchanger, ExchangerFault, ExchangesDone, Unmet, at_exchanger,
+    ExchangeTask, Exchanger, ExchangerFault, ExchangerHandle, Finished, Unmet, run_exchanger,
 };
 pub use meet_tickets::{Marked, Refusal, SeatNo};

@@ -2,8 +2,8 @@
 //! their logs and checkers. A program lists this crate in crates.txt, and the toolchain finds those below. Each name is
 //! documented in its own crate. The modules separate equal names: a queue's `Seat` and an arena's are two types.
 //!
-//! - `crews`: scoped workers at a queue, the shortest way (`SynchronousQueue`, `LinkedTransferQueue`).
-//! - `queues`: the queues for threads, with seats that the program holds, and seat pools.
+//! - `queues`: the queues for threads (`SynchronousQueue`, `LinkedTransferQueue`): tasks at a queue, the shortest way,
+//!   and queues whose seats the program holds.
 //! - `exchanger`: exchangers (`Exchanger`).
 //! - `pools`: the pool of threads (`ThreadPoolExecutor`).
 //! - `one_thread`: the queues of one thread, and their logs.
@@ -11,9 +11,7 @@
 //! - `overlapping`: the linearizability checker for concurrent histories.
 #![tactic(auto)]
 
-pub mod crews;
 pub mod exchanger;
-mod labels;
 pub mod one_thread;
 pub mod overlapping;
 pub mod pools;

@@ -1,7 +1,15 @@
-//! The queues for threads, for a program that holds seats, gates (parkers) and ledgers (ghost counters) itself, and a
-//! pool of their seats.
+//! The queues for threads: synchronous queues and transfer queues (`SynchronousQueue`, `LinkedTransferQueue`).
 //!
-//! Each call takes a seat, and returns it. From `crates/examples/src/parcels/passing.rt`:
+//! The shortest way is `run_queue`, which makes a queue, runs a task in each of its threads, and closes the queue after
+//! them; or `run_handoff`, which does so with producers and consumers. From `crates/example_first/src/main.rt`:
+//!
+//!     let done = run_handoff(&rt, rt.alloc(), Order::Fair, 1, 1, &Seven)?;
+//!
+//! A `QueueHandle` has the calls of `BlockingQueue` and `TransferQueue`, and `Probes`. They compact the log, unless the
+//! task is a `KeepLog`. An item that has no number of its own gets one by `QueueHandle::label`.
+//!
+//! The other names are for a program that holds seats, gates (parkers) and ledgers (ghost counters) itself, or a pool of
+//! their seats. Each call takes a seat, and returns it. From `crates/examples/src/parcels/passing.rt`:
 //!
 //!     match counter.transfer_for(rt, seat, parcel, plan.patience) {
 //!         Ok(ended) => {
@@ -17,5 +25,9 @@ pub use meet_sync::{
     Followed, Gate, Interrupted, Ledgers, Left, LeftStanding, Moment, NewQueue, Pending, Queue,
     QueueFault, Request, Seat, SeatRefused, StackLine, StackSeats, SyncQueue, TakenBack, Tally,
     TransferQueue, Turn,
+};
+pub use meet_tasks::{
+    CallRefused, Finished, HandedOff, Handoff, KeepLog, Labelled, NotReceived, Probes, QueueHandle,
+    QueueTask, Unsent, run_handoff, run_queue,
 };
 pub use meet_tickets::{Deed, Marked, Order, Record, Refusal, Refused, SeatNo, Ticket};

@@ -1,9 +1,10 @@
 //! The split calls: requests, the completion of pending requests, and interrupts.
 
-ghost use Rattle.std.specs.Prelude.{◌<◌, None, IfOk, IfErr};
+ghost use Rattle.std.specs.Prelude.{◌≡◌, ◌<◌, ℕ, None, IfOk, IfErr};
 ghost use Rattle.meet_tickets.specs.declared.records.Cause.TheVariants.{Cancelled, Expired};
 ghost use Rattle.meet_sync.specs.Asking.{item_of, RefusedAs, AskedAs, InterruptedAs, FollowedAs, TakenBackAs};
-ghost use Rattle.meet_sync.specs.Told.{IsRequestWhy, IsInterruptWhy};
+ghost use Rattle.meet_sync.specs.Stopping.{Interrupts, others};
+ghost use Rattle.meet_sync.specs.Told.{IsRequestWhy, IsInterruptWhy, IsCutWhy};
 ghost use Rattle.meet_chosen.specs.Chosen.{kind_of};
 
 use crate::queue::{ChosenQueue, whichever};
@@ -55,6 +56,26 @@ impl<T: Marked, G: Gate, N: Ledgers> ChosenQueue<T, G, N> {
         ensures refused { IfErr result (RefusedAs (IsInterruptWhy N.parts target) seat None) }
     {
         whichever!(self, queue => queue.interrupt(rt, seat, target))
+    }
+
+    /// Interrupts every other seat, as `Queue::interrupt_all`: one after another, each by a record of its own.
+    ///
+    /// # Errors
+    /// The seats below some number were interrupted, and no others; the returned seat has their receipts.
+    /// - HistoryFull, if the log has no room for a record.
+    /// - Memory, if an allocation fails.
+    pub fn interrupt_all<R: Wait>(
+        &self,
+        rt: &R,
+        seat: Seat<Deed, N>,
+    ) -> Result<Seat<Deed, N>, SeatRefused<T, N>>
+        ensures all { IfOk result (λ after. Interrupts seat after (others seat.number N.parts)) }
+        ensures some { IfErr result (λ refused. (below : ℕ) × (below < N.parts)
+            × Interrupts seat refused.seat (others seat.number below)) }
+        ensures why { IfErr result (λ refused. IsCutWhy refused.why) }
+        ensures item { IfErr result (λ refused. refused.item ≡ None) }
+    {
+        whichever!(self, queue => queue.interrupt_all(rt, seat))
     }
 
     /// Follows a pending request up: returns how it ended, or NotYet while it waits in the wait queue. It can't fail.

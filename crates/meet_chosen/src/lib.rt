@@ -5,6 +5,7 @@
 
 mod asking;
 mod living;
+mod probes;
 mod queue;
 mod whole;
 

@@ -38,7 +38,7 @@ macro_rules! whichever {
 pub(crate) use whichever;
 
 /// A queue for threads of the order that was chosen. It has most of the calls that all three queues have. Any other
-/// call, such as `transfer` or `rotate`, is made at the queue in the variant.
+/// call, such as `transfer`, is made at the queue in the variant.
 ///
 /// Java: `new SynchronousQueue(fair)`, or `new LinkedTransferQueue()`.
 #[derive(Drop)]

@@ -2,6 +2,7 @@
 
 ghost use Rattle.std.specs.Prelude.{◌≡◌, ◌<◌, ⊤, None, length, IfOk, IfErr, if◌then◌else◌};
 ghost use Rattle.meet_tickets.specs.Meeting.{keeps};
+ghost use Rattle.meet_place.specs.Seats.{IsLater};
 ghost use Rattle.meet_sync.specs.Asking.{item_of, RefusedAs};
 ghost use Rattle.meet_sync.specs.Drained.{DrainedTo, IsLeastFor};
 ghost use Rattle.meet_sync.specs.Ending.{EndedAs, MayRunOut};
@@ -23,6 +24,7 @@ impl<T: Marked, G: Gate, N: Ledgers> ChosenQueue<T, G, N> {
     ///
     /// # Errors
     /// - Memory, SeatOpen, TicketsSpent or HistoryFull, as `request`.
+    #[inline(always)]
     pub fn ask<R: Wait + Clock>(
         &self,
         rt: &R,
@@ -159,6 +161,7 @@ impl<T: Marked, G: Gate, N: Ledgers> ChosenQueue<T, G, N> {
         ensures past { IfOk result (λ drained. drained.seat.past ≡ seat.past) }
         ensures count { IfOk result (λ drained. IsLeastFor T N.parts max (length drained.items.items)) }
         ensures drained { IfOk result (λ drained. DrainedTo T.mark_of seat drained.seat drained.items.items) }
+        ensures later { IfOk result (λ drained. IsLater seat.moment drained.seat.moment seat.list drained.seat.list) }
         ensures refused { IfErr result (RefusedAs IsRequestWhy seat None) }
     {
         whichever!(self, queue => queue.drain(rt, alloc, seat, max))

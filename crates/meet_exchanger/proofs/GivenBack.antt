@@ -1,4 +1,4 @@
--- The end of a crew.
+-- The end of a task.
 use Rattle.std.proofs.Common.{◌≡◌, ◌↔◌, ℕ, ◌<◌, ◌⊎◌, inl, inr, List, [], ◌∷◌, ◌++◌, arith}
 use Rattle.atomic_table.specs.Seated.{TableId}
 use Rattle.meet_tickets.specs.declared.refusals.Refusal.{Refusal}

@@ -1,4 +1,4 @@
-//! A chair at an exchanger, and the seats of one exchanger.
+//! A handle at an exchanger, and the seats of one exchanger.
 
 ghost use Rattle.std.specs.Prelude.{◌≡◌, ◌≤◌, [], IsSome, IfSome, vec_len};
 ghost use Rattle.std.specs.Option.{ForSome};
@@ -6,10 +6,10 @@ ghost use Rattle.std.specs.Vec.{vec_capacity};
 ghost use Rattle.meet_exchange.specs.Seats.{AreNew, ArenaView};
 ghost use Rattle.meet_exchange.specs.Closed.{AreOf};
 ghost use Rattle.meet_exchanger.specs.Tries.{MayTimeOut};
-ghost use Rattle.meet_exchanger.specs.Chairs.{CalledAs};
+ghost use Rattle.meet_exchanger.specs.Handles.{CalledAs};
 
-use crate::chairs::{ExchangeChair, Unmet, apart};
 use crate::exchanger::Exchanger;
+use crate::handles::{ExchangerHandle, Unmet, apart};
 use meet_exchange::{Back, Seat};
 use meet_tickets::Marked;
 use std::marker::{Brand, PhantomData};
@@ -23,7 +23,7 @@ pub(crate) trait Site {
 }
 
 impl Site for Brand {
-    ghost use Rattle.meet_exchanger.specs.Chairs.{no_site};
+    ghost use Rattle.meet_exchanger.specs.Handles.{no_site};
 
     ghost site = { no_site };
 }
@@ -87,7 +87,7 @@ pub(crate) struct At<'x, T: Marked, N: Site, R> {
 }
 
 impl<'x, T: Marked, N: Site, R> At<'x, T, N, R> {
-    /// A chair with this seat at its exchanger.
+    /// A handle with this seat at its exchanger.
     pub(crate) fn new(rt: &'x R, exchanger: &'x Exchanger<T>, placed: Placed<T, N>) -> Self
         requires { exchanger.now ≡ N.site }
     {
@@ -108,13 +108,13 @@ impl<'x, T: Marked, N: Site, R> At<'x, T, N, R> {
     }
 }
 
-impl<'x, T, N, R> ExchangeChair<T> for At<'x, T, N, R>
+impl<'x, T, N, R> ExchangerHandle<T> for At<'x, T, N, R>
 where
     T: Marked,
     N: Site,
     R: Wait + Clock,
 {
-    type Handle = R;
+    type Runtime = R;
 
     ghost site = { N.site };
 

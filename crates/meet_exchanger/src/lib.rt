@@ -7,16 +7,17 @@
 
 mod at;
 mod attempts;
-mod chairs;
-mod crews;
 mod exchanger;
 mod exchanging;
+mod handles;
+mod runs;
 mod waiters;
 mod watching;
 
-pub use chairs::{ExchangeChair, Unmet};
-pub use crews::{ExchangeCrew, ExchangesDone, at_exchanger};
 pub use exchanger::{Exchanger, ExchangerFault};
+pub use handles::{ExchangerHandle, Unmet};
 pub use meet_exchange::{
     Back, Closed, Exchanged, LeftIn, Part, Pending, Round, RoundEnd, Seat, SlotDeed, Standing,
 };
+pub use meet_threads::Finished;
+pub use runs::{ExchangeTask, run_exchanger};

@@ -4,10 +4,10 @@
 #[cfg(test)]
 mod at_size;
 #[cfg(test)]
-mod crews;
-#[cfg(test)]
 mod java_exchanger;
 #[cfg(test)]
 mod rows;
+#[cfg(test)]
+mod runs;
 #[cfg(test)]
 mod shared;

@@ -1,9 +1,13 @@
-//! The threads of a crew: how they begin together, and what they return. A crew has a seat for each of its threads, of
-//! whatever place it shares.
+//! The threads of a task: how they begin together, what they return, and the labels of their items. A task has a seat
+//! for each of its threads, of whatever place it shares.
 #![tactic(auto)]
 
+mod finished;
 mod joining;
+mod labels;
 mod start;
 
-pub use joining::{Room, Sat, joined};
+pub use finished::Finished;
+pub use joining::{Returned, Room, joined};
+pub use labels::{Labelled, Labels};
 pub use start::Start;

@@ -1,4 +1,4 @@
-//! The start of a crew: no thread begins before all are there.
+//! The start of a task: no thread begins before all are there.
 
 use std::sync::{Condvar, Mutex, Wait};
 
@@ -19,7 +19,7 @@ impl Start {
     }
 
     /// Lets all threads begin, or all leave.
-    pub fn tell<R: Wait>(&self, rt: &R, all_there: bool) {
+    pub fn decide<R: Wait>(&self, rt: &R, all_there: bool) {
         *self.all_there.lock(rt) = Some(all_there);
         self.known.notify_all();
     }

@@ -8,7 +8,7 @@ mod tallies;
 use self::callers::{Account, Board, Note, Soaking};
 use self::rounds::Round;
 pub use self::tallies::{NONE, Tally};
-use pool_crew::{PoolDone, Task, at_pool};
+use pool_callers::{Finished, Task, run_pool};
 use pool_threads::PoolChronicle;
 use std::alloc::Global;
 use std::sync::Wait;
@@ -77,14 +77,14 @@ where
         round,
         board: &board,
     };
-    let PoolDone { told, closed } = at_pool(rt, alloc, round.settings(), &task).map_err(
+    let Finished { results, log } = run_pool(rt, alloc, round.settings(), &task).map_err(
         |why| why.name(),
     )?;
     let mut account = Account::new(alloc);
-    for own in told {
+    for own in results {
         account.add(own);
     }
-    match closed {
+    match log {
         Ok(chronicle) => {
             judge(alloc, round, &board, &mut account, &chronicle)?;
             Ok(account.tally)

@@ -4,8 +4,8 @@ use super::rounds::{Round, Stop};
 use super::tallies::{Event, NONE, Tally};
 use meet_shop::Chance;
 use meet_tickets::Record;
+use pool_callers::{PoolCaller, PoolHandle, Run, Task};
 use pool_core::PoolDeed;
-use pool_crew::{Executor, PoolCrew, Run, Task};
 use pool_threads::{ItsTag, Job, Outcome};
 use std::alloc::Global;
 use std::sync::atomic::{AtomicU64, Ordering};
@@ -149,9 +149,9 @@ pub struct Soaking<'r, R> {
 
 impl<'r, R: Wait + Clock> Soaking<'r, R> {
     /// Hands the job of this tag in.
-    fn hand_in<E: Executor<ItsTag, Task<Note>>>(
+    fn hand_in<P: PoolHandle<ItsTag, Task<Note>>>(
         &self,
-        pool: &mut E,
+        pool: &mut P,
         tag: u64,
         account: &mut Account,
     ) {
@@ -166,7 +166,7 @@ impl<'r, R: Wait + Clock> Soaking<'r, R> {
     }
 
     /// Shuts the pool down as in this round.
-    fn stop<E: Executor<ItsTag, Task<Note>>>(&self, pool: &mut E, account: &mut Account) {
+    fn stop<P: PoolHandle<ItsTag, Task<Note>>>(&self, pool: &mut P, account: &mut Account) {
         match self.round.stop {
             Stop::Later => {
                 if let Err(why) = pool.shutdown() {
@@ -185,9 +185,9 @@ impl<'r, R: Wait + Clock> Soaking<'r, R> {
     }
 
     /// What a caller does after a job, by chance: seldom it takes the records out, or pauses.
-    fn look_after<E: Executor<ItsTag, Task<Note>>>(
+    fn look_after<P: PoolHandle<ItsTag, Task<Note>>>(
         &self,
-        pool: &mut E,
+        pool: &mut P,
         chance: &mut Chance,
         account: &mut Account,
     ) {
@@ -205,11 +205,11 @@ impl<'r, R: Wait + Clock> Soaking<'r, R> {
     }
 }
 
-impl<'r, R: Wait + Clock> PoolCrew<ItsTag, Task<Note>> for Soaking<'r, R> {
-    type Told = Account;
+impl<'r, R: Wait + Clock> PoolCaller<ItsTag, Task<Note>> for Soaking<'r, R> {
+    type Output = Account;
 
     /// Hands the jobs of a caller in. The first caller shuts the pool down after as many as the round says.
-    fn work<E: Executor<ItsTag, Task<Note>>>(&self, pool: &mut E) -> Account {
+    fn run<P: PoolHandle<ItsTag, Task<Note>>>(&self, pool: &mut P) -> Account {
         let round = self.round;
         let number = pool.number();
         let mut chance = round.chance_of(number);

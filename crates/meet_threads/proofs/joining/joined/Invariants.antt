@@ -9,7 +9,7 @@ invariant-loop-thread g l = record {
   can : (goal.iterator-loop-thread g).can_next l.thread-iterator;
   finite : (goal.iterator-loop-thread g).is_finite l.thread-iterator;
   seats : into_iter_len l.thread-iterator + vec_len l.seats ≡ vec_len l.fn.threads;
-  told : into_iter_len l.thread-iterator + vec_len l.all_told ≡ vec_len l.fn.threads;
+  results : into_iter_len l.thread-iterator + vec_len l.results ≡ vec_len l.fn.threads;
   room : vec_len l.fn.threads ≤ vec_capacity l.seats;
-  free : vec_len l.fn.threads ≤ vec_capacity l.all_told;
+  free : vec_len l.fn.threads ≤ vec_capacity l.results;
 }

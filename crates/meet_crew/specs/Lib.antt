@@ -1,2 +1,0 @@
-pub mod Chairs
-pub mod Crews

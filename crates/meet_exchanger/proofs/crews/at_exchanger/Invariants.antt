@@ -1,6 +1,0 @@
--- What `at_exchanger` calls `at_site` with, src/crews.rt.
-use Rattle.meet_exchanger.proofs.crews.at_exchanger.Given as goal
-
--- the exchanger that is made
-abbrev pub ghosts-at_site : goal.ghosts-at_site
-ghosts-at_site g a = record { site = a.exchanger }

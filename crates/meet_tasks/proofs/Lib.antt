@@ -1,0 +1,2 @@
+pub mod Readied
+pub mod Ends

@@ -1,0 +1,3 @@
+pub mod Readied
+pub mod WorthyLists
+pub mod Submitting

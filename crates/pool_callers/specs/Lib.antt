@@ -1,0 +1,4 @@
+pub mod Answers
+pub mod Handles
+pub mod PoolRuns
+pub mod Submits

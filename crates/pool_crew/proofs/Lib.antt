@@ -1,2 +1,0 @@
-pub mod Readied
-pub mod WorthyLists
