@@ -31,17 +31,14 @@ appended o o1 o2 o3 o4 o5 o6 o7 o8 o9 a b c d e f g h i p1 p2 p3 p4 p5 p6 p7 p8 
     ∙ regrouped o a b c d e f g h i
 
 -- the lines so far, and one more
-pub one_more : (o : Order) (calls : List Call) (n : ℕ) (call : Call) (old now more a b c d : List ℕ) → n < length calls → call ≡ get_or calls n call →
-    now ≡ old ++ (a ++ b ++ c ++ d ++ lines_text o (take n calls)) → more ≡ now ++ call_text o call → more ≡ old ++ (a ++ b ++ c ++ d ++ lines_text o (take (n + 1) calls))
-one_more o calls n call old now more a b c d there is so_far pushed =
+pub one_more : (o : Order) (calls : List Call) (n : ℕ) (call : Call) (old now more : List ℕ) → n < length calls → call ≡ get_or calls n call →
+    now ≡ old ++ lines_text o (take n calls) → more ≡ now ++ call_text o call → more ≡ old ++ lines_text o (take (n + 1) calls)
+one_more o calls n call old now more there is so_far pushed =
     let taken : take (n + 1) calls ≡ take n calls ++ call ∷ [] = ap (λ m. take m calls) (add-one n) ∙ take-suc calls n call there ∙ ap (λ x. take n calls ++ x ∷ []) (sym is) in
     pushed
     ∙ ap (λ t. t ++ call_text o call) so_far
-    ∙ regrouped_line old a b c d (lines_text o (take n calls)) (call_text o call)
-    ∙ ap (λ t. old ++ (a ++ b ++ c ++ d ++ t)) (sym (lines_more o (take n calls) call) ∙ ap (lines_text o) (sym taken))
-  where
-    regrouped_line : (old a b c d l t : List ℕ) → old ++ (a ++ b ++ c ++ d ++ l) ++ t ≡ old ++ (a ++ b ++ c ++ d ++ (l ++ t))
-    regrouped_line old a b c d l t = simp append_assoc
+    ∙ append_assoc old (lines_text o (take n calls)) (call_text o call)
+    ∙ ap (λ t. old ++ t) (sym (lines_more o (take n calls) call) ∙ ap (lines_text o) (sym taken))
 
 -- the same of four pieces
 pub appended_four : (o o1 o2 o3 o4 a b c d : List ℕ) → o1 ≡ o ++ a → o2 ≡ o1 ++ b → o3 ≡ o2 ++ c → o4 ≡ o3 ++ d → o4 ≡ o ++ (a ++ b ++ c ++ d)

@@ -3,11 +3,10 @@ use Rattle.std.proofs.Common.{◌≡◌, ◌∙◌, ℕ, ap, sym, subst, Option,
 use Rattle.std.specs.Prelude.{IfSome, codes}
 use Rattle.std.specs.Io.KnownBytes.{Consumes, IsAtEnd}
 use Rattle.std.proofs.lemmas.List.{append-nil}
-use Rattle.meet_tickets.specs.declared.places.Kind.{Kind}
 use Rattle.meet_overlap.specs.declared.calls.Call.{Call}
+use Rattle.meet_overlap.specs.declared.calls.Queue.{Queue}
 use Rattle.meet_run.proofs.Texts.LineLemmas.{consumes-more}
-use Rattle.meet_run.specs.Scripts.Spelling.{place_text, option_text}
-use Rattle.meet_judge.specs.CallText.{call_text, calls_text, lines_text}
+use Rattle.meet_judge.specs.CallText.{call_text, calls_text, lines_text, queue_text, words_of}
 use Rattle.meet_judge.proofs.Lines.{lines_more}
 
 -- at the end all of it was read
@@ -18,11 +17,11 @@ all_taken (Some a) (Some b) None text taken none end = absurd none
 all_taken (Some a) (Some b) (Some c) text taken none end = taken ∙ ap (λ (t : List ℕ). text ++ t) (none ∙ end) ∙ append-nil text
 
 -- a call more is a line more
-pub calls_more : (k : Kind) (calls : List Call) (call : Call) → calls_text k calls ++ call_text k.order call ≡ calls_text k (calls ++ call ∷ [])
-calls_more k calls call =
-    append_assoc (codes "calls 1 " ++ place_text k.order ++ option_text (codes " bound ") k.bound ++ codes "\n") (lines_text k.order calls) (call_text k.order call)
-    ∙ ap (λ t. codes "calls 1 " ++ place_text k.order ++ option_text (codes " bound ") k.bound ++ codes "\n" ++ t) (sym (lines_more k.order calls call))
+pub calls_more : (queue : Queue) (calls : List Call) (call : Call) → calls_text queue calls ++ call_text (words_of queue) call ≡ calls_text queue (calls ++ call ∷ [])
+calls_more queue calls call =
+    append_assoc (codes "calls 1 " ++ queue_text queue ++ codes "\n") (lines_text (words_of queue) calls) (call_text (words_of queue) call)
+    ∙ ap (λ t. codes "calls 1 " ++ queue_text queue ++ codes "\n" ++ t) (sym (lines_more (words_of queue) calls call))
 
-pub one_more_taken : (k : Kind) (calls : List Call) (call : Call) (old mid new : Option (List ℕ)) → Consumes old mid (calls_text k calls) → Consumes mid new (call_text k.order call) → Consumes old new (calls_text k (calls ++ call ∷ []))
-one_more_taken k calls call old mid new taken more =
-    subst (Consumes old new) (calls_more k calls call) (consumes-more old mid new (calls_text k calls) (call_text k.order call) taken more)
+pub one_more_taken : (queue : Queue) (calls : List Call) (call : Call) (old mid new : Option (List ℕ)) → Consumes old mid (calls_text queue calls) → Consumes mid new (call_text (words_of queue) call) → Consumes old new (calls_text queue (calls ++ call ∷ []))
+one_more_taken queue calls call old mid new taken more =
+    subst (Consumes old new) (calls_more queue calls call) (consumes-more old mid new (calls_text queue calls) (call_text (words_of queue) call) taken more)

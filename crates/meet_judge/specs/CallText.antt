@@ -1,15 +1,17 @@
--- The text of calls that overlap: a line that names the place, and then a line a call. No two places and lists of calls
+-- The text of calls that overlap: a line that names the queue, and then a line a call. No two queues and lists of calls
 -- have the same text. What no text of calls that is read tells has words of its own: an item kept where a place keeps
 -- none, an interrupt that went through as a request does, a request that was made as an interrupt is, and a bound.
 use Rattle.std.specs.Prelude.{ℕ, ◌+◌, ◌-◌, ◌^◌, min, Option, Some, None, List, [], ◌∷◌, ◌++◌, codes, decimal}
 use Rattle.std.specs.Prelude.{Bool, true, false, if◌then◌else◌}
 use Rattle.meet_tickets.specs.declared.places.Order.{Order}
-use Rattle.meet_tickets.specs.declared.places.Kind.{Kind}
+use Rattle.meet_tickets.specs.declared.places.Order.TheVariants.{Fair}
 use Rattle.meet_tickets.specs.Meeting.{keeps}
 use Rattle.meet_overlap.specs.declared.calls.Answer.{Answer}
 use Rattle.meet_overlap.specs.declared.calls.Answer.TheVariants.{Went, Got, Nothing, Expired, Interrupted, Made}
 use Rattle.meet_overlap.specs.declared.calls.Call.{Call}
 use Rattle.meet_overlap.specs.declared.calls.Patience.TheVariants.{Now, Forever, Timed}
+use Rattle.meet_overlap.specs.declared.calls.Queue.{Queue}
+use Rattle.meet_overlap.specs.declared.calls.Queue.TheVariants.{Place, Buffer}
 use Rattle.meet_overlap.specs.declared.calls.Returned.{Returned}
 use Rattle.meet_overlap.specs.declared.calls.Verb.{Verb}
 use Rattle.meet_overlap.specs.declared.calls.Verb.TheVariants.{Keep, Give, Take, Interrupt}
@@ -70,11 +72,20 @@ abbrev pub lines_text : Order → List Call → List ℕ
 lines_text o [] = []
 lines_text o (call ∷ calls) = call_text o call ++ lines_text o calls
 
--- calls at a place, whole
-abbrev pub calls_text : Kind → List Call → List ℕ
-calls_text k calls =
-    codes "calls 1 " ++ place_text k.order ++ option_text (codes " bound ") k.bound ++ codes "\n"
-    ++ lines_text k.order calls
+-- the order whose words the calls of a queue have: a buffer's are those of a synchronous queue
+abbrev pub words_of : Queue → Order
+words_of (Place k) = k.order
+words_of (Buffer bound) = Fair
+
+-- a queue, in the first line
+abbrev pub queue_text : Queue → List ℕ
+queue_text (Place k) = place_text k.order ++ option_text (codes " bound ") k.bound
+queue_text (Buffer bound) = codes "buffer" ++ option_text (codes " ") bound
+
+-- calls at a queue, whole
+abbrev pub calls_text : Queue → List Call → List ℕ
+calls_text queue calls =
+    codes "calls 1 " ++ queue_text queue ++ codes "\n" ++ lines_text (words_of queue) calls
 
 -- the line of a call: the second one is that of the first call
 abbrev pub line_number : (call : ℕ) → List ℕ

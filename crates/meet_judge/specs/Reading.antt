@@ -5,7 +5,7 @@ use Rattle.meet_overlap.specs.declared.calls.Calls.{Calls}
 use Rattle.meet_overlap.specs.declared.calls.Call.{Call}
 use Rattle.meet_judge.specs.declared.reading.Taken.{Taken}
 use Rattle.meet_judge.specs.declared.reading.Taken.TheVariants.{Line, End, Faulty}
-use Rattle.meet_judge.specs.CallText.{call_text}
+use Rattle.meet_judge.specs.CallText.{call_text, words_of}
 
 -- a byte is taken from the known bytes, or there is none
 abbrev pub TakesByte : (old new : Option (List ℕ)) → Option ℕ → Type 0
@@ -21,5 +21,5 @@ Takes old new line Faulty = Unit {0}
 -- a call's line is taken from the known bytes, and the call is added; or there is none
 abbrev pub ReadsNext : (begin : Option ℕ) → (old new : Option (List ℕ)) → (before after : Calls) → Type 0
 ReadsNext None old new before after = Consumes old new [] × IsAtEnd new × (after ≡ before)
-ReadsNext (Some begin) old new before after = (call : Call) × Consumes old new (call_text before.kind.order call)
-    × (after.kind ≡ before.kind) × (after.list.items ≡ before.list.items ++ call ∷ [])
+ReadsNext (Some begin) old new before after = (call : Call) × Consumes old new (call_text (words_of before.queue) call)
+    × (after.queue ≡ before.queue) × (after.list.items ≡ before.list.items ++ call ∷ [])

@@ -1,17 +1,17 @@
 //! Checks the text of a concurrent history of calls.
 
-ghost use Rattle.std.specs.Prelude.{◌≡◌, ℕ, List, IfOk, IfSome, OnOk};
+ghost use Rattle.std.specs.Prelude.{◌≡◌, ℕ, List, IfOk, IfErr, IfSome, OnOk};
 ghost use Rattle.std.specs.Io.KnownBytes.{Appends};
 ghost use Rattle.meet_judge.specs.CallText.{calls_text, refused_text};
-ghost use Rattle.meet_judge.specs.Judging.{JudgeEnds, Judged};
+ghost use Rattle.meet_judge.specs.Judging.{ExplainsAt, IsReasonAt, JudgeEnds, Judged, kind_of};
 
 use crate::reading::read_calls_from;
 use crate::writing::push_refused;
-use meet_overlap::{Calls, Fault, Reason, judge};
+use meet_overlap::{Calls, Fault, Queue, Reason, buffer_kind, judge, judge_buffer};
 use meet_run::text::faults::cut_short;
 use meet_run::text::output::write_whole;
 use meet_run::{RunFault, write_trace};
-use meet_tickets::Refusal;
+use meet_tickets::{Deed, Kind, Record, Refusal};
 use std::alloc::Global;
 use std::io::{Read, Write};
 
@@ -45,17 +45,41 @@ fn write_refused<W: Write>(
     }
 }
 
+/// The kind of place whose histories explain the calls of a queue.
+fn kind_of(queue: Queue) -> Kind
+    ensures { result ≡ kind_of queue }
+{
+    match queue {
+        Queue::Place(kind) => kind,
+        Queue::Buffer(bound) => buffer_kind(bound),
+    }
+}
+
+/// Judges calls by what their queue is.
+fn judged(alloc: Global, calls: &Calls) -> Result<Result<Vec<Record<Deed>>, Reason>, Fault>
+    ensures yes { IfOk result (λ found. IfOk found (λ history.
+        ExplainsAt calls.now.queue calls.now.list.items history.items)) }
+    ensures no { IfOk result (λ found. IfErr found (λ _. (history : List (Record Deed))
+        → ExplainsAt calls.now.queue calls.now.list.items history → ⊥)) }
+    ensures reason { IfOk result (λ found. IfErr found (IsReasonAt calls.now.queue calls.now.list.items)) }
+{
+    match calls.queue {
+        Queue::Place(kind) => judge(alloc, kind, calls.as_slice(), MOST_MOVES),
+        Queue::Buffer(bound) => judge_buffer(alloc, bound, calls.as_slice(), MOST_MOVES),
+    }
+}
+
 /// Judges calls, and writes the verdict.
 fn judge_read<W: Write>(alloc: Global, calls: &Calls, writer: &mut W) -> Result<bool, RunFault>
-    ensures { IfOk result (λ found. (text : List ℕ) → text ≡ calls_text calls.now.kind calls.now.list.items
+    ensures { IfOk result (λ found. (text : List ℕ) → text ≡ calls_text calls.now.queue calls.now.list.items
         → Judged text (W.contents writer.old) (W.contents writer.new) found) }
 {
-    let judged = match judge(alloc, calls.kind, calls.as_slice(), MOST_MOVES) {
+    let judged = match judged(alloc, calls) {
         Ok(judged) => judged,
         Err(fault) => return Err(cut_short(why_of(fault))),
     };
     match judged {
-        Ok(history) => match write_trace(alloc, calls.kind, history.as_slice(), writer) {
+        Ok(history) => match write_trace(alloc, kind_of(calls.queue), history.as_slice(), writer) {
             Ok(()) => Ok(true),
             Err(why) => Err(cut_short(why)),
         },

@@ -2,17 +2,17 @@
 
 ghost use Rattle.std.specs.Prelude.{◌≡◌, ◌<◌, [], length, IfOk, IfSome, IsTrue};
 ghost use Rattle.std.specs.Io.KnownBytes.{Consumes};
-ghost use Rattle.meet_judge.specs.CallText.{call_text, calls_text};
+ghost use Rattle.meet_judge.specs.CallText.{call_text, calls_text, words_of};
 ghost use Rattle.meet_judge.specs.Reading.{ReadsNext, Takes, TakesByte};
 
-use crate::writing::{push_call, push_calls};
-use meet_overlap::{Answer, Call, Calls, Patience, Returned, Verb};
+use crate::writing::{push_call, push_calls, words_of};
+use meet_overlap::{Answer, Call, Calls, Patience, Queue, Returned, Verb};
 use meet_run::RunFault;
 use meet_run::text::faults::{at_line, cut_short};
 use meet_run::text::grammar::read_order;
 use meet_run::text::reading::LONGEST_LINE;
 use meet_run::text::words::{behind_prefix, read_number};
-use meet_tickets::{Kind, Order, Refusal, SeatNo};
+use meet_tickets::{Kind, MOST_KEPT, Order, Refusal, SeatNo};
 use std::alloc::Global;
 use std::io::{ErrorKind, Read};
 
@@ -36,10 +36,30 @@ fn word(line: &[u8]) -> (&[u8], &[u8]) {
     }
 }
 
-/// The place that the first line names.
-fn read_kind(line: &[u8]) -> Option<Kind> {
-    let order = read_order(behind_prefix(b"calls 1 ", line)?)?;
-    Some(Kind { order, bound: None })
+/// The bound of a buffer, if it has one.
+fn read_bound(rest: &[u8]) -> Option<Option<u64>> {
+    if rest.is_empty() {
+        return Some(None);
+    }
+    let bound = read_number(behind_prefix(b" ", rest)?)?;
+    if 1 <= bound && bound <= MOST_KEPT {
+        Some(Some(bound))
+    } else {
+        None
+    }
+}
+
+/// The queue that the first line names.
+fn read_queue(line: &[u8]) -> Option<Queue> {
+    let words = behind_prefix(b"calls 1 ", line)?;
+    if let Some(rest) = behind_prefix(b"buffer", words) {
+        return match read_bound(rest) {
+            Some(bound) => Some(Queue::Buffer(bound)),
+            None => None,
+        };
+    }
+    let order = read_order(words)?;
+    Some(Queue::Place(Kind { order, bound: None }))
 }
 
 /// What a word with an item calls at a place.
@@ -196,33 +216,42 @@ fn is_spelled(
     }
 }
 
-/// Whether a line, with its end, is the first line of calls at a place.
-fn is_head(scratch: &mut Vec<u8>, kind: Kind, line: &[u8]) -> Result<bool, Refusal>
-    ensures { IfOk result (λ same. IsTrue same → line.now ≡ calls_text kind []) }
+/// Whether a line, with its end, is the first line of calls at a queue.
+fn is_head(scratch: &mut Vec<u8>, queue: Queue, line: &[u8]) -> Result<bool, Refusal>
+    ensures { IfOk result (λ same. IsTrue same → line.now ≡ calls_text queue []) }
 {
     scratch.clear();
-    match push_calls(scratch, kind, &[]) {
+    match push_calls(scratch, queue, &[]) {
         Ok(()) => Ok(scratch.as_slice() == line),
         Err(_) => Err(Refusal::Memory),
+    }
+}
+
+/// Whether a call may stand in a text of this queue: at a buffer no call is seen to wait.
+fn may_stand(queue: Queue, call: &Call) -> bool {
+    match queue {
+        Queue::Place(_) => true,
+        Queue::Buffer(_) => call.waits.is_none(),
     }
 }
 
 /// The call of a line, if it begins no earlier than this and is spelled as calls are.
 fn spelled_call(
     scratch: &mut Vec<u8>,
-    order: Order,
+    queue: Queue,
     begin: u64,
     line: &[u8],
 ) -> Result<Option<Call>, Refusal>
-    ensures { IfOk result (λ found. IfSome found (λ call. line.now ≡ call_text order call)) }
+    ensures { IfOk result (λ found. IfSome found (λ call. line.now ≡ call_text (words_of queue) call)) }
 {
+    let order = words_of(queue);
     let [words @ .., b'\n'] = line else {
         return Ok(None);
     };
     let Some(call) = read_call(order, words) else {
         return Ok(None);
     };
-    if call.begin < begin {
+    if call.begin < begin || !may_stand(queue, &call) {
         return Ok(None);
     }
     if is_spelled(scratch, order, &call, line)? {
@@ -232,18 +261,18 @@ fn spelled_call(
     }
 }
 
-/// The place that the first line names, if it is spelled as such lines are.
-fn spelled_kind(scratch: &mut Vec<u8>, line: &[u8]) -> Result<Option<Kind>, Refusal>
-    ensures { IfOk result (λ found. IfSome found (λ kind. line.now ≡ calls_text kind [])) }
+/// The queue that the first line names, if it is spelled as such lines are.
+fn spelled_queue(scratch: &mut Vec<u8>, line: &[u8]) -> Result<Option<Queue>, Refusal>
+    ensures { IfOk result (λ found. IfSome found (λ queue. line.now ≡ calls_text queue [])) }
 {
     let [words @ .., b'\n'] = line else {
         return Ok(None);
     };
-    let Some(kind) = read_kind(words) else {
+    let Some(queue) = read_queue(words) else {
         return Ok(None);
     };
-    if is_head(scratch, kind, line)? {
-        Ok(Some(kind))
+    if is_head(scratch, queue, line)? {
+        Ok(Some(queue))
     } else {
         Ok(None)
     }
@@ -254,8 +283,8 @@ fn read_head<R: Read>(
     reader: &mut R,
     line: &mut Vec<u8>,
     scratch: &mut Vec<u8>,
-) -> Result<Kind, RunFault>
-    ensures { IfOk result (λ kind. Consumes (R.remaining reader.old) (R.remaining reader.new) (calls_text kind [])) }
+) -> Result<Queue, RunFault>
+    ensures { IfOk result (λ queue. Consumes (R.remaining reader.old) (R.remaining reader.new) (calls_text queue [])) }
 {
     match take_line(reader, line) {
         Ok(Taken::Line) => {}
@@ -263,8 +292,8 @@ fn read_head<R: Read>(
         Ok(Taken::Faulty) => return Err(at_line(Refusal::BadLine, 1)),
         Err(why) => return Err(cut_short(why)),
     }
-    match spelled_kind(scratch, line.as_slice()) {
-        Ok(Some(kind)) => Ok(kind),
+    match spelled_queue(scratch, line.as_slice()) {
+        Ok(Some(queue)) => Ok(queue),
         Ok(None) => Err(at_line(Refusal::BadLine, 1)),
         Err(why) => Err(cut_short(why)),
     }
@@ -287,8 +316,8 @@ fn read_next<R: Read>(
         Ok(Taken::Faulty) => return Err(at_line(Refusal::BadLine, number)),
         Err(why) => return Err(cut_short(why)),
     }
-    let order = calls.kind.order;
-    let call = match spelled_call(scratch, order, begin, line.as_slice()) {
+    let queue = calls.queue;
+    let call = match spelled_call(scratch, queue, begin, line.as_slice()) {
         Ok(Some(call)) => call,
         Ok(None) => return Err(at_line(Refusal::BadLine, number)),
         Err(why) => return Err(cut_short(why)),
@@ -308,12 +337,12 @@ fn read_next<R: Read>(
 /// - `Memory` if an allocation fails.
 pub(crate) fn read_calls_from<R: Read>(alloc: Global, reader: &mut R) -> Result<Calls, RunFault>
     ensures spelled { IfOk result (λ read. IfSome (R.remaining reader.old) (λ input.
-        input ≡ calls_text read.kind read.list.items)) }
+        input ≡ calls_text read.queue read.list.items)) }
 {
     let mut line = Vec::new(alloc);
     let mut scratch = Vec::new(alloc);
-    let kind = read_head(reader, &mut line, &mut scratch)?;
-    let mut calls = Calls::none(alloc, kind);
+    let queue = read_head(reader, &mut line, &mut scratch)?;
+    let mut calls = Calls::none(alloc, queue);
     let mut begin = 0;
     for number in 2..u64::MAX {
         match read_next(reader, &mut line, &mut scratch, &mut calls, begin, number)? {
@@ -330,7 +359,7 @@ pub(crate) fn read_calls_from<R: Read>(alloc: Global, reader: &mut R) -> Result<
 /// - `BadLine`, with the line, if it isn't the one spelling of such a call, or its line feed is missing.
 /// - `Memory`, if an allocation fails.
 pub fn read_calls(alloc: Global, text: &[u8]) -> Result<Calls, RunFault>
-    ensures spelled { IfOk result (λ read. text.now ≡ calls_text read.kind read.list.items) }
+    ensures spelled { IfOk result (λ read. text.now ≡ calls_text read.queue read.list.items) }
 {
     let mut reader = text;
     read_calls_from(alloc, &mut reader)

@@ -1,17 +1,17 @@
 //! The text of calls. If memory runs out, nothing is stated of what was appended.
 
-ghost use Rattle.std.specs.Prelude.{◌≡◌, ◌++◌, OnOk, codes};
+ghost use Rattle.std.specs.Prelude.{◌≡◌, ◌++◌, OnOk};
 ghost use Rattle.meet_run.specs.Scripts.Spelling.{option_text};
 ghost use Rattle.meet_overlap.specs.declared.calls.Verb.TheVariants.{Keep, Give, Take};
 ghost use Rattle.meet_judge.specs.CallText.{verb_text, answer_text, seen_text, end_text, told_text, call_text};
-ghost use Rattle.meet_judge.specs.CallText.{calls_text, is_interrupt, missed_text, waited_text};
+ghost use Rattle.meet_judge.specs.CallText.{calls_text, lines_text, queue_text, words_of, is_interrupt, missed_text, waited_text};
 ghost use Rattle.meet_judge.specs.CallText.{line_number, other_text, case_text, put_text, stuck_line, stuck_text};
 ghost use Rattle.meet_judge.specs.CallText.{reason_text, refused_text};
 
-use meet_overlap::{Answer, Call, Patience, Reason, Returned, Stuck, Verb};
+use meet_overlap::{Answer, Call, Patience, Queue, Reason, Returned, Stuck, Verb};
 use meet_run::text::wording::{push_number, push_numbered};
 use meet_run::trace::wording::order_word;
-use meet_tickets::{Kind, Order};
+use meet_tickets::Order;
 use std::alloc::AllocError;
 
 /// Appends what is given, and for how long.
@@ -167,31 +167,64 @@ pub(crate) fn push_call(out: &mut Vec<u8>, order: Order, call: &Call) -> Result<
     Ok(())
 }
 
-/// Appends a place's bound, if it has one.
-fn push_bound(out: &mut Vec<u8>, bound: Option<u64>) -> Result<(), AllocError>
-    ensures { OnOk result (out.new.items ≡ out.old.items ++ option_text (codes " bound ") bound) }
+/// The order whose words the calls of a queue have: a buffer's are those of a synchronous queue.
+pub(crate) fn words_of(queue: Queue) -> Order
+    ensures { result ≡ words_of queue }
 {
-    match bound {
-        None => Ok(()),
-        Some(most) => push_numbered(out, b" bound ", most),
+    match queue {
+        Queue::Place(kind) => kind.order,
+        Queue::Buffer(_) => Order::Fair,
     }
 }
 
-/// Appends the text of calls at a place, whole.
+/// Appends a bound behind these words, if there is one.
+fn push_bound(out: &mut Vec<u8>, words: &[u8], bound: Option<u64>) -> Result<(), AllocError>
+    ensures { OnOk result (out.new.items ≡ out.old.items ++ option_text words.now bound) }
+{
+    match bound {
+        None => Ok(()),
+        Some(most) => push_numbered(out, words, most),
+    }
+}
+
+/// Appends what a queue is.
+#[tactic(auto, unfolding(crate::specs::CallText::queue_text))]
+fn push_queue(out: &mut Vec<u8>, queue: Queue) -> Result<(), AllocError>
+    ensures { OnOk result (out.new.items ≡ out.old.items ++ queue_text queue) }
+{
+    match queue {
+        Queue::Place(kind) => {
+            out.extend_from_slice(order_word(kind.order))?;
+            push_bound(out, b" bound ", kind.bound)
+        }
+        Queue::Buffer(bound) => {
+            out.extend_from_slice(b"buffer")?;
+            push_bound(out, b" ", bound)
+        }
+    }
+}
+
+/// Appends the lines of calls.
+fn push_lines(out: &mut Vec<u8>, order: Order, calls: &[Call]) -> Result<(), AllocError>
+    ensures { OnOk result (out.new.items ≡ out.old.items ++ lines_text order calls.now) }
+{
+    for call in calls {
+        push_call(out, order, call)?;
+    }
+    Ok(())
+}
+
+/// Appends the text of calls at a queue, whole.
 ///
 /// # Errors
 /// - `AllocError`, if an allocation fails.
-pub fn push_calls(out: &mut Vec<u8>, kind: Kind, calls: &[Call]) -> Result<(), AllocError>
-    ensures { OnOk result (out.new.items ≡ out.old.items ++ calls_text kind calls.now) }
+pub fn push_calls(out: &mut Vec<u8>, queue: Queue, calls: &[Call]) -> Result<(), AllocError>
+    ensures { OnOk result (out.new.items ≡ out.old.items ++ calls_text queue calls.now) }
 {
     out.extend_from_slice(b"calls 1 ")?;
-    out.extend_from_slice(order_word(kind.order))?;
-    push_bound(out, kind.bound)?;
+    push_queue(out, queue)?;
     out.extend_from_slice(b"\n")?;
-    for call in calls {
-        push_call(out, kind.order, call)?;
-    }
-    Ok(())
+    push_lines(out, words_of(queue), calls)
 }
 
 /// Appends these words, and the line of a call: the second line is that of the first call.

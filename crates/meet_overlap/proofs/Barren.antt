@@ -111,9 +111,9 @@ requested k s c d patient made = by_verb c.verb patient made
     takes None t is = absurd (cc)
     takes (Some i) t is = same (TakeMeets i t) refl is
 
-    keeps_alone : (m : ℕ) (b : Bool) → cond b (Some (GiveKept m)) None ≡ Some d → is_request d ≡ true
+    keeps_alone : (m : ℕ) (b : Bool) → cond b (Some (GiveKept m)) (Some (GiveFails m)) ≡ Some d → is_request d ≡ true
     keeps_alone m true is = same (GiveKept m) refl is
-    keeps_alone m false is = absurd (cc)
+    keeps_alone m false is = same (GiveFails m) refl is
 
     flagged : (b : Bool) (one other : Deed) → is_request one ≡ true → is_request other ≡ true → Some (cond b one other) ≡ Some d → is_request d ≡ true
     flagged true one other p q is = same one p is

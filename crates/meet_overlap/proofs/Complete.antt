@@ -20,20 +20,20 @@ use Rattle.meet_overlap.specs.declared.calls.Stage.TheVariants.{Ahead, Open, Ove
 use Rattle.meet_overlap.specs.Calls.{Begins, Tells, Moves, told_by, stage_after}
 use Rattle.meet_overlap.specs.Search.{World, start, world_after, deed_of, ticket_of, request_ticket, ending_of, Steps, IsRun}
 use Rattle.meet_overlap.proofs.Deeds.{request_made, ending_made, ending_held}
-use Rattle.meet_overlap.specs.Explaining.{IsExplained, Explains, records_of}
+use Rattle.meet_overlap.specs.Explaining.{IsExplained, Explains, records_of, FailsFull}
 use Rattle.meet_overlap.proofs.Ways.{Comes, IsWay, ending_no_request, interrupt_no_request, run_way, way_whole, whole_way}
 use Rattle.meet_overlap.proofs.Renamed.{IsNaming, rename_deed, rename_record, rename_stage, rename_seats, rename_moment, told_alike, requests_alike, stops_alike, stage_alike, put_alike, deed_alike, cut_alike, moment_alike}
 
 -- the deed that may come next is the one that the search makes
-pub deed_made : (k : Kind) (s : Seats ℕ) (call : Call) (stage : Stage) (r : Record Deed) → r.seat ≡ call.seat → Moves call stage r → Allows k s r.seat r.ticket r.deed →
+pub deed_made : (k : Kind) (s : Seats ℕ) (call : Call) (stage : Stage) (r : Record Deed) → r.seat ≡ call.seat → Moves call stage r → Allows k s r.seat r.ticket r.deed → FailsFull k s.line call.verb r.deed →
     deed_of k s call stage ≡ Some r.deed
-deed_made k s call Ahead r seat moves allowed = request_made k s call.seat r.ticket call.verb r.deed moves.0 (subst (λ i. Allows k s i r.ticket r.deed) seat allowed)
-deed_made k s call (Open t) r seat moves allowed =
+deed_made k s call Ahead r seat moves allowed full = request_made k s call.seat r.ticket call.verb r.deed moves.0 (subst (λ i. Allows k s i r.ticket r.deed) seat allowed) full
+deed_made k s call (Open t) r seat moves allowed full =
     let there : Allows k s call.seat r.ticket r.deed = subst (λ i. Allows k s i r.ticket r.deed) seat allowed in
     let mine : Allows k s call.seat t r.deed = subst (λ u. Allows k s call.seat u r.deed) moves.0 there in
     ap (λ b. cond b (ending_of s.line call.verb (s.holds call.seat)) None) (ending_held k s call.seat t call.verb r.deed moves.1 mine)
     ∙ ending_made k s call.seat t call.verb r.deed moves.1 mine
-deed_made k s call Over r seat moves allowed = absurd moves
+deed_made k s call Over r seat moves allowed full = absurd moves
 
 -- an earlier time lies before what a later one lies before
 IfSome-earlier : (o : Option Returned) (t u : ℕ) → t ≤ u → IfSome o (λ r. u ≤ r.at) → IfSome o (λ r. t ≤ r.at)
@@ -75,6 +75,7 @@ first_ticket g naming k m (Keep x) i t d b a named = named (keeps_request d b)
     keeps_request : (d : Deed) → Begins (Keep x) d → is_request d ≡ true
     keeps_request (GiveMeets n u) b = refl
     keeps_request (GiveKept n) b = refl
+    keeps_request (GiveFails n) b = refl
     keeps_request d b = absurd b
 first_ticket g naming k m (Give p x) i t d b a named = named (gives_request d b)
   where
@@ -126,7 +127,7 @@ pub made : (g : ℕ → ℕ) → IsNaming g → (k : Kind) (calls : List Call) (
 made g naming k calls w time e le comes named =
     let call = comes.call in
     let stage = w.stages e.call in
-    let found = deed_made k (rename_seats g w.moment.seats) call (rename_stage g stage) e.entry comes.seat comes.moves comes.fits.allowed in
+    let found = deed_made k (rename_seats g w.moment.seats) call (rename_stage g stage) e.entry comes.seat comes.moves comes.fits.allowed comes.full in
     let same = unmapped g (deed_of k w.moment.seats call stage) e.entry.deed (sym (deed_alike g naming k w.moment.seats call stage) ∙ found) in
     let d = same.0 in
     let told : told_by d ≡ told_by e.entry.deed = sym (told_alike g d) ∙ ap told_by same.2 in
@@ -286,6 +287,7 @@ explained_run k calls events explained =
       rising = explained.rising;
       formed = explained.formed;
       turns = explained.turns;
+      full = explained.full;
     })
     (λ n call known. inl refl))
 
@@ -299,6 +301,7 @@ run_explains k calls events run =
       rising = whole.rising;
       formed = whole.formed;
       turns = whole.turns;
+      full = whole.full;
     }
 
 -- where there is no run nothing explains

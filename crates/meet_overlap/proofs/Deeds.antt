@@ -3,7 +3,7 @@
 use Rattle.std.proofs.Common.{◌≡◌, ℕ, Bool, true, false, IsSome, Option, Some, None, List, refl, sym, ap, ◌∙◌, subst}
 use Rattle.std.specs.Option.{option_map_or}
 use Rattle.std.specs.Prelude.{◌<◌, option_map, nat_lt, if◌then◌else◌, MatchOption, ⊤}
-use Rattle.std.proofs.lemmas.Bool.{eq-eqb, lt-ltb}
+use Rattle.std.proofs.lemmas.Bool.{eq-eqb, lt-ltb, ltb-true}
 use Rattle.meet_tickets.specs.declared.lines.Entry.{Entry}
 use Rattle.meet_tickets.specs.declared.lines.Hold.{Hold}
 use Rattle.meet_tickets.specs.declared.lines.Hold.TheVariants.{Free, Waiting}
@@ -12,12 +12,13 @@ use Rattle.meet_tickets.specs.declared.places.Kind.{Kind}
 use Rattle.meet_tickets.specs.declared.records.Cause.TheVariants.{Expired, Interrupted}
 use Rattle.meet_tickets.specs.declared.records.Deed.{Deed}
 use Rattle.meet_tickets.specs.declared.records.Deed.TheVariants.{GiveWaits, GiveMeets, GiveFails, GiveKept, TakeWaits, TakeMeets, TakeFails, EntryInterrupted, Done, Got, Withdrawn, Interrupt}
-use Rattle.meet_tickets.specs.Meeting.{kept_count, MayKeep}
+use Rattle.meet_tickets.specs.Meeting.{keeps, kept_count, MayKeep}
 use Rattle.meet_tickets.specs.BySeat.{Seats, Allows, entry_of}
 use Rattle.meet_overlap.specs.declared.calls.Patience.TheVariants.{Now, Forever, Timed}
 use Rattle.meet_overlap.specs.declared.calls.Verb.{Verb}
 use Rattle.meet_overlap.specs.declared.calls.Verb.TheVariants.{Keep, Give, Take, Interrupt as InterruptSeat}
 use Rattle.meet_overlap.specs.Calls.{Begins, Ends}
+use Rattle.meet_overlap.specs.Explaining.{FailsFull}
 use Rattle.meet_overlap.specs.Search.{may_keep, giving, taking, unless_open, request_of, expiry, giver_ending, taker_ending, ending_of, is_held}
 
 -- a request of a free seat
@@ -56,43 +57,62 @@ kept_passes k line h = ap (λ x. if x then within_bound line k.bound else false)
     passes None h = refl
     passes (Some most) h = lt-ltb (kept_count line) most h
 
+-- one that may not doesn't
+kept_fails : (k : Kind) (line : List (Entry ℕ)) → (MayKeep k line → ⊥) → may_keep k line ≡ false
+kept_fails k line h = by_order (keeps k.order) refl
+  where
+    by_count : (most : ℕ) (b : Bool) → nat_lt (kept_count line) most ≡ b → ((kept_count line < most) → ⊥) → b ≡ false
+    by_count most true is never = absurd (never (ltb-true (kept_count line) most is))
+    by_count most false is never = refl
+
+    by_bound : (bound : Option ℕ) → (MatchOption bound ⊤ (λ most. kept_count line < most) → ⊥) → within_bound line bound ≡ false
+    by_bound None never = absurd (never tt)
+    by_bound (Some most) never = by_count most (nat_lt (kept_count line) most) refl never
+
+    by_order : (b : Bool) → keeps k.order ≡ b → (if b then within_bound line k.bound else false) ≡ false
+    by_order true is = by_bound k.bound (λ within. h (is, within))
+    by_order false is = refl
+
 -- the request that the rules and the call's form allow is the one that the search makes
-pub request_made : (k : Kind) (s : Seats ℕ) (i t : ℕ) (verb : Verb) (d : Deed) → Begins verb d → Allows k s i t d → request_of k s i verb ≡ Some d
-request_made k s i t (Keep m) (GiveMeets n u) b a =
+pub request_made : (k : Kind) (s : Seats ℕ) (i t : ℕ) (verb : Verb) (d : Deed) → Begins verb d → Allows k s i t d → FailsFull k s.line verb d → request_of k s i verb ≡ Some d
+request_made k s i t (Keep m) (GiveMeets n u) b a full =
     free_passes (s.holds i) _ a.0 ∙ finds_taker m n u _ _ a.1.0 a.1.1 a.1.2 a.1.3 b
-request_made k s i t (Keep m) (GiveKept n) b a =
+request_made k s i t (Keep m) (GiveKept n) b a full =
     free_passes (s.holds i) _ a.0 ∙ finds_none (giving m) _ _ a.1
-    ∙ ap (λ x. if x then Some (GiveKept m) else None) (kept_passes k s.line a.2) ∙ ap (λ x. Some (GiveKept x)) (sym b)
-request_made k s i t (Give p m) (GiveMeets n u) b a =
+    ∙ ap (λ x. if x then Some (GiveKept m) else Some (GiveFails m)) (kept_passes k s.line a.2) ∙ ap (λ x. Some (GiveKept x)) (sym b)
+request_made k s i t (Keep m) (GiveFails n) b a full =
+    free_passes (s.holds i) _ a.0 ∙ finds_none (giving m) _ _ a.1
+    ∙ ap (λ x. if x then Some (GiveKept m) else Some (GiveFails m)) (kept_fails k s.line full) ∙ ap (λ x. Some (GiveFails x)) (sym b)
+request_made k s i t (Give p m) (GiveMeets n u) b a full =
     free_passes (s.holds i) _ a.0 ∙ finds_taker m n u _ _ a.1.0 a.1.1 a.1.2 a.1.3 b
-request_made k s i t (Give Now m) (GiveFails n) b a =
+request_made k s i t (Give Now m) (GiveFails n) b a full =
     free_passes (s.holds i) _ a.0 ∙ finds_none (giving m) _ _ a.1 ∙ ap (λ x. Some (GiveFails x)) (sym b)
-request_made k s i t (Give Forever m) (GiveWaits n) b a =
+request_made k s i t (Give Forever m) (GiveWaits n) b a full =
     free_passes (s.holds i) _ a.0 ∙ finds_none (giving m) _ _ a.1
     ∙ ap (λ x. Some (if x then EntryInterrupted Giver else GiveWaits m)) a.2 ∙ ap (λ x. Some (GiveWaits x)) (sym b)
-request_made k s i t (Give Timed m) (GiveWaits n) b a =
+request_made k s i t (Give Timed m) (GiveWaits n) b a full =
     free_passes (s.holds i) _ a.0 ∙ finds_none (giving m) _ _ a.1
     ∙ ap (λ x. Some (if x then EntryInterrupted Giver else GiveWaits m)) a.2 ∙ ap (λ x. Some (GiveWaits x)) (sym b)
-request_made k s i t (Give Forever m) (EntryInterrupted Giver) b a =
+request_made k s i t (Give Forever m) (EntryInterrupted Giver) b a full =
     free_passes (s.holds i) _ a.0 ∙ finds_none (giving m) _ _ a.1
     ∙ ap (λ x. Some (if x then EntryInterrupted Giver else GiveWaits m)) a.2
-request_made k s i t (Give Timed m) (EntryInterrupted Giver) b a =
+request_made k s i t (Give Timed m) (EntryInterrupted Giver) b a full =
     free_passes (s.holds i) _ a.0 ∙ finds_none (giving m) _ _ a.1
     ∙ ap (λ x. Some (if x then EntryInterrupted Giver else GiveWaits m)) a.2
-request_made k s i t (Take p) (TakeMeets n u) b a =
+request_made k s i t (Take p) (TakeMeets n u) b a full =
     free_passes (s.holds i) _ a.0 ∙ finds_giver n u _ _ a.1.0 a.1.1 a.1.2 a.1.3
-request_made k s i t (Take Now) TakeFails b a =
+request_made k s i t (Take Now) TakeFails b a full =
     free_passes (s.holds i) _ a.0 ∙ finds_none taking _ _ a.1
-request_made k s i t (Take Forever) TakeWaits b a =
+request_made k s i t (Take Forever) TakeWaits b a full =
     free_passes (s.holds i) _ a.0 ∙ finds_none taking _ _ a.1 ∙ ap (λ x. Some (if x then EntryInterrupted Taker else TakeWaits)) a.2
-request_made k s i t (Take Timed) TakeWaits b a =
+request_made k s i t (Take Timed) TakeWaits b a full =
     free_passes (s.holds i) _ a.0 ∙ finds_none taking _ _ a.1 ∙ ap (λ x. Some (if x then EntryInterrupted Taker else TakeWaits)) a.2
-request_made k s i t (Take Forever) (EntryInterrupted Taker) b a =
+request_made k s i t (Take Forever) (EntryInterrupted Taker) b a full =
     free_passes (s.holds i) _ a.0 ∙ finds_none taking _ _ a.1 ∙ ap (λ x. Some (if x then EntryInterrupted Taker else TakeWaits)) a.2
-request_made k s i t (Take Timed) (EntryInterrupted Taker) b a =
+request_made k s i t (Take Timed) (EntryInterrupted Taker) b a full =
     free_passes (s.holds i) _ a.0 ∙ finds_none taking _ _ a.1 ∙ ap (λ x. Some (if x then EntryInterrupted Taker else TakeWaits)) a.2
-request_made k s i t (InterruptSeat j) (Interrupt h) b a = ap (λ x. Some (Interrupt x)) (sym b)
-request_made k s i t verb d b a = absurd b
+request_made k s i t (InterruptSeat j) (Interrupt h) b a full = ap (λ x. Some (Interrupt x)) (sym b)
+request_made k s i t verb d b a full = absurd b
 
 -- an ending that the rules and the call's form allow is of the ticket that the seat holds
 pub ending_held : (k : Kind) (s : Seats ℕ) (i t : ℕ) (verb : Verb) (d : Deed) → Ends verb d → Allows k s i t d → is_held t (s.holds i) ≡ true

@@ -70,6 +70,7 @@ gives_by m c stage r moves one = by_stage stage moves
     begins : (verb : Verb) (d : Deed) → Begins verb d → GivesOne m d → Gives verb m
     begins (Keep x) (GiveMeets n u) b g = sym b ∙ g
     begins (Keep x) (GiveKept n) b g = sym b ∙ g
+    begins (Keep x) (GiveFails n) b g = absurd g
     begins (Give p x) (GiveMeets n u) b g = sym b ∙ g
     begins (Give Forever x) (GiveWaits n) b g = sym b ∙ g
     begins (Give Timed x) (GiveWaits n) b g = sym b ∙ g

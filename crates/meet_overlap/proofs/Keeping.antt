@@ -5,7 +5,7 @@ use Rattle.meet_tickets.specs.declared.places.Kind.{Kind}
 use Rattle.meet_tickets.specs.declared.places.End.TheVariants.{Front}
 use Rattle.meet_tickets.specs.declared.records.Record.{Record}
 use Rattle.meet_tickets.specs.declared.records.Deed.{Deed}
-use Rattle.meet_tickets.specs.declared.records.Deed.TheVariants.{GiveMeets, GiveKept}
+use Rattle.meet_tickets.specs.declared.records.Deed.TheVariants.{GiveMeets, GiveKept, GiveFails}
 use Rattle.meet_tickets.specs.Meeting.{end_of}
 use Rattle.meet_tickets.specs.ByLists.{State}
 use Rattle.meet_overlap.specs.declared.calls.Call.{Call}
@@ -13,7 +13,9 @@ use Rattle.meet_overlap.specs.declared.calls.Stage.{Stage}
 use Rattle.meet_overlap.specs.declared.calls.Stage.TheVariants.{Ahead, Open, Over}
 use Rattle.meet_overlap.specs.declared.calls.Verb.{Verb}
 use Rattle.meet_overlap.specs.declared.calls.Verb.TheVariants.{Keep, Give, Take, Interrupt as InterruptSeat}
-use Rattle.meet_overlap.specs.Calls.{Begins, Ends, Moves}
+use Rattle.std.specs.Prelude.{IfSome}
+use Rattle.meet_overlap.specs.declared.calls.Answer.TheVariants.{Went, Nothing}
+use Rattle.meet_overlap.specs.Calls.{Begins, Ends, Tells, Moves}
 use Rattle.meet_overlap.specs.Explaining.{Event}
 use Rattle.meet_overlap.specs.Marks.{IsEnded, IsKeeping, NoneGot}
 use Rattle.meet_overlap.proofs.Courses.{Happens, IsCourse, happens, own_call, own_time}
@@ -27,14 +29,22 @@ Puts m (GiveMeets n v) = n ≡ m
 Puts m (GiveKept n) = n ≡ m
 Puts m d = ⊥
 
-module _ (k : Kind) (calls : List Call) (put : IsEnded calls) (mark by : ℕ) (keeps : IsKeeping put.call.verb mark) (none : NoneGot calls mark by) (later : put.returned.at ≤ by) where
-  put_begins : (verb : Verb) (d : Deed) → IsKeeping verb mark → Begins verb d → Puts mark d
-  put_begins (Give p m) d keeps b = absurd keeps
-  put_begins (Take p) d keeps b = absurd keeps
-  put_begins (InterruptSeat j) d keeps b = absurd keeps
-  put_begins (Keep m) (GiveMeets n v) keeps b = b ∙ keeps
-  put_begins (Keep m) (GiveKept n) keeps b = b ∙ keeps
-  put_begins (Keep m) d keeps b = absurd b
+module _ (k : Kind) (calls : List Call) (put : IsEnded calls) (mark by : ℕ) (keeps : IsKeeping put.call.verb mark) (went : put.returned.answer ≡ Went) (none : NoneGot calls mark by) (later : put.returned.at ≤ by) where
+  -- it didn't fail
+  put_went : (n : ℕ) → Tells put.call (GiveFails n) → ⊥
+  put_went n tells =
+      let told : put.returned.answer ≡ Nothing = subst (λ o. IfSome o (λ r. r.answer ≡ Nothing)) put.ended tells in
+      let answer : put.returned.answer ≡ Went = went in
+      absurd (cc)
+
+  put_begins : (verb : Verb) (d : Deed) → IsKeeping verb mark → Begins verb d → Tells put.call d → Puts mark d
+  put_begins (Give p m) d keeps b told = absurd keeps
+  put_begins (Take p) d keeps b told = absurd keeps
+  put_begins (InterruptSeat j) d keeps b told = absurd keeps
+  put_begins (Keep m) (GiveMeets n v) keeps b told = b ∙ keeps
+  put_begins (Keep m) (GiveKept n) keeps b told = b ∙ keeps
+  put_begins (Keep m) (GiveFails n) keeps b told = absurd (put_went n told)
+  put_begins (Keep m) d keeps b told = absurd b
 
   put_ends : (verb : Verb) (d : Deed) → IsKeeping verb mark → Ends verb d → ⊥
   put_ends (Give p m) d keeps b = keeps
@@ -43,7 +53,7 @@ module _ (k : Kind) (calls : List Call) (put : IsEnded calls) (mark by : ℕ) (k
   put_ends (Keep m) d keeps b = b
 
   put_moves : (stage : Stage) (r : Record Deed) → Moves put.call stage r → Puts mark r.deed
-  put_moves Ahead r moves = put_begins put.call.verb r.deed keeps moves.0
+  put_moves Ahead r moves = put_begins put.call.verb r.deed keeps moves.0 moves.1
   put_moves (Open t) r moves = absurd (put_ends put.call.verb r.deed keeps moves.1)
   put_moves Over r moves = absurd moves
 

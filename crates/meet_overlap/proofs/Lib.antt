@@ -3,6 +3,7 @@ pub mod Barren
 pub mod Complete
 pub mod Courses
 pub mod Deeds
+pub mod Effective
 pub mod Effects
 pub mod Endings
 pub mod Giving

@@ -70,7 +70,7 @@ module _ (k : Kind) (calls : List Call) (u : IsOverlooked k calls) where
       ⊎_elim
       (λ late. too_late k calls u.looked events (after_event s e) e.time (later stages e) (never_over (later stages e) ahead) late (goes_on k calls s time stages e events c))
       (λ le.
-      let stays = stays_kept k calls u.put u.mark u.looked.returned.at u.keeps u.none_got u.later u.order e events s time stages b.entry b.kept b.untouched c le in
+      let stays = stays_kept k calls u.put u.mark u.looked.returned.at u.keeps u.went u.none_got u.later u.order e events s time stages b.entry b.kept b.untouched c le in
       there_it_is events (after_event s e) e.time (later stages e)
       (record {
         entry = b.entry;
@@ -118,7 +118,7 @@ module _ (k : Kind) (calls : List Call) (u : IsOverlooked k calls) where
   before_it : (events : List Event) (s : State) (time : ℕ) (stages : ℕ → Stage) → IsBefore s time stages → IsCourse k calls s time stages events → ⊥
   before_it [] s time stages b c = never_left k calls u.looked (stages u.looked.number) (never_over stages b.ahead) (c.formed u.looked.number u.looked.call u.looked.known)
   before_it (e ∷ events) s time stages b c = ⊎_elim
-      (λ q. puts e events s time stages b c (not_both e q.1) (is_kept k calls u.put u.mark u.looked.returned.at u.keeps u.none_got u.later e events s time stages b.well b.untouched c q.1))
+      (λ q. puts e events s time stages b c (not_both e q.1) (is_kept k calls u.put u.mark u.looked.returned.at u.keeps u.went u.none_got u.later e events s time stages b.well b.untouched c q.1))
       (λ q. ⊎_elim
       (λ at. looks_late e events s time stages b c q.1 at.1)
       (λ other.

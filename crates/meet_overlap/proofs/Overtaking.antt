@@ -115,7 +115,7 @@ module _ (k : Kind) (calls : List Call) (u : IsOvertaken k calls) where
       ⊎_elim
       (λ late. too_late k calls u.taken events (after_event s e) e.time (later stages e) going late (goes_on k calls s time stages e events c))
       (λ le.
-      let stays = stays_kept k calls u.put u.first u.taken.returned.at u.keeps u.none_got u.later u.order e events s time stages b.entry b.kept b.untouched c le in
+      let stays = stays_kept k calls u.put u.first u.taken.returned.at u.keeps u.went u.none_got u.later u.order e events s time stages b.entry b.kept b.untouched c le in
       let low = b.kept.well.line b.entry b.kept.there in
       behind_it events (after_event s e) e.time (later stages e) (record {
         entry = b.entry;
@@ -207,7 +207,7 @@ module _ (k : Kind) (calls : List Call) (u : IsOvertaken k calls) where
   before_it : (events : List Event) (s : State) (time : ℕ) (stages : ℕ → Stage) → IsBefore s time stages → IsCourse k calls s time stages events → ⊥
   before_it [] s time stages b c = never_left k calls u.taken (stages u.taken.number) b.going (c.formed u.taken.number u.taken.call u.taken.known)
   before_it (e ∷ events) s time stages b c = ⊎_elim
-      (λ q. put_first e events s time stages b c q.1 (is_kept k calls u.put u.first u.taken.returned.at u.keeps u.none_got u.later e events s time stages b.well b.untouched c q.1))
+      (λ q. put_first e events s time stages b c q.1 (is_kept k calls u.put u.first u.taken.returned.at u.keeps u.went u.none_got u.later e events s time stages b.well b.untouched c q.1))
       (λ q. ⊎_elim
       (gives_second e events s time stages b c q.1)
       (λ none. before_it events (after_event s e) e.time (later stages e) (stays_before e events s time stages b c q.1 none) (goes_on k calls s time stages e events c))

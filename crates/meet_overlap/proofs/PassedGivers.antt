@@ -99,6 +99,7 @@ giver_asks mark (Take p) d gives b = absurd gives
 giver_asks mark (InterruptSeat j) d gives b = absurd gives
 giver_asks mark (Keep m) (GiveMeets n v) gives b = refl
 giver_asks mark (Keep m) (GiveKept n) gives b = refl
+giver_asks mark (Keep m) (GiveFails n) gives b = refl
 giver_asks mark (Keep m) d gives b = absurd b
 giver_asks mark (Give p m) (GiveMeets n v) gives b = refl
 giver_asks mark (Give Now m) (GiveFails n) gives b = refl

@@ -32,6 +32,7 @@ rename_event h e = record { call = e.call; time = e.time; entry = rename_record 
 asks : (verb : Verb) (d : Deed) → Begins verb d → (is_request d ≡ true) ⊎ ((j : ℕ) × (verb ≡ InterruptSeat j))
 asks (Keep x) (GiveMeets n u) b = inl refl
 asks (Keep x) (GiveKept n) b = inl refl
+asks (Keep x) (GiveFails n) b = inl refl
 asks (Give p x) (GiveMeets n u) b = inl refl
 asks (Give p x) (GiveFails n) b = inl refl
 asks (Give p x) (GiveWaits n) b = inl refl

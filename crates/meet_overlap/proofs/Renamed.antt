@@ -187,9 +187,9 @@ module _ (g : ℕ → ℕ) where
       by_item (Some x) = refl
 
   giver_alone_alike : (k : Kind) (line : List (Entry ℕ)) (flag : Bool) (verb : Verb) → giving_alone k (map rename_entry line) flag verb ≡ option_map rename_deed (giving_alone k line flag verb)
-  giver_alone_alike k line flag (Keep m) = ap (λ b. if b then Some (GiveKept m) else None) (may_keep_alike k line) ∙ by_test (may_keep k line)
+  giver_alone_alike k line flag (Keep m) = ap (λ b. if b then Some (GiveKept m) else Some (GiveFails m)) (may_keep_alike k line) ∙ by_test (may_keep k line)
     where
-      by_test : (b : Bool) → cond b (Some (GiveKept m)) None ≡ option_map rename_deed (cond b (Some (GiveKept m)) None)
+      by_test : (b : Bool) → cond b (Some (GiveKept m)) (Some (GiveFails m)) ≡ option_map rename_deed (cond b (Some (GiveKept m)) (Some (GiveFails m)))
       by_test true = refl
       by_test false = refl
   giver_alone_alike k line flag (Give Now m) = refl

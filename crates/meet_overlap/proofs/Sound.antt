@@ -2,7 +2,7 @@
 use Rattle.std.proofs.Common.{◌≡◌, ◌⊎◌, ℕ, ◌<◌, ◌==◌, Bool, true, false, IsSome, is_some, Option, Some, None, find, List, refl, sym, ap, ◌∙◌, subst, inl, inr, ⊎_elim}
 use Rattle.std.specs.Option.{option_map_or}
 use Rattle.std.specs.Prelude.{option_map, nat_lt, if◌then◌else◌, MatchOption, ⊤}
-use Rattle.std.proofs.lemmas.Bool.{eqb-true, ltb-true}
+use Rattle.std.proofs.lemmas.Bool.{eqb-true, ltb-true, lt-ltb}
 use Rattle.meet_tickets.specs.declared.lines.Entry.{Entry}
 use Rattle.meet_tickets.specs.declared.lines.Hold.{Hold}
 use Rattle.meet_tickets.specs.declared.lines.Hold.TheVariants.{Free, Waiting, Handed, Served, Cut}
@@ -17,8 +17,12 @@ use Rattle.meet_overlap.specs.declared.calls.Patience.{Patience}
 use Rattle.meet_overlap.specs.declared.calls.Patience.TheVariants.{Now, Forever, Timed}
 use Rattle.meet_overlap.specs.declared.calls.Verb.{Verb}
 use Rattle.meet_overlap.specs.declared.calls.Verb.TheVariants.{Keep, Give, Take, Interrupt as InterruptSeat}
+use Rattle.meet_overlap.specs.declared.calls.Call.{Call}
+use Rattle.meet_overlap.specs.declared.calls.Stage.{Stage}
+use Rattle.meet_overlap.specs.declared.calls.Stage.TheVariants.{Ahead, Open, Over}
 use Rattle.meet_overlap.specs.Calls.{Begins, Ends}
-use Rattle.meet_overlap.specs.Search.{may_keep, giving, taking, giving_alone, taking_alone, unless_open, request_of, giver_ending, taker_ending, ending_of, is_held}
+use Rattle.meet_overlap.specs.Explaining.{FailsFull}
+use Rattle.meet_overlap.specs.Search.{may_keep, giving, taking, giving_alone, taking_alone, unless_open, request_of, giver_ending, taker_ending, ending_of, is_held, deed_of}
 
 -- a request is of a free seat
 opened : (h : Hold ℕ) (o : Option Deed) (d : Deed) → unless_open h o ≡ Some d → (h ≡ Free) × (o ≡ Some d)
@@ -67,24 +71,28 @@ taker_finds (Some entry) alone d e = inr (by_item entry.item refl e)
 abbrev within_bound : List (Entry ℕ) → Option ℕ → Bool
 within_bound line bound = option_map_or (λ most. nat_lt (kept_count line) most) bound true
 
--- an item is kept that may be kept
-kept_may : (k : Kind) (line : List (Entry ℕ)) (m : ℕ) (d : Deed) → (if may_keep k line then Some (GiveKept m) else None) ≡ Some d →
-    MayKeep k line × (GiveKept m ≡ d)
-kept_may k line m d e = by_order (keeps k.order) refl (by_bound k.bound) e
+-- an item that may be kept is kept, and any other fails
+kept_may : (k : Kind) (line : List (Entry ℕ)) (m : ℕ) (d : Deed) → (if may_keep k line then Some (GiveKept m) else Some (GiveFails m)) ≡ Some d →
+    (MayKeep k line × (GiveKept m ≡ d)) ⊎ ((MayKeep k line → ⊥) × (GiveFails m ≡ d))
+kept_may k line m d e = by_order (keeps k.order) refl e
   where
-    below : (most : ℕ) (b : Bool) → nat_lt (kept_count line) most ≡ b → (if b then Some (GiveKept m) else None) ≡ Some d → (kept_count line < most) × (GiveKept m ≡ d)
-    below most true is e = (ltb-true (kept_count line) most is, cc)
-    below most false is e = absurd (cc)
+    by_test : (b : Bool) → within_bound line k.bound ≡ b → keeps k.order ≡ true → (if b then Some (GiveKept m) else Some (GiveFails m)) ≡ Some d
+        → (MayKeep k line × (GiveKept m ≡ d)) ⊎ ((MayKeep k line → ⊥) × (GiveFails m ≡ d))
+    by_test true is order e = inl ((order, within k.bound is), (cc))
+      where
+        within : (bound : Option ℕ) → within_bound line bound ≡ true → MatchOption bound ⊤ (λ most. kept_count line < most)
+        within None is = tt
+        within (Some most) is = ltb-true (kept_count line) most is
+    by_test false is order e = inr (λ may. beyond k.bound is may.1, (cc))
+      where
+        beyond : (bound : Option ℕ) → within_bound line bound ≡ false → MatchOption bound ⊤ (λ most. kept_count line < most) → ⊥
+        beyond None is may = absurd (cc)
+        beyond (Some most) is may = let there = lt-ltb (kept_count line) most may in absurd (cc)
 
-    by_bound : (bound : Option ℕ) → (if within_bound line bound then Some (GiveKept m) else None) ≡ Some d → MatchOption bound ⊤ (λ most. kept_count line < most) × (GiveKept m ≡ d)
-    by_bound None e = (tt, cc)
-    by_bound (Some most) e = below most (nat_lt (kept_count line) most) refl e
-
-    by_order : (b : Bool) → keeps k.order ≡ b
-        → ((if within_bound line k.bound then Some (GiveKept m) else None) ≡ Some d → MatchOption k.bound ⊤ (λ most. kept_count line < most) × (GiveKept m ≡ d))
-        → (if (if b then within_bound line k.bound else false) then Some (GiveKept m) else None) ≡ Some d → MayKeep k line × (GiveKept m ≡ d)
-    by_order true is f e = let r = f e in ((is, r.0), r.1)
-    by_order false is f e = absurd (cc)
+    by_order : (b : Bool) → keeps k.order ≡ b → (if (if b then within_bound line k.bound else false) then Some (GiveKept m) else Some (GiveFails m)) ≡ Some d
+        → (MayKeep k line × (GiveKept m ≡ d)) ⊎ ((MayKeep k line → ⊥) × (GiveFails m ≡ d))
+    by_order true is e = by_test (within_bound line k.bound) refl is e
+    by_order false is e = inr (λ may. let order = may.0 in absurd (cc), (cc))
 
 -- what a request that waits where it may makes: the first where its seat is flagged, else the second
 flag_tells : (flag : Bool) (x y d : Deed) → Some (if flag then x else y) ≡ Some d → ((flag ≡ true) × (x ≡ d)) ⊎ ((flag ≡ false) × (y ≡ d))
@@ -126,7 +134,10 @@ module _ (k : Kind) (s : Seats ℕ) (i t : ℕ) where
   request_allowed (Keep m) d cut e =
       let o = opened (s.holds i) (option_map_or (giving m) (partner (end_of k.order) s.line Giver) (giving_alone k s.line (s.flags i) (Keep m))) d e in
       ⊎_elim
-      (λ n. let r = kept_may k s.line m d n.1 in subst (Right (Keep m)) r.1 (refl, (o.0, n.0, r.0)))
+      (λ n. ⊎_elim
+      (λ r. subst (Right (Keep m)) r.1 (refl, (o.0, n.0, r.0)))
+      (λ r. subst (Right (Keep m)) r.1 (refl, (o.0, n.0)))
+      (kept_may k s.line m d n.1))
       (λ g. subst (Right (Keep m)) g.deed (refl, (o.0, (g.entry, g.found, refl, g.item))))
       (giver_finds m (partner (end_of k.order) s.line Giver) (giving_alone k s.line (s.flags i) (Keep m)) d o.1)
   request_allowed (Give p m) d cut e =
@@ -200,3 +211,32 @@ module _ (k : Kind) (s : Seats ℕ) (i t : ℕ) where
   ending_allowed (Give p m) d b e = giver_ends m p (s.holds i) d refl b e
   ending_allowed (Take p) d b e = taker_ends p (s.holds i) d refl b e
   ending_allowed (InterruptSeat j) d b e = absurd (cc)
+
+-- where the search has a put fail, the queue is full
+pub fails_full : (k : Kind) (s : Seats ℕ) (call : Call) (stage : Stage) (d : Deed) → deed_of k s call stage ≡ Some d → FailsFull k s.line call.verb d
+fails_full k s call stage d e = by_verb call.verb d (made stage e)
+  where
+    -- of a put: no ending has a deed
+    made : (stage : Stage) → deed_of k s call stage ≡ Some d → (m : ℕ) → call.verb ≡ Keep m → request_of k s call.seat (Keep m) ≡ Some d
+    made Ahead e m is = subst (λ v. request_of k s call.seat v ≡ Some d) is e
+    made (Open t) e m is =
+        let none : (if is_held t (s.holds call.seat) then ending_of s.line (Keep m) (s.holds call.seat) else None) ≡ Some d =
+        subst (λ v. (if is_held t (s.holds call.seat) then ending_of s.line v (s.holds call.seat) else None) ≡ Some d) is e in
+        absurd (never (is_held t (s.holds call.seat)) none)
+      where
+        never : (b : Bool) → (if b then None else None) ≡ Some d → ⊥
+        never true e = absurd (cc)
+        never false e = absurd (cc)
+    made Over e m is = absurd (cc)
+
+    alone_fails : (m n : ℕ) → request_of k s call.seat (Keep m) ≡ Some (GiveFails n) → MayKeep k s.line → ⊥
+    alone_fails m n e =
+        let o = opened (s.holds call.seat) (option_map_or (giving m) (partner (end_of k.order) s.line Giver) (giving_alone k s.line (s.flags call.seat) (Keep m))) (GiveFails n) e in
+        ⊎_elim
+        (λ f. ⊎_elim (λ r. let no = r.1 in absurd (cc)) (λ r. r.0) (kept_may k s.line m (GiveFails n) f.1))
+        (λ g. let no = g.deed in absurd (cc))
+        (giver_finds m (partner (end_of k.order) s.line Giver) (giving_alone k s.line (s.flags call.seat) (Keep m)) (GiveFails n) o.1)
+
+    by_verb : (verb : Verb) (d : Deed) → ((m : ℕ) → verb ≡ Keep m → request_of k s call.seat (Keep m) ≡ Some d) → FailsFull k s.line verb d
+    by_verb (Keep m) (GiveFails n) made = alone_fails m n (made m refl)
+    by_verb verb d made = tt

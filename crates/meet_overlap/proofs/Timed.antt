@@ -3,13 +3,14 @@ use Rattle.std.proofs.Common.{◌≡◌, ℕ, ◌≤◌, ◌==◌, true, Bool, f
 use Rattle.std.specs.Prelude.{max, IfSome}
 use Rattle.std.proofs.lemmas.Bool.{cases_lt}
 use Rattle.meet_tickets.specs.declared.places.Kind.{Kind}
+use Rattle.meet_tickets.specs.BySeat.{Moment, beginning, moment_after}
 use Rattle.meet_tickets.specs.ByLists.{IsLegal}
 use Rattle.meet_overlap.specs.declared.calls.Call.{Call}
 use Rattle.meet_overlap.specs.declared.calls.Returned.{Returned}
 use Rattle.meet_overlap.specs.declared.calls.Answer.{Answer}
 use Rattle.meet_overlap.specs.declared.calls.Stage.TheVariants.{Ahead}
 use Rattle.meet_overlap.specs.Calls.{Remains, told_by}
-use Rattle.meet_overlap.specs.Explaining.{Event, records_of, dealt, AreOf, IsRising, NoneBefore, AreInTurn, IsExplained}
+use Rattle.meet_overlap.specs.Explaining.{Event, records_of, dealt, AreOf, IsRising, NoneBefore, AreInTurn, AreFull, IsExplained}
 use Rattle.meet_overlap.specs.Ordered.{IsInTime, AreBy, AreInTime, AreOrdered, IsOrderlyExplained}
 
 -- the events at the least times that their order allows
@@ -71,6 +72,10 @@ timed_turns calls time [] by turns = tt
 timed_turns calls time (e ∷ events) by turns =
     (timed_before calls (max time by.0.call.begin) e.call e.entry.seat events by.1 turns.0, timed_turns calls (max time by.0.call.begin) events by.1 turns.1)
 
+timed_full : (k : Kind) (calls : List Call) (time : ℕ) (m : Moment) (events : List Event) (by : AreBy calls events) → AreFull k calls m events → AreFull k calls m (timed calls time events by)
+timed_full k calls time m [] by full = tt
+timed_full k calls time m (e ∷ events) by full = (full.0, timed_full k calls (max time by.0.call.begin) (moment_after k m e.entry) events by.1 full.1)
+
 ended_at_zero : (o : Option Returned) → IfSome o (λ r. 0 ≤ r.at)
 ended_at_zero None = tt
 ended_at_zero (Some r) = omega arith
@@ -98,6 +103,7 @@ timed_explains k calls events o = record {
   rising = timed_rising calls 0 events o.by;
   turns = timed_turns calls 0 events o.by o.turns;
   formed = λ n call known. subst (Remains call Ahead) (sym (timed_dealt n calls 0 events o.by)) (o.formed n call known);
+  full = timed_full k calls 0 beginning events o.by o.full;
 }
 
 abbrev by_of : (calls : List Call) (events : List Event) → AreOf calls events → AreBy calls events
@@ -132,7 +138,7 @@ ordered_of calls (e ∷ events) of now rising =
 
 -- and events that explain the calls at their times are in order
 pub explained_orderly : (k : Kind) (calls : List Call) (events : List Event) → IsExplained k calls events → IsOrderlyExplained k calls events
-explained_orderly k calls events e = record { legal = e.legal; by = by_of calls events e.owned; ordered = ordered_of calls events e.owned 0 e.rising; turns = e.turns; formed = e.formed }
+explained_orderly k calls events e = record { legal = e.legal; by = by_of calls events e.owned; ordered = ordered_of calls events e.owned 0 e.rising; turns = e.turns; formed = e.formed; full = e.full }
 
 -- events in order have times at which their records explain the calls
 pub orderly_explained : (k : Kind) (calls : List Call) (events : List Event) → IsOrderlyExplained k calls events → (at_times : List Event) × IsExplained k calls at_times × (records_of at_times ≡ records_of events)

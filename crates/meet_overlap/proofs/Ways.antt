@@ -16,9 +16,9 @@ use Rattle.meet_overlap.specs.declared.calls.Stage.{Stage}
 use Rattle.meet_overlap.specs.declared.calls.Stage.TheVariants.{Ahead, Open, Over}
 use Rattle.meet_overlap.specs.declared.calls.Answer.{Answer}
 use Rattle.meet_overlap.specs.Calls.{Begins, Ends, Tells, Moves, Remains, IsInTurn, IsWithin, told_by, stage_told, stage_after}
-use Rattle.meet_overlap.specs.Explaining.{records_of, dealt, AreOf, IsRising, NoneBefore, AreInTurn}
+use Rattle.meet_overlap.specs.Explaining.{records_of, dealt, AreOf, IsRising, NoneBefore, AreInTurn, FailsFull, AreFull}
 use Rattle.meet_overlap.specs.Search.{World, world_after, deed_of, ticket_of, request_ticket, is_held, ending_of, Steps, IsRun, MayAllStop}
-use Rattle.meet_overlap.proofs.Sound.{request_allowed, ending_allowed}
+use Rattle.meet_overlap.proofs.Sound.{request_allowed, ending_allowed, fails_full}
 
 -- the event may come next
 pub record Comes (k : Kind) (calls : List Call) (w : World) (e : Event) : Type 0 where
@@ -30,6 +30,7 @@ pub record Comes (k : Kind) (calls : List Call) (w : World) (e : Event) : Type 0
   pub moves : Moves call (w.stages e.call) e.entry
   pub fits : Fits k w.moment e.entry
   pub turn : IsInTurn calls w.stages e.call
+  pub full : FailsFull k w.moment.seats.line call.verb e.entry.deed
 
 -- these events lead from here to where each call may be left
 abbrev pub IsWay : Kind → List Call → World → List Event → Type 0
@@ -105,6 +106,7 @@ step_comes k calls w e s =
       moves = right.0;
       fits = right.1;
       turn = s.turn;
+      full = fails_full k w.moment.seats s.call (w.stages e.call) e.entry.deed s.deed;
     }
 
 -- a run of the search is a way
@@ -212,9 +214,10 @@ pub record IsWhole (k : Kind) (calls : List Call) (w : World) (events : List Eve
   pub rising : IsRising w.time events
   pub formed : AreFormed calls w.stages events
   pub turns : AreInTurn events
+  pub full : AreFull k calls w.moment events
 
 pub way_whole : (k : Kind) (calls : List Call) (w : World) (events : List Event) → IsWay k calls w events → IsWhole k calls w events
-way_whole k calls w [] way = record { legal = tt; owned = tt; rising = tt; formed = way; turns = tt }
+way_whole k calls w [] way = record { legal = tt; owned = tt; rising = tt; formed = way; turns = tt; full = tt }
 way_whole k calls w (e ∷ events) way =
     let comes = way.0 in
     let rest = way_whole k calls (world_after k w e) events way.1 in
@@ -227,6 +230,10 @@ way_whole k calls w (e ∷ events) way =
         subst (λ i. NoneBefore e.call i events) (sym comes.seat)
             (none_before k calls (world_after k w e) events way.1 e.call comes.call comes.known (λ q. never_back (w.stages e.call) e.entry (sym (put_same w.stages e.call (stage_after (w.stages e.call) e.entry)) ∙ q))),
         rest.turns,
+      );
+      full = (
+        λ call is. subst (λ (c : Call). FailsFull k w.moment.seats.line c.verb e.entry.deed) (one_call calls e.call comes.call call comes.known is) comes.full,
+        rest.full,
       );
     }
 
@@ -267,6 +274,7 @@ whole_way k calls w (e ∷ events) whole begun =
         moves = (formed_now calls w.stages e events of.call of.known whole.formed).0;
         fits = whole.legal.0;
         turn = in_turn calls w.stages e events of.call of.known of.seat begun;
+        full = whole.full.0 of.call of.known;
       },
       whole_way k calls (world_after k w e) events (record {
         legal = whole.legal.1;
@@ -274,6 +282,7 @@ whole_way k calls w (e ∷ events) whole begun =
         rising = whole.rising.1;
         formed = formed_later calls w.stages e events whole.formed;
         turns = whole.turns.1;
+        full = whole.full.1;
       })
           (begun_later calls w.stages e events of.call of.known of.seat begun whole.turns.0),
     )

@@ -39,6 +39,7 @@ told_by (Interrupt j) = Some Made
 abbrev pub Begins : Verb → Deed → Type 0
 Begins (Keep m) (GiveMeets n u) = n ≡ m
 Begins (Keep m) (GiveKept n) = n ≡ m
+Begins (Keep m) (GiveFails n) = n ≡ m
 Begins (Give p m) (GiveMeets n u) = n ≡ m
 Begins (Give Now m) (GiveFails n) = n ≡ m
 Begins (Give Forever m) (GiveWaits n) = n ≡ m

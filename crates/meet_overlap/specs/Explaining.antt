@@ -3,7 +3,13 @@ use Rattle.std.specs.Prelude.{◌≡◌, ℕ, ◌≤◌, ◌==◌, List, [], ◌
 use Rattle.meet_tickets.specs.declared.places.Kind.{Kind}
 use Rattle.meet_tickets.specs.declared.records.Record.{Record}
 use Rattle.meet_tickets.specs.declared.records.Deed.{Deed}
+use Rattle.meet_tickets.specs.declared.records.Deed.TheVariants.{GiveFails}
+use Rattle.meet_tickets.specs.declared.lines.Entry.{Entry}
+use Rattle.meet_tickets.specs.Meeting.{MayKeep}
+use Rattle.meet_tickets.specs.BySeat.{Moment, beginning, moment_after}
 use Rattle.meet_tickets.specs.ByLists.{IsLegal}
+use Rattle.meet_overlap.specs.declared.calls.Verb.{Verb}
+use Rattle.meet_overlap.specs.declared.calls.Verb.TheVariants.{Keep}
 use Rattle.meet_overlap.specs.declared.calls.Call.{Call}
 use Rattle.meet_overlap.specs.declared.calls.Stage.TheVariants.{Ahead}
 use Rattle.meet_overlap.specs.Calls.{IsWithin, Remains}
@@ -49,8 +55,20 @@ abbrev pub AreInTurn : List Event → Type 0
 AreInTurn [] = Unit {0}
 AreInTurn (e ∷ events) = NoneBefore e.call e.entry.seat events × AreInTurn events
 
+-- an item that was to be kept fails only where none may be kept
+abbrev pub FailsFull : Kind → List (Entry ℕ) → Verb → Deed → Type 0
+FailsFull k line (Keep m) (GiveFails n) = MayKeep k line → ⊥
+FailsFull k line verb deed = Unit {0}
+
+-- each of these events is so, from there on
+abbrev pub AreFull : Kind → List Call → Moment → List Event → Type 0
+AreFull k calls m [] = Unit {0}
+AreFull k calls m (e ∷ events) = ((call : Call) → slice_get calls e.call ≡ Some call
+    → FailsFull k m.seats.line call.verb e.entry.deed) × AreFull k calls (moment_after k m e.entry) events
+
 -- these events explain the calls: their records are a legal history, times lie in the calls and don't go back, the calls
--- of a seat come in their order, and the records that are dealt to a call are those that it makes, with its answer
+-- of a seat come in their order, the records that are dealt to a call are those that it makes, with its answer, and a put
+-- fails only at a full queue
 pub record IsExplained (k : Kind) (calls : List Call) (events : List Event) : Type 0 where
   pub legal : IsLegal k (records_of events)
   pub owned : AreOf calls events
@@ -58,6 +76,7 @@ pub record IsExplained (k : Kind) (calls : List Call) (events : List Event) : Ty
   pub turns : AreInTurn events
   pub formed : (number : ℕ) (call : Call) → slice_get calls number ≡ Some call
       → Remains call Ahead (dealt number events)
+  pub full : AreFull k calls beginning events
 
 -- the history explains the calls: there is such a dealing of its records
 pub record Explains (k : Kind) (calls : List Call) (history : List (Record Deed)) : Type 0 where

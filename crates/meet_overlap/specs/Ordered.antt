@@ -1,13 +1,13 @@
 -- Real time without times: no event stands before one that had to be made before it could be.
 use Rattle.std.specs.Prelude.{◌≡◌, ℕ, ◌≤◌, true, None, IfSome, List, [], ◌∷◌, Some, slice_get}
 use Rattle.meet_tickets.specs.declared.places.Kind.{Kind}
-use Rattle.meet_tickets.specs.BySeat.{is_request}
+use Rattle.meet_tickets.specs.BySeat.{is_request, beginning}
 use Rattle.meet_tickets.specs.declared.records.Deed.{Deed}
 use Rattle.meet_tickets.specs.ByLists.{IsLegal}
 use Rattle.meet_overlap.specs.declared.calls.Call.{Call}
 use Rattle.meet_overlap.specs.declared.calls.Stage.TheVariants.{Ahead}
 use Rattle.meet_overlap.specs.Calls.{Remains, told_by}
-use Rattle.meet_overlap.specs.Explaining.{Event, records_of, dealt, AreInTurn}
+use Rattle.meet_overlap.specs.Explaining.{Event, records_of, dealt, AreInTurn, AreFull}
 
 -- the deed is still in time: the call hasn't ended, and a request of one that was seen to wait isn't late for that
 pub record IsInTime (call : Call) (time : ℕ) (deed : Deed) : Type 0 where
@@ -43,3 +43,4 @@ pub record IsOrderlyExplained (k : Kind) (calls : List Call) (events : List Even
   pub turns : AreInTurn events
   pub formed : (number : ℕ) (call : Call) → slice_get calls number ≡ Some call
       → Remains call Ahead (dealt number events)
+  pub full : AreFull k calls beginning events

@@ -39,6 +39,7 @@ pub record IsOvertaken (k : Kind) (calls : List Call) : Type 0 where
   pub put : IsEnded calls
   pub first : ℕ
   pub keeps : IsKeeping put.call.verb first
+  pub went : put.returned.answer ≡ Went
   pub taken : IsEnded calls
   pub second : ℕ
   pub takes : IsTaking taken.call.verb
@@ -72,6 +73,7 @@ pub record IsOverlooked (k : Kind) (calls : List Call) : Type 0 where
   pub put : IsEnded calls
   pub mark : ℕ
   pub keeps : IsKeeping put.call.verb mark
+  pub went : put.returned.answer ≡ Went
   pub looked : IsEnded calls
   pub finds : FindsNothing looked.call.verb looked.returned.answer
   pub before : put.returned.at < looked.call.begin

@@ -57,7 +57,7 @@ taking e = option_map (λ m. TakeMeets m e.ticket) e.item
 
 -- what a giver does that finds nobody
 abbrev pub giving_alone : Kind → List (Entry ℕ) → (flag : Bool) → Verb → Option Deed
-giving_alone k line flag (Keep m) = if may_keep k line then Some (GiveKept m) else None
+giving_alone k line flag (Keep m) = if may_keep k line then Some (GiveKept m) else Some (GiveFails m)
 giving_alone k line flag (Give Now m) = Some (GiveFails m)
 giving_alone k line flag (Give Forever m) = Some (if flag then EntryInterrupted Giver else GiveWaits m)
 giving_alone k line flag (Give Timed m) = Some (if flag then EntryInterrupted Giver else GiveWaits m)

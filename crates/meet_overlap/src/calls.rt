@@ -81,24 +81,33 @@ pub enum Stage {
     Over,
 }
 
-/// Calls that were seen at a place of a kind. They may overlap, and stand in any order; if they stand by their begins
-/// they are judged fastest.
+/// The queue at which calls were seen.
+#[derive(Clone, Copy, PartialEq, Eq, Debug)]
+pub enum Queue {
+    /// A place of a kind, where calls meet.
+    Place(Kind),
+    /// A buffer, which keeps what is put, first in, first out, and at most so many items if there is a bound.
+    Buffer(Option<u64>),
+}
+
+/// Calls that were seen at a queue. They may overlap, and stand in any order; if they stand by their begins they are
+/// judged fastest.
 #[derive(Debug, Drop)]
 pub struct Calls {
-    /// The kind of the place.
-    pub kind: Kind,
+    /// The queue.
+    pub queue: Queue,
     /// The calls.
     pub list: Vec<Call>,
 }
 
 impl Calls {
-    /// Creates an empty list of calls, at a place of this kind.
-    pub fn none(alloc: Global, kind: Kind) -> Calls
-        ensures kind { result.kind ≡ kind }
+    /// Creates an empty list of calls, at this queue.
+    pub fn none(alloc: Global, queue: Queue) -> Calls
+        ensures queue { result.queue ≡ queue }
         ensures list { result.list.items ≡ [] }
     {
         Calls {
-            kind,
+            queue,
             list: Vec::new(alloc),
         }
     }
@@ -108,7 +117,7 @@ impl Calls {
     /// # Errors
     /// - `AllocError`, if an allocation fails.
     pub fn push(&mut self, call: Call) -> Result<(), AllocError>
-        ensures kind { self.new.kind ≡ self.old.kind }
+        ensures queue { self.new.queue ≡ self.old.queue }
         ensures list { OnOk result (self.new.list.items ≡ self.old.list.items ++ call ∷ []) }
     {
         self.list.extend_from_slice([call].as_slice())

@@ -17,7 +17,9 @@
 //! - **Interrupts** (`partners`, `flags`): an interrupt that overlaps an interrupted call cuts it; an earlier one
 //!   leaves its seat flagged until then.
 //! - **Ties** (`ties`): of records at one time, those of one seat stand in the order of its calls.
+//! - **Buffers** (`buffer`): each call makes one record, so the question is only in which order the items go through.
 
+mod buffer;
 mod busy;
 mod flags;
 mod partners;

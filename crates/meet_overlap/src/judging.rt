@@ -140,7 +140,7 @@ fn searched(
 /// # Example
 /// From `crates/meet_judge/src/judging.rt`:
 ///
-///     let judged = match judge(alloc, calls.kind, calls.as_slice(), MOST_MOVES) {
+///     Queue::Place(kind) => judge(alloc, kind, calls.as_slice(), MOST_MOVES),
 pub fn judge(
     alloc: Global,
     kind: Kind,

@@ -49,7 +49,7 @@ fn gives_alone(kind: Kind, line: &[Entry<u64>], flag: bool, verb: Verb) -> Optio
             if keeps(kind, line) {
                 Some(Deed::GiveKept(mark))
             } else {
-                None
+                Some(Deed::GiveFails(mark))
             }
         }
         Verb::Give(Patience::Now, mark) => Some(Deed::GiveFails(mark)),

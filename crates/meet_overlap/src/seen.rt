@@ -24,7 +24,7 @@ pub(crate) struct Seen {
 }
 
 /// A hash and one number more.
-fn mixed(hash: u64, number: u64) -> u64 {
+pub(crate) fn mixed(hash: u64, number: u64) -> u64 {
     (hash ^ number)
         .wrapping_mul(0x9E37_79B9_7F4A_7C15)
         .rotate_left(29)

@@ -145,6 +145,14 @@ fn stay(calls: &[Call], owner: usize, other: Option<usize>) -> Part {
     })
 }
 
+/// Whether a call answers that its item went.
+fn went(call: &Call) -> bool {
+    match call.returned {
+        None => false,
+        Some(returned) => returned.answer == Answer::Went,
+    }
+}
+
 /// Whether a call may wait.
 fn can_wait(call: &Call) -> bool {
     match call.verb {
@@ -252,7 +260,7 @@ impl Known<'_> {
     /// A call whose item is kept, and its consumer if it has one.
     fn kept(&self, number: usize, taking: Option<usize>) -> Part {
         let Some(taking) = taking else {
-            return if number < self.calls.len() && self.calls[number].returned.is_some() {
+            return if number < self.calls.len() && went(&self.calls[number]) {
                 stay(self.calls, number, None)
             } else {
                 Part::Nothing

@@ -1,6 +1,7 @@
 //! When each call makes its records, as the guess has it.
 
 use crate::calls::{Call, Verb};
+use crate::guess::buffer::{guess_buffer, is_buffer};
 use crate::guess::busy::Busy;
 use crate::guess::flags::Flags;
 use crate::guess::partners::Partners;
@@ -245,6 +246,9 @@ pub(crate) fn guess(
     calls: &[Call],
     partners: &Partners,
 ) -> Result<Option<Vec<usize>>, AllocError> {
+    if is_buffer(kind, calls) {
+        return guess_buffer(alloc, kind, calls, partners);
+    }
     let flags = Flags::of(alloc, calls, partners)?;
     let mut ways = Vec::with_capacity(alloc, calls.len())?;
     for _ in 0..calls.len() {

@@ -55,6 +55,9 @@ fn overlooked(kind: Kind, calls: &[Call], first: usize, second: usize) -> Option
     if !finds_nothing(looked.verb, came.answer) {
         return None;
     }
+    let Answer::Went = went.answer else {
+        return None;
+    };
     if came.at < went.at {
         return None;
     }

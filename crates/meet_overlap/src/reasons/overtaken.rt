@@ -42,6 +42,9 @@ fn overtaken(kind: Kind, calls: &[Call], first: usize, second: usize) -> Option<
     let Answer::Got(item) = came.answer else {
         return None;
     };
+    let Answer::Went = went.answer else {
+        return None;
+    };
     if came.at < went.at {
         return None;
     }

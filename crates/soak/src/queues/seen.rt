@@ -4,12 +4,13 @@ ghost use Rattle.std.specs.Prelude.{◌≡◌, ◌++◌, [], None, OnOk};
 ghost use Rattle.std.specs.List.Sorted.{IsNonDecreasingBy, IsPermutation};
 ghost use Rattle.std.specs.Option.{option_map, option_or};
 ghost use Rattle.std.specs.Io.KnownBytes.{Appends};
+ghost use Rattle.meet_overlap.specs.declared.calls.Queue.TheVariants.{Place};
 ghost use Rattle.meet_judge.specs.CallText.{calls_text};
 ghost use Rattle.soak.specs.Seen.{patience_of, offering, transferring, verb_of_whole, verb_of_part, answer_of};
 ghost use Rattle.soak.specs.Seen.{call_from, open_after, over_after, never_ending, begin_of};
 
 use meet_judge::push_calls;
-use meet_overlap::{Answer, Call, Patience, Returned, Verb};
+use meet_overlap::{Answer, Call, Patience, Queue, Returned, Verb};
 use meet_run::text::output::write_whole;
 use meet_shop::{Ask, Call as Whole, Told};
 use meet_tickets::{Kind, Order, Refusal, SeatNo};
@@ -215,10 +216,11 @@ pub fn write_calls<W: Write>(
     writer: &mut W,
 ) -> Result<(), Refusal>
     ensures { OnOk result (Appends (W.contents writer.old) (W.contents writer.new)
-        (calls_text (record { order = order; bound = None }) calls.now)) }
+        (calls_text (Place (record { order = order; bound = None })) calls.now)) }
 {
     let mut text = Vec::new(alloc);
-    if push_calls(&mut text, Kind { order, bound: None }, calls).is_err() {
+    let queue = Queue::Place(Kind { order, bound: None });
+    if push_calls(&mut text, queue, calls).is_err() {
         return Err(Refusal::Memory);
     }
     write_whole(writer, text.as_slice())

@@ -14,6 +14,6 @@ loop-number-preserved g c =
     let before = c.loop-number.calls in
     let after = c.read_next.new.calls in
     let next : ReadsNext (Some c.in-Some.next) mid new before after = rw c.in-Some.is at c.in_ok-next.ensures in
-    let taken : Consumes old new (calls_text before.kind (before.list.items ++ next.0 ∷ [])) = one_more_taken before.kind before.list.items next.0 old mid new c.loop-number.invariant next.1 in
-    let listed : Consumes old new (calls_text before.kind after.list.items) = subst (λ list. Consumes old new (calls_text before.kind list)) (sym next.3) taken in
-    subst (λ kind. Consumes old new (calls_text kind after.list.items)) (sym next.2) listed
+    let taken : Consumes old new (calls_text before.queue (before.list.items ++ next.0 ∷ [])) = one_more_taken before.queue before.list.items next.0 old mid new c.loop-number.invariant next.1 in
+    let listed : Consumes old new (calls_text before.queue after.list.items) = subst (λ list. Consumes old new (calls_text before.queue list)) (sym next.3) taken in
+    subst (λ queue. Consumes old new (calls_text queue after.list.items)) (sym next.2) listed

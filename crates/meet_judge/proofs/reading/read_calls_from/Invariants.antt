@@ -5,4 +5,4 @@ use Rattle.meet_judge.proofs.reading.read_calls_from.Given as goal
 
 -- what was read so far is the text of the calls so far
 abbrev pub invariant-loop-number : goal.invariant-loop-number
-invariant-loop-number g l = Consumes (g.R.Read.remaining l.fn.reader) (g.R.Read.remaining l.reader) (calls_text l.calls.kind l.calls.list.items)
+invariant-loop-number g l = Consumes (g.R.Read.remaining l.fn.reader) (g.R.Read.remaining l.reader) (calls_text l.calls.queue l.calls.list.items)

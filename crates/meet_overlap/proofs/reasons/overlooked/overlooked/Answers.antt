@@ -22,6 +22,7 @@ returns-then-none_got-clause-is c =
         put = record { number = c.args.first; call = put; known = put_known; returned = c.in-Some.went; ended = put_ended };
         mark = c.in-Keep.item;
         keeps = subst (λ v. IsKeeping v c.in-Keep.item) (sym verb) refl;
+        went = let e = c.in-Went.is in cc;
         looked = record { number = c.args.second; call = looked; known = looked_known; returned = c.in-Some-returned.came; ended = looked_ended };
         finds = c.finds_nothing.ensures c.if-not-finds_nothing.false;
         before = c.if-went-looked.true;

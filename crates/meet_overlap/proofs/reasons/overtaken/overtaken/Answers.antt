@@ -24,6 +24,7 @@ returns-then-none_got-clause-is c =
         put = record { number = c.args.first; call = put; known = put_known; returned = c.in-Some.went; ended = put_ended };
         first = c.in-Keep.kept;
         keeps = subst (λ v. IsKeeping v c.in-Keep.kept) (sym verb) refl;
+        went = let e = c.in-Went.is in cc;
         taken = record { number = c.args.second; call = taken; known = taken_known; returned = c.in-Some-returned.came; ended = taken_ended };
         second = c.in-Got.item;
         takes = c.takes.ensures.0 c.if-not-takes.false;
