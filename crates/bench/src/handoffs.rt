@@ -121,7 +121,9 @@ fn stop<N: Ledgers, R: Wait>(rt: &R, queue: &Fair<N>, first: OurSeat<N>) -> OurS
     seat
 }
 
-/// Makes the call of this number, and tends the queue after it. Returns whether the thread goes on.
+/// Makes the call of this number, and tends the queue after it. Returns whether the thread goes on. It is a function of its
+/// own in the program too, so that `dev/measure/instructions` can tell it from the loop around it.
+#[inline(never)]
 fn call<N: Ledgers, R: Wait + Clock>(
     rt: &R,
     queue: &Fair<N>,

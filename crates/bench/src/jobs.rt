@@ -99,7 +99,9 @@ struct Caller<N: PoolLedgers> {
     why: Option<Refusal>,
 }
 
-/// Hands a job in, and tends the pool after that.
+/// Hands a job in, and tends the pool after that. It is a function of its own in the program too, so that
+/// `dev/measure/instructions` can tell it from the loop around it.
+#[inline(never)]
 fn hand_in<N, R>(
     rt: &R,
     pool: &Ours<R, N>,
