@@ -1,5 +1,5 @@
 -- What `submit` returns, by what `execute` states.
-use Rattle.std.proofs.Common.{◌≡◌, ℕ, Option, Result, Ok, Err, refl, sym, subst, inl, inr}
+use Rattle.std.proofs.Common.{◌≡◌, ℕ, Option, Result, Ok, Err, sym, subst, inl, inr}
 use Rattle.std.specs.Prelude.{◌≢◌, IfSome, IsSomeAnd, IsOkAnd, IfOk, IfErr}
 use Rattle.meet_tickets.specs.declared.refusals.Refusal.TheVariants.{NoThread}
 use Rattle.pool_threads.specs.Told.{IsExecuteWhy}
