@@ -56,11 +56,11 @@ enum { IBIS_FAIR = 1, IBIS_UNFAIR = 2, IBIS_TRANSFER = 3 };
    once; the seat ends them by 6 to 8, with the ticket. An offer and a poll are never pending. A timed call of Java is a
    give, put or take that the seat ends by IBIS_EXPIRE when its time is over. 6 to 8 never return IBIS_HISTORY_FULL. */
 enum {
-    IBIS_PUT = 1,       /* an item: a transfer queue keeps it, the others wait for a taker as a give does */
-    IBIS_GIVE = 2,      /* an item, to a taker that may come: transfer */
-    IBIS_OFFER = 3,     /* an item, to a taker that is pending: tryTransfer, or offer of a SynchronousQueue */
+    IBIS_PUT = 1,       /* an item: a transfer queue keeps it, the others wait for a consumer as a give does */
+    IBIS_GIVE = 2,      /* an item, to a consumer that may come: transfer */
+    IBIS_OFFER = 3,     /* an item, to a consumer that is pending: tryTransfer, or offer of a SynchronousQueue */
     IBIS_TAKE = 4,      /* take; the value is ignored */
-    IBIS_POLL = 5,      /* poll, from a giver that is pending or a kept item; the value is ignored */
+    IBIS_POLL = 5,      /* poll, from a producer that is pending or a kept item; the value is ignored */
     IBIS_FOLLOW_UP = 6, /* a ticket: asks what came of it */
     IBIS_CANCEL = 7,    /* a ticket: withdraws it */
     IBIS_EXPIRE = 8,    /* a ticket: withdraws it, since its time is over */
@@ -76,9 +76,9 @@ enum {
     IBIS_ENTRY_INTERRUPTED = 5, /* the seat was interrupted before; the item comes back */
     IBIS_DONE = 6,              /* of a follow-up: the item was taken */
     IBIS_GOT = 7,               /* of a follow-up: this is the item */
-    IBIS_INTERRUPTED = 8,       /* of a follow-up: the wait was interrupted; a giver's item comes back */
+    IBIS_INTERRUPTED = 8,       /* of a follow-up: the wait was interrupted; a producer's item comes back */
     IBIS_NOT_YET = 9,           /* of a follow-up: still pending */
-    IBIS_BACK = 10,             /* of a cancel or an expiry: withdrawn; a giver's item comes back */
+    IBIS_BACK = 10,             /* of a cancel or an expiry: withdrawn; a producer's item comes back */
     IBIS_LATE = 11,             /* of a cancel or an expiry: it was matched or interrupted before: follow up */
     IBIS_CUT = 12,              /* of an interrupt: it ended this pending ticket */
     IBIS_FLAGGED = 13           /* of an interrupt: the seat's next wait ends at once */
@@ -100,7 +100,7 @@ typedef struct ibis_look {
     uint64_t size;               /* Collection.size */
     uint64_t remaining_capacity; /* BlockingQueue.remainingCapacity */
     uint64_t has_first, first;   /* Queue.peek */
-    uint64_t waiting;            /* pending requests that wait. In a transfer queue these are givers if size > 0, else takers */
+    uint64_t waiting;            /* pending requests that wait. In a transfer queue these are producers if size > 0, else consumers */
     uint64_t uncollected;        /* pending requests that were matched or interrupted and need a follow-up */
     uint64_t kept;               /* items that the queue keeps */
     uint64_t records;            /* since the last cut */
@@ -146,7 +146,7 @@ typedef struct ibis_base_row {
     uint64_t what;
     uint64_t seat, ticket;
     uint64_t side;    /* IBIS_SIDE_GIVER or IBIS_SIDE_TAKER */
-    uint64_t mark;    /* the giver's item */
+    uint64_t mark;    /* the producer's item */
     uint64_t partner; /* of IBIS_ROW_MATCHED: the partner's ticket */
 } ibis_base_row;
 

@@ -65,9 +65,9 @@ def check(trace):
 
 def written(call, given, room=65536):
     """Returns the status of `judge` or `explain` for this text, and what it writes."""
-    out, told = create_string_buffer(room), Written()
-    call(given, len(given), out, room, told)
-    return told.status, out.raw[: min(told.length, room)].decode()
+    out, found = create_string_buffer(room), Written()
+    call(given, len(given), out, room, found)
+    return found.status, out.raw[: min(found.length, room)].decode()
 
 
 def judge(calls):
