@@ -1,16 +1,7 @@
 //! The program `bench`: how long it takes threads to hand items on, to exchange them and to run jobs, and how long a
 //! checkpoint and a withdrawal take. Each measure prints what came of it, which is the same in each run, on standard
-//! output, and times on standard error.
-//!
-//!     bench handoffs PAIRS EACH ROUNDS [tails | steady] [CAP]
-//!     bench handles HANDED PASSED
-//!     bench exchanges THREADS EACH ROUNDS
-//!     bench alone MILLISECONDS
-//!     bench checkpoints SEATS KEPT ROUNDS
-//!     bench withdrawals WAITING ROUNDS
-//!     bench jobs fixed|bounded|cached WORKERS CALLERS EACH NANOSECONDS ROUNDS
-//!
-//! What each of these does is said in the module of its name; `alone` is in `exchanges`.
+//! output, and times on standard error. Its words are in `asked`, and what it does is said in the module of its name;
+//! `alone` is in `exchanges`.
 #![tactic(auto)]
 
 mod asked;

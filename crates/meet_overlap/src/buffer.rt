@@ -1,4 +1,4 @@
-//! Buffers: queues that keep what is put, first in, first out, and at most so many items if there is a bound. Each call
+//! Buffers: queues that keep what is put, first in, first out, and no more items than their bound. Each call
 //! takes effect at one point. `specs/Buffers` says what that means.
 
 ghost use Rattle.std.specs.Prelude.{◌≡◌, ◌++◌, ◌∷◌, [], IfOk, IfErr, OnOk, List};

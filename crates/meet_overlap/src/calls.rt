@@ -86,7 +86,7 @@ pub enum Stage {
 pub enum Queue {
     /// A place of a kind, where calls meet.
     Place(Kind),
-    /// A buffer, which keeps what is put, first in, first out, and at most so many items if there is a bound.
+    /// A buffer, which keeps what is put, first in, first out, and no more items than its bound, if it has one.
     Buffer(Option<u64>),
 }
 

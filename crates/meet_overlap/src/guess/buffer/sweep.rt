@@ -121,7 +121,7 @@ impl Log {
         self.steps.extend_from_slice(other.steps.as_slice())
     }
 
-    /// The last event until this one before which at most so many puts might be made.
+    /// The last event until this one before which no more puts than these might be made.
     pub(super) fn last_with(&self, puts: usize, until: usize) -> usize {
         let mut low = 0;
         let mut high = until;
@@ -159,7 +159,7 @@ pub(super) struct Sweep {
 }
 
 impl Sweep {
-    /// Before the first event, for a queue that keeps at most so many items; and what holds there.
+    /// Before the first event, for a queue that keeps no more items than this; and what holds there.
     pub(super) fn of(alloc: Global, bound: usize) -> Result<(Sweep, Step), AllocError> {
         let mut sweep = Sweep {
             bound,
