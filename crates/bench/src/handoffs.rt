@@ -11,9 +11,9 @@
 ghost use Rattle.std.specs.Prelude.{◌≡◌, vec_len};
 ghost use Rattle.meet_place.specs.Ledgers.{AreOf};
 
-use crate::counting::{Count, NOTHING, Spread, after, note, now, since};
+use crate::counting::{Count, NOTHING, Passed, Spread, note, now, since};
 use meet_cells::ParkGate;
-use meet_sync::{Back, FairSeats, Interrupted, Ledgers, NewQueue, Seat, SyncQueue};
+use meet_sync::{Back, Ended, FairSeats, Interrupted, Ledgers, NewQueue, Seat, SyncQueue};
 use meet_tickets::{Deed, Refusal, SeatNo};
 use std::alloc::Global;
 use std::marker::Brand;
@@ -121,8 +121,8 @@ fn stop<N: Ledgers, R: Wait>(rt: &R, queue: &Fair<N>, first: OurSeat<N>) -> OurS
     seat
 }
 
-/// Makes the call of this number, and tends the queue after it. Returns whether the thread goes on. It is a function of its
-/// own in the program too, so that `dev/measure/instructions` can tell it from the loop around it.
+/// Makes the call of this number, and tends the queue after it. It is a function of its own in the program too, so that
+/// `dev/measure/instructions` can tell it from the loop around it.
 #[inline(never)]
 fn call<N: Ledgers, R: Wait + Clock>(
     rt: &R,
@@ -130,20 +130,20 @@ fn call<N: Ledgers, R: Wait + Clock>(
     seat: OurSeat<N>,
     side: Side,
     number: u64,
-    done: &mut Done,
-) -> (OurSeat<N>, bool) {
-    let (seat, passed) = match side {
-        Side::Producer => after(queue.put(rt, seat, number)),
-        Side::Consumer => after(queue.take(rt, seat)),
+) -> (OurSeat<N>, Passed) {
+    let called = match side {
+        Side::Producer => queue.put(rt, seat, number),
+        Side::Consumer => queue.take(rt, seat),
     };
-    let (count, goes_on) = passed.add_to(done.count);
-    done.count = count;
-    match queue.tend(rt, seat) {
-        Ok(seat) => (seat, goes_on),
-        Err(refused) => {
-            done.count = done.count.refused(refused.why);
-            (refused.seat, false)
+    match called {
+        Ok(ended) => {
+            let Ended { seat, end } = ended;
+            match queue.tend(rt, seat) {
+                Ok(seat) => (seat, Passed::of(end)),
+                Err(refused) => (refused.seat, Passed::Refused(refused.why)),
+            }
         }
+        Err(refused) => (refused.seat, Passed::Refused(refused.why)),
     }
 }
 
@@ -160,10 +160,12 @@ fn call_all<N: Ledgers, R: Wait + Clock>(
     let mut seat = first;
     for number in 1..=race.each {
         let start = if is_timed { Some(now(rt)) } else { None };
-        let (next, goes_on) = call(rt, queue, seat, side, number, done);
+        let (next, passed) = call(rt, queue, seat, side, number);
         if let Some(start) = start {
             note(rt, start, &mut done.times);
         }
+        let (count, goes_on) = passed.add_to(done.count);
+        done.count = count;
         seat = next;
         if !goes_on {
             return stop(rt, queue, seat);
