@@ -78,10 +78,13 @@ impl Tally {
 
 impl Display for Tally {
     fn fmt<W: Write>(&self, f: &mut Formatter<W>) -> fmt::Result {
-        let mut space = "";
+        let mut is_first = true;
         for (name, count) in NAMES.iter().zip(self.0.iter()) {
-            write!(f, "{space}{name} {count}")?;
-            space = " ";
+            if !is_first {
+                f.write_str(" ")?;
+            }
+            is_first = false;
+            write!(f, "{name} {count}")?;
         }
         Ok(())
     }
