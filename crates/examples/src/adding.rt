@@ -37,10 +37,11 @@ where
     R: Threads + Wait + Clock + Print + Sync,
 {
     let done = run_handoff(rt, alloc, Order::Transfer, 2, 3, &Adding)?;
+    let left = done.log?.left.len();
     let mut sum = 0u64;
     for part in done.consumed {
         sum = sum.saturating_add(part?);
     }
-    println!(rt; "{:?} {sum}, {} left", done.produced, done.log?.left.len())?;
+    println!(rt; "{:?} {sum}, {left} left", done.produced)?;
     Ok(())
 }
